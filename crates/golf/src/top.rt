@@ -1,0 +1,116 @@
+//! The top call.
+
+ghost use Rattle.std.specs.Prelude.{◌≡◌, ◌≤◌, ◌<◌, ◌^◌, IsTrue, ◌↔◌, length, Some};
+ghost use Rattle.std.specs.Io.KnownBytes.{Appends};
+ghost use Rattle.golf_base.specs.Causes.{WritesFront, HasCause};
+ghost use Rattle.golf_plain.specs.Program.{IsRun};
+ghost use Rattle.golf.specs.Means.{words_of, seen, FileMeans, UsageMeans, Causes, IsComplete};
+ghost use Rattle.golf.specs.Ends.{EndsWith};
+
+use crate::run::{RunFault, run};
+use golf_base::{Gate, ReadError, Sink, Source, read_file, write_all};
+use golf_plain::{LIMIT, NO_MEMORY, NOT_BUILT, READ_FAULT, RUN, Status, TOO_LONG, USAGE};
+use golf_syntax::read_plain;
+use std::alloc::Global;
+
+fn is_run(words: &[String]) -> bool
+    ensures { IsTrue result ↔ IsRun (words_of words.now) }
+{
+    words.len() == 1 && words[0].as_bytes() == RUN.as_slice()
+}
+
+// Writes a last line, and answers the status, or that the write failed.
+fn end<E: Sink>(err: &mut E, line: &[u8], status: Status) -> Status
+    ensures { EndsWith result status line.now (E.written err.old) (E.written err.new) (E.faults err.old) (E.faults err.new) }
+{
+    match write_all(err, line) {
+        Ok(()) => status,
+        Err(_) => Status::WriteFault,
+    }
+}
+
+// Judges the bytes of a file, and runs it.
+fn judge<O: Sink, E: Sink>(alloc: Global, bytes: &[u8], out: &mut O, err: &mut E) -> Status
+    requires { length bytes.now ≤ LIMIT }
+    ensures means { FileMeans result
+        (seen (Some bytes.now) 0 (O.written out.old) (O.faults out.old) (E.written err.old) (E.faults err.old))
+        (seen (Some bytes.now) 0 (O.written out.new) (O.faults out.new) (E.written err.new) (E.faults err.new)) }
+    ensures causes { Causes result
+        (seen (Some bytes.now) 0 (O.written out.old) (O.faults out.old) (E.written err.old) (E.faults err.old))
+        (seen (Some bytes.now) 0 (O.written out.new) (O.faults out.new) (E.written err.new) (E.faults err.new)) }
+{
+    let code = match read_plain(alloc, bytes) {
+        Ok(Some(code)) => code,
+        Ok(None) => return end(err, NOT_BUILT, Status::Refused),
+        Err(_) => return end(err, NO_MEMORY, Status::Memory),
+    };
+    match run(alloc, &code, out) {
+        Ok(Some(_)) => Status::Clean,
+        Ok(None) => Status::Spent,
+        Err(RunFault::Write) => Status::WriteFault,
+        Err(RunFault::Memory) => end(err, NO_MEMORY, Status::Memory),
+    }
+}
+
+// Looks at the words, reads the file, judges it and runs it.
+fn serve<R: AllocGlobal, S: Source, O: Sink, E: Sink>(
+    rt: &R,
+    words: &[String],
+    source: &mut S,
+    out: &mut O,
+    err: &mut E,
+) -> Status
+    ensures run { IsRun (words_of words.now) → FileMeans result
+        (seen (S.left source.old) (S.faults source.old) (O.written out.old) (O.faults out.old) (E.written err.old) (E.faults err.old))
+        (seen (S.left source.new) (S.faults source.new) (O.written out.new) (O.faults out.new) (E.written err.new) (E.faults err.new)) }
+    ensures usage { (IsRun (words_of words.now) → ⊥) → UsageMeans result
+        (seen (S.left source.old) (S.faults source.old) (O.written out.old) (O.faults out.old) (E.written err.old) (E.faults err.old))
+        (seen (S.left source.new) (S.faults source.new) (O.written out.new) (O.faults out.new) (E.written err.new) (E.faults err.new)) }
+    ensures causes { Causes result
+        (seen (S.left source.old) (S.faults source.old) (O.written out.old) (O.faults out.old) (E.written err.old) (E.faults err.old))
+        (seen (S.left source.new) (S.faults source.new) (O.written out.new) (O.faults out.new) (E.written err.new) (E.faults err.new)) }
+{
+    if !is_run(words) {
+        return end(err, USAGE, Status::Usage);
+    }
+    match read_file(rt.alloc(), source, LIMIT) {
+        Ok(bytes) => judge(rt.alloc(), bytes.as_slice(), out, err),
+        Err(ReadError::ReadFault) => end(err, READ_FAULT, Status::ReadFault),
+        Err(ReadError::TooLong) => end(err, TOO_LONG, Status::Refused),
+        Err(ReadError::Memory) => end(err, NO_MEMORY, Status::Memory),
+    }
+}
+
+/// All that the program does: it looks at the words, reads the file from `source`, judges it and
+/// runs it. What the file prints goes to `out`, everything else to `err`.
+pub fn golf<R: AllocGlobal, S: Source, O: Sink, E: Sink, G: Gate + Sync>(
+    rt: &R,
+    words: &[String],
+    source: &mut S,
+    out: &mut O,
+    err: &mut E,
+    _gate: &G,
+) -> Status
+    // What the status says where the words are a run line, and where they are not.
+    ensures run { IsRun (words_of words.now) → FileMeans result
+        (seen (S.left source.old) (S.faults source.old) (O.written out.old) (O.faults out.old) (E.written err.old) (E.faults err.old))
+        (seen (S.left source.new) (S.faults source.new) (O.written out.new) (O.faults out.new) (E.written err.new) (E.faults err.new)) }
+    ensures usage { (IsRun (words_of words.now) → ⊥) → UsageMeans result
+        (seen (S.left source.old) (S.faults source.old) (O.written out.old) (O.faults out.old) (E.written err.old) (E.faults err.old))
+        (seen (S.left source.new) (S.faults source.new) (O.written out.new) (O.faults out.new) (E.written err.new) (E.faults err.new)) }
+
+    // Faults are told where they came, and nowhere else.
+    ensures causes { Causes result
+        (seen (S.left source.old) (S.faults source.old) (O.written out.old) (O.faults out.old) (E.written err.old) (E.faults err.old))
+        (seen (S.left source.new) (S.faults source.new) (O.written out.new) (O.faults out.new) (E.written err.new) (E.faults err.new)) }
+
+    // Without a fault both texts are whole, unless memory was wanting.
+    ensures complete { IsComplete (words_of words.now) result
+        (seen (S.left source.old) (S.faults source.old) (O.written out.old) (O.faults out.old) (E.written err.old) (E.faults err.old))
+        (seen (S.left source.new) (S.faults source.new) (O.written out.new) (O.faults out.new) (E.written err.new) (E.faults err.new)) }
+{
+    serve(rt, words, source, out, err)
+}
+
+#[cfg(test)]
+mod tests;

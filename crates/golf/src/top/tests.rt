@@ -1,0 +1,180 @@
+use super::golf;
+use golf_base::{List, MemorySink, MemorySource, OpenGate};
+use golf_plain::{LIMIT, NOT_BUILT, READ_FAULT, Status, TOO_LONG, USAGE};
+use std::alloc::Global;
+use std::test::Fail;
+
+const EMPTY_MAIN: &[u8] = b"package main\nfunc main() {\n}\n";
+
+const LITERALS: &[u8] =
+    b"package main\nimport \"fmt\"\nfunc main() {\n\tfmt.Println(1, true, \"a\")\n}\n";
+
+const VARIABLE: &[u8] =
+    b"package main\nimport \"fmt\"\nfunc main() {\n\tx := 7\n\tfmt.Println(x, \"a\\tb\", false)\n}\n";
+
+// How a call ended, and what it wrote.
+#[derive(Drop)]
+struct Outcome {
+    status: Status,
+    out: MemorySink,
+    err: MemorySink,
+}
+
+// A list of these numbers.
+fn numbers(alloc: Global, items: &[u32]) -> Result<List<u32>, Fail> {
+    let mut list = List::new(alloc);
+    list.extend_from_slice(items)?;
+    Ok(list)
+}
+
+// The program over a file in memory, of which the calls with these numbers fail, and those of the
+// output sink. The source and both sinks take four bytes a call.
+fn call<R: AllocGlobal>(
+    rt: &R,
+    words: &[&str],
+    file: List<u8>,
+    read_faults: &[u32],
+    write_faults: &[u32],
+) -> Result<Outcome, Fail> {
+    let alloc = rt.alloc();
+    let mut source = MemorySource::new(file, 4, numbers(alloc, read_faults)?);
+    let mut out = MemorySink::new(alloc, 4096, 4, numbers(alloc, write_faults)?)?;
+    let mut err = MemorySink::new(alloc, 4096, 4, List::new(alloc))?;
+    let mut given = Vec::new(alloc);
+    for word in words {
+        given.push(String::from_str(alloc, *word)?)?;
+    }
+    let status = golf(rt, &given, &mut source, &mut out, &mut err, &OpenGate);
+    Ok(Outcome { status, out, err })
+}
+
+fn run<R: AllocGlobal>(rt: &R, file: &[u8]) -> Result<Outcome, Fail> {
+    let mut bytes = List::new(rt.alloc());
+    bytes.extend_from_slice(file)?;
+    call(rt, &["run"], bytes, &[], &[])
+}
+
+#[test]
+fn an_empty_main_writes_nothing(rt: HostRuntime) -> Result<(), Fail> {
+    let got = run(&rt, EMPTY_MAIN)?;
+    assert!(rt; got.status == Status::Clean);
+    assert_eq!(rt; got.out.written(), b"".as_slice());
+    assert_eq!(rt; got.err.written(), b"".as_slice());
+    Ok(())
+}
+
+#[test]
+fn literals_are_printed_with_one_space_between(rt: HostRuntime) -> Result<(), Fail> {
+    let got = run(&rt, LITERALS)?;
+    assert!(rt; got.status == Status::Clean);
+    assert_eq!(rt; got.out.written(), b"1 true a\n".as_slice());
+    assert_eq!(rt; got.err.written(), b"".as_slice());
+    Ok(())
+}
+
+#[test]
+fn a_variable_and_an_escape_are_printed(rt: HostRuntime) -> Result<(), Fail> {
+    let got = run(&rt, VARIABLE)?;
+    assert!(rt; got.status == Status::Clean);
+    assert_eq!(rt; got.out.written(), b"7 a\tb false\n".as_slice());
+    Ok(())
+}
+
+#[test]
+fn a_variable_may_be_named_main_or_init(rt: HostRuntime) -> Result<(), Fail> {
+    let file =
+        b"package main\nimport \"fmt\"\nfunc main() {\n\tmain := 1\n\tinit := 2\n\tfmt.Println(main, init)\n}\n";
+    let got = run(&rt, file)?;
+    assert!(rt; got.status == Status::Clean);
+    assert_eq!(rt; got.out.written(), b"1 2\n".as_slice());
+    Ok(())
+}
+
+#[test]
+fn files_that_are_no_plain_files_are_refused(rt: HostRuntime) -> Result<(), Fail> {
+    let bodies: [&[u8]; 12] = [
+        b"\tfmt.Println(y)\n",
+        b"\tx := 1\n\tx := 2\n",
+        b"\tint := 1\n",
+        b"\tfmt := 1\n",
+        b"\t_ := 1\n",
+        b"\tfor := 1\n",
+        b"\tx := 9223372036854775808\n",
+        b"\tx := 01\n",
+        b"\tx:=1\n",
+        b"\tfmt.Println(1,2)\n",
+        b"\tfmt.Println(\"a\\q\")\n",
+        b"\tfmt.Println(1)",
+    ];
+    for body in bodies.iter() {
+        let mut file = List::new(rt.alloc());
+        file.extend_from_slice(b"package main\nimport \"fmt\"\nfunc main() {\n")?;
+        file.extend_from_slice(*body)?;
+        file.extend_from_slice(b"}\n")?;
+        let got = call(&rt, &["run"], file, &[], &[])?;
+        assert!(rt; got.status == Status::Refused);
+        assert_eq!(rt; got.out.written(), b"".as_slice());
+        assert_eq!(rt; got.err.written(), NOT_BUILT.as_slice());
+    }
+    Ok(())
+}
+
+#[test]
+fn printing_needs_the_import(rt: HostRuntime) -> Result<(), Fail> {
+    let got = run(&rt, b"package main\nfunc main() {\n\tfmt.Println(1)\n}\n")?;
+    assert!(rt; got.status == Status::Refused);
+    assert_eq!(rt; got.err.written(), NOT_BUILT.as_slice());
+    Ok(())
+}
+
+#[test]
+fn a_file_of_one_byte_more_than_the_limit_is_too_long(rt: HostRuntime) -> Result<(), Fail> {
+    let mut file = List::new(rt.alloc());
+    file.extend_with(LIMIT as usize + 1, b'a')?;
+    let got = call(&rt, &["run"], file, &[], &[])?;
+    assert!(rt; got.status == Status::Refused);
+    assert_eq!(rt; got.err.written(), TOO_LONG.as_slice());
+    Ok(())
+}
+
+#[test]
+fn a_source_that_fails_is_a_read_fault(rt: HostRuntime) -> Result<(), Fail> {
+    let mut file = List::new(rt.alloc());
+    file.extend_from_slice(EMPTY_MAIN)?;
+    let got = call(&rt, &["run"], file, &[2], &[])?;
+    assert!(rt; got.status == Status::ReadFault);
+    assert_eq!(rt; got.out.written(), b"".as_slice());
+    assert_eq!(rt; got.err.written(), READ_FAULT.as_slice());
+    Ok(())
+}
+
+#[test]
+fn a_sink_that_fails_holds_a_front_of_the_output(rt: HostRuntime) -> Result<(), Fail> {
+    let mut file = List::new(rt.alloc());
+    file.extend_from_slice(LITERALS)?;
+    let got = call(&rt, &["run"], file, &[], &[2])?;
+    assert!(rt; got.status == Status::WriteFault);
+    assert_eq!(rt; got.out.written(), b"1 tr".as_slice());
+    assert_eq!(rt; got.err.written(), b"".as_slice());
+    Ok(())
+}
+
+#[test]
+fn other_words_than_run_are_refused_and_nothing_is_read(rt: HostRuntime) -> Result<(), Fail> {
+    let lines: [&[&str]; 5] = [
+        &[],
+        &["run", "--markers", "17"],
+        &["run", "run"],
+        &["Run"],
+        &["run", "--"],
+    ];
+    for words in lines.iter() {
+        let mut file = List::new(rt.alloc());
+        file.extend_from_slice(EMPTY_MAIN)?;
+        let got = call(&rt, *words, file, &[1], &[])?;
+        assert!(rt; got.status == Status::Usage);
+        assert_eq!(rt; got.out.written(), b"".as_slice());
+        assert_eq!(rt; got.err.written(), USAGE.as_slice());
+    }
+    Ok(())
+}

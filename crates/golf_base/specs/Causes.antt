@@ -1,0 +1,25 @@
+-- Counts of faults, and what reads and writes did to known bytes.
+use Rattle.std.specs.Prelude.{◌≡◌, ℕ, ◌+◌, ◌-◌, ◌^◌, ◌<◌, ◌≤◌, min, List, ◌++◌, length, Option, Result, OnOk, OnErr}
+use Rattle.std.specs.Io.KnownBytes.{Appends, Consumes}
+
+-- one more fault; the count stands still at its type's end
+abbrev pub next_fault : ℕ → ℕ
+next_fault faults = min (faults + 1) (2 ^ 64 - 1)
+
+-- the count has risen, or stands at its last value
+abbrev pub Rose : ℕ → ℕ → Type 0
+Rose before now = next_fault before ≤ now
+
+-- an error comes only where the count rose, and wherever it rose
+pub record HasCause {T E : Type 0} (before now : ℕ) (result : Result T E) : Type 0 where
+  pub later : before ≤ now
+  pub failed : OnErr result (Rose before now)
+  pub steady : OnOk result (now ≡ before)
+
+-- more than so many known bytes were taken
+abbrev pub ReadsSome : Option (List ℕ) → Option (List ℕ) → ℕ → Type 0
+ReadsSome old new limit = (bytes : List ℕ) × Consumes old new bytes × (limit < length bytes)
+
+-- a front of the piece was appended
+abbrev pub WritesFront : Option (List ℕ) → Option (List ℕ) → List ℕ → Type 0
+WritesFront old new piece = (front rest : List ℕ) × (piece ≡ front ++ rest) × Appends old new front

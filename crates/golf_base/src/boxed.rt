@@ -1,0 +1,61 @@
+//! A box that contracts see as its value.
+
+ghost use Rattle.std.specs.Prelude.{◌≡◌, IfOk};
+
+use crate::Memory;
+use std::alloc::Global;
+use std::marker::Model;
+
+/// A `Box` that contracts see as its value: its place in memory occurs in no clause. Trees lead to
+/// their parts by it.
+#[derive(Debug, Drop)]
+pub struct Boxed<T> {
+    inner: Box<T>,
+}
+
+impl<T> Model for Boxed<T> {
+    ghost Value = { T };
+
+    ghost coded = { T.code };
+
+    ghost view = { λ b. b.inner.value };
+}
+
+impl<T> Boxed<T> {
+    pub fn get(&self) -> &T
+        ensures { result.now ≡ self.now }
+    {
+        &self.inner
+    }
+
+    pub fn into_inner(self) -> T
+        ensures { result ≡ self }
+    {
+        let Boxed { inner } = self;
+        Box::into_inner(inner)
+    }
+}
+
+impl<T: Drop> Boxed<T> {
+    pub fn new(alloc: Global, value: T) -> Result<Boxed<T>, Memory>
+        ensures { IfOk result (λ b. b ≡ value) }
+    {
+        Ok(Boxed {
+            inner: Box::new(alloc, value)?,
+        })
+    }
+}
+
+#[cfg(test)]
+mod tests {
+    use super::Boxed;
+    use std::test::Fail;
+
+    #[test]
+    fn a_box_gives_its_value_back(rt: HostRuntime) -> Result<(), Fail> {
+        let boxed = Boxed::new(rt.alloc(), 7u32)?;
+        assert_eq!(rt; *boxed.get(), 7);
+        assert_eq!(rt; boxed.into_inner(), 7);
+        Ok(())
+    }
+}

@@ -1,0 +1,168 @@
+//! A vector that contracts see as the list of its items.
+
+ghost use Rattle.std.specs.Prelude.{◌≡◌, [], ◌∷◌, ◌++◌, ◌<◌, ◌↔◌, length, remove, replicate, slice_get, slice_set, take, IsTrue, MatchOption, OnOk, OnErr};
+ghost use Rattle.std.specs.Borrow.{Lends, sem, Array};
+ghost use Rattle.golf_base.specs.contracts.list.List.{the_row};
+ghost use Rattle.golf_base.specs.Overwritten.{overwritten};
+
+use crate::Memory;
+use std::alloc::Global;
+use std::marker::Model;
+
+/// A vector that contracts see as the list of its items: its room and its place in memory occur in
+/// no clause, so that two lists with the same items are equal.
+///
+/// `push`, `set` and `extend_from_slice` aside, no call takes memory.
+#[derive(Debug, Drop)]
+pub struct List<T> {
+    items: Vec<T>,
+}
+
+impl<T> Model for List<T> {
+    ghost use Rattle.std.specs.Prelude.{List};
+    ghost use Rattle.std.specs.Coded.{coded_list};
+
+    ghost Value = { List T };
+
+    ghost coded = { coded_list T.code };
+
+    ghost view = { λ l. l.items.items };
+}
+
+impl<T> List<T> {
+    /// The empty list. It takes no memory.
+    pub fn new(alloc: Global) -> List<T>
+        ensures { result ≡ [] }
+    {
+        List {
+            items: Vec::new(alloc),
+        }
+    }
+
+    /// The items of a vector, as they lie in memory.
+    pub fn from_vec(items: Vec<T>) -> List<T>
+        ensures { result ≡ items.items }
+    {
+        List { items }
+    }
+
+    pub fn len(&self) -> usize
+        ensures { result ≡ length self.now }
+    {
+        self.items.len()
+    }
+
+    pub fn is_empty(&self) -> bool
+        ensures { IsTrue result ↔ (self.now ≡ []) }
+    {
+        self.items.is_empty()
+    }
+
+    pub fn as_slice(&self) -> &[T]
+        ensures { result.now ≡ self.now }
+    {
+        self.items.as_slice()
+    }
+
+    pub fn as_mut_slice(&mut self) -> &mut [T]
+        ensures* writes_back { sem 𝓛 (Lends (the_row T.row) (Array T.row 0) self.entry result (overwritten self.old)) }
+        ensures value { result.now ≡ self.old }
+    {
+        self.items.as_mut_slice()
+    }
+
+    /// Takes the last item.
+    pub fn pop(&mut self) -> Option<T>
+        ensures { MatchOption result ((self.old ≡ []) × (self.new ≡ [])) (λ last. self.old ≡ self.new ++ last ∷ []) }
+    {
+        self.items.pop()
+    }
+
+    /// Takes the item at a place, and closes up the list.
+    pub fn remove(&mut self, at: usize) -> T
+        requires { at < length self.old }
+        ensures item { slice_get self.old at ≡ Some result }
+        ensures rest { self.new ≡ remove self.old at }
+    {
+        self.items.remove(at)
+    }
+}
+
+impl<T: Drop> List<T> {
+    pub fn clear(&mut self)
+        ensures { self.new ≡ [] }
+    {
+        self.items.clear();
+    }
+
+    /// Drops the items from place `n` on.
+    pub fn truncate(&mut self, n: usize)
+        ensures { self.new ≡ take n self.old }
+    {
+        self.items.truncate(n);
+    }
+
+    pub fn set(&mut self, at: usize, item: T)
+        requires { at < length self.old }
+        ensures { self.new ≡ slice_set self.old at item }
+    {
+        self.items[at] = item;
+    }
+
+    /// Adds an item at the end.
+    pub fn push(&mut self, item: T) -> Result<(), Memory>
+        ensures ok { OnOk result (self.new ≡ self.old ++ item ∷ []) }
+        ensures err { OnErr result (self.new ≡ self.old) }
+    {
+        self.items.push(item)?;
+        Ok(())
+    }
+}
+
+impl<T: Copy> List<T> {
+    /// Adds copies of the items at the end, all of them or, on an `Err`, none.
+    pub fn extend_from_slice(&mut self, more: &[T]) -> Result<(), Memory>
+        ensures ok { OnOk result (self.new ≡ self.old ++ more.now) }
+        ensures err { OnErr result (self.new ≡ self.old) }
+    {
+        self.items.extend_from_slice(more)?;
+        Ok(())
+    }
+}
+
+impl<T: Copy> List<T> {
+    /// Adds `count` copies of an item at the end, all of them or, on an `Err`, none.
+    pub fn extend_with(&mut self, count: usize, item: T) -> Result<(), Memory>
+        ensures ok { OnOk result (self.new ≡ self.old ++ replicate count item) }
+        ensures err { OnErr result (self.new ≡ self.old) }
+    {
+        let end = self.items.len().checked_add(count).ok_or(Memory)?;
+        self.items.resize(end, item)?;
+        Ok(())
+    }
+}
+
+#[cfg(test)]
+mod tests {
+    use super::List;
+    use std::test::Fail;
+
+    #[test]
+    fn a_list_is_filled_changed_and_emptied(rt: HostRuntime) -> Result<(), Fail> {
+        let mut list = List::new(rt.alloc());
+        assert!(rt; list.is_empty());
+        list.push(3u32)?;
+        list.push(5)?;
+        list.extend_from_slice(&[8, 13])?;
+        list.set(0, 2);
+        list.as_mut_slice()[1] = 4;
+        assert_eq!(rt; list.as_slice(), [2, 4, 8, 13].as_slice());
+        assert_eq!(rt; list.remove(1), 4);
+        assert_eq!(rt; list.pop(), Some(13));
+        list.truncate(1);
+        assert_eq!(rt; list.len(), 1);
+        list.clear();
+        assert_eq!(rt; list.pop(), None);
+        Ok(())
+    }
+}

@@ -1,0 +1,184 @@
+//! A vector of which contracts also see how many items it can take without memory.
+
+ghost use Rattle.std.specs.Prelude.{◌≡◌, [], ◌∷◌, ◌++◌, ◌+◌, ◌-◌, ◌<◌, ◌≤◌, ◌↔◌, length, remove, slice_get, take, IsTrue, MatchOption, OnOk, OnErr};
+ghost use Rattle.std.specs.Borrow.{Lends, sem, Array};
+ghost use Rattle.golf_base.specs.contracts.room.Room.{the_row};
+ghost use Rattle.golf_base.specs.Roomy.{with_overwritten};
+
+use crate::{List, Memory};
+use std::alloc::Global;
+use std::marker::Model;
+
+/// A vector of which contracts see the items and one number more, `spare`: how many items it can
+/// still take without memory.
+///
+/// `push` and `reserve` alone take memory, and `push_ready` and `push` alone lower `spare`.
+#[derive(Debug, Drop)]
+pub struct Room<T> {
+    inner: Vec<T>,
+}
+
+impl<T> Model for Room<T> {
+    ghost use Rattle.std.specs.Prelude.{List, ℕ, ◌-◌, vec_len, vec_capacity};
+    ghost use Rattle.golf_base.specs.Roomy.{Roomy, roomy_code};
+
+    ghost Value = { Roomy T };
+
+    ghost coded = { roomy_code T.code };
+
+    ghost view = { λ r. record { items = r.inner.items; spare = vec_capacity r.inner - vec_len r.inner } };
+}
+
+impl<T> Room<T> {
+    /// No items, and no room. It takes no memory.
+    pub fn new(alloc: Global) -> Room<T>
+        ensures items { result.items ≡ [] }
+        ensures spare { result.spare ≡ 0 }
+    {
+        Room {
+            inner: Vec::new(alloc),
+        }
+    }
+
+    pub fn len(&self) -> usize
+        ensures { result ≡ length self.now.items }
+    {
+        self.inner.len()
+    }
+
+    pub fn is_empty(&self) -> bool
+        ensures { IsTrue result ↔ (self.now.items ≡ []) }
+    {
+        self.inner.is_empty()
+    }
+
+    /// How many items it can take without memory.
+    pub fn spare(&self) -> usize
+        ensures { result ≡ self.now.spare }
+    {
+        self.inner.capacity() - self.inner.len()
+    }
+
+    pub fn as_slice(&self) -> &[T]
+        ensures { result.now ≡ self.now.items }
+    {
+        self.inner.as_slice()
+    }
+
+    pub fn as_mut_slice(&mut self) -> &mut [T]
+        ensures* writes_back { sem 𝓛 (Lends (the_row T.row) (Array T.row 0) self.entry result (with_overwritten self.old)) }
+        ensures value { result.now ≡ self.old.items }
+    {
+        self.inner.as_mut_slice()
+    }
+
+    /// Takes the last item.
+    pub fn pop(&mut self) -> Option<T>
+        ensures items { MatchOption result ((self.old.items ≡ []) × (self.new.items ≡ [])) (λ last. self.old.items ≡ self.new.items ++ last ∷ []) }
+        ensures spare { self.new.spare + length self.new.items ≡ self.old.spare + length self.old.items }
+    {
+        self.inner.pop()
+    }
+
+    /// Takes the item at a place, and closes up the list.
+    pub fn remove(&mut self, at: usize) -> T
+        requires { at < length self.old.items }
+        ensures item { slice_get self.old.items at ≡ Some result }
+        ensures rest { self.new.items ≡ remove self.old.items at }
+        ensures spare { self.new.spare ≡ self.old.spare + 1 }
+    {
+        self.inner.remove(at)
+    }
+
+    /// Makes `spare` at least `more`. The items stay.
+    pub fn reserve(&mut self, more: usize) -> Result<(), Memory>
+        ensures items { self.new.items ≡ self.old.items }
+        ensures spare { self.old.spare ≤ self.new.spare }
+        ensures ok { OnOk result (more ≤ self.new.spare) }
+        ensures err { OnErr result (self.new.spare ≡ self.old.spare) }
+    {
+        self.inner.reserve(more)?;
+        Ok(())
+    }
+
+    /// The items as a `List`, as they lie in memory.
+    pub fn into_list(self) -> List<T>
+        ensures { result ≡ self.items }
+    {
+        let Room { inner } = self;
+        List::from_vec(inner)
+    }
+}
+
+impl<T: Drop> Room<T> {
+    /// Drops all items, and keeps their room.
+    pub fn clear(&mut self)
+        ensures items { self.new.items ≡ [] }
+        ensures spare { self.new.spare ≡ self.old.spare + length self.old.items }
+    {
+        self.inner.clear();
+    }
+
+    /// Drops the items from place `n` on, and keeps their room.
+    pub fn truncate(&mut self, n: usize)
+        ensures items { self.new.items ≡ take n self.old.items }
+        ensures spare { self.new.spare + length self.new.items ≡ self.old.spare + length self.old.items }
+    {
+        self.inner.truncate(n);
+    }
+
+    /// Adds an item at the end, for which there is room.
+    pub fn push_ready(&mut self, value: T)
+        requires { 0 < self.old.spare }
+        ensures items { self.new.items ≡ self.old.items ++ value ∷ [] }
+        ensures spare { self.new.spare + 1 ≡ self.old.spare }
+    {
+        let end = self.inner.len();
+        let _ = self.inner.insert(end, value);
+    }
+
+    /// Adds an item at the end.
+    pub fn push(&mut self, value: T) -> Result<(), Memory>
+        ensures ok { OnOk result (self.new.items ≡ self.old.items ++ value ∷ []) }
+        ensures err { OnErr result (self.new.items ≡ self.old.items) }
+        ensures spare { self.old.spare ≤ self.new.spare + 1 }
+    {
+        self.inner.push(value)?;
+        Ok(())
+    }
+}
+
+#[cfg(test)]
+mod tests {
+    use super::Room;
+    use std::test::Fail;
+
+    #[test]
+    fn a_room_is_filled_without_memory_and_given_away(rt: HostRuntime) -> Result<(), Fail> {
+        let mut room = Room::new(rt.alloc());
+        assert!(rt; room.is_empty());
+        room.reserve(2)?;
+        assert!(rt; room.spare() >= 2);
+        room.push_ready(3u32);
+        room.push_ready(5);
+        room.push(8)?;
+        room.as_mut_slice()[0] = 2;
+        assert_eq!(rt; room.as_slice(), [2, 5, 8].as_slice());
+        assert_eq!(rt; room.len(), 3);
+        assert_eq!(rt; room.remove(0), 2);
+        assert_eq!(rt; room.pop(), Some(8));
+        assert_eq!(rt; room.into_list().as_slice(), [5].as_slice());
+        Ok(())
+    }
+
+    #[test]
+    fn a_cleared_room_keeps_its_room(rt: HostRuntime) -> Result<(), Fail> {
+        let mut room = Room::new(rt.alloc());
+        room.push(3u32)?;
+        let before = room.spare();
+        room.clear();
+        assert_eq!(rt; room.pop(), None);
+        assert!(rt; room.spare() == before + 1);
+        Ok(())
+    }
+}

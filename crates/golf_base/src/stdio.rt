@@ -1,0 +1,109 @@
+//! The real streams, of whose content nothing is told: the trusted edge of the program.
+
+ghost use Rattle.std.specs.Prelude.{None, ◌<◌, IfSome, length};
+ghost use Rattle.std.specs.Counts.{IsPrefixLen};
+
+use crate::streams::{Failed, Sink, Source, one_more};
+use std::io::{Read, Stderr, Stdin, Stdout, Write};
+
+/// Standard input. Its count of faults rises at each read that fails.
+#[derive(Drop)]
+pub struct StdSource {
+    input: Stdin,
+    failed: u64,
+}
+
+impl StdSource {
+    pub fn new(input: Stdin) -> StdSource {
+        StdSource { input, failed: 0 }
+    }
+}
+
+impl Source for StdSource {
+    ghost left = { λ _. None };
+
+    ghost faults = { λ s. s.failed };
+
+    fn read(&mut self, into: &mut [u8]) -> Result<usize, Failed> {
+        match self.input.read(into) {
+            Ok(count) => Ok(count),
+            Err(_) => {
+                self.failed = one_more(self.failed);
+                Err(Failed)
+            }
+        }
+    }
+}
+
+// Writes bytes of the front of the piece and flushes. None where that failed, or where nothing of
+// a piece that is not empty was taken.
+fn write_and_flush<W: Write>(output: &mut W, piece: &[u8]) -> Option<usize>
+    ensures bound { IfSome result (λ n. IsPrefixLen n piece.now) }
+    ensures some { IfSome result (λ n. 0 < length piece.now → 0 < n) }
+{
+    let count = output.write(piece).ok()?;
+    output.flush().ok()?;
+    if count == 0 && !piece.is_empty() {
+        return None;
+    }
+    Some(count)
+}
+
+/// Standard output. Its count of faults rises at each write or flush that fails, and at each write
+/// that takes nothing of a piece that is not empty.
+#[derive(Drop)]
+pub struct StdSink {
+    output: Stdout,
+    failed: u64,
+}
+
+impl StdSink {
+    pub fn new(output: Stdout) -> StdSink {
+        StdSink { output, failed: 0 }
+    }
+}
+
+impl Sink for StdSink {
+    ghost written = { λ _. None };
+
+    ghost faults = { λ s. s.failed };
+
+    fn write(&mut self, piece: &[u8]) -> Result<usize, Failed> {
+        match write_and_flush(&mut self.output, piece) {
+            Some(count) => Ok(count),
+            None => {
+                self.failed = one_more(self.failed);
+                Err(Failed)
+            }
+        }
+    }
+}
+
+/// Standard error, which counts its faults as `StdSink` does.
+#[derive(Drop)]
+pub struct StdErrSink {
+    output: Stderr,
+    failed: u64,
+}
+
+impl StdErrSink {
+    pub fn new(output: Stderr) -> StdErrSink {
+        StdErrSink { output, failed: 0 }
+    }
+}
+
+impl Sink for StdErrSink {
+    ghost written = { λ _. None };
+
+    ghost faults = { λ s. s.failed };
+
+    fn write(&mut self, piece: &[u8]) -> Result<usize, Failed> {
+        match write_and_flush(&mut self.output, piece) {
+            Some(count) => Ok(count),
+            None => {
+                self.failed = one_more(self.failed);
+                Err(Failed)
+            }
+        }
+    }
+}

@@ -1,0 +1,158 @@
+//! Goroutines: their frames, how they wait, and how a program ends.
+
+use crate::value::Value;
+use golf_base::{GoroutineId, List, ObjectId, Room};
+
+/// A call that has not returned.
+#[derive(Debug, Drop)]
+pub struct Frame {
+    pub function: u32,
+    /// The place of the next instruction.
+    pub at: u32,
+    pub slots: List<Value>,
+    pub operands: Room<Value>,
+    /// The deferred calls, the last one on top.
+    pub deferred: List<Deferred>,
+    pub leaving: Leaving,
+    /// Whether its value goes nowhere: true for a deferred or first frame.
+    pub discards: bool,
+}
+
+/// A call that runs when its frame leaves.
+#[derive(Debug, Drop)]
+pub struct Deferred {
+    pub function: u32,
+    pub arguments: List<Value>,
+}
+
+/// How a frame is leaving.
+#[derive(Clone, Copy, Debug, PartialEq, Eq)]
+pub enum Leaving {
+    No,
+    /// With the value that it returns, where it has one.
+    Returning(Option<Value>),
+    Unwinding(Fault),
+}
+
+/// A panic or a fatal error, and the line where it came.
+#[derive(Clone, Copy, Debug, PartialEq, Eq)]
+pub struct Fault {
+    pub kind: PanicKind,
+    pub line: u32,
+}
+
+/// Why a goroutine panics, or why the program ends with a fatal error.
+#[derive(Clone, Copy, Debug, PartialEq, Eq)]
+pub enum PanicKind {
+    /// `panic` of a text of the code's table.
+    Custom(u32),
+    NilPointer,
+    Index { at: i64, length: u32 },
+    DivideByZero,
+    SliceSize,
+    ChanSize,
+    SendClosed,
+    CloseClosed,
+    CloseNil,
+    NegativeGroup,
+    /// Fatal.
+    UnlockUnlocked,
+    /// Fatal.
+    UnlockUnlockedRw,
+    /// Fatal.
+    RUnlockUnlocked,
+    /// Fatal.
+    ReaderLimit,
+    /// Fatal.
+    FinalizerSet,
+    /// Fatal.
+    StackOverflow,
+}
+
+/// A goroutine that has not ended.
+#[derive(Debug, Drop)]
+pub struct Goroutine {
+    /// The frames, the innermost one last.
+    pub frames: List<Frame>,
+    pub mode: Mode,
+    /// The line of the `go` statement, or of `func main` for goroutine 1.
+    pub started: u32,
+}
+
+/// Whether a goroutine runs.
+#[derive(Debug, Drop)]
+pub enum Mode {
+    /// Runnable, or goroutine 0 without a frame.
+    Running,
+    Blocked {
+        kind: WaitKind,
+        /// The line of the instruction that blocked.
+        line: u32,
+        /// In the source order of the cases.
+        waits: List<Wait>,
+        ticket: u64,
+    },
+}
+
+/// What a report says of a blocked goroutine.
+#[derive(Clone, Copy, Debug, PartialEq, Eq)]
+pub enum WaitKind {
+    Receive,
+    ReceiveNil,
+    Send,
+    SendNil,
+    Select,
+    SelectNone,
+    Lock,
+    Group,
+    ReadLock,
+    WriteLock,
+    Condition,
+}
+
+/// One object that a blocked goroutine waits on.
+#[derive(Clone, Copy, Debug, PartialEq, Eq)]
+pub struct Wait {
+    pub object: ObjectId,
+    pub side: Side,
+    /// The value to send, else nil.
+    pub value: Value,
+    /// Where the goroutine goes on when this wait is served; none: where it stands.
+    pub target: Option<u32>,
+    /// Whether a receive also gives whether the value was sent.
+    pub with_ok: bool,
+}
+
+/// On which side of an object a goroutine waits.
+#[derive(Clone, Copy, Debug, PartialEq, Eq)]
+pub enum Side {
+    Receive,
+    Send,
+    Lock,
+    Group,
+    Read,
+    Write,
+    Cond,
+}
+
+/// How a program has ended.
+#[derive(Clone, Copy, Debug, PartialEq, Eq)]
+pub enum Ending {
+    /// Goroutine 1 has returned.
+    Returned,
+    /// The last frame of a goroutine was unwound, or there was a fatal error.
+    Panicked {
+        kind: PanicKind,
+        goroutine: GoroutineId,
+        line: u32,
+    },
+    /// No goroutine can run.
+    Asleep,
+}
+
+/// A finaliser that was queued: its function and the object that it is to be called with.
+#[derive(Clone, Copy, Debug, PartialEq, Eq)]
+pub struct Queued {
+    pub object: ObjectId,
+    pub function: u32,
+}

@@ -1,0 +1,15 @@
+//! Plain data of a running program: code, values and objects, goroutines, reports.
+#![tactic(auto)]
+
+mod code;
+mod goroutine;
+mod report;
+mod value;
+
+pub use code::{CaseKind, Code, Function, Instr, Line, SelectCase};
+pub use goroutine::{
+    Deferred, Ending, Fault, Frame, Goroutine, Leaving, Mode, PanicKind, Queued, Side, Wait,
+    WaitKind,
+};
+pub use report::{Book, Entry, Report};
+pub use value::{Channel, Object, Value};

@@ -1,0 +1,105 @@
+-- A set of objects and a set of goroutines that a run does not leave.
+use Rattle.std.specs.Prelude.{◌≡◌, ℕ, ◌+◌, ◌<◌, ◌≤◌, ◌⊎◌, true, false, List, [], ◌∷◌, None}
+use Rattle.golf_theory.specs.Membership.{In, Every, is_in}
+use Rattle.golf_theory.specs.Maps.{Entry, find, keys}
+use Rattle.golf_theory.specs.Agreement.{AgreeOutside}
+use Rattle.golf_data.specs.declared.value.Object.{Object}
+use Rattle.golf_model.specs.Plain.{PlainFrame, PlainGoroutine}
+use Rattle.golf_model.specs.Values.{value_refs, refs}
+use Rattle.golf_model.specs.State.{State, is_running}
+use Rattle.golf_model.specs.Waiting.{waits_of}
+use Rattle.golf_model.specs.Waking.{Waking}
+use Rattle.golf_model.specs.Changes.{Change}
+use Rattle.golf_model.specs.Acting.{Actor}
+use Rattle.golf_model.specs.Reaching.{reach, sources}
+use Rattle.golf_model.specs.Refs.{object_refs, deferred_refs, leaving_refs, frames_refs, wait_refs, goroutine_refs, queue_refs, waited}
+
+-- globals, the queue, finalised objects, the set's objects and the set's goroutines refer to objects of the set alone;
+-- who runs, and who waits on an object of the set, is in the set, and so are goroutine 0 and every number not given yet
+pub record Closed (s : State) (O G : ℕ → Type 0) : Type 0 where
+  pub globals : Every O (refs s.globals)
+  pub queue : Every O (queue_refs s.queue)
+  pub finalised : (p f : ℕ) (x : Object) → Entry s.finalisers p f → Entry s.objects p x → Every O (object_refs x)
+  pub objects : (p : ℕ) (x : Object) → O p → Entry s.objects p x → Every O (object_refs x)
+  pub goroutines : (g : ℕ) (r : PlainGoroutine) → G g → Entry s.goroutines g r → Every O (goroutine_refs r)
+  pub running : (g : ℕ) (r : PlainGoroutine) → Entry s.goroutines g r → is_running r.mode ≡ true → G g
+  pub awake : (g : ℕ) (r : PlainGoroutine) (o : ℕ) → Entry s.goroutines g r → In o (waited (waits_of r.mode)) → O o → G g
+  pub zero_in : G 0
+  pub new_objects : (o : ℕ) → s.last_object < o → O o
+  pub new_goroutines : (g : ℕ) → s.next_goroutine ≤ g → G g
+
+-- what is outside the sets stands as it stood
+pub record Confined (O G : ℕ → Type 0) (s t : State) : Type 0 where
+  pub objects : AgreeOutside O s.objects t.objects
+  pub finalisers : AgreeOutside O s.finalisers t.finalisers
+  pub goroutines : AgreeOutside G s.goroutines t.goroutines
+
+-- what a waking hands out refers to the set alone
+abbrev pub GoodWaking : (ℕ → Type 0) → Waking → Type 0
+GoodWaking O (Waking.Closing zero) = Every O (value_refs zero)
+GoodWaking O Waking.AtZero = Unit {0}
+GoodWaking O (Waking.ToReaders below) = Unit {0}
+
+-- a change that concerns members of the sets alone, and stores references to members alone; a finaliser is set for an object of the third set
+abbrev pub Good : (ℕ → Type 0) → (ℕ → Type 0) → (ℕ → Type 0) → Change → Type 0
+Good O G F (Change.Make x) = Every O (object_refs x)
+Good O G F (Change.Replace o x) = O o × Every O (object_refs x)
+Good O G F (Change.SetGlobal i v) = Every O (value_refs v)
+Good O G F (Change.Become g r) = G g × Every O (goroutine_refs r)
+Good O G F (Change.Block g kind line waits r) = G g × Every O (frames_refs r.frames) × Every O (wait_refs waits)
+Good O G F (Change.Spawn r) = Every O (goroutine_refs r)
+Good O G F (Change.Leave g) = G g
+Good O G F (Change.Finish e) = Unit {0}
+Good O G F (Change.SetFinaliser o f) = O o × F o
+Good O G F (Change.ClearFinaliser o) = O o
+Good O G F Change.TakeQueued = Unit {0}
+Good O G F (Change.Output bytes) = Unit {0}
+Good O G F (Change.WakeAll o how) = O o × GoodWaking O how
+Good O G F (Change.PassOn g m) = G g × O m
+
+-- none
+abbrev pub Nothing : ℕ → Type 0
+Nothing n = ⊥
+
+-- each change is good, and no finaliser is set
+abbrev pub AllGood : (ℕ → Type 0) → (ℕ → Type 0) → List Change → Type 0
+AllGood O G cs = Every (Good O G Nothing) cs
+
+-- the sets and the last object number behind a change: an object that was made joins its set, and no second finaliser is set
+abbrev pub objects_after : Change → (ℕ → Type 0) → ℕ → ℕ → Type 0
+objects_after (Change.Make x) O n = λ o. O o ⊎ (o ≡ n + 1)
+objects_after _ O n = O
+
+abbrev pub last_after : Change → ℕ → ℕ
+last_after (Change.Make x) n = n + 1
+last_after _ n = n
+
+abbrev pub finalisable_after : Change → (ℕ → Type 0) → ℕ → Type 0
+finalisable_after (Change.SetFinaliser o f) F = Nothing
+finalisable_after _ F = F
+
+-- each change is good for what holds behind those before it; n is the last object number
+abbrev pub Sound : (ℕ → Type 0) → (ℕ → Type 0) → (ℕ → Type 0) → ℕ → List Change → Type 0
+Sound O G F n [] = Unit {0}
+Sound O G F n (c ∷ cs) = Good O G F c × Sound (objects_after c O n) G (finalisable_after c F) (last_after c n) cs
+
+-- the parts of a frame refer to members alone
+pub record FrameIn (O : ℕ → Type 0) (f : PlainFrame) : Type 0 where
+  pub slots : Every O (refs f.slots)
+  pub operands : Every O (refs f.operands)
+  pub deferred : Every O (deferred_refs f.deferred)
+  pub leaving : Every O (leaving_refs f.leaving)
+
+-- the acting goroutine is a member, and refers to members alone
+pub record ActorIn (O G : ℕ → Type 0) (a : Actor) : Type 0 where
+  pub number : G a.number
+  pub frame : FrameIn O a.frame
+  pub callers : Every O (frames_refs a.callers)
+
+-- the objects that have no finaliser
+abbrev pub Unfinalised : State → ℕ → Type 0
+Unfinalised s o = find o s.finalisers ≡ None
+
+-- the finalised objects that a collection would queue
+abbrev pub Queueing : State → ℕ → Type 0
+Queueing s o = In o (keys s.finalisers) × (is_in o (reach s (sources s [])) ≡ false)

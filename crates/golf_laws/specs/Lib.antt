@@ -1,0 +1,4 @@
+pub mod Invariant
+pub mod Cutting
+pub mod Laws
+pub mod Telling

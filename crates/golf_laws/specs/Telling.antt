@@ -1,0 +1,17 @@
+-- What the reports of a run tell.
+use Rattle.std.specs.Prelude.{◌≡◌, ℕ, List, [], ◌∷◌, ◌++◌, map}
+use Rattle.golf_data.specs.declared.report.Report.{Report}
+use Rattle.golf_model.specs.State.{State}
+use Rattle.golf_model.specs.Living.{dead}
+use Rattle.golf_model.specs.Reporting.{without}
+
+-- the goroutines that a report names
+abbrev pub named : Report → List ℕ
+named r = map (λ e. e.goroutine.0) r.reported
+
+-- there is one report for each stop, and it names, in rising number, those who are dead right before it and whom no earlier report named
+abbrev pub TellsOfEach : List ℕ → List State → List Report → Type 0
+TellsOfEach told [] [] = Unit {0}
+TellsOfEach told [] (r ∷ rs) = ⊥
+TellsOfEach told (p ∷ ps) [] = ⊥
+TellsOfEach told (p ∷ ps) (r ∷ rs) = (named r ≡ without (dead p) told) × TellsOfEach (told ++ named r) ps rs

@@ -1,0 +1,176 @@
+-- Mutexes, reader and writer mutexes, conditions and wait groups.
+use Rattle.std.specs.Prelude.{option_map}
+use Rattle.golf_data.specs.declared.goroutine.Mode.{Mode}
+use Rattle.golf_data.specs.declared.goroutine.Side.{Side}
+use Rattle.golf_data.specs.declared.goroutine.WaitKind.{WaitKind}
+use Rattle.golf_model.specs.Waiting.{plain_wait}
+use Rattle.std.specs.Prelude.{◌≡◌, ℕ, true, false, List, [], ◌∷◌, ◌++◌, Some, refl, pos, negsuc}
+use Rattle.std.specs.Fmt.{digits}
+use Rattle.golf_theory.specs.Maps.{find}
+use Rattle.golf_data.specs.declared.value.Object.{Object}
+use Rattle.golf_data.specs.declared.code.Code.{Code}
+use Rattle.golf_data.specs.declared.code.Instr.{Instr}
+use Rattle.golf_data.specs.declared.goroutine.Ending.{Ending}
+use Rattle.golf_data.specs.declared.goroutine.PanicKind.{PanicKind}
+use Rattle.golf_model.specs.State.{runnable, ending}
+use Rattle.golf_model.proofs.Examples.Writing.{function, push, code_with, lowest, second, third, after}
+
+-- function 1 takes the mutex, prints its number and gives it back
+abbrev handing : Code
+handing =
+    code_with []
+    (function 0 1 1 (Instr.NewMutex ∷ Instr.Store 0 ∷ Instr.Load 0 ∷ Instr.Lock ∷ Instr.Load 0 ∷ push 2 ∷ Instr.Go 1 2 ∷ Instr.Load 0 ∷ push 3 ∷ Instr.Go 1 2 ∷ Instr.Load 0 ∷ Instr.Unlock ∷ Instr.Return ∷ [])
+    ∷ function 2 2 21 (Instr.Load 0 ∷ Instr.Lock ∷ Instr.Load 1 ∷ Instr.Print 1 ∷ Instr.Load 0 ∷ Instr.Unlock ∷ Instr.Return ∷ [])
+    ∷ [])
+
+-- goroutine 3 waits first, and then goroutine 2
+abbrev both_wait : List ℕ
+both_wait = lowest 10 ++ (third 2 ++ (second 2 ++ lowest 2))
+
+-- the mutex is handed to the first waiter and stays locked
+pub stays_locked : find 1 (after handing both_wait).objects ≡ Some (Object.Mutex true)
+stays_locked = refl
+
+pub handed_in_order : (after handing (both_wait ++ (second 4 ++ second 2))).output ≡ 51 ∷ 10 ∷ 50 ∷ 10 ∷ []
+unfolding digits
+handed_in_order = refl
+
+-- nobody holds it in the end
+pub unlocked_in_the_end : find 1 (after handing (both_wait ++ (second 4 ++ second 4))).objects ≡ Some (Object.Mutex false)
+unlocked_in_the_end = refl
+
+-- an unlock of an unlocked mutex is a fatal error, which runs no deferred call
+abbrev unlocking : Code
+unlocking = code_with [] (function 0 0 1 (Instr.Defer 0 0 ∷ Instr.NewMutex ∷ Instr.Unlock ∷ []) ∷ [])
+
+pub unlock_of_unlocked : ending (after unlocking (lowest 3)) ≡ Some (Ending.Panicked PanicKind.UnlockUnlocked (record { 0 = 1 }) 3)
+unlock_of_unlocked = refl
+
+-- function 1 waits on the condition with its mutex, prints its number and unlocks
+abbrev conditional : List Instr → Code
+conditional end =
+    code_with []
+    (function 0 1 1 (Instr.NewMutex ∷ Instr.NewCond ∷ Instr.Store 0 ∷ Instr.Load 0 ∷ push 2 ∷ Instr.Go 1 2 ∷ Instr.Load 0 ∷ push 3 ∷ Instr.Go 1 2 ∷ end)
+    ∷ function 2 2 31 (Instr.Load 0 ∷ Instr.CondMutex ∷ Instr.Lock ∷ Instr.Load 0 ∷ Instr.CondWait ∷ Instr.Load 1 ∷ Instr.Print 1 ∷ Instr.Load 0 ∷ Instr.CondMutex ∷ Instr.Unlock ∷ Instr.Return ∷ [])
+    ∷ [])
+
+-- goroutine 3 waits on the condition first, and then goroutine 2
+abbrev both_await : List ℕ
+both_await = lowest 9 ++ (third 5 ++ second 5)
+
+-- under the mutex, each waiter is passed on to it, and the mutex is handed to them in that order
+abbrev under_mutex : Code
+under_mutex = conditional (Instr.Load 0 ∷ Instr.CondMutex ∷ Instr.Lock ∷ Instr.Load 0 ∷ Instr.CondBroadcast ∷ Instr.Load 0 ∷ Instr.CondMutex ∷ Instr.Unlock ∷ Instr.Return ∷ [])
+
+pub nobody_runs_yet : runnable (after under_mutex (both_await ++ lowest 5)) ≡ 1 ∷ []
+nobody_runs_yet = refl
+
+pub passed_on_in_order : (after under_mutex (both_await ++ (lowest 8 ++ (second 5 ++ second 2)))).output ≡ 51 ∷ 10 ∷ 50 ∷ 10 ∷ []
+unfolding digits
+passed_on_in_order = refl
+
+-- without it, the first waiter gets the mutex at once and the second waits for it
+abbrev without_mutex : Code
+without_mutex = conditional (Instr.Load 0 ∷ Instr.CondBroadcast ∷ Instr.Return ∷ [])
+
+pub first_gets_the_mutex : runnable (after without_mutex (both_await ++ lowest 2)) ≡ 1 ∷ 3 ∷ []
+first_gets_the_mutex = refl
+
+-- it keeps what it is reported as and its line, and has the next ticket
+pub passed_on_keeps_its_kind : option_map (λ r. r.mode) (find 2 (after without_mutex (both_await ++ lowest 2)).goroutines)
+    ≡ Some (Mode.Blocked WaitKind.Condition 35 (plain_wait 1 Side.Lock ∷ []) 2)
+passed_on_keeps_its_kind = refl
+
+pub second_waits_for_it : (after without_mutex (both_await ++ (lowest 2 ++ (second 5 ++ second 2)))).output ≡ 51 ∷ 10 ∷ 50 ∷ 10 ∷ []
+unfolding digits
+second_waits_for_it = refl
+
+-- a signal passes the first waiter on, and no other
+abbrev signalling : Code
+signalling = conditional (Instr.Load 0 ∷ Instr.CondSignal ∷ Instr.Return ∷ [])
+
+pub signal_wakes_one : (after signalling (both_await ++ (lowest 2 ++ second 6))).output ≡ 51 ∷ 10 ∷ []
+unfolding digits
+signal_wakes_one = refl
+
+pub other_still_waits : runnable (after signalling (both_await ++ (lowest 2 ++ second 6))) ≡ 1 ∷ []
+other_still_waits = refl
+
+-- function 1 reads and function 2 writes, each under the mutex that function 0 holds
+abbrev shared : Code
+shared =
+    code_with []
+    (function 0 1 1 (Instr.NewRw ∷ Instr.Store 0 ∷ Instr.Load 0 ∷ Instr.RwLock ∷ Instr.Load 0 ∷ push 2 ∷ Instr.Go 1 2 ∷ Instr.Load 0 ∷ push 3 ∷ Instr.Go 2 2 ∷ Instr.Load 0 ∷ push 4 ∷ Instr.Go 1 2 ∷ Instr.Load 0 ∷ Instr.RwUnlock ∷ Instr.Return ∷ [])
+    ∷ function 2 2 21 (Instr.Load 0 ∷ Instr.ReadLock ∷ Instr.Load 1 ∷ Instr.Print 1 ∷ Instr.Load 0 ∷ Instr.ReadUnlock ∷ Instr.Return ∷ [])
+    ∷ function 2 2 31 (Instr.Load 0 ∷ Instr.RwLock ∷ Instr.Load 1 ∷ Instr.Print 1 ∷ Instr.Load 0 ∷ Instr.RwUnlock ∷ Instr.Return ∷ [])
+    ∷ [])
+
+-- a reader, a writer and a reader wait, in this order
+abbrev three_wait : List ℕ
+three_wait = lowest 13 ++ (second 2 ++ (second 2 ++ (second 2 ++ lowest 2)))
+
+-- the reader before the writer is served, and the one behind it is not
+pub reader_before_writer : find 1 (after shared three_wait).objects ≡ Some (Object.Rw (pos 1))
+reader_before_writer = refl
+
+pub one_reader_runs : runnable (after shared three_wait) ≡ 1 ∷ 2 ∷ []
+one_reader_runs = refl
+
+-- then the writer, and then the last reader
+pub writer_holds_it : find 1 (after shared (three_wait ++ second 4)).objects ≡ Some (Object.Rw (negsuc 0))
+writer_holds_it = refl
+
+pub served_in_turn : (after shared (three_wait ++ (second 4 ++ (third 4 ++ (3 ∷ 3 ∷ []))))).output ≡ 50 ∷ 10 ∷ 51 ∷ 10 ∷ 52 ∷ 10 ∷ []
+unfolding digits
+served_in_turn = refl
+
+-- function 0 reads; a writer waits, and then a reader
+abbrev reading : Code
+reading =
+    code_with []
+    (function 0 1 1 (Instr.NewRw ∷ Instr.Store 0 ∷ Instr.Load 0 ∷ Instr.ReadLock ∷ Instr.Load 0 ∷ push 2 ∷ Instr.Go 2 2 ∷ Instr.Load 0 ∷ push 3 ∷ Instr.Go 1 2 ∷ Instr.Load 0 ∷ Instr.ReadUnlock ∷ Instr.Return ∷ [])
+    ∷ function 2 2 21 (Instr.Load 0 ∷ Instr.ReadLock ∷ Instr.Load 1 ∷ Instr.Print 1 ∷ Instr.Load 0 ∷ Instr.ReadUnlock ∷ Instr.Return ∷ [])
+    ∷ function 2 2 31 (Instr.Load 0 ∷ Instr.RwLock ∷ Instr.Load 1 ∷ Instr.Print 1 ∷ Instr.Load 0 ∷ Instr.RwUnlock ∷ Instr.Return ∷ [])
+    ∷ [])
+
+-- the reader waits behind the writer, although the mutex is held by a reader
+pub reader_behind_writer : runnable (after reading (lowest 10 ++ (second 2 ++ second 2))) ≡ 1 ∷ []
+reader_behind_writer = refl
+
+pub writer_is_next : runnable (after reading (lowest 10 ++ (second 2 ++ (second 2 ++ lowest 2)))) ≡ 1 ∷ 2 ∷ []
+writer_is_next = refl
+
+-- two readers hold it at a time
+pub readers_share : find 1 (after reading (lowest 10 ++ (third 2 ++ []))).objects ≡ Some (Object.Rw (pos 2))
+readers_share = refl
+
+-- a reader's unlock without a reader is a fatal error
+pub reader_unlock_of_unlocked : ending (after (code_with [] (function 0 0 1 (Instr.NewRw ∷ Instr.ReadUnlock ∷ []) ∷ [])) (lowest 2)) ≡ Some (Ending.Panicked PanicKind.RUnlockUnlocked (record { 0 = 1 }) 2)
+reader_unlock_of_unlocked = refl
+
+-- function 1 counts down by one
+abbrev grouped : Code
+grouped =
+    code_with []
+    (function 0 1 1 (Instr.NewGroup ∷ Instr.Store 0 ∷ Instr.Load 0 ∷ push 2 ∷ Instr.GroupAdd ∷ Instr.Load 0 ∷ Instr.Go 1 1 ∷ Instr.Load 0 ∷ Instr.Go 1 1 ∷ Instr.Load 0 ∷ Instr.GroupWait ∷ push 9 ∷ Instr.Print 1 ∷ Instr.Return ∷ [])
+    ∷ function 1 1 21 (Instr.Load 0 ∷ Instr.Int (negsuc 0) ∷ Instr.GroupAdd ∷ Instr.Return ∷ [])
+    ∷ [])
+
+-- at 1 the group still waits
+pub waits_above_zero : runnable (after grouped (lowest 11 ++ lowest 3)) ≡ 2 ∷ 3 ∷ []
+waits_above_zero = refl
+
+-- at 0 it goes on
+pub goes_on_at_zero : (after grouped (lowest 11 ++ (lowest 3 ++ (second 3 ++ lowest 2)))).output ≡ 57 ∷ 10 ∷ []
+unfolding digits
+goes_on_at_zero = refl
+
+-- below 0 it panics, and the counter stays
+abbrev negative : Code
+negative = code_with [] (function 0 0 1 (Instr.NewGroup ∷ Instr.Int (negsuc 0) ∷ Instr.GroupAdd ∷ []) ∷ [])
+
+pub negative_counter : ending (after negative (lowest 4)) ≡ Some (Ending.Panicked PanicKind.NegativeGroup (record { 0 = 1 }) 3)
+negative_counter = refl
+
+pub counter_stays : find 1 (after negative (lowest 4)).objects ≡ Some (Object.Group (pos 0))
+counter_stays = refl

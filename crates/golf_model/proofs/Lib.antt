@@ -1,0 +1,5 @@
+pub mod Agreeing
+pub mod Firsts
+pub mod GraphLaws
+pub mod PlainForms
+pub mod Examples

@@ -1,0 +1,92 @@
+-- Calls, goroutines, deferred calls and returns (Go specification, "Calls", "Go statements", "Defer statements", "Return statements", "Handling panics").
+use Rattle.std.specs.Prelude.{ℕ, ◌+◌, Bool, true, false, List, [], ◌∷◌, ◌++◌, length, Option, Some, None, ◌==◌, nat_le}
+use Rattle.golf_data.specs.declared.value.Value.{Value}
+use Rattle.golf_data.specs.declared.code.Code.{Code}
+use Rattle.golf_data.specs.declared.goroutine.Deferred.{Deferred}
+use Rattle.golf_data.specs.declared.goroutine.Ending.{Ending}
+use Rattle.golf_data.specs.declared.goroutine.Fault.{Fault}
+use Rattle.golf_data.specs.declared.goroutine.Leaving.{Leaving}
+use Rattle.golf_data.specs.declared.goroutine.Mode.{Mode}
+use Rattle.golf_data.specs.declared.goroutine.PanicKind.{PanicKind}
+use Rattle.golf_model.specs.Plain.{PlainFrame}
+use Rattle.golf_model.specs.State.{call_frame}
+use Rattle.golf_model.specs.Waking.{unwinding}
+use Rattle.golf_model.specs.Changes.{Change}
+use Rattle.golf_model.specs.Acting.{Actor, with_frames, next, stands, goes, dies, on_some, taking_one, taking, choose}
+
+-- the most frames of a goroutine (profile)
+abbrev pub most_frames : ℕ
+most_frames = 10000
+
+-- whether one frame more is too many
+abbrev pub is_full : List PlainFrame → Bool
+is_full frames = nat_le most_frames (length frames)
+
+-- one more frame on these, or the stack overflows
+abbrev pub enters : Actor → List PlainFrame → PlainFrame → List Change
+enters a frames f = choose (is_full frames) (dies a PanicKind.StackOverflow) (Change.Become a.number (with_frames a (f ∷ frames)) ∷ [])
+
+-- calls the function with so many arguments
+abbrev pub calls : Code → Actor → ℕ → ℕ → List Change
+calls code a f n =
+    taking n (λ arguments rest. on_some (enters a (next a.frame rest ∷ a.callers)) (call_frame code f arguments false)) a.frame.operands
+
+-- starts a goroutine on the function with so many arguments
+abbrev pub spawns : Code → Actor → ℕ → ℕ → List Change
+spawns code a f n =
+    taking n (λ arguments rest. on_some (λ x. Change.Spawn (record { frames = x ∷ []; mode = Mode.Running; started = a.line }) ∷ goes a rest) (call_frame code f arguments true)) a.frame.operands
+
+-- defers a call of the function with so many arguments
+abbrev pub defers : Actor → ℕ → ℕ → List Change
+defers a f n =
+    taking n (λ arguments rest. stands a (record a.frame { at = a.frame.at + 1; operands = rest; deferred = record { function = f; arguments = arguments } ∷ a.frame.deferred })) a.frame.operands
+
+-- a goroutine without a frame has ended; goroutine 0 waits for its queue
+abbrev pub ends : Actor → List Change
+ends a = choose (a.number == 0) (Change.Become 0 (with_frames a []) ∷ []) (Change.Leave a.number ∷ [])
+
+-- the program ends when goroutine 1 does
+abbrev pub ends_returning : Actor → List Change
+ends_returning a = ends a ++ choose (a.number == 1) (Change.Finish Ending.Returned ∷ []) []
+
+-- the value of a frame goes to its caller, unless it was a deferred or first frame
+abbrev pub handed_back : Bool → Option Value → PlainFrame → PlainFrame
+handed_back true v f = f
+handed_back false None f = f
+handed_back false (Some v) f = record f { operands = v ∷ f.operands }
+
+-- the innermost frame is gone by returning
+abbrev pub returns_to : Actor → Option Value → List PlainFrame → List Change
+returns_to a v [] = ends_returning a
+returns_to a v (f ∷ fs) = Change.Become a.number (with_frames a (handed_back a.frame.discards v f ∷ fs)) ∷ []
+
+-- the innermost frame is gone by unwinding: its caller unwinds in place of whatever it was doing, and the program ends with the last frame
+abbrev pub unwinds_to : Actor → Fault → List PlainFrame → List Change
+unwinds_to a x [] = ends a ++ (Change.Finish (Ending.Panicked x.kind (record { 0 = a.number }) x.line) ∷ [])
+unwinds_to a x (f ∷ fs) = Change.Become a.number (with_frames a (unwinding x f ∷ fs)) ∷ []
+
+-- without deferred calls a return removes the frame; with them the frame is returning
+abbrev pub returns_by : Actor → Option Value → List Value → List Deferred → List Change
+returns_by a v rest [] = returns_to a v a.callers
+returns_by a v rest (d ∷ ds) = stands a (record a.frame { at = a.frame.at + 1; operands = rest; leaving = Leaving.Returning v })
+
+-- `->`
+abbrev pub returns : Actor → List Change
+returns a = returns_by a None a.frame.operands a.frame.deferred
+
+-- `v ->`
+abbrev pub returns_value : Actor → List Change
+returns_value a = taking_one (λ v rest. returns_by a (Some v) rest a.frame.deferred) a.frame.operands
+
+-- begins the last deferred call and takes it off the list
+abbrev pub begins_deferred : Code → Actor → Deferred → List Deferred → List Change
+begins_deferred code a d ds = on_some (enters a (record a.frame { deferred = ds } ∷ a.callers)) (call_frame code d.function d.arguments true)
+
+-- the turn of a goroutine whose innermost frame is returning, or unwinding
+abbrev pub leaves_returning : Code → Actor → Option Value → List Deferred → List Change
+leaves_returning code a v [] = returns_to a v a.callers
+leaves_returning code a v (d ∷ ds) = begins_deferred code a d ds
+
+abbrev pub leaves_unwinding : Code → Actor → Fault → List Deferred → List Change
+leaves_unwinding code a x [] = unwinds_to a x a.callers
+leaves_unwinding code a x (d ∷ ds) = begins_deferred code a d ds

@@ -1,0 +1,77 @@
+-- Collections: the plain one, which queues finalisers and frees nothing, and the real one.
+use Rattle.std.specs.Prelude.{◌≡◌, ◌⊎◌, ℕ, Bool, true, false, not, ◌&&◌, ◌||◌, List, [], ◌++◌, map, filter}
+use Rattle.golf_theory.specs.Maps.{find, only, keys}
+use Rattle.golf_theory.specs.Membership.{In, is_in, any_of}
+use Rattle.golf_data.specs.declared.code.Code.{Code}
+use Rattle.golf_data.specs.declared.code.Instr.{Instr}
+use Rattle.golf_data.specs.declared.goroutine.Queued.{Queued}
+use Rattle.golf_model.specs.State.{State}
+use Rattle.golf_model.specs.Refs.{has_finaliser, refs_of_goroutine}
+use Rattle.golf_model.specs.Reaching.{Reach, reach, sources}
+use Rattle.golf_model.specs.Living.{Node, Live, live_list, has_object, dead}
+
+-- the queue's entries for these objects and functions
+abbrev pub queued : List (ℕ × ℕ) → List Queued
+queued es = map (λ e. record { object = record { 0 = e.0 }; function = e.1 }) es
+
+-- finalised objects outside these are queued, in rising order
+abbrev pub queue_outside : List ℕ → State → State
+queue_outside reached s =
+    record s { finalisers = only (λ o. is_in o reached) s.finalisers; queue = s.queue ++ queued (only (λ o. not (is_in o reached)) s.finalisers) }
+
+-- each object with a finaliser that nothing else reaches loses it and joins the queue; nothing is freed (package runtime, `SetFinalizer`)
+abbrev pub plain_collect : State → State
+plain_collect s = queue_outside (reach s (sources s [])) s
+
+-- whether the code can give an object a finaliser
+abbrev pub is_setting : Instr → Bool
+is_setting (Instr.SetFinalizer f) = true
+is_setting _ = false
+
+abbrev pub sets : Code → Bool
+sets code = any_of (λ fn. any_of (λ l. is_setting l.instr) fn.body) code.functions
+
+-- what keeps a dead goroutine that reaches it: an object with a finaliser, and a live one where the code sets finalisers
+abbrev pub bars : State → Bool → ℕ → Bool
+bars s may_set o = has_finaliser s o || (may_set && has_object (live_list s) o)
+
+-- the keep rule: a dead goroutine stays where its removal could let a finaliser run (profile)
+abbrev pub keeps : State → Bool → ℕ → Bool
+keeps s may_set g = any_of (bars s may_set) (reach s (refs_of_goroutine (find g s.goroutines)))
+
+-- the same as a relation: it reaches an object with a finaliser, or, where the code sets finalisers, a live one
+abbrev pub Keeps : State → Bool → ℕ → Type 0
+Keeps s may_set g =
+    (o : ℕ) × Reach s (refs_of_goroutine (find g s.goroutines)) o × (In o (keys s.finalisers) ⊎ ((may_set ≡ true) × Live s (Node.AnObject o)))
+
+-- the dead goroutines that are not kept
+abbrev pub unkept : State → Bool → List ℕ
+unkept s may_set = filter (λ g. not (keeps s may_set g)) (dead s)
+
+-- those that a collection removes
+abbrev pub removed : State → Bool → Bool → List ℕ
+removed s true may_set = unkept s may_set
+removed s false may_set = []
+
+-- what a collection does not free: what is reached without the removed goroutines, and each object that had a finaliser
+abbrev pub retained : State → List ℕ → List ℕ
+retained s gone = reach s (sources s gone) ++ keys s.finalisers
+
+-- the same as a relation
+abbrev pub Retained : State → List ℕ → ℕ → Type 0
+Retained s gone o = Reach s (sources s gone) o ⊎ In o (keys s.finalisers)
+
+-- the state with those goroutines and objects alone that pass the tests
+abbrev pub cut : (ℕ → Bool) → (ℕ → Bool) → State → State
+cut stays kept s = record s { objects = only kept s.objects; goroutines = only stays s.goroutines }
+
+-- the state without these goroutines, and with these objects alone
+abbrev pub cut_to : List ℕ → List ℕ → State → State
+cut_to gone kept s = cut (λ g. not (is_in g gone)) (λ o. is_in o kept) s
+
+abbrev pub collect_without : List ℕ → State → State
+collect_without gone s = cut_to gone (retained s gone) (plain_collect s)
+
+-- the plain collection, and then the removed goroutines are gone and only retained objects are left
+abbrev pub real_collect : State → Bool → Bool → State
+real_collect s recover may_set = collect_without (removed s recover may_set) s

@@ -1,0 +1,69 @@
+-- What holds in every continuation, and the states that moves lead to.
+use Rattle.std.specs.Prelude.{◌≡◌, ℕ, ◌+◌, ◌≤◌, Bool, List, [], map, Option, None}
+use Rattle.golf_theory.specs.Maps.{Entry, IsRising, AllBelow}
+use Rattle.golf_theory.specs.Membership.{Every}
+use Rattle.golf_data.specs.declared.code.Code.{Code}
+use Rattle.golf_data.specs.declared.goroutine.Ending.{Ending}
+use Rattle.golf_data.specs.declared.goroutine.Queued.{Queued}
+use Rattle.golf_data.specs.declared.report.Entry.{Entry as Reported}
+use Rattle.golf_model.specs.Plain.{PlainGoroutine}
+use Rattle.golf_model.specs.Values.{refs}
+use Rattle.golf_model.specs.State.{State, ending, start}
+use Rattle.golf_model.specs.Turn.{step}
+use Rattle.golf_model.specs.Refs.{object_refs, goroutine_refs, queue_refs}
+use Rattle.golf_model.specs.Living.{dead, live_objects}
+use Rattle.golf_model.specs.Collecting.{sets, plain_collect, real_collect}
+use Rattle.golf_model.specs.Running.{Event, run, stops_by, finaliser_calls}
+use Rattle.golf_model.specs.Reporting.{entries, without}
+
+-- whatever happens, the goroutine stands as it stands now: with these frames, this mode, its waits and its ticket
+abbrev pub Still : Code → State → ℕ → Type 0
+Still code s g = (r : PlainGoroutine) × Entry s.goroutines g r × ((events : List Event) → Entry (run code s events).goroutines g r)
+
+-- what can be seen right before a collection: the live objects, and the dead goroutines with their waits and lines
+pub record Sight : Type 0 where
+  pub live : List ℕ
+  pub dead : List Reported
+
+-- what can be seen of a run
+pub record Seen : Type 0 where
+  pub output : List ℕ
+  pub ending : Option Ending
+  pub calls : List Queued
+  pub stops : List Sight
+
+-- without these goroutines
+abbrev pub sight : List ℕ → State → Sight
+sight gone p = record { live = live_objects p; dead = entries p (without (dead p) gone) }
+
+-- what the events show from this state on; of the dead goroutines those alone that are not in the list
+abbrev pub futures : Code → State → List Event → List ℕ → Seen
+futures code s events gone = record {
+  output = (run code s events).output;
+  ending = ending (run code s events);
+  calls = finaliser_calls code s events;
+  stops = map (sight gone) (stops_by plain_collect code s events);
+}
+
+-- the states that moves lead to from the opening state; a turn or a collection moves a state without an ending, and output can be emptied at any time
+pub data Leads (code : Code) : State → Type 0 where
+  Start : Leads code (start code)
+  Turn : (s : State) (c : ℕ) → Leads code s → ending s ≡ None → Leads code (step code s c)
+  Collection : (s : State) (recover : Bool) → Leads code s → ending s ≡ None → Leads code (real_collect s recover (sets code))
+  Emptied : (s : State) → Leads code s → Leads code (record s { output = [] })
+
+abbrev pub UpTo : ℕ → List ℕ → Type 0
+UpTo n os = Every (λ o. o ≤ n) os
+
+-- numbers were given in order, and no reference goes above the last object
+pub record Numbered (s : State) : Type 0 where
+  pub objects_rise : IsRising s.objects
+  pub objects_below : AllBelow (s.last_object + 1) s.objects
+  pub finalisers_rise : IsRising s.finalisers
+  pub finalisers_below : AllBelow (s.last_object + 1) s.finalisers
+  pub goroutines_rise : IsRising s.goroutines
+  pub goroutines_below : AllBelow s.next_goroutine s.goroutines
+  pub globals : UpTo s.last_object (refs s.globals)
+  pub queue : UpTo s.last_object (queue_refs s.queue)
+  pub in_objects : Every (λ e. UpTo s.last_object (object_refs e.1)) s.objects
+  pub in_goroutines : Every (λ e. UpTo s.last_object (goroutine_refs e.1)) s.goroutines

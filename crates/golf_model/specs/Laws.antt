@@ -1,0 +1,58 @@
+-- The laws that tie what is computed to what is derived, as statements.
+use Rattle.std.specs.Prelude.{◌≡◌, ℕ, ◌≤◌, Bool, true, List, [], ◌∷◌, Option, Some, None, ◌↔◌}
+use Rattle.golf_theory.specs.Membership.{In, Every}
+use Rattle.golf_theory.specs.Maps.{Entry}
+use Rattle.golf_data.specs.declared.goroutine.Side.{Side}
+use Rattle.golf_model.specs.Plain.{PlainGoroutine}
+use Rattle.golf_model.specs.Waiting.{Waiter, waiter_ticket, waiter_of, first, waiters}
+use Rattle.golf_model.specs.State.{State}
+use Rattle.golf_model.specs.Reaching.{Reach, reach}
+use Rattle.golf_model.specs.declared.graph.GraphParts.{GraphParts}
+use Rattle.golf_model.specs.Graph.{Least, least_places}
+use Rattle.golf_model.specs.Collecting.{Keeps, keeps, Retained, retained}
+use Rattle.golf_model.specs.Living.{Node, Live, live_list, Dead, dead}
+
+-- the computed objects are those that are reached
+abbrev pub ReachComputed : Type 0
+ReachComputed = (s : State) (xs : List ℕ) (o : ℕ) → In o (reach s xs) ↔ Reach s xs o
+
+-- the computed nodes are those that are live
+abbrev pub LiveComputed : Type 0
+LiveComputed = (s : State) (x : Node) → In x (live_list s) ↔ Live s x
+
+-- the computed goroutines are those that are dead
+abbrev pub DeadComputed : Type 0
+DeadComputed = (s : State) (g : ℕ) → In g (dead s) ↔ Dead s g
+
+abbrev pub head : {X : Type 0} → List X → Option X
+head [] = None
+head (x ∷ xs) = Some x
+
+-- no waiter has an earlier ticket than one before it
+abbrev pub TicketsRise : List Waiter → Type 0
+TicketsRise [] = Unit {0}
+TicketsRise (w ∷ ws) = Every (λ v. waiter_ticket w ≤ waiter_ticket v) ws × TicketsRise ws
+
+-- it is a goroutine of the map that waits on the object with that side
+abbrev pub IsWaiterOf : ℕ → Side → List (ℕ × PlainGoroutine) → Waiter → Type 0
+IsWaiterOf o side gs w = (e : ℕ × PlainGoroutine) × Entry gs e.0 e.1 × (waiter_of o side e ≡ Some w)
+
+-- the waiters are all who wait there, and stand by rising ticket
+abbrev pub WaitersInOrder : Type 0
+WaitersInOrder = (o : ℕ) (side : Side) (gs : List (ℕ × PlainGoroutine)) → TicketsRise (waiters o side gs) × ((w : Waiter) → In w (waiters o side gs) ↔ IsWaiterOf o side gs w)
+
+-- the first waiter is the one that stands first
+abbrev pub FirstInOrder : Type 0
+FirstInOrder = (o : ℕ) (side : Side) (gs : List (ℕ × PlainGoroutine)) → first o side gs ≡ head (waiters o side gs)
+
+-- the computed places are the least closed set of the graph
+abbrev pub LeastComputed : Type 0
+LeastComputed = (g : GraphParts) (p : ℕ) → In p (least_places g) ↔ Least g p
+
+-- the test of the keep rule is the relation
+abbrev pub KeepsComputed : Type 0
+KeepsComputed = (s : State) (may_set : Bool) (g : ℕ) → (keeps s may_set g ≡ true) ↔ Keeps s may_set g
+
+-- the computed objects are those that are retained
+abbrev pub RetainedComputed : Type 0
+RetainedComputed = (s : State) (gone : List ℕ) (o : ℕ) → In o (retained s gone) ↔ Retained s gone o

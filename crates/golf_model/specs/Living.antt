@@ -1,0 +1,89 @@
+-- The live set, by root growth (Saioc, Lee, Møller, Chabbi, "Dynamic Partial Deadlock Detection and Recovery via Garbage Collection", 2025): a blocked goroutine is live once an object that it waits on is. That the contents of objects with a finaliser, the finaliser queue and goroutine 0 are live is the profile's.
+use Rattle.std.specs.Prelude.{◌≡◌, ℕ, Bool, true, false, not, ◌&&◌, ◌||◌, List, [], ◌∷◌, ◌++◌, map, filter, ◌==◌}
+use Rattle.golf_theory.specs.Maps.{Entry, keys, keys_where}
+use Rattle.golf_theory.specs.Membership.{In, is_in, any_of}
+use Rattle.golf_theory.specs.Reached.{Reached}
+use Rattle.golf_theory.specs.Least.{least}
+use Rattle.golf_data.specs.declared.value.Object.{Object}
+use Rattle.golf_model.specs.Plain.{PlainGoroutine}
+use Rattle.golf_model.specs.Values.{refs}
+use Rattle.golf_model.specs.Waiting.{waits_of}
+use Rattle.golf_model.specs.State.{State, is_running}
+use Rattle.golf_model.specs.Refs.{object_refs, goroutine_refs, waited, queue_refs, refs_where, goroutine_refs_where, has_finaliser}
+
+-- an object or a goroutine, by its number
+pub data Node : Type 0 where
+  AnObject : (o : ℕ) → Node
+  AGoroutine : (g : ℕ) → Node
+
+-- what is live at once
+pub data LiveRoot (s : State) : Node → Type 0 where
+  Global : (o : ℕ) → In o (refs s.globals) → LiveRoot s (Node.AnObject o)
+  InQueue : (o : ℕ) → In o (queue_refs s.queue) → LiveRoot s (Node.AnObject o)
+  -- in the references of an object that has a finaliser
+  InFinalised : (o p : ℕ) (x : Object) → In p (keys s.finalisers) → Entry s.objects p x → In o (object_refs x) → LiveRoot s (Node.AnObject o)
+  Running : (g : ℕ) (r : PlainGoroutine) → Entry s.goroutines g r → is_running r.mode ≡ true → LiveRoot s (Node.AGoroutine g)
+  FinaliserGoroutine : LiveRoot s (Node.AGoroutine 0)
+
+-- what one live node makes live
+pub data LiveStep (s : State) : Node → Node → Type 0 where
+  InObject : (p o : ℕ) (x : Object) → Entry s.objects p x → In o (object_refs x) → LiveStep s (Node.AnObject p) (Node.AnObject o)
+  InGoroutine : (g o : ℕ) (r : PlainGoroutine) → Entry s.goroutines g r → In o (goroutine_refs r) → LiveStep s (Node.AGoroutine g) (Node.AnObject o)
+  -- a blocked goroutine that waits on the object
+  Awakened : (o g : ℕ) (r : PlainGoroutine) → Entry s.goroutines g r → In o (waited (waits_of r.mode)) → LiveStep s (Node.AnObject o) (Node.AGoroutine g)
+
+-- a list ends with the node in which each entry is live at once, or made live by an earlier one
+abbrev pub Live : State → Node → Type 0
+Live s = Reached (LiveRoot s) (LiveStep s)
+
+abbrev pub has_object : List Node → ℕ → Bool
+has_object [] o = false
+has_object (Node.AnObject p ∷ xs) o = (o == p) || has_object xs o
+has_object (Node.AGoroutine g ∷ xs) o = has_object xs o
+
+abbrev pub has_goroutine : List Node → ℕ → Bool
+has_goroutine [] h = false
+has_goroutine (Node.AnObject p ∷ xs) h = has_goroutine xs h
+has_goroutine (Node.AGoroutine g ∷ xs) h = (h == g) || has_goroutine xs h
+
+-- it runs, or waits on an object that is live already
+abbrev pub is_awake : (ℕ → Bool) → PlainGoroutine → Bool
+is_awake live r = is_running r.mode || any_of live (waited (waits_of r.mode))
+
+abbrev pub awakes : (ℕ → Bool) → ℕ → List (ℕ × PlainGoroutine) → Bool
+awakes live g [] = false
+awakes live g (e ∷ es) = ((g == e.0) && is_awake live e.1) || awakes live g es
+
+-- live at once, or made live by what is in the list already
+abbrev pub is_live_next : State → List Node → Node → Bool
+is_live_next s got (Node.AnObject o) =
+    is_in o (refs s.globals) || (is_in o (queue_refs s.queue) || (is_in o (refs_where (has_finaliser s) s.objects) || (is_in o (refs_where (has_object got) s.objects) || is_in o (goroutine_refs_where (has_goroutine got) s.goroutines))))
+is_live_next s got (Node.AGoroutine g) = (g == 0) || awakes (has_object got) g s.goroutines
+
+-- every object that is named, and every goroutine
+abbrev pub named_objects : State → List ℕ
+named_objects s =
+    refs s.globals ++ (queue_refs s.queue ++ (refs_where (λ o. true) s.objects ++ goroutine_refs_where (λ g. true) s.goroutines))
+
+abbrev pub nodes : State → List Node
+nodes s = map Node.AnObject (named_objects s) ++ (Node.AGoroutine 0 ∷ map Node.AGoroutine (keys s.goroutines))
+
+-- the live set, computed
+unfoldable pub live_list : State → List Node
+live_list s = least (is_live_next s) (nodes s)
+
+-- the live ones of the objects, in rising order
+abbrev pub live_objects : State → List ℕ
+live_objects s = filter (has_object (live_list s)) (keys s.objects)
+
+-- blocked and outside these
+abbrev pub is_dead : List Node → ℕ → PlainGoroutine → Bool
+is_dead live g r = not (is_running r.mode) && not (has_goroutine live g)
+
+-- the blocked goroutines outside the live set, in rising order
+abbrev pub dead : State → List ℕ
+dead s = keys_where (is_dead (live_list s)) s.goroutines
+
+-- a goroutine is dead
+abbrev pub Dead : State → ℕ → Type 0
+Dead s g = (r : PlainGoroutine) × Entry s.goroutines g r × (is_running r.mode ≡ false) × (Live s (Node.AGoroutine g) → ⊥)

@@ -1,0 +1,98 @@
+-- What collections report.
+use Rattle.std.specs.Prelude.{ℕ, ◌+◌, Bool, true, false, not, List, [], ◌∷◌, ◌++◌, map, filter, length, Option, Some, None}
+use Rattle.golf_theory.specs.Maps.{find, keys}
+use Rattle.golf_theory.specs.Membership.{is_in}
+use Rattle.golf_base.specs.declared.ids.GoroutineId.{GoroutineId}
+use Rattle.golf_data.specs.declared.code.Code.{Code}
+use Rattle.golf_data.specs.declared.goroutine.Mode.{Mode}
+use Rattle.golf_data.specs.declared.report.Book.{Book}
+use Rattle.golf_data.specs.declared.report.Entry.{Entry}
+use Rattle.golf_data.specs.declared.report.Report.{Report}
+use Rattle.golf_model.specs.Plain.{PlainGoroutine}
+use Rattle.golf_model.specs.State.{State, start}
+use Rattle.golf_model.specs.Living.{dead, live_objects}
+use Rattle.golf_model.specs.Collecting.{unkept, retained, real_collect, sets}
+use Rattle.golf_model.specs.Running.{Event, run_by, stops_by}
+
+abbrev pub goroutine_id : ℕ → GoroutineId
+goroutine_id g = record { 0 = g }
+
+abbrev pub numbers : List GoroutineId → List ℕ
+numbers ids = map (λ g. g.0) ids
+
+-- how it is blocked, at which line, and where it was started
+abbrev pub entry_by : ℕ → ℕ → Mode → List Entry
+entry_by g started Mode.Running = []
+entry_by g started (Mode.Blocked kind line waits ticket) =
+    record { goroutine = goroutine_id g; wait = kind; line = line; started = started } ∷ []
+
+abbrev pub entry_of : ℕ → Option PlainGoroutine → List Entry
+entry_of g None = []
+entry_of g (Some r) = entry_by g r.started r.mode
+
+-- the entries of these goroutines
+abbrev pub entries : State → List ℕ → List Entry
+entries s [] = []
+entries s (g ∷ gs) = entry_of g (find g s.goroutines) ++ entries s gs
+
+-- those of the first list that the second has not
+abbrev pub without : List ℕ → List ℕ → List ℕ
+without xs ys = filter (λ x. not (is_in x ys)) xs
+
+-- no collection yet
+abbrev pub new_book : Book
+new_book = record { collections = 0; reported = []; reclaimed = [] }
+
+-- the dead goroutines of a stop that no earlier one reported
+abbrev pub new_dead : Book → State → List ℕ
+new_dead book p = without (dead p) (numbers book.reported)
+
+-- those that this stop removes
+abbrev pub new_gone : Bool → Bool → Book → State → List ℕ
+new_gone true may_set book p = without (unkept p may_set) (numbers book.reclaimed)
+new_gone false may_set book p = []
+
+-- all that were removed by then
+abbrev pub all_gone : Bool → Bool → Book → State → List ℕ
+all_gone recover may_set book p = numbers book.reclaimed ++ new_gone recover may_set book p
+
+-- the retained ones of the objects, in rising order
+abbrev pub retained_objects : State → List ℕ → List ℕ
+retained_objects p gone = filter (λ o. is_in o (retained p gone)) (keys p.objects)
+
+-- the book with one collection more
+abbrev pub book_after : Bool → Bool → Book → State → Book
+book_after recover may_set book p = record {
+  collections = book.collections + 1;
+  reported = book.reported ++ map goroutine_id (new_dead book p);
+  reclaimed = book.reclaimed ++ map goroutine_id (new_gone recover may_set book p);
+}
+
+-- the report of a collection, on the state right before it and the book so far
+abbrev pub report : Bool → Bool → Book → State → Report
+report recover may_set book p = record {
+  number = book.collections + 1;
+  marked = length (live_objects p);
+  reported = entries p (new_dead book p);
+  kept = length (without (dead p) (all_gone recover may_set book p));
+  reclaimed = length (new_gone recover may_set book p);
+  objects = length (retained_objects p (all_gone recover may_set book p));
+}
+
+-- the reports of the stops, one after another
+abbrev pub reports_from : Bool → Bool → Book → List State → List Report
+reports_from recover may_set book [] = []
+reports_from recover may_set book (p ∷ ps) = report recover may_set book p ∷ reports_from recover may_set (book_after recover may_set book p) ps
+
+-- the book of reports of a plain run with these stops
+abbrev pub book_of : List State → Bool → Bool → List Report
+book_of ps recover may_set = reports_from recover may_set new_book ps
+
+-- the run in which every collection is a real one
+abbrev pub real_run : Code → List Event → Bool → State
+real_run code es recover = run_by (λ s. real_collect s recover (sets code)) code (start code) es
+
+-- its reports, each on the state right before it and the goroutines that earlier ones reported
+abbrev pub real_reports : Code → List Event → Bool → List Report
+real_reports code es recover =
+    book_of (stops_by (λ s. real_collect s recover (sets code)) code (start code) es) recover (sets code)

@@ -1,0 +1,148 @@
+-- One turn of the plain machine: the changes that it is made of, and the state after it.
+use Rattle.std.specs.Prelude.{ℕ, ◌-◌, ◌/◌, ◌%◌, true, false, cond, pos, List, [], ◌∷◌, length, Option, Some, None, option_and_then, ◌==◌, slice_get, int_lt, int_le}
+use Rattle.golf_theory.specs.Maps.{find}
+use Rattle.golf_data.specs.declared.value.Value.{Value}
+use Rattle.golf_data.specs.declared.value.Object.{Object}
+use Rattle.golf_data.specs.declared.code.Code.{Code}
+use Rattle.golf_data.specs.declared.code.Instr.{Instr}
+use Rattle.golf_data.specs.declared.code.Line.{Line}
+use Rattle.golf_data.specs.declared.goroutine.Leaving.{Leaving}
+use Rattle.golf_data.specs.declared.goroutine.PanicKind.{PanicKind}
+use Rattle.golf_model.specs.Plain.{PlainFrame, PlainGoroutine}
+use Rattle.golf_model.specs.Values.{text_of, line_bytes}
+use Rattle.golf_model.specs.State.{State, runnable}
+use Rattle.golf_model.specs.Changes.{Change, apply_all}
+use Rattle.golf_model.specs.Acting.{Actor, goes, jumps, panics, on_some, taking_one, taking}
+use Rattle.golf_model.specs.Calculating.{pushes, loads, stores, loads_global, stores_global, drops, doubles, doubles_two, negates, inverts, computes, divides, compares, sum, difference, product, quotient, remainder, equates, jumps_unless}
+use Rattle.golf_model.specs.Structures.{makes, makes_struct, gets_field, sets_field, makes_slice, makes_channel, gets_element, sets_element, measures}
+use Rattle.golf_model.specs.Channels.{sends, receives, closes}
+use Rattle.golf_model.specs.Selecting.{selects}
+use Rattle.golf_model.specs.Mutexes.{locks, unlocks, adds, waits}
+use Rattle.golf_model.specs.ReadersWriters.{write_locks, write_unlocks, read_locks, read_unlocks}
+use Rattle.golf_model.specs.Conditions.{makes_condition, gets_mutex, awaits, signals, broadcasts}
+use Rattle.golf_model.specs.Calls.{calls, spawns, defers, returns, returns_value, leaves_returning, leaves_unwinding}
+use Rattle.golf_model.specs.Finalising.{finalises, unfinalises, begins_queued}
+
+-- takes so many operands and prints the line
+abbrev pub prints : Code → Actor → ℕ → List Change
+prints code a n =
+    taking n (λ vs rest. on_some (λ bytes. Change.Output bytes ∷ goes a rest) (line_bytes code.texts vs)) a.frame.operands
+
+-- `text ->`; panics with it
+abbrev pub panics_with : Actor → List Change
+panics_with a = taking_one (λ x rest. on_some (λ k. panics a (PanicKind.Custom k)) (text_of x)) a.frame.operands
+
+-- the changes of one instruction; a `select` takes the ready case at the place `choice`, counted round
+abbrev pub changes : Code → Instr → Actor → ℕ → State → List Change
+changes code (Instr.Int n) a choice s = pushes a (Value.Int n)
+changes code (Instr.Bool b) a choice s = pushes a (Value.Bool b)
+changes code (Instr.Text k) a choice s = pushes a (Value.Text k)
+changes code Instr.Unit a choice s = pushes a Value.Unit
+changes code Instr.Nil a choice s = pushes a Value.Nil
+changes code (Instr.Load i) a choice s = loads a i
+changes code (Instr.Store i) a choice s = stores a i
+changes code (Instr.LoadGlobal i) a choice s = loads_global a i s
+changes code (Instr.StoreGlobal i) a choice s = stores_global a i s
+changes code Instr.Drop a choice s = drops a
+changes code Instr.Dup a choice s = doubles a
+changes code Instr.Dup2 a choice s = doubles_two a
+changes code Instr.Neg a choice s = negates a
+changes code Instr.Not a choice s = inverts a
+changes code Instr.Add a choice s = computes sum a
+changes code Instr.Sub a choice s = computes difference a
+changes code Instr.Mul a choice s = computes product a
+changes code Instr.Div a choice s = divides quotient a
+changes code Instr.Rem a choice s = divides remainder a
+changes code Instr.Eq a choice s = equates a
+changes code Instr.Less a choice s = compares int_lt a
+changes code Instr.AtMost a choice s = compares int_le a
+changes code (Instr.Jump target) a choice s = jumps a target a.frame.operands
+changes code (Instr.JumpIfNot target) a choice s = jumps_unless a target
+changes code (Instr.NewStruct t) a choice s = makes_struct code a t s
+changes code Instr.NewMutex a choice s = makes a (Object.Mutex false) a.frame.operands s
+changes code Instr.NewGroup a choice s = makes a (Object.Group (pos 0)) a.frame.operands s
+changes code Instr.NewRw a choice s = makes a (Object.Rw (pos 0)) a.frame.operands s
+changes code Instr.NewCond a choice s = makes_condition a s
+changes code (Instr.Field i) a choice s = gets_field a i s
+changes code (Instr.SetField i) a choice s = sets_field a i s
+changes code (Instr.NewSlice zero) a choice s = makes_slice a zero s
+changes code (Instr.NewChan zero) a choice s = makes_channel a zero s
+changes code Instr.Index a choice s = gets_element a s
+changes code Instr.SetIndex a choice s = sets_element a s
+changes code Instr.Len a choice s = measures a s
+changes code Instr.Send a choice s = sends a s
+changes code Instr.Receive a choice s = receives false a s
+changes code Instr.ReceiveOk a choice s = receives true a s
+changes code Instr.Close a choice s = closes a s
+changes code (Instr.Select cases otherwise) a choice s = selects a s choice cases otherwise
+changes code Instr.Lock a choice s = locks a s
+changes code Instr.Unlock a choice s = unlocks a s
+changes code Instr.GroupAdd a choice s = adds a s
+changes code Instr.GroupWait a choice s = waits a s
+changes code Instr.RwLock a choice s = write_locks a s
+changes code Instr.RwUnlock a choice s = write_unlocks a s
+changes code Instr.ReadLock a choice s = read_locks a s
+changes code Instr.ReadUnlock a choice s = read_unlocks a s
+changes code Instr.CondMutex a choice s = gets_mutex a s
+changes code Instr.CondWait a choice s = awaits a s
+changes code Instr.CondSignal a choice s = signals a s
+changes code Instr.CondBroadcast a choice s = broadcasts a s
+changes code (Instr.Call f n) a choice s = calls code a f n
+changes code (Instr.Go f n) a choice s = spawns code a f n
+changes code (Instr.Defer f n) a choice s = defers a f n
+changes code Instr.Return a choice s = returns a
+changes code Instr.ReturnValue a choice s = returns_value a
+changes code (Instr.Print n) a choice s = prints code a n
+changes code Instr.Collect a choice s = goes a a.frame.operands
+changes code (Instr.SetFinalizer f) a choice s = finalises a f s
+changes code Instr.ClearFinalizer a choice s = unfinalises a
+changes code Instr.Panic a choice s = panics_with a
+
+-- the instruction at a place of a function, with its line
+abbrev pub line_at : Code → ℕ → ℕ → Option Line
+line_at code f at = option_and_then (λ fn. slice_get fn.body at) (slice_get code.functions f)
+
+-- the line of the return of a returning frame, which stands behind it
+abbrev pub line_number : Option Line → ℕ
+line_number None = 0
+line_number (Some l) = l.line
+
+abbrev pub return_line : Code → PlainFrame → ℕ
+return_line code f = line_number (line_at code f.function (f.at - 1))
+
+-- the goroutine with this innermost frame, at an instruction of this line
+abbrev pub acting : ℕ → PlainGoroutine → PlainFrame → List PlainFrame → ℕ → Actor
+acting g r f callers line = record { number = g; frame = f; callers = callers; started = r.started; line = line }
+
+-- the changes of an instruction with its line; past the end no rule fits
+abbrev pub performs : Code → ℕ → PlainGoroutine → PlainFrame → List PlainFrame → ℕ → State → Option Line → List Change
+performs code g r f callers choice s None = []
+performs code g r f callers choice s (Some l) = changes code l.instr (acting g r f callers l.line) choice s
+
+-- the turn of a goroutine with this innermost frame
+abbrev pub frame_changes : Code → ℕ → PlainGoroutine → PlainFrame → List PlainFrame → ℕ → State → Leaving → List Change
+frame_changes code g r f callers choice s Leaving.No = performs code g r f callers choice s (line_at code f.function f.at)
+frame_changes code g r f callers choice s (Leaving.Returning v) = leaves_returning code (acting g r f callers (return_line code f)) v f.deferred
+frame_changes code g r f callers choice s (Leaving.Unwinding x) = leaves_unwinding code (acting g r f callers x.line) x f.deferred
+
+-- the turn of a goroutine with these frames; without one, goroutine 0 goes to its queue
+abbrev pub goroutine_changes : Code → ℕ → PlainGoroutine → ℕ → State → List PlainFrame → List Change
+goroutine_changes code g r choice s [] = cond (g == 0) (begins_queued code r s.queue) []
+goroutine_changes code g r choice s (f ∷ callers) = frame_changes code g r f callers choice s f.leaving
+
+abbrev pub turn_of : Code → ℕ → ℕ → State → Option PlainGoroutine → List Change
+turn_of code g choice s None = []
+turn_of code g choice s (Some r) = goroutine_changes code g r choice s r.frames
+
+-- the changes of the turn of this goroutine; none: the state is stuck
+abbrev pub turn_changes : Code → ℕ → State → Option ℕ → List Change
+turn_changes code choice s None = []
+turn_changes code choice s (Some g) = turn_of code g choice s (find g s.goroutines)
+
+-- of the goroutines that can run, in rising order, the one at the place of the number, counted round (profile)
+abbrev pub whose_turn : State → ℕ → Option ℕ
+whose_turn s c = slice_get (runnable s) (c % length (runnable s))
+
+-- the state after the turn of this number; where no rule fits it is unchanged
+abbrev pub step : Code → State → ℕ → State
+step code s c = apply_all (turn_changes code (c / length (runnable s)) s (whose_turn s c)) s

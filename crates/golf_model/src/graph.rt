@@ -1,0 +1,201 @@
+//! The dense graph that a collection marks.
+
+ghost use Rattle.std.specs.Prelude.{◌≡◌, ◌<◌, slice_get, IfOk, Some};
+ghost use Rattle.golf_model.specs.Graph.{IsInRange, node_count, sleeper_count, children_of, goroutine_at, sleeper_waits, sleeper_references};
+
+use golf_base::{GoroutineId, List, ObjectId};
+use std::marker::Model;
+
+/// A blocked goroutine that may be awakened.
+#[derive(Debug, Drop)]
+pub struct Sleeper {
+    pub goroutine: GoroutineId,
+    /// The nodes that it waits on.
+    pub waits: List<u32>,
+    /// The nodes that it refers to.
+    pub references: List<u32>,
+}
+
+/// What a graph is made of. A node is an object, by its place.
+#[derive(Debug, Drop)]
+pub struct GraphParts {
+    /// For each node its object's number, rising.
+    pub numbers: List<ObjectId>,
+    /// For each node the nodes that it refers to.
+    pub children: List<List<u32>>,
+    /// For each node whether its object has a finaliser.
+    pub finalised: List<bool>,
+    /// The nodes that are marked at once.
+    pub roots: List<u32>,
+    pub sleepers: List<Sleeper>,
+}
+
+/// A graph whose places are the nodes, from 0, and behind them the sleepers.
+#[derive(Debug, Drop)]
+pub struct Graph {
+    parts: GraphParts,
+}
+
+impl Model for Graph {
+    ghost use Rattle.golf_model.specs.declared.graph.GraphParts.{GraphParts};
+    ghost use Rattle.golf_model.specs.Graph.{IsInRange};
+
+    ghost Value = { GraphParts };
+
+    ghost view = { λ g. g.parts };
+
+    ghost invariant = { λ g. IsInRange g.parts };
+}
+
+impl Graph {
+    /// The graph of these parts.
+    pub fn new(parts: GraphParts) -> Graph
+        requires { IsInRange parts }
+        ensures { result ≡ parts }
+    {
+        Graph { parts }
+    }
+
+    /// How many nodes there are.
+    pub fn nodes(&self) -> u32
+        ensures count { result ≡ node_count self.now }
+        ensures in_range { IsInRange self.now }
+    {
+        self.parts.children.len() as u32
+    }
+
+    /// How many sleepers there are.
+    pub fn sleepers(&self) -> u32
+        ensures { result ≡ sleeper_count self.now }
+    {
+        self.parts.sleepers.len() as u32
+    }
+
+    /// The nodes that this one refers to.
+    pub fn children(&self, node: u32) -> &[u32]
+        requires { node < node_count self.now }
+        ensures { result.now ≡ children_of self.now node }
+    {
+        self.parts.children.as_slice()[node as usize].as_slice()
+    }
+
+    /// The nodes that are marked at once.
+    pub fn roots(&self) -> &[u32]
+        ensures { result.now ≡ self.now.roots }
+    {
+        self.parts.roots.as_slice()
+    }
+
+    /// The number of this node's object.
+    pub fn number_of(&self, node: u32) -> ObjectId
+        requires { node < node_count self.now }
+        ensures { slice_get self.now.numbers node ≡ Some result }
+    {
+        self.parts.numbers.as_slice()[node as usize]
+    }
+
+    /// Whether this node's object has a finaliser.
+    pub fn finalised(&self, node: u32) -> bool
+        requires { node < node_count self.now }
+        ensures { slice_get self.now.finalised node ≡ Some result }
+    {
+        self.parts.finalised.as_slice()[node as usize]
+    }
+
+    /// Which goroutine this sleeper is.
+    pub fn goroutine_of(&self, sleeper: u32) -> GoroutineId
+        requires { sleeper < sleeper_count self.now }
+        ensures { goroutine_at self.now sleeper ≡ Some result }
+    {
+        self.parts.sleepers.as_slice()[sleeper as usize].goroutine
+    }
+
+    /// The nodes that this sleeper waits on.
+    pub fn waits(&self, sleeper: u32) -> &[u32]
+        requires { sleeper < sleeper_count self.now }
+        ensures { result.now ≡ sleeper_waits self.now sleeper }
+    {
+        self.parts.sleepers.as_slice()[sleeper as usize]
+            .waits
+            .as_slice()
+    }
+
+    /// The nodes that this sleeper refers to.
+    pub fn references(&self, sleeper: u32) -> &[u32]
+        requires { sleeper < sleeper_count self.now }
+        ensures { result.now ≡ sleeper_references self.now sleeper }
+    {
+        self.parts.sleepers.as_slice()[sleeper as usize]
+            .references
+            .as_slice()
+    }
+}
+
+/// Which places of a graph are marked.
+#[derive(Debug, Drop)]
+pub struct Marked {
+    /// For each node whether it is marked.
+    pub flags: List<bool>,
+    /// The marked nodes, each once.
+    pub order: List<u32>,
+    /// For each sleeper whether it is awake.
+    pub awake: List<bool>,
+}
+
+#[cfg(test)]
+mod tests {
+    use super::*;
+    use golf_base::Memory;
+    use std::alloc::Global;
+
+    // objects 1 and 3, the first of which refers to the second; goroutine 2 waits on object 3
+    fn two_nodes(alloc: Global) -> Result<GraphParts, Memory>
+        ensures { IfOk result (λ parts. IsInRange parts) }
+    {
+        let mut numbers = List::new(alloc);
+        numbers.push(ObjectId(1))?;
+        numbers.push(ObjectId(3))?;
+        let mut of_first = List::new(alloc);
+        of_first.push(1)?;
+        let mut children = List::new(alloc);
+        children.push(of_first)?;
+        children.push(List::new(alloc))?;
+        let mut finalised = List::new(alloc);
+        finalised.push(false)?;
+        finalised.push(true)?;
+        let mut roots = List::new(alloc);
+        roots.push(0)?;
+        let mut waits = List::new(alloc);
+        waits.push(1)?;
+        let mut references = List::new(alloc);
+        references.push(0)?;
+        let mut sleepers = List::new(alloc);
+        sleepers.push(Sleeper {
+            goroutine: GoroutineId(2),
+            waits,
+            references,
+        })?;
+        Ok(GraphParts {
+            numbers,
+            children,
+            finalised,
+            roots,
+            sleepers,
+        })
+    }
+
+    #[test]
+    fn graph_gives_its_parts(rt: HostRuntime) -> Result<(), Memory> {
+        let graph = Graph::new(two_nodes(rt.alloc())?);
+        assert_eq!(rt; graph.nodes(), 2);
+        assert_eq!(rt; graph.sleepers(), 1);
+        assert_eq!(rt; graph.children(0), [1].as_slice());
+        assert_eq!(rt; graph.roots(), [0].as_slice());
+        assert_eq!(rt; graph.number_of(1), ObjectId(3));
+        assert!(rt; graph.finalised(1));
+        assert_eq!(rt; graph.goroutine_of(0), GoroutineId(2));
+        assert_eq!(rt; graph.waits(0), [1].as_slice());
+        assert_eq!(rt; graph.references(0), [0].as_slice());
+        Ok(())
+    }
+}

@@ -1,0 +1,4 @@
+pub mod Lengths
+pub mod Runs
+pub mod Returns
+pub mod Examples

@@ -1,0 +1,5 @@
+pub mod Bytes
+pub mod Plain
+pub mod CodeOf
+pub mod Solo
+pub mod Program

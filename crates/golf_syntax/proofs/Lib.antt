@@ -1,0 +1,11 @@
+pub mod Bind
+pub mod Many
+pub mod Digits
+pub mod PieceLaws
+pub mod SpellingLaws
+pub mod OperandLaws
+pub mod LineLaws
+pub mod TreeLaws
+pub mod NameLaws
+pub mod Scoping
+pub mod PlainLaws

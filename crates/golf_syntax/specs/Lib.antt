@@ -1,0 +1,4 @@
+pub mod Gives
+pub mod Reading
+pub mod Bounds
+pub mod Scope

@@ -1,0 +1,75 @@
+-- Tests of lists, and the facts that they decide.
+use Rattle.std.proofs.Common.{◌≡◌, ℕ, Bool, true, false, List, [], ◌∷◌, ◌++◌, filter, ◌==◌, ◌⊎◌, ◌||◌, ◌&&◌, inl, inr, refl, sym, ap, ◌∙◌}
+use Rattle.std.proofs.lemmas.Bool.{eqb-true, eq-eqb, or_cases, or_left, or_right, and_parts, and_from, false_from_ne_true, both_ways, cases_Bool}
+use Rattle.golf_theory.specs.Membership.{In, Every, is_in, any_of, all_of}
+use Rattle.golf_theory.proofs.Lists.{In-cases, In-left, In-right, In-filter, In-filter_old}
+
+pub is_in-from : (x : ℕ) (xs : List ℕ) → In x xs → is_in x xs ≡ true
+is_in-from x [] h = absurd h
+is_in-from x (y ∷ ys) (inl e) = or_left (x == y) (is_in x ys) (eq-eqb x y e)
+is_in-from x (y ∷ ys) (inr h) = or_right (x == y) (is_in x ys) (is_in-from x ys h)
+
+pub In-from : (x : ℕ) (xs : List ℕ) → is_in x xs ≡ true → In x xs
+In-from x [] h = cc
+In-from x (y ∷ ys) h = elim (or_cases (x == y) (is_in x ys) h) [ inl e ↦ inl (eqb-true x y e) | inr a ↦ inr (In-from x ys a) ]
+
+pub is_in-out : (x : ℕ) (xs : List ℕ) → (In x xs → ⊥) → is_in x xs ≡ false
+is_in-out x xs n = false_from_ne_true (is_in x xs) (λ t. n (In-from x xs t))
+
+pub not_in-from : (x : ℕ) (xs : List ℕ) → is_in x xs ≡ false → In x xs → ⊥
+not_in-from x xs f i = both_ways (is_in x xs) f (is_in-from x xs i)
+
+-- a number is a member or is not
+pub cases_in : (x : ℕ) (xs : List ℕ) → In x xs ⊎ (In x xs → ⊥)
+cases_in x xs = elim (cases_Bool (is_in x xs)) [ inl t ↦ inl (In-from x xs t) | inr f ↦ inr (not_in-from x xs f) ]
+
+-- two tests that are true of the same are the same
+pub same_test : (a b : Bool) → (a ≡ true → b ≡ true) → (b ≡ true → a ≡ true) → a ≡ b
+same_test true true f g = refl
+same_test true false f g = sym (f refl)
+same_test false true f g = g refl
+same_test false false f g = refl
+
+pub is_in-same : (x : ℕ) (xs ys : List ℕ) → (In x xs → In x ys) → (In x ys → In x xs) → is_in x xs ≡ is_in x ys
+is_in-same x xs ys f g = same_test (is_in x xs) (is_in x ys) (λ t. is_in-from x ys (f (In-from x xs t))) (λ t. is_in-from x xs (g (In-from x ys t)))
+
+pub is_in-append : (x : ℕ) (xs ys : List ℕ) → is_in x (xs ++ ys) ≡ (is_in x xs || is_in x ys)
+is_in-append x xs ys = same_test (is_in x (xs ++ ys)) (is_in x xs || is_in x ys)
+    (λ t. elim (In-cases x xs ys (In-from x (xs ++ ys) t)) [ inl a ↦ or_left (is_in x xs) _ (is_in-from x xs a) | inr a ↦ or_right (is_in x xs) _ (is_in-from x ys a) ])
+    (λ t. is_in-from x (xs ++ ys) (elim (or_cases (is_in x xs) (is_in x ys) t) [ inl a ↦ In-left x xs ys (In-from x xs a) | inr a ↦ In-right x xs ys (In-from x ys a) ]))
+
+pub is_in-filter : (p : ℕ → Bool) (x : ℕ) (xs : List ℕ) → p x ≡ true → is_in x (filter p xs) ≡ is_in x xs
+is_in-filter p x xs t = is_in-same x (filter p xs) xs (λ i. (In-filter p x xs i).0) (λ i. In-filter_old p x xs t i)
+
+module _ {X : Type 0} (test : X → Bool) where
+  pub any_of-from : (xs : List X) (x : X) → In x xs → test x ≡ true → any_of test xs ≡ true
+  any_of-from [] x h t = absurd h
+  any_of-from (y ∷ ys) x (inl e) t = or_left (test y) (any_of test ys) (ap test (sym e) ∙ t)
+  any_of-from (y ∷ ys) x (inr h) t = or_right (test y) (any_of test ys) (any_of-from ys x h t)
+
+  pub from_any_of : (xs : List X) → any_of test xs ≡ true → (x : X) × In x xs × (test x ≡ true)
+  from_any_of [] h = cc
+  from_any_of (y ∷ ys) h = elim (or_cases (test y) (any_of test ys) h) [
+    | inl t ↦ (y, inl refl, t)
+    | inr a ↦ let r = from_any_of ys a in (r.0, inr r.1, r.2)
+  ]
+
+  pub all_of-from : (xs : List X) → Every (λ x. test x ≡ true) xs → all_of test xs ≡ true
+  all_of-from [] a = refl
+  all_of-from (x ∷ xs) a = and_from (test x) (all_of test xs) a.0 (all_of-from xs a.1)
+
+  pub from_all_of : (xs : List X) → all_of test xs ≡ true → Every (λ x. test x ≡ true) xs
+  from_all_of [] h = tt
+  from_all_of (x ∷ xs) h = let r = and_parts (test x) (all_of test xs) h in (r.0, from_all_of xs r.1)
+
+  pub none_of-from : (xs : List X) → Every (λ x. test x ≡ false) xs → any_of test xs ≡ false
+  none_of-from [] a = refl
+  none_of-from (x ∷ xs) a = ap (λ b. b || any_of test xs) a.0 ∙ none_of-from xs a.1
+
+pub any_of-same : {X : Type 0} (p q : X → Bool) (xs : List X) → Every (λ x. p x ≡ q x) xs → any_of p xs ≡ any_of q xs
+any_of-same p q [] a = refl
+any_of-same p q (x ∷ xs) a = ap (λ b. b || any_of p xs) a.0 ∙ ap (λ r. q x || r) (any_of-same p q xs a.1)
+
+pub all_of-same : {X : Type 0} (p q : X → Bool) (xs : List X) → Every (λ x. p x ≡ q x) xs → all_of p xs ≡ all_of q xs
+all_of-same p q [] a = refl
+all_of-same p q (x ∷ xs) a = ap (λ b. b && all_of p xs) a.0 ∙ ap (λ r. q x && r) (all_of-same p q xs a.1)

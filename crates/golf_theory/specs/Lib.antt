@@ -1,0 +1,9 @@
+pub mod Membership
+pub mod Maps
+pub mod Derivation
+pub mod Reached
+pub mod Least
+pub mod Counting
+pub mod Laws
+pub mod Agreement
+pub mod Stored
