@@ -1,5 +1,5 @@
 -- What the ends of a call mean.
-use Rattle.std.proofs.Common.{◌≡◌, ℕ, ◌≤◌, ◌<◌, List, [], ◌∷◌, ◌++◌, length, length-append, refl, sym, subst, ap, ◌∙◌, ◌⊎◌, inl, inr, append-nil, arith}
+use Rattle.std.proofs.Common.{◌≡◌, ℕ, List, [], ◌++◌, length, length-append, refl, sym, subst, ap, ◌∙◌, ◌⊎◌, inl, inr, append-nil, arith}
 use Rattle.std.specs.Prelude.{Option, Some, None, IfSome}
 use Rattle.std.specs.Io.KnownBytes.{Appends, Keeps, Consumes, IsAtEnd}
 use Rattle.std.proofs.KnownBytes.{Keeps-refl, Appends-nil}
@@ -11,9 +11,9 @@ use Rattle.golf_plain.specs.declared.status.TheConstants.{LIMIT, USAGE, READ_FAU
 use Rattle.golf_data.specs.declared.code.Code.{Code}
 use Rattle.golf_plain.specs.Plain.{Reads}
 use Rattle.golf_plain.specs.CodeOf.{code_of}
-use Rattle.golf_plain.specs.Program.{IsRun, Accepts, Meaning, out_of}
+use Rattle.golf_plain.specs.Program.{IsRun, Accepts, out_of}
 use Rattle.golf_plain.specs.Program.Meaning.{Misused, Overlong, Unknown, Runs}
-use Rattle.golf.specs.Means.{View, seen, GotFront, OutGotFront, IsRunWhole, IsTooLong, IsNotBuilt, IsRefused, FileLine, HasFailed, FileMeans, UsageMeans, Causes, GotWhole, IsComplete}
+use Rattle.golf.specs.Means.{View, seen, GotFront, IsTooLong, IsRefused, FileLine, HasFailed, FileMeans, UsageMeans, GotWhole, IsComplete}
 use Rattle.golf.specs.Means.FileLine.{WhenUnread, WhenTooLong, WhenNotBuilt, WhenWanting}
 use Rattle.golf.specs.Ends.{EndsWith}
 use Rattle.golf.proofs.Words.{run-decided}

@@ -1,5 +1,5 @@
 -- What the status of a call says of the words, of the file, of what the sinks got and of what failed.
-use Rattle.std.specs.Prelude.{◌≡◌, ℕ, ◌≤◌, ◌<◌, ◌⊎◌, List, [], map, length, Option, IfSome, string_bytes}
+use Rattle.std.specs.Prelude.{◌≡◌, ℕ, ◌≤◌, ◌<◌, ◌⊎◌, List, map, length, Option, IfSome, string_bytes}
 use Rattle.std.specs.declared.string.String.{String}
 use Rattle.std.specs.declared.alloc.Global.{Global}
 use Rattle.std.specs.Io.KnownBytes.{Appends, Keeps}
@@ -10,7 +10,7 @@ use Rattle.golf_plain.specs.declared.status.Status.TheVariants as s
 use Rattle.golf_plain.specs.declared.status.TheConstants.{LIMIT, USAGE, READ_FAULT, TOO_LONG, NOT_BUILT, NO_MEMORY}
 use Rattle.golf_plain.specs.Plain.{Reads}
 use Rattle.golf_plain.specs.CodeOf.{code_of}
-use Rattle.golf_plain.specs.Program.{IsRun, Accepts, Meaning, out_of}
+use Rattle.golf_plain.specs.Program.{Accepts, Meaning, out_of}
 
 -- the bytes of the words
 abbrev pub words_of : List (String Global) → List (List ℕ)

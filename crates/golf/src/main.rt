@@ -5,21 +5,34 @@ mod run;
 mod top;
 
 use golf_base::{OpenGate, StdErrSink, StdSink, StdSource};
-use golf_plain::Status;
+use golf_plain::{NO_MEMORY, Status, USAGE};
 use std::env;
+use std::io::ErrorKind;
 use std::process::ExitCode;
-use top::golf;
+use top::{end, golf};
+
+/// The words behind the program's name, or the status where they cannot be had: want of memory, or a word that is no
+/// UTF-8 and so no word of the grammar.
+fn arguments(rt: &HostRuntime) -> Result<Vec<String>, Status> {
+    let args = match env::args(rt) {
+        Ok(args) => args,
+        Err(fault) if fault.kind() == ErrorKind::OutOfMemory => return Err(Status::Memory),
+        Err(_) => return Err(Status::Usage),
+    };
+    match args.skip(1).collect::<Vec<String>>(rt.alloc()) {
+        Ok(words) => Ok(words),
+        Err(_) => Err(Status::Memory),
+    }
+}
 
 fn main(rt: HostRuntime) -> ExitCode {
-    let Ok(args) = env::args(&rt) else {
-        return ExitCode::from(Status::Usage as u8);
-    };
-    let Ok(words) = args.skip(1).collect::<Vec<String>>(rt.alloc()) else {
-        return ExitCode::from(Status::Memory as u8);
-    };
     let mut source = StdSource::new(rt.stdin());
     let mut out = StdSink::new(rt.stdout());
     let mut err = StdErrSink::new(rt.stderr());
-    let status = golf(&rt, &words, &mut source, &mut out, &mut err, &OpenGate);
+    let status = match arguments(&rt) {
+        Ok(words) => golf(&rt, &words, &mut source, &mut out, &mut err, &OpenGate),
+        Err(Status::Memory) => end(&mut err, NO_MEMORY, Status::Memory),
+        Err(status) => end(&mut err, USAGE, status),
+    };
     ExitCode::from(status as u8)
 }

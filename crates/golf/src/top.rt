@@ -19,8 +19,8 @@ fn is_run(words: &[String]) -> bool
     words.len() == 1 && words[0].as_bytes() == RUN.as_slice()
 }
 
-// Writes a last line, and answers the status, or that the write failed.
-fn end<E: Sink>(err: &mut E, line: &[u8], status: Status) -> Status
+/// Writes a last line, and answers the status, or that the write failed.
+pub(crate) fn end<E: Sink>(err: &mut E, line: &[u8], status: Status) -> Status
     ensures { EndsWith result status line.now (E.written err.old) (E.written err.new) (E.faults err.old) (E.faults err.new) }
 {
     match write_all(err, line) {

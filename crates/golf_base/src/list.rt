@@ -12,7 +12,7 @@ use std::marker::Model;
 /// A vector that contracts see as the list of its items: its room and its place in memory occur in
 /// no clause, so that two lists with the same items are equal.
 ///
-/// `push`, `set` and `extend_from_slice` aside, no call takes memory.
+/// `push`, `extend_from_slice` and `extend_with` aside, no call takes memory.
 #[derive(Debug, Drop)]
 pub struct List<T> {
     items: Vec<T>,
@@ -128,9 +128,7 @@ impl<T: Copy> List<T> {
         self.items.extend_from_slice(more)?;
         Ok(())
     }
-}
 
-impl<T: Copy> List<T> {
     /// Adds `count` copies of an item at the end, all of them or, on an `Err`, none.
     pub fn extend_with(&mut self, count: usize, item: T) -> Result<(), Memory>
         ensures ok { OnOk result (self.new ≡ self.old ++ replicate count item) }
@@ -163,6 +161,8 @@ mod tests {
         assert_eq!(rt; list.len(), 1);
         list.clear();
         assert_eq!(rt; list.pop(), None);
+        list.extend_with(2, 21)?;
+        assert_eq!(rt; list.as_slice(), [21, 21].as_slice());
         Ok(())
     }
 }

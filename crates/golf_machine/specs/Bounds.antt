@@ -1,5 +1,5 @@
 -- Code whose places fit their numbers.
-use Rattle.std.specs.Prelude.{ℕ, ◌^◌, ◌<◌, List, length, slice_get, Option, Some, None}
+use Rattle.std.specs.Prelude.{ℕ, ◌^◌, ◌<◌, length, slice_get, Option, Some, None}
 use Rattle.golf_data.specs.declared.code.Code.{Code}
 use Rattle.golf_data.specs.declared.code.Function.{Function}
 

@@ -1,5 +1,4 @@
 -- A frame as a call of the definitions: its operands by their items alone.
-use Rattle.std.specs.Prelude.{List, map}
 use Rattle.golf_data.specs.declared.goroutine.Frame.{Frame}
 use Rattle.golf_plain.specs.Solo.{Call}
 

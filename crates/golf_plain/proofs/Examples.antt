@@ -1,14 +1,14 @@
 -- The definitions on small files.
-use Rattle.std.proofs.Common.{◌≡◌, ℕ, true, false, List, [], ◌∷◌, ◌++◌, refl}
+use Rattle.std.proofs.Common.{◌≡◌, true, false, [], ◌∷◌, ◌++◌, refl}
 use Rattle.std.specs.Prelude.{codes, Some, None, pos}
 use Rattle.std.specs.Fmt.{signed_decimal}
 use Rattle.golf_data.specs.declared.goroutine.Ending.TheVariants.{Returned}
 use Rattle.golf_data.specs.declared.code.Instr.TheVariants as i
 use Rattle.golf_plain.specs.declared.plain.Plain.{Plain}
 use Rattle.golf_plain.specs.declared.plain.PlainLine.TheVariants.{Declare, Print}
-use Rattle.golf_plain.specs.declared.plain.PlainOperand.TheVariants.{Integer, Truth, Text, Name}
+use Rattle.golf_plain.specs.declared.plain.PlainOperand.TheVariants.{Truth, Text, Name}
 use Rattle.golf_plain.specs.Bytes.{is_reserved}
-use Rattle.golf_plain.specs.Plain.{Reads, text_of}
+use Rattle.golf_plain.specs.Plain.{Reads}
 use Rattle.golf_plain.specs.CodeOf.{code_of, at_line, entry_function}
 use Rattle.golf_plain.specs.Solo.{run}
 

@@ -1,5 +1,5 @@
 -- How long a plain file is for what stands in it: two bytes at least for each instruction of `main`.
-use Rattle.std.proofs.Common.{lit≤, ◌≡◌, ℕ, zero, suc, ◌+◌, ◌*◌, ◌-◌, ◌^◌, ◌≤◌, ◌<◌, Bool, true, false, cond, ◌&&◌, List, [], ◌∷◌, ◌++◌, length, length-append, get_or, max, ap, sym, ◌∙◌, refl, arith}
+use Rattle.std.proofs.Common.{lit≤, ◌≡◌, ℕ, zero, suc, ◌+◌, ◌*◌, ◌≤◌, ◌<◌, Bool, true, false, cond, ◌&&◌, List, [], ◌∷◌, ◌++◌, length, length-append, get_or, ap, refl, arith}
 use Rattle.std.specs.Prelude.{nat_eq}
 use Rattle.std.specs.List.{list_all}
 use Rattle.std.specs.Cmp.Lexicographic.{pointwise, other_text}
@@ -10,7 +10,7 @@ use Rattle.golf_plain.specs.declared.plain.PlainOperand.{PlainOperand}
 use Rattle.golf_plain.specs.declared.plain.PlainOperand.TheVariants.{Integer, Truth, Text, Name}
 use Rattle.golf_plain.specs.declared.plain.TheConstants.{PACKAGE, FUNC, TAB, DEFINE, NEWLINE, PRINT, COMMA, CLOSE, QUOTE, END}
 use Rattle.golf_plain.specs.Bytes.{is_among, is_variable, is_small, spelt}
-use Rattle.golf_plain.specs.Plain.{operand_text, more_text, operands_text, line_text, body_text, import_text, is_operand, is_line, Reads}
+use Rattle.golf_plain.specs.Plain.{operand_text, more_text, operands_text, line_text, body_text, import_text, is_operand, is_line}
 use Rattle.golf_plain.specs.CodeOf.{with_text, names_of, operand_texts, line_texts, texts_of, line_depth, depth_of, operands_code, line_code, body_code, at_line}
 use Rattle.golf_data.specs.declared.code.Instr.TheVariants as i
 

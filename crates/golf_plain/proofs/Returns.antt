@@ -1,7 +1,7 @@
 -- The run of a plain file's code returns: no instruction of `main` lacks an operand or a slot.
-use Rattle.std.proofs.Common.{◌≡◌, ℕ, zero, suc, ◌+◌, ◌-◌, ◌*◌, ◌≤◌, ◌<◌, Bool, true, false, cond, not, ◌&&◌, List, [], ◌∷◌, ◌++◌, length, length-append, length-take, length-set, take, drop, refl, ap, sym, subst, ◌∙◌, append_assoc, zero-add, arith}
-use Rattle.std.specs.Prelude.{Option, Some, None, slice_get, slice_set, nat_le, nat_lt, nat_eq, is_some, pos, option_and_then, replicate, ◌||◌}
-use Rattle.std.specs.List.{list_all, list_any, position_or_len, prefix_len}
+use Rattle.std.proofs.Common.{◌≡◌, ℕ, zero, suc, ◌+◌, ◌-◌, ◌≤◌, ◌<◌, Bool, true, false, cond, not, ◌&&◌, List, [], ◌∷◌, ◌++◌, length, length-append, length-take, length-set, take, refl, ap, sym, subst, ◌∙◌, append_assoc, zero-add, arith}
+use Rattle.std.specs.Prelude.{Option, Some, None, slice_get, slice_set, nat_le, nat_lt, nat_eq, is_some, pos, option_and_then, ◌||◌}
+use Rattle.std.specs.List.{list_all}
 use Rattle.std.specs.Cmp.Lexicographic.{pointwise}
 use Rattle.std.proofs.lemmas.Bool.{ltb-true, leb-true, lt-ltb, le-leb}
 use Rattle.std.proofs.lemmas.Option.{slice_get-get_or}
@@ -20,12 +20,12 @@ use Rattle.golf_plain.specs.declared.plain.PlainLine.TheVariants.{Declare, Print
 use Rattle.golf_plain.specs.declared.plain.PlainOperand.{PlainOperand}
 use Rattle.golf_plain.specs.declared.plain.PlainOperand.TheVariants.{Integer, Truth, Text, Name}
 use Rattle.golf_plain.specs.Bytes.{is_among}
-use Rattle.golf_plain.specs.Plain.{is_known, is_scoped, Reads}
+use Rattle.golf_plain.specs.Plain.{is_known, is_scoped}
 use Rattle.golf_plain.specs.CodeOf.{place, names_of, texts_of, depth_of, at_line, operand_code, operands_code, line_code, body_code, main_line, code_of}
 use Rattle.golf_plain.specs.Solo.{Call, Solo, load, store, top_of, print, return_to, act, act_at, next_line, body_of, step, start, run_from, run, with_current, push, without, last_operands, printed}
 use Rattle.golf_plain.specs.Program.{last_of, Accepts}
 use Rattle.golf_plain.proofs.Lengths.{both, same_is_true, steps_of, file-length, length-body_code}
-use Rattle.golf_plain.proofs.Runs.{run_from-suc, run_from-later, ended-run}
+use Rattle.golf_plain.proofs.Runs.{run_from-later, ended-run}
 
 -- how many operands an instruction leaves of so many, where it lacks none of them and no slot
 abbrev pub leaves : ℕ → Instr → ℕ → Option ℕ

@@ -1,12 +1,11 @@
 -- Runs of the machine: what was printed before changes no step, and what is printed only grows.
-use Rattle.std.proofs.Common.{◌≡◌, ℕ, zero, suc, ◌+◌, ◌-◌, ◌≤◌, Bool, true, false, cond, List, [], ◌∷◌, ◌++◌, length, take, drop, refl, ap, sym, ◌∙◌, append_assoc, append-nil, add-one, arith}
-use Rattle.std.specs.Prelude.{Option, Some, None, slice_get, nat_le, nat_lt, is_some, pos}
+use Rattle.std.proofs.Common.{◌≡◌, ℕ, zero, suc, ◌+◌, ◌-◌, ◌≤◌, Bool, true, false, cond, List, [], ◌∷◌, ◌++◌, length, refl, ap, sym, ◌∙◌, append_assoc, append-nil, add-one, arith}
+use Rattle.std.specs.Prelude.{Option, Some, None, slice_get, nat_le, is_some}
 use Rattle.golf_data.specs.declared.code.Code.{Code}
 use Rattle.golf_data.specs.declared.code.Function.{Function}
 use Rattle.golf_data.specs.declared.code.Line.{Line}
 use Rattle.golf_data.specs.declared.code.Instr.{Instr}
 use Rattle.golf_data.specs.declared.code.Instr.TheVariants as i
-use Rattle.golf_data.specs.declared.value.Value.{Value}
 use Rattle.golf_plain.specs.Solo.{Call, Solo, print, call, return_to, act, act_at, next_line, step, start, run_from, run, printed, last_operands, without, entered}
 use Rattle.golf_plain.specs.Program.{last_of, out_of}
 

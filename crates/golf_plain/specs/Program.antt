@@ -1,7 +1,6 @@
 -- What the program writes and how it ends: the meaning of the words, of a file and of its run.
-use Rattle.std.specs.Prelude.{◌≡◌, ℕ, ◌≤◌, ◌<◌, List, [], ◌∷◌, length, Option}
+use Rattle.std.specs.Prelude.{◌≡◌, ℕ, ◌≤◌, ◌<◌, List, [], ◌∷◌, length}
 use Rattle.golf_data.specs.declared.code.Code.{Code}
-use Rattle.golf_data.specs.declared.goroutine.Ending.{Ending}
 use Rattle.golf_plain.specs.declared.plain.Plain.{Plain}
 use Rattle.golf_plain.specs.declared.status.Status.{Status}
 use Rattle.golf_plain.specs.declared.status.Status.TheVariants as s

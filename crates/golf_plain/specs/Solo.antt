@@ -1,5 +1,5 @@
 -- The machine of a program that has goroutine 1 alone: its state, one turn, and a run.
-use Rattle.std.specs.Prelude.{ℕ, zero, suc, ◌+◌, ◌-◌, Bool, true, false, cond, List, [], ◌∷◌, ◌++◌, length, take, drop, replicate, slice_get, slice_set, nat_le, nat_lt, Option, Some, None, pos, option_to_list, is_some, codes, refl}
+use Rattle.std.specs.Prelude.{ℕ, zero, suc, ◌+◌, ◌-◌, Bool, true, false, cond, List, [], ◌∷◌, ◌++◌, length, take, drop, replicate, slice_get, slice_set, nat_le, nat_lt, Option, Some, None, pos, is_some, codes}
 use Rattle.std.specs.Fmt.{signed_decimal}
 use Rattle.golf_data.specs.declared.code.Code.{Code}
 use Rattle.golf_data.specs.declared.code.Function.{Function}

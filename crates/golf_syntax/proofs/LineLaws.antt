@@ -1,20 +1,20 @@
 -- The lines of the body of `main`, as they are read and as they are printed.
-use Rattle.std.proofs.Common.{◌≡◌, ℕ, suc, ◌+◌, ◌≤◌, ◌<◌, Bool, true, false, cond, not, ◌&&◌, List, [], ◌∷◌, ◌++◌, length, length-append, refl, sym, ap, subst, ◌∙◌, arith, append_assoc}
-use Rattle.std.specs.Prelude.{Option, Some, None, nat_eq, nat_le, take_while}
+use Rattle.std.proofs.Common.{◌≡◌, ℕ, suc, ◌<◌, true, false, not, ◌&&◌, List, [], ◌∷◌, ◌++◌, length, length-append, refl, sym, ap, subst, ◌∙◌, arith, append_assoc}
+use Rattle.std.specs.Prelude.{Option, Some, None, nat_eq, take_while}
 use Rattle.std.specs.List.{list_all}
 use Rattle.std.proofs.lemmas.Bool.Decides.{nat_tests}
 use Rattle.golf_plain.specs.declared.plain.PlainLine.{PlainLine}
 use Rattle.golf_plain.specs.declared.plain.PlainLine.TheVariants.{Declare, Print}
 use Rattle.golf_plain.specs.declared.plain.PlainOperand.{PlainOperand}
 use Rattle.golf_plain.specs.declared.plain.PlainOperand.TheVariants.{Integer, Truth, Text, Name}
-use Rattle.golf_plain.specs.declared.plain.TheConstants.{TAB, DEFINE, NEWLINE, PRINT, COMMA, CLOSE, END}
+use Rattle.golf_plain.specs.declared.plain.TheConstants.{TAB, DEFINE, NEWLINE, PRINT, CLOSE, END}
 use Rattle.golf_plain.specs.Bytes.{is_digit, is_letter, is_name_byte, is_name, is_reserved, is_variable, is_small}
 use Rattle.golf_plain.specs.Plain.{operand_text, more_text, operands_text, line_text, body_text, is_operand, is_line}
 use Rattle.golf_syntax.specs.Gives.{◌>>=◌}
 use Rattle.golf_syntax.specs.Reading.{after_text, digits_at, name_at, behind_it, operand_at, next_operand_at, operands_at, print_at, print_or, declare_at, line_or, next_line_at, body_at}
-use Rattle.golf_syntax.proofs.Bind.{bind_some, both, never}
+use Rattle.golf_syntax.proofs.Bind.{bind_some, both}
 use Rattle.golf_syntax.proofs.Many.{Shrinks, texts, many-takes, all-again}
-use Rattle.golf_syntax.proofs.PieceLaws.{after_text-takes, after_text-again, other-head, ends, run-of, small-digits, name-bytes, digits-takes, digits-again, name-takes, name-again}
+use Rattle.golf_syntax.proofs.PieceLaws.{after_text-takes, after_text-again, other-head, run-of, small-digits, name-bytes, digits-takes, digits-again, name-takes, name-again}
 use Rattle.golf_syntax.proofs.OperandLaws.{operands-takes, operands-again, behind-takes, behind-again}
 
 -- the operands of a line that were read are printed so

@@ -1,20 +1,20 @@
 -- The operands of a line that prints, as they are read and as they are printed.
-use Rattle.std.proofs.Common.{◌≡◌, ℕ, suc, ◌+◌, ◌≤◌, ◌<◌, Bool, true, false, cond, not, ◌&&◌, List, [], ◌∷◌, ◌++◌, length, length-append, drop, refl, sym, ap, subst, ◌∙◌, ◌⊎◌, inl, inr, arith, append_assoc}
-use Rattle.std.specs.Prelude.{Option, Some, None, nat_eq, nat_le, nat_lt, take_while, slice_index, ◌==◌, ◌||◌}
+use Rattle.std.proofs.Common.{◌≡◌, ℕ, suc, Bool, true, false, cond, not, ◌&&◌, List, [], ◌∷◌, ◌++◌, length, length-append, drop, refl, sym, ap, subst, ◌∙◌, ◌⊎◌, inl, inr, arith, append_assoc}
+use Rattle.std.specs.Prelude.{Option, Some, None, nat_eq, take_while}
 use Rattle.std.specs.List.{list_all}
 use Rattle.std.specs.Cmp.Lexicographic.{pointwise, same_text}
 use Rattle.std.proofs.lemmas.Bool.Decides.{nat_tests}
 use Rattle.std.proofs.Math.Seq.{drop-append_seam}
 use Rattle.golf_plain.specs.declared.plain.PlainOperand.{PlainOperand}
 use Rattle.golf_plain.specs.declared.plain.PlainOperand.TheVariants.{Integer, Truth, Text, Name}
-use Rattle.golf_plain.specs.declared.plain.TheConstants.{COMMA, CLOSE, QUOTE, TRUE, FALSE}
+use Rattle.golf_plain.specs.declared.plain.TheConstants.{COMMA, QUOTE, TRUE, FALSE}
 use Rattle.golf_plain.specs.Bytes.{is_digit, is_letter, is_name_byte, is_name, is_reserved, is_variable, is_small, is_spelling}
-use Rattle.golf_plain.specs.Plain.{operand_text, more_text, operands_text, is_operand, truth_text}
+use Rattle.golf_plain.specs.Plain.{operand_text, more_text, operands_text, is_operand}
 use Rattle.golf_syntax.specs.Gives.{◌>>=◌}
-use Rattle.golf_syntax.specs.Reading.{after_text, digits_at, word_of, word_at, integer_at, string_at, spelling_at, operand_by, operand_at, behind, behind_it, next_operand_at, operands_at, print_at, print_or, many_at}
+use Rattle.golf_syntax.specs.Reading.{after_text, digits_at, word_of, word_at, integer_at, string_at, spelling_at, operand_by, operand_at, behind, behind_it, next_operand_at, operands_at, many_at}
 use Rattle.golf_syntax.proofs.Bind.{bind_some, both}
-use Rattle.golf_syntax.proofs.Many.{Shrinks, texts, many-takes, all-again, all_at, bound-texts}
-use Rattle.golf_syntax.proofs.PieceLaws.{after_text-takes, after_text-again, other-head, same_is_true, ends, run-front, run-of, small-digits, name-bytes, digits-takes, digits-again, no-truth}
+use Rattle.golf_syntax.proofs.Many.{Shrinks, texts, many-takes, all-again, bound-texts}
+use Rattle.golf_syntax.proofs.PieceLaws.{after_text-takes, after_text-again, ends, run-front, run-of, small-digits, name-bytes, digits-takes, digits-again, no-truth}
 use Rattle.golf_syntax.proofs.SpellingLaws.{spelling-takes, spelling-again}
 
 -- what was read, and what is known of it

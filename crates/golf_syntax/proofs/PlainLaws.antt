@@ -1,6 +1,6 @@
 -- A plain file is read exactly, and its numbers fit.
-use Rattle.std.proofs.Common.{◌≡◌, ℕ, ◌+◌, ◌*◌, ◌^◌, ◌<◌, ◌≤◌, Bool, true, false, cond, List, [], ◌∷◌, ◌++◌, length, refl, sym, ap, subst, ◌∙◌, arith}
-use Rattle.std.specs.Prelude.{Option, Some, None}
+use Rattle.std.proofs.Common.{◌≡◌, ℕ, ◌^◌, ◌<◌, Bool, true, false, cond, List, [], length, refl, sym, ap, subst, ◌∙◌, arith}
+use Rattle.std.specs.Prelude.{Some, None}
 use Rattle.golf_plain.specs.declared.plain.Plain.{Plain}
 use Rattle.golf_plain.specs.Plain.{Reads, is_scoped}
 use Rattle.golf_plain.specs.CodeOf.{names_of}
@@ -9,8 +9,8 @@ use Rattle.golf_syntax.specs.Gives.{◌>>=◌}
 use Rattle.golf_syntax.specs.Reading.{tree_at}
 use Rattle.golf_syntax.specs.Scope.{scope_of, scoped, plain_at}
 use Rattle.golf_syntax.specs.Bounds.{Fits}
-use Rattle.golf_syntax.proofs.Bind.{bind_some, never}
-use Rattle.golf_syntax.proofs.TreeLaws.{tree-takes, tree-again, Spells}
+use Rattle.golf_syntax.proofs.Bind.{bind_some}
+use Rattle.golf_syntax.proofs.TreeLaws.{tree-takes, tree-again}
 
 scoped-some : (q p : Plain) (b : Bool) (names : List (List ℕ)) → scoped q (cond b (Some names) None) ≡ Some p → (b ≡ true) × (q ≡ p)
 scoped-some q p true names e = (refl, cc)

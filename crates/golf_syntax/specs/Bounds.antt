@@ -1,5 +1,5 @@
 -- Trees whose numbers fit.
-use Rattle.std.specs.Prelude.{ℕ, ◌+◌, ◌^◌, ◌<◌, List, length}
+use Rattle.std.specs.Prelude.{◌+◌, ◌^◌, ◌<◌, length}
 use Rattle.golf_plain.specs.declared.plain.Plain.{Plain}
 use Rattle.golf_plain.specs.CodeOf.{names_of, texts_of, depth_of}
 

@@ -1,9 +1,9 @@
-use Rattle.std.proofs.Common.{◌≡◌, ℕ, ◌+◌, ◌≤◌, Bool, true, List, [], ◌++◌, refl, ap, sym, subst, ◌∙◌, append_assoc, arith}
+use Rattle.std.proofs.Common.{◌≡◌, ℕ, ◌+◌, List, [], ◌++◌, refl, ap, sym, subst, ◌∙◌, append_assoc, arith}
 use Rattle.std.specs.Prelude.{is_some}
 use Rattle.std.specs.Io.KnownBytes.{Appends}
 use Rattle.std.proofs.KnownBytes.{Appends-trans}
-use Rattle.golf_plain.specs.Solo.{Solo, run, step}
-use Rattle.golf_plain.specs.Program.{last_of, out_of}
+use Rattle.golf_plain.specs.Solo.{Solo, run}
+use Rattle.golf_plain.specs.Program.{last_of}
 use Rattle.golf_plain.proofs.Runs.{prefixed, next, taken, out_of-front, ended-run, full-run}
 use Rattle.golf.proofs.run.run.Goals as goal
 use Rattle.golf.proofs.run.run.Goals.{else-loop-turn-test, then-loop-turn-test+then-is_some}

@@ -1,4 +1,4 @@
-use Rattle.std.proofs.Common.{◌≡◌, refl, ap}
+use Rattle.std.proofs.Common.{refl, ap}
 use Rattle.std.specs.Prelude.{IfSome, Err}
 use Rattle.golf_plain.specs.declared.status.TheConstants.{TOO_LONG}
 use Rattle.golf.specs.Means.{IsTooLong}

@@ -7,7 +7,7 @@ use Rattle.std.proofs.lemmas.Option.{slice_get-get_or}
 use Rattle.golf_data.specs.declared.code.Function.{Function}
 use Rattle.golf_data.specs.declared.goroutine.Frame.{Frame}
 use Rattle.golf_data.specs.declared.value.Value.{Value}
-use Rattle.golf_plain.specs.Solo.{Call, entered, without, last_operands}
+use Rattle.golf_plain.specs.Solo.{entered, without, last_operands}
 use Rattle.golf_machine.specs.Frames.{call_of}
 
 pub returns-clause-ok : goal.returns-clause-ok

@@ -1,4 +1,4 @@
-use Rattle.std.proofs.Common.{◌≡◌, arith}
+use Rattle.std.proofs.Common.{arith}
 use Rattle.golf_syntax.proofs.Digits.{value_from-at}
 use Rattle.golf_syntax.proofs.pieces.small_value.Goals as goal
 

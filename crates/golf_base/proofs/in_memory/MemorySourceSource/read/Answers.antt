@@ -1,4 +1,4 @@
-use Rattle.std.proofs.Common.{◌≡◌, ◌∙◌, ◌-◌, ◌+◌, length, take, drop, sym, ap, arith, length-drop, length-append}
+use Rattle.std.proofs.Common.{◌≡◌, ◌∙◌, ◌-◌, length, take, drop, sym, ap, arith, length-drop, length-append}
 use Rattle.std.proofs.lemmas.List.{nil_from_length}
 use Rattle.golf_base.specs.InMemory.{Supply}
 use Rattle.golf_base.proofs.Gives.{gives}

@@ -1,0 +1,14 @@
+pub mod Growing
+pub mod GoingOn
+pub mod Comments
+pub mod Marks
+pub mod Told
+pub mod Whole
+pub mod Again
+pub mod Follows
+pub mod Scans
+pub mod Runs
+pub mod Writing
+pub mod Loop
+pub mod Faults
+pub mod Examples

@@ -1,0 +1,16 @@
+-- Bytes lex in one way, or are at fault at one place.
+use Rattle.std.specs.Prelude.{◌≡◌, ◌⊎◌, ℕ, List}
+use Rattle.golf_tokens.specs.declared.token.Token.{Token}
+use Rattle.golf_tokens.specs.Lexes.{Lexes, IsFault}
+
+-- bytes lex in at most one way
+abbrev pub LexesOnce : Type 0
+LexesOnce = (bytes : List ℕ) (xs ys : List Token) → Lexes bytes xs → Lexes bytes ys → xs ≡ ys
+
+-- at most one place is the fault
+abbrev pub FaultsOnce : Type 0
+FaultsOnce = (bytes : List ℕ) (place other : ℕ) → IsFault bytes place → IsFault bytes other → place ≡ other
+
+-- bytes lex, or there is the fault
+abbrev pub LexesOrFaults : Type 0
+LexesOrFaults = (bytes : List ℕ) → ((tokens : List Token) × Lexes bytes tokens) ⊎ ((place : ℕ) × IsFault bytes place)

@@ -1,0 +1,61 @@
+-- What the lexer keeps of the pieces that it has read.
+use Rattle.std.specs.Prelude.{ℕ, ◌+◌, nat_eq, cond, List, [], ◌∷◌, ◌++◌, Option, Some, None, option_to_list}
+use Rattle.std.specs.Option.{option_map}
+use Rattle.golf_tokens.specs.declared.token.Token.{Token}
+use Rattle.golf_tokens.specs.declared.token.TokenKind.{TokenKind}
+use Rattle.golf_tokens.specs.Bytes.{newlines}
+use Rattle.golf_tokens.specs.Pieces.{Class, Of, Piece}
+use Rattle.golf_tokens.specs.Semicolons.{may_end, semicolon, is_separator, is_closing}
+use Rattle.golf_lex.specs.declared.automaton.State.{State}
+use Rattle.golf_lex.specs.declared.output.Output.{Output}
+use Rattle.golf_lex.specs.Scanning.{scan}
+
+abbrev pub empty : Output
+empty = record { tokens = []; held = None; line = 1; semicolon = None }
+
+-- a separator that was held back is written, but not before a closing token
+abbrev pub released : List Token → Option Token → Token → List Token
+released tokens None token = tokens
+released tokens (Some separator) token = cond (is_closing token.kind) tokens (tokens ++ separator ∷ [])
+
+-- a token behind those written; a separator is held back
+abbrev pub pushed : Output → Token → Output
+pushed o token =
+    let tokens = released o.tokens o.held token in
+    cond (is_separator token.kind) (record o { tokens = tokens; held = Some token }) (record o { tokens = tokens ++ token ∷ []; held = None })
+
+-- a token of this kind on the present line
+abbrev pub with_token : Output → TokenKind → Output
+with_token o kind = record (pushed o (record { kind = kind; line = o.line })) { semicolon = cond (may_end kind) (Some o.line) None }
+
+abbrev pub line_ended_by : Output → Option ℕ → Output
+line_ended_by o None = o
+line_ended_by o (Some line) = pushed (record o { semicolon = None }) (semicolon line)
+
+-- the line ends: a semicolon where the last token on it wants one
+abbrev pub line_ended : Output → Output
+line_ended o = line_ended_by o o.semicolon
+
+-- a newline, if these bytes of a blank or a comment have one
+abbrev pub with_space : Output → List ℕ → Output
+with_space o bytes = cond (nat_eq (newlines bytes) 0) o (line_ended o)
+
+abbrev pub with_class : Output → Class → List ℕ → Output
+with_class o (Of kind) bytes = with_token o kind
+with_class o _ bytes = with_space o bytes
+
+-- the lines of the bytes are behind it
+abbrev pub moved : Output → List ℕ → Output
+moved o bytes = record o { line = o.line + newlines bytes }
+
+abbrev pub with_pieces : Output → List Piece → Output
+with_pieces o [] = o
+with_pieces o (p ∷ ps) = with_pieces (moved (with_class o p.class p.bytes) p.bytes) ps
+
+-- the tokens, at the end of the file
+abbrev pub finished : Output → List Token
+finished o = let last = line_ended o in last.tokens ++ option_to_list last.held
+
+-- the tokens, where a piece in this state has these bytes so far and the rest follows
+abbrev pub read : Output → State → List ℕ → List ℕ → Option (List Token)
+read o state bytes rest = option_map (λ pieces. finished (with_pieces o pieces)) (scan state bytes rest)

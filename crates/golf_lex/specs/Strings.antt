@@ -1,0 +1,12 @@
+-- The bytes that a string stands for.
+use Rattle.std.specs.Prelude.{ℕ, Bool, true, false, nat_eq, cond, List, [], ◌∷◌}
+
+-- what a byte behind a backslash stands for
+abbrev pub escaped_byte : ℕ → ℕ
+escaped_byte b = cond (nat_eq b 110) 10 (cond (nat_eq b 116) 9 b)
+
+-- the bytes stood for, behind a backslash or not; quotes stand for none
+abbrev pub content_from : Bool → List ℕ → List ℕ
+content_from escaped [] = []
+content_from true (b ∷ bs) = escaped_byte b ∷ content_from false bs
+content_from false (b ∷ bs) = cond (nat_eq b 92) (content_from true bs) (cond (nat_eq b 34) (content_from false bs) (b ∷ content_from false bs))

@@ -1,0 +1,89 @@
+//! Kinds of tokens.
+
+ghost use Rattle.std.specs.Prelude.{◌≡◌, IfOk};
+ghost use Rattle.golf_tokens.specs.Semicolons.{is_closing as is_closing_of, is_separator as is_separator_of, may_end as may_end_of};
+ghost use Rattle.golf_lex.specs.Scanning.{kind_at};
+ghost use Rattle.golf_lex.specs.Words.{word_kind};
+
+use crate::automaton::State;
+use crate::strings::content;
+use crate::words::keyword;
+use golf_base::{List, Memory};
+use golf_tokens::{Keyword, Mark, TokenKind};
+use std::alloc::Global;
+
+/// Whether a newline behind such a token stands for a semicolon.
+pub(crate) fn may_end(kind: &TokenKind) -> bool
+    ensures { result ≡ may_end_of kind.now }
+{
+    match kind {
+        TokenKind::Name(_) | TokenKind::Integer(_) | TokenKind::Text(_) => true,
+        TokenKind::Keyword(keyword) => keyword_may_end(*keyword),
+        TokenKind::Mark(mark) => mark_may_end(*mark),
+    }
+}
+
+/// Whether it is `;` or `,`, which is left out before `)` and `}`.
+pub(crate) fn is_separator(kind: &TokenKind) -> bool
+    ensures { result ≡ is_separator_of kind.now }
+{
+    matches!(kind, TokenKind::Mark(Mark::Semicolon | Mark::Comma))
+}
+
+/// Whether it is `)` or `}`.
+pub(crate) fn is_closing(kind: &TokenKind) -> bool
+    ensures { result ≡ is_closing_of kind.now }
+{
+    matches!(kind, TokenKind::Mark(Mark::CloseParen | Mark::CloseBrace))
+}
+
+fn keyword_may_end(keyword: Keyword) -> bool
+    ensures { result ≡ may_end_of (TokenKind.Keyword keyword) }
+{
+    matches!(
+        keyword,
+        Keyword::Break | Keyword::Continue | Keyword::Return
+    )
+}
+
+fn mark_may_end(mark: Mark) -> bool
+    ensures { result ≡ may_end_of (TokenKind.Mark mark) }
+{
+    matches!(
+        mark,
+        Mark::Increment | Mark::Decrement | Mark::CloseParen | Mark::CloseBracket | Mark::CloseBrace
+    )
+}
+
+fn copied(alloc: Global, bytes: &[u8]) -> Result<List<u8>, Memory>
+    ensures { IfOk result (λ list. list ≡ bytes.now) }
+{
+    let mut list = List::new(alloc);
+    list.extend_from_slice(bytes)?;
+    Ok(list)
+}
+
+fn word(alloc: Global, bytes: &[u8]) -> Result<TokenKind, Memory>
+    ensures { IfOk result (λ kind. kind ≡ word_kind bytes.now) }
+{
+    match keyword(bytes) {
+        Some(keyword) => Ok(TokenKind::Keyword(keyword)),
+        None => Ok(TokenKind::Name(copied(alloc, bytes)?)),
+    }
+}
+
+/// The token that a piece of these bytes is, where the automaton ended it in this state. Blanks and comments are none.
+pub(crate) fn kind(alloc: Global, state: State, bytes: &[u8]) -> Result<Option<TokenKind>, Memory>
+    ensures { IfOk result (λ kind. kind ≡ kind_at state bytes.now) }
+{
+    match state {
+        State::Word => Ok(Some(word(alloc, bytes)?)),
+        State::Zero | State::Digits => Ok(Some(TokenKind::Integer(copied(alloc, bytes)?))),
+        State::Text => Ok(Some(TokenKind::Text(content(alloc, bytes)?))),
+        State::Mark(mark) => Ok(Some(TokenKind::Mark(mark))),
+        State::Blank | State::LineComment | State::Closed => Ok(None),
+        State::Quoted | State::Escaped | State::Bar | State::GeneralComment | State::Star => Ok(
+            None,
+        ),
+    }
+}

@@ -1,0 +1,83 @@
+//! Reads the tokens of a file.
+
+ghost use Rattle.std.specs.Prelude.{◌≡◌, ◌<◌, ◌≤◌, ◌-◌, ◌^◌, length};
+ghost use Rattle.golf_tokens.specs.Lexes.{line_at};
+ghost use Rattle.golf_lex.specs.Answers.{Accepts, Answers, Refuses};
+
+use crate::automaton::{Growth, State, begin, extend, is_complete};
+use crate::bytes::newlines;
+use crate::output::Output;
+use golf_base::{List, Memory};
+use golf_tokens::Token;
+use std::alloc::Global;
+
+/// Why a file has no tokens.
+#[derive(Clone, Copy, Debug, PartialEq, Eq)]
+pub enum LexFault {
+    /// No text that lexes begins with the bytes up to and including this one, and `byte` is the first such, counted from 0.
+    /// Where there is none, it is the length. `line` is its line, from 1.
+    At { line: u32, byte: u32 },
+    /// Memory was wanting.
+    Memory,
+}
+
+impl From<Memory> for LexFault {
+    ghost use Rattle.golf_lex.specs.declared.lexer.LexFault.TheVariants as faults;
+
+    ghost from_gives = { λ _ fault. fault ≡ faults.Memory };
+
+    fn from(_: Memory) -> Self {
+        LexFault::Memory
+    }
+}
+
+// The fault at this place.
+fn fault(bytes: &[u8], place: usize) -> LexFault
+    requires within { place ≤ length bytes.now }
+    requires small { length bytes.now < 2 ^ 32 - 1 }
+    ensures { result ≡ LexFault.At (line_at bytes.now place) place }
+{
+    let (front, _) = bytes.split_at(place);
+    LexFault::At {
+        line: newlines(front) as u32 + 1,
+        byte: place as u32,
+    }
+}
+
+/// The tokens of a file, with their lines, with inserted semicolons, and without those `;` and `,` that stand right before a
+/// `)` or a `}`. The time that it takes grows in proportion to the length.
+///
+/// # Errors
+///
+/// `LexFault::At` where the bytes do not lex, and `LexFault::Memory` where memory runs out, which no clause ties to a cause.
+pub fn tokens(alloc: Global, bytes: &[u8]) -> Result<List<Token>, LexFault>
+    requires { length bytes.now < 2 ^ 32 - 1 }
+    ensures answer { Answers bytes.now result }
+
+    // Where the bytes lex, the answer is their tokens, and where they do not, the place of the fault.
+    ensures accepts { Accepts bytes.now result }
+    ensures refuses { Refuses bytes.now result }
+{
+    let mut output = Output::new(alloc);
+    let mut state = State::Blank;
+    let mut start = 0;
+    for (i, byte) in bytes.iter().enumerate() {
+        match extend(state, *byte) {
+            Growth::To(next) => state = next,
+            Growth::Over => {
+                let Some(next) = begin(*byte) else {
+                    return Err(fault(bytes, i));
+                };
+                output.add(alloc, state, &bytes[start..i])?;
+                state = next;
+                start = i;
+            }
+            Growth::Fault => return Err(fault(bytes, i)),
+        }
+    }
+    if !is_complete(state) {
+        return Err(fault(bytes, bytes.len()));
+    }
+    output.add(alloc, state, &bytes[start..])?;
+    Ok(output.finish()?)
+}

@@ -1,0 +1,16 @@
+//! Reads the tokens of a file.
+#![tactic(auto)]
+
+mod automaton;
+mod bytes;
+mod kinds;
+mod laws;
+mod lexer;
+mod output;
+mod strings;
+#[cfg(test)]
+mod tests;
+mod words;
+
+pub use laws::{faults_once, lexes_once, lexes_or_faults};
+pub use lexer::{LexFault, tokens};

@@ -1,0 +1,119 @@
+//! The tokens of the pieces that are read, with inserted semicolons and without optional separators.
+
+ghost use Rattle.std.specs.Prelude.{◌≡◌, ◌+◌, ◌<◌, ◌^◌, IfOk, OnOk, true};
+ghost use Rattle.golf_tokens.specs.Bytes.{newlines as newlines_of};
+
+use crate::automaton::State;
+use crate::bytes::newlines;
+use crate::kinds::{is_closing, is_separator, kind, may_end};
+use golf_base::{List, Memory};
+use golf_tokens::{Mark, Token, TokenKind};
+use std::alloc::Global;
+
+/// What is kept of the pieces that were read.
+#[derive(Drop)]
+pub(crate) struct Output {
+    pub(crate) tokens: List<Token>,
+    /// A `;` or `,` behind the tokens, which is left out if `)` or `}` comes next.
+    pub(crate) held: Option<Token>,
+    /// The line reached, from 1.
+    pub(crate) line: u32,
+    /// The line of the semicolon that a newline here stands for, if it does.
+    pub(crate) semicolon: Option<u32>,
+}
+
+impl Output {
+    ghost use Rattle.golf_lex.specs.Output.{empty, pushed, with_token, line_ended as line_ended_of, with_space, with_pieces, moved, finished};
+    ghost use Rattle.golf_lex.specs.Automaton.{is_complete};
+    ghost use Rattle.golf_lex.specs.Scanning.{ended};
+
+    pub(crate) fn new(alloc: Global) -> Output
+        ensures { result ≡ empty }
+    {
+        Output {
+            tokens: List::new(alloc),
+            held: None,
+            line: 1,
+            semicolon: None,
+        }
+    }
+
+    fn push(&mut self, token: Token) -> Result<(), Memory>
+        ensures { OnOk result (self.new ≡ pushed self.old token) }
+    {
+        if let Some(separator) = self.held.take()
+            && !is_closing(&token.kind)
+        {
+            self.tokens.push(separator)?;
+        }
+        if is_separator(&token.kind) {
+            self.held = Some(token);
+        } else {
+            self.tokens.push(token)?;
+        }
+        Ok(())
+    }
+
+    fn add_token(&mut self, kind: TokenKind) -> Result<(), Memory>
+        ensures { OnOk result (self.new ≡ with_token self.old kind) }
+    {
+        let semicolon = if may_end(&kind) {
+            Some(self.line)
+        } else {
+            None
+        };
+        self.push(Token {
+            kind,
+            line: self.line,
+        })?;
+        self.semicolon = semicolon;
+        Ok(())
+    }
+
+    fn end_line(&mut self) -> Result<(), Memory>
+        ensures { OnOk result (self.new ≡ line_ended_of self.old) }
+    {
+        if let Some(line) = self.semicolon.take() {
+            self.push(Token {
+                kind: TokenKind::Mark(Mark::Semicolon),
+                line,
+            })?;
+        }
+        Ok(())
+    }
+
+    /// Adds the piece that the automaton ended in this state.
+    pub(crate) fn add(&mut self, alloc: Global, state: State, bytes: &[u8]) -> Result<(), Memory>
+        requires complete { is_complete state ≡ true }
+        requires line { self.old.line + newlines_of bytes.now < 2 ^ 32 }
+        ensures { OnOk result (self.new ≡ with_pieces self.old (ended state bytes.now)) }
+    {
+        let count = newlines(bytes);
+        match kind(alloc, state, bytes)? {
+            Some(kind) => self.add_token(kind)?,
+            None => {
+                if count > 0 {
+                    self.end_line()?;
+                }
+            }
+        }
+        self.line += count as u32;
+        Ok(())
+    }
+
+    /// All tokens, at the end of the file.
+    pub(crate) fn finish(mut self) -> Result<List<Token>, Memory>
+        ensures { IfOk result (λ tokens. tokens ≡ finished self) }
+    {
+        self.end_line()?;
+        let Output {
+            mut tokens,
+            held,
+            ..
+        } = self;
+        if let Some(separator) = held {
+            tokens.push(separator)?;
+        }
+        Ok(tokens)
+    }
+}

@@ -1,0 +1,36 @@
+//! String literals.
+
+ghost use Rattle.std.specs.Prelude.{◌≡◌, ℕ, IfOk, false};
+ghost use Rattle.golf_lex.specs.Strings.{content_from, escaped_byte as escaped_byte_of};
+
+use golf_base::{List, Memory};
+use std::alloc::Global;
+
+fn escaped_byte(byte: u8) -> u8
+    ensures { result ≡ escaped_byte_of byte }
+{
+    match byte {
+        b'n' => b'\n',
+        b't' => b'\t',
+        _ => byte,
+    }
+}
+
+/// The bytes that a whole string literal, with its quotes, stands for.
+pub(crate) fn content(alloc: Global, literal: &[u8]) -> Result<List<u8>, Memory>
+    ensures { IfOk result (λ bytes. bytes ≡ content_from false literal.now) }
+{
+    let mut content = List::new(alloc);
+    let mut escaped = false;
+    for byte in literal {
+        if escaped {
+            content.push(escaped_byte(*byte))?;
+            escaped = false;
+        } else if *byte == b'\\' {
+            escaped = true;
+        } else if *byte != b'"' {
+            content.push(*byte)?;
+        }
+    }
+    Ok(content)
+}
