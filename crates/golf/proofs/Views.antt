@@ -1,19 +1,25 @@
 -- What the ends of a call mean.
-use Rattle.std.proofs.Common.{◌≡◌, ℕ, List, [], ◌++◌, length, length-append, refl, sym, subst, ap, ◌∙◌, ◌⊎◌, inl, inr, append-nil, arith}
+use Rattle.std.proofs.Common.{◌≡◌, ℕ, Bool, true, false, List, [], ◌++◌, length, length-append, refl, sym, subst, ap, ◌∙◌, ◌⊎◌, inl, inr, append-nil, arith}
 use Rattle.std.specs.Prelude.{Option, Some, None, IfSome}
 use Rattle.std.specs.Io.KnownBytes.{Appends, Keeps, Consumes, IsAtEnd}
-use Rattle.std.proofs.KnownBytes.{Keeps-refl, Appends-nil}
+use Rattle.std.proofs.KnownBytes.{Keeps-refl, Appends-nil, Appends-trans}
 use Rattle.golf_base.specs.Causes.{Rose, WritesFront, ReadsSome}
 use Rattle.golf_plain.specs.declared.plain.Plain.{Plain}
-use Rattle.golf_plain.specs.declared.status.Status.{Status}
-use Rattle.golf_plain.specs.declared.status.Status.TheVariants as s
-use Rattle.golf_plain.specs.declared.status.TheConstants.{LIMIT, USAGE, READ_FAULT, TOO_LONG, NOT_BUILT, NO_MEMORY}
+use Rattle.golf_texts.specs.declared.status.Status.{Status}
+use Rattle.golf_texts.specs.declared.status.Status.TheVariants as s
+use Rattle.golf_texts.specs.declared.status.TheConstants.{LIMIT, USAGE, READ_FAULT, TOO_LONG, NOT_BUILT, NO_MEMORY}
 use Rattle.golf_data.specs.declared.code.Code.{Code}
 use Rattle.golf_plain.specs.Plain.{Reads}
 use Rattle.golf_plain.specs.CodeOf.{code_of}
-use Rattle.golf_plain.specs.Program.{IsRun, Accepts, out_of}
-use Rattle.golf_plain.specs.Program.Meaning.{Misused, Overlong, Unknown, Runs}
-use Rattle.golf.specs.Means.{View, seen, GotFront, IsTooLong, IsRefused, FileLine, HasFailed, FileMeans, UsageMeans, GotWhole, IsComplete}
+use Rattle.golf_texts.specs.Meaning.{out_of, err_of, status_by, status_of, last_of, reports_of, anyone_reported, events}
+use Rattle.golf_model.specs.Collecting.{sets}
+use Rattle.golf_laws.proofs.MainLaws as Law
+use Rattle.golf_run.specs.HasRun.{Sinks, sinks, GotFronts, GotWhole as GotBoth}
+use Rattle.golf_data.specs.declared.goroutine.Ending.{Ending}
+use Rattle.golf_model.specs.State.{ending}
+use Rattle.golf.specs.Meaning.{IsRun, Accepts, AreTrue, Meaning}
+use Rattle.golf.specs.Meaning.Meaning.{Misused, Overlong, Unknown, Runs}
+use Rattle.golf.specs.Means.{View, seen, Begins, GotFront, IsFront, RunsWhole, IsTooLong, IsRefused, FileLine, Cut, HasFailed, HasWanted, FileMeans, UsageMeans, Causes, GotWhole, IsComplete}
 use Rattle.golf.specs.Means.FileLine.{WhenUnread, WhenTooLong, WhenNotBuilt, WhenWanting}
 use Rattle.golf.specs.Ends.{EndsWith}
 use Rattle.golf.proofs.Words.{run-decided}
@@ -29,6 +35,14 @@ pub if-nothing : (left a : Option (List ℕ)) → IfSome left (λ bytes. GotFron
 if-nothing None a = tt
 if-nothing (Some bytes) a = got-nothing bytes a
 
+-- the empty front
+empty-front : (bytes : List ℕ) → IsFront [] bytes
+empty-front bytes = record { runs = λ p h. (err_of (code_of p), refl); refused = λ h. refl }
+
+no-front : (left : Option (List ℕ)) → IfSome left (IsFront [])
+no-front None = tt
+no-front (Some bytes) = empty-front bytes
+
 module _ (left left' : Option (List ℕ)) (rf rf' : ℕ) (out : Option (List ℕ)) (of : ℕ) (err err' : Option (List ℕ)) (ef ef' : ℕ) where
   abbrev old : View
   old = seen left rf out of err ef
@@ -38,7 +52,10 @@ module _ (left left' : Option (List ℕ)) (rf rf' : ℕ) (out : Option (List ℕ
 
   -- the write of a line failed, and the first sink got nothing
   broken : (line : List ℕ) (r : Status) → FileLine old new line → r ≡ s.WriteFault → WritesFront err err' line → Rose ef ef' → FileMeans r old new
-  broken line r why is front rose = subst (λ t. FileMeans t old new) (sym is) (inr (rose, (line, why, front)), if-nothing left out)
+  broken line r why is front rose = subst (λ t. FileMeans t old new) (sym is) (
+    record { front = []; piece = front.0; of_file = no-front left; cut = inr (rose, (line, why, (front.1, front.2))); written = front.3 },
+    if-nothing left out,
+  )
 
   pub refused-means : (line : List ℕ) (r : Status) → FileLine old new line → (Appends err err' line → IfSome left (λ bytes. IsRefused bytes err err')) → EndsWith r s.Refused line err err' ef ef' → FileMeans r old new
   refused-means line r why whole (inl e) = subst (λ t. FileMeans t old new) (sym e.0) (Keeps-refl out, whole e.1)
@@ -49,18 +66,99 @@ module _ (left left' : Option (List ℕ)) (rf rf' : ℕ) (out : Option (List ℕ
   unread-means r rose (inr e) = broken READ_FAULT.now r (WhenUnread rose) e.0 e.1 e.2
 
   pub wanting-means : (r : Status) → EndsWith r s.Memory NO_MEMORY.now err err' ef ef' → FileMeans r old new
-  wanting-means r (inl e) = subst (λ t. FileMeans t old new) (sym e.0) (e.1, if-nothing left out)
+  wanting-means r (inl e) = subst (λ t. FileMeans t old new) (sym e.0) (record { front = []; of_file = no-front left; written = e.1 }, if-nothing left out)
   wanting-means r (inr e) = broken NO_MEMORY.now r WhenWanting e.0 e.1 e.2
 
   pub usage-means : (r : Status) → left' ≡ left → EndsWith r s.Usage USAGE.now err err' ef ef' → UsageMeans r old new
   usage-means r same (inl e) = subst (λ t. UsageMeans t old new) (sym e.0) (subst (λ l. Keeps left l) (sym same) (Keeps-refl left), Keeps-refl out, e.1)
   usage-means r same (inr e) = subst (λ t. UsageMeans t old new) (sym e.0) (subst (λ l. Keeps left l) (sym same) (Keeps-refl left), Keeps-refl out, e.2, e.1)
 
--- memory was wanting in a run
-pub stopped-means : (bytes : List ℕ) (rf : ℕ) (out out' : Option (List ℕ)) (of of' : ℕ) (err err' : Option (List ℕ)) (ef ef' : ℕ) (r : Status) → GotFront bytes out out' → EndsWith r s.Memory NO_MEMORY.now err err' ef ef'
-    → FileMeans r (seen (Some bytes) rf out of err ef) (seen (Some bytes) rf out' of' err' ef')
-stopped-means bytes rf out out' of of' err err' ef ef' r got (inl e) = subst (λ t. FileMeans t (seen (Some bytes) rf out of err ef) (seen (Some bytes) rf out' of' err' ef')) (sym e.0) (e.1, got)
-stopped-means bytes rf out out' of of' err err' ef ef' r got (inr e) = subst (λ t. FileMeans t (seen (Some bytes) rf out of err ef) (seen (Some bytes) rf out' of' err' ef')) (sym e.0) (inr (e.2, (NO_MEMORY.now, WhenWanting, e.1)), got)
+-- one code is that of every tree of the file
+code-is : (bytes : List ℕ) (code : Code) → ((q : Plain) → Reads bytes q → ◌≡◌ {A = Option Code} (Some code) (Some (code_of q))) → (q : Plain) → Reads bytes q → code ≡ code_of q
+code-is bytes code all q k = let e = all q k in cc
+
+-- the reports of a run are true
+pub are-true : (code : Code) → AreTrue code
+unfolding reports_of
+are-true code = record { each = Law.book_tells_of_each code events false; still = Law.reported_are_still code events }
+
+module _ (bytes : List ℕ) (p : Plain) (code : Code) (accepted : Accepts bytes p) (is : code ≡ code_of p) (all : (q : Plain) → Reads bytes q → ◌≡◌ {A = Option Code} (Some code) (Some (code_of q))) (rf : ℕ) (out out' : Option (List ℕ)) (of of' : ℕ) (err : Option (List ℕ)) (ef : ℕ) where
+  abbrev start : View
+  start = seen (Some bytes) rf out of err ef
+
+  out-front : WritesFront out out' (out_of code) → GotFront bytes out out'
+  out-front f = record { runs = λ q h. subst (λ c. WritesFront out out' (out_of c)) (code-is bytes code all q h.reads) f; refused = λ none. absurd (none p accepted) }
+
+  err-front : (front : List ℕ) → Begins front (err_of code) → IsFront front bytes
+  err-front front b = record { runs = λ q h. subst (λ c. Begins front (err_of c)) (code-is bytes code all q h.reads) b; refused = λ none. absurd (none p accepted) }
+
+  whole-run : (err' : Option (List ℕ)) (ef' : ℕ) (r : Status) → GotBoth r code (sinks out of err ef) (sinks out' of' err' ef') → RunsWhole r start (seen (Some bytes) rf out' of' err' ef')
+  whole-run err' ef' r g = record {
+    bytes = bytes;
+    plain = p;
+    told = refl;
+    accepts = accepted;
+    status = g.status ∙ ap status_of is;
+    out = subst (λ c. Appends out out' (out_of c)) is g.out;
+    err = subst (λ c. Appends err err' (err_of c)) is g.err;
+    reports = subst AreTrue is (are-true code);
+  }
+
+  status-runs : (o : Option Ending) (b : Bool) (v w : View) → RunsWhole (status_by b o) v w → FileMeans (status_by b o) v w
+  status-runs (Some Ending.Returned) true v w h = h
+  status-runs (Some Ending.Returned) false v w h = h
+  status-runs (Some (Ending.Panicked kind g line)) b v w h = h
+  status-runs (Some Ending.Asleep) b v w h = h
+  status-runs None b v w h = h
+
+  -- the run went to its end
+  pub ran-means : (err' : Option (List ℕ)) (ef' : ℕ) (r : Status) → GotBoth r code (sinks out of err ef) (sinks out' of' err' ef') → FileMeans r start (seen (Some bytes) rf out' of' err' ef')
+  unfolding status_of
+  ran-means err' ef' r g =
+      let later = seen (Some bytes) rf out' of' err' ef' in
+      subst (λ t. FileMeans t start later) (sym g.status)
+      (status-runs (ending (last_of code)) (anyone_reported (reports_of code)) start later (subst (λ t. RunsWhole t start later) g.status (whole-run err' ef' r g)))
+
+  -- a write failed in it
+  pub failed-means : (err' : Option (List ℕ)) (ef' : ℕ) → GotFronts code (sinks out of err ef) (sinks out' of' err' ef') → Rose of of' ⊎ Rose ef ef' → FileMeans s.WriteFault start (seen (Some bytes) rf out' of' err' ef')
+  failed-means err' ef' f rose = (
+    record { front = f.err.0; piece = []; of_file = err-front f.err.0 (f.err.1, f.err.2); cut = inl (refl, rose); written = subst (Appends err err') (sym (append-nil f.err.0)) f.err.3 },
+    out-front f.out,
+  )
+
+  -- memory was wanting in it, and then a line was written
+  pub stopped-means : (mid err' : Option (List ℕ)) (mf ef' : ℕ) (r : Status) → GotFronts code (sinks out of err ef) (sinks out' of' mid mf) → mf ≡ ef → EndsWith r s.Memory NO_MEMORY.now mid err' mf ef' → FileMeans r start (seen (Some bytes) rf out' of' err' ef')
+  stopped-means mid err' mf ef' r f steady (inl e) = subst (λ t. FileMeans t start (seen (Some bytes) rf out' of' err' ef')) (sym e.0) (
+    record { front = f.err.0; of_file = err-front f.err.0 (f.err.1, f.err.2); written = Appends-trans err mid err' f.err.0 NO_MEMORY.now f.err.3 e.1 },
+    out-front f.out,
+  )
+  stopped-means mid err' mf ef' r f steady (inr e) = subst (λ t. FileMeans t start (seen (Some bytes) rf out' of' err' ef')) (sym e.0) (
+    record {
+      front = f.err.0;
+      piece = e.1.0;
+      of_file = err-front f.err.0 (f.err.1, f.err.2);
+      cut = inr (subst (λ x. Rose x ef') steady e.2, (NO_MEMORY.now, WhenWanting, (e.1.1, e.1.2)));
+      written = Appends-trans err mid err' f.err.0 e.1.0 f.err.3 e.1.3;
+    },
+    out-front f.out,
+  )
+
+steady-causes : (o : Option Ending) (b : Bool) (v w : View) → w.read_faults ≡ v.read_faults → w.out_faults ≡ v.out_faults → w.err_faults ≡ v.err_faults → Causes (status_by b o) v w
+steady-causes (Some Ending.Returned) true v w p q r = (p, q, r)
+steady-causes (Some Ending.Returned) false v w p q r = (p, q, r)
+steady-causes (Some (Ending.Panicked kind g line)) b v w p q r = (p, q, r)
+steady-causes (Some Ending.Asleep) b v w p q r = (p, q, r)
+steady-causes None b v w p q r = (p, q, r)
+
+-- no count rises in a run that goes to its end
+pub ran-causes : (code : Code) (r : Status) (v w : View) → r ≡ status_of code → w.read_faults ≡ v.read_faults → w.out_faults ≡ v.out_faults → w.err_faults ≡ v.err_faults → Causes r v w
+unfolding status_of
+ran-causes code r v w is p q e = subst (λ t. Causes t v w) (sym is) (steady-causes (ending (last_of code)) (anyone_reported (reports_of code)) v w p q e)
+
+-- a failed write raised a count
+pub one-rose : (of of' ef ef' : ℕ) → (Rose of of' × (ef' ≡ ef)) ⊎ ((of' ≡ of) × Rose ef ef') → Rose of of' ⊎ Rose ef ef'
+one-rose of of' ef ef' (inl h) = inl h.0
+one-rose of of' ef ef' (inr h) = inr h.1
 
 -- a count that stayed at 0 did not rise
 no-rise : Rose 0 0 → ⊥
@@ -93,35 +191,53 @@ module _ (bytes : List ℕ) (left' : Option (List ℕ)) (rf rf' : ℕ) (out out'
   line-untold _ (WhenNotBuilt h) = WhenNotBuilt tt
   line-untold _ WhenWanting = WhenWanting
 
+  cut-told : (piece : List ℕ) → Cut judged judged' piece → Cut (told (Some bytes)) told' piece
+  cut-told piece (inl h) = inl h
+  cut-told piece (inr h) = inr (h.0, (h.1.0, line-told h.1.0 h.1.1, h.1.2))
+
+  cut-untold : (piece : List ℕ) → Cut judged judged' piece → Cut (told None) told' piece
+  cut-untold piece (inl h) = inl h
+  cut-untold piece (inr h) = inr (h.0, (h.1.0, line-untold h.1.0 h.1.1, h.1.2))
+
   failed-told : HasFailed judged judged' → HasFailed (told (Some bytes)) told'
-  failed-told (inl h) = inl h
-  failed-told (inr h) = inr (h.0, (h.1.0, line-told h.1.0 h.1.1, h.1.2))
+  failed-told h = record { front = h.front; piece = h.piece; of_file = h.of_file; cut = cut-told h.piece h.cut; written = h.written }
 
   failed-untold : HasFailed judged judged' → HasFailed (told None) told'
-  failed-untold (inl h) = inl h
-  failed-untold (inr h) = inr (h.0, (h.1.0, line-untold h.1.0 h.1.1, h.1.2))
+  failed-untold h = record { front = h.front; piece = h.piece; of_file = tt; cut = cut-untold h.piece h.cut; written = h.written }
+
+  wanted-told : HasWanted judged judged' → HasWanted (told (Some bytes)) told'
+  wanted-told h = record { front = h.front; of_file = h.of_file; written = h.written }
+
+  wanted-untold : HasWanted judged judged' → HasWanted (told None) told'
+  wanted-untold h = record { front = h.front; of_file = tt; written = h.written }
+
+  runs-told : (r : Status) → RunsWhole r judged judged' → RunsWhole r (told (Some bytes)) told'
+  runs-told r h = record { bytes = h.bytes; plain = h.plain; told = h.told; accepts = h.accepts; status = h.status; out = h.out; err = h.err; reports = h.reports }
+
+  runs-untold : (r : Status) → RunsWhole r judged judged' → RunsWhole r (told None) told'
+  runs-untold r h = record { bytes = h.bytes; plain = h.plain; told = tt; accepts = h.accepts; status = h.status; out = h.out; err = h.err; reports = h.reports }
 
   means-told : (r : Status) → FileMeans r judged judged' → FileMeans r (told (Some bytes)) told'
-  means-told s.Clean m = m
-  means-told s.Found m = m
-  means-told s.Crashed m = m
-  means-told s.Spent m = m
+  means-told s.Clean m = runs-told s.Clean m
+  means-told s.Found m = runs-told s.Found m
+  means-told s.Crashed m = runs-told s.Crashed m
+  means-told s.Spent m = runs-told s.Spent m
   means-told s.Refused m = m
   means-told s.Usage m = m
   means-told s.ReadFault m = absurd (no-rise m.0)
   means-told s.WriteFault m = (failed-told m.0, m.1)
-  means-told s.Memory m = m
+  means-told s.Memory m = (wanted-told m.0, m.1)
 
   means-untold : (r : Status) → FileMeans r judged judged' → FileMeans r (told None) told'
-  means-untold s.Clean m = (m.0, tt)
-  means-untold s.Found m = m
-  means-untold s.Crashed m = m
-  means-untold s.Spent m = m
+  means-untold s.Clean m = runs-untold s.Clean m
+  means-untold s.Found m = runs-untold s.Found m
+  means-untold s.Crashed m = runs-untold s.Crashed m
+  means-untold s.Spent m = runs-untold s.Spent m
   means-untold s.Refused m = (m.0, tt)
   means-untold s.Usage m = m
   means-untold s.ReadFault m = absurd (no-rise m.0)
   means-untold s.WriteFault m = (failed-untold m.0, tt)
-  means-untold s.Memory m = (m.0, tt)
+  means-untold s.Memory m = (wanted-untold m.0, tt)
 
   -- the bytes that were judged are those that were left
   pub means-left : (left : Option (List ℕ)) (r : Status) → Consumes left left' bytes → IsAtEnd left' → FileMeans r judged judged' → FileMeans r (told left) told'
@@ -152,18 +268,28 @@ module _ (words : List (List ℕ)) (rf rf' : ℕ) (out out' : Option (List ℕ))
   refused-whole run k (inl h) = ([], TOO_LONG.now, Overlong run h.0, kept-nil out out' k, h.1)
   refused-whole run k (inr h) = ([], NOT_BUILT.now, Unknown run h.0.0 h.0.1, kept-nil out out' k, h.1)
 
+  -- a run that went to its end
+  full : IsRun words → (r : Status) → RunsWhole r before after → (r ≡ s.Memory) ⊎ GotWhole words bytes r before after
+  full run r h = inr (
+    out_of (code_of h.plain),
+    err_of (code_of h.plain),
+    subst (λ t. Meaning words bytes t (out_of (code_of h.plain)) (err_of (code_of h.plain))) (sym h.status) (Runs h.plain run (subst (λ b. Accepts b h.plain) (sym h.told) h.accepts)),
+    h.out,
+    h.err,
+  )
+
   run-whole : IsRun words → Quiet → (r : Status) → FileMeans r before after → (r ≡ s.Memory) ⊎ GotWhole words bytes r before after
-  run-whole run quiet s.Clean m = inr (out_of (code_of m.1.0), [], Runs m.1.0 run m.1.1, m.1.2, kept-nil err err' m.0)
-  run-whole run quiet s.Found m = absurd m
-  run-whole run quiet s.Crashed m = absurd m
-  run-whole run quiet s.Spent m = absurd m
+  run-whole run quiet s.Clean m = full run s.Clean m
+  run-whole run quiet s.Found m = full run s.Found m
+  run-whole run quiet s.Crashed m = full run s.Crashed m
+  run-whole run quiet s.Spent m = full run s.Spent m
   run-whole run quiet s.Refused m = inr (refused-whole run m.0 m.1)
   run-whole run quiet s.Usage m = absurd m
   run-whole run quiet s.ReadFault m = absurd (quiet.0 m.0)
-  run-whole run quiet s.WriteFault m = absurd (loud m.0)
+  run-whole run quiet s.WriteFault m = absurd (loud m.0.cut)
     where
-      loud : HasFailed before after → ⊥
-      loud (inl h) = quiet.1 h.0
+      loud : Cut before after m.0.piece → ⊥
+      loud (inl h) = elim h.1 [ inl r ↦ quiet.1 r | inr r ↦ quiet.2 r ]
       loud (inr h) = quiet.2 h.0
   run-whole run quiet s.Memory m = inl refl
 
@@ -189,13 +315,6 @@ pub is-complete : (words : List (List ℕ)) (left left' : Option (List ℕ)) (rf
     → IsComplete words r (seen left rf out of err ef) (seen left' rf' out' of' err' ef')
 is-complete words None left' rf rf' out out' of of' err err' ef ef' r m u = tt
 is-complete words (Some bytes) left' rf rf' out out' of of' err err' ef ef' r m u = λ a b c. whole words rf rf' out out' of of' err err' ef ef' left' bytes (run-decided words) (a, b, c) r m u
-
--- what was written of a run is a front of what any tree of the file prints, since all have this code
-pub got-front : (bytes : List ℕ) (p : Plain) (code : Code) (a b : Option (List ℕ)) → Accepts bytes p → ((q : Plain) → Reads bytes q → ◌≡◌ {A = Option Code} (Some code) (Some (code_of q))) → WritesFront a b (out_of code) → GotFront bytes a b
-got-front bytes p code a b h all front = record {
-  runs = λ q k. let same : code ≡ code_of q = (let e = all q k.reads in cc) in subst (λ c. WritesFront a b (out_of c)) same front;
-  refused = λ none. absurd (none p h);
-}
 
 -- more known bytes were taken than a file may have
 pub too-long : (left left' : Option (List ℕ)) → ReadsSome left left' LIMIT → IfSome left IsTooLong

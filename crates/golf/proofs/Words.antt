@@ -4,8 +4,8 @@ use Rattle.std.specs.Prelude.{IsTrue, nat_eq, string_bytes}
 use Rattle.std.specs.declared.string.String.{String}
 use Rattle.std.specs.declared.alloc.Global.{Global}
 use Rattle.std.specs.Cmp.Lexicographic.{pointwise, same_text, other_text}
-use Rattle.golf_plain.specs.declared.status.TheConstants.{RUN}
-use Rattle.golf_plain.specs.Program.{IsRun}
+use Rattle.golf_texts.specs.declared.status.TheConstants.{RUN}
+use Rattle.golf.specs.Meaning.{IsRun}
 
 pub one_word : (ws : List (String Global)) (w : String Global) → length ws ≡ 1 → w ≡ get_or ws 0 w → map (string_bytes {Z = Global}) ws ≡ string_bytes w ∷ []
 one_word [] w e is = absurd (omega arith)

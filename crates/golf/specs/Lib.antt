@@ -1,3 +1,3 @@
+pub mod Meaning
 pub mod Means
 pub mod Ends
-pub mod RunCause

@@ -1,11 +1,10 @@
 //! The program: runs the Go file on standard input.
 #![tactic(auto)]
 
-mod run;
 mod top;
 
 use golf_base::{OpenGate, StdErrSink, StdSink, StdSource};
-use golf_plain::{NO_MEMORY, Status, USAGE};
+use golf_texts::{NO_MEMORY, Status, USAGE};
 use std::env;
 use std::io::ErrorKind;
 use std::process::ExitCode;

@@ -3,14 +3,14 @@
 ghost use Rattle.std.specs.Prelude.{◌≡◌, ◌≤◌, ◌<◌, ◌^◌, IsTrue, ◌↔◌, length, Some};
 ghost use Rattle.std.specs.Io.KnownBytes.{Appends};
 ghost use Rattle.golf_base.specs.Causes.{WritesFront, HasCause};
-ghost use Rattle.golf_plain.specs.Program.{IsRun};
+ghost use Rattle.golf.specs.Meaning.{IsRun};
 ghost use Rattle.golf.specs.Means.{words_of, seen, FileMeans, UsageMeans, Causes, IsComplete};
 ghost use Rattle.golf.specs.Ends.{EndsWith};
 
-use crate::run::{RunFault, run};
 use golf_base::{Gate, ReadError, Sink, Source, read_file, write_all};
-use golf_plain::{LIMIT, NO_MEMORY, NOT_BUILT, READ_FAULT, RUN, Status, TOO_LONG, USAGE};
-use golf_syntax::read_plain;
+use golf_plain_reader::read_plain;
+use golf_run::{RunFault, run};
+use golf_texts::{LIMIT, NO_MEMORY, NOT_BUILT, READ_FAULT, RUN, Status, TOO_LONG, USAGE};
 use std::alloc::Global;
 
 fn is_run(words: &[String]) -> bool
@@ -30,7 +30,13 @@ pub(crate) fn end<E: Sink>(err: &mut E, line: &[u8], status: Status) -> Status
 }
 
 // Judges the bytes of a file, and runs it.
-fn judge<O: Sink, E: Sink>(alloc: Global, bytes: &[u8], out: &mut O, err: &mut E) -> Status
+fn judge<O: Sink, E: Sink, G: Gate>(
+    alloc: Global,
+    bytes: &[u8],
+    out: &mut O,
+    err: &mut E,
+    gate: &G,
+) -> Status
     requires { length bytes.now ≤ LIMIT }
     ensures means { FileMeans result
         (seen (Some bytes.now) 0 (O.written out.old) (O.faults out.old) (E.written err.old) (E.faults err.old))
@@ -44,21 +50,21 @@ fn judge<O: Sink, E: Sink>(alloc: Global, bytes: &[u8], out: &mut O, err: &mut E
         Ok(None) => return end(err, NOT_BUILT, Status::Refused),
         Err(_) => return end(err, NO_MEMORY, Status::Memory),
     };
-    match run(alloc, &code, out) {
-        Ok(Some(_)) => Status::Clean,
-        Ok(None) => Status::Spent,
+    match run(alloc, &code, out, err, gate) {
+        Ok(status) => status,
         Err(RunFault::Write) => Status::WriteFault,
         Err(RunFault::Memory) => end(err, NO_MEMORY, Status::Memory),
     }
 }
 
 // Looks at the words, reads the file, judges it and runs it.
-fn serve<R: AllocGlobal, S: Source, O: Sink, E: Sink>(
+fn serve<R: AllocGlobal, S: Source, O: Sink, E: Sink, G: Gate>(
     rt: &R,
     words: &[String],
     source: &mut S,
     out: &mut O,
     err: &mut E,
+    gate: &G,
 ) -> Status
     ensures run { IsRun (words_of words.now) → FileMeans result
         (seen (S.left source.old) (S.faults source.old) (O.written out.old) (O.faults out.old) (E.written err.old) (E.faults err.old))
@@ -74,7 +80,7 @@ fn serve<R: AllocGlobal, S: Source, O: Sink, E: Sink>(
         return end(err, USAGE, Status::Usage);
     }
     match read_file(rt.alloc(), source, LIMIT) {
-        Ok(bytes) => judge(rt.alloc(), bytes.as_slice(), out, err),
+        Ok(bytes) => judge(rt.alloc(), bytes.as_slice(), out, err, gate),
         Err(ReadError::ReadFault) => end(err, READ_FAULT, Status::ReadFault),
         Err(ReadError::TooLong) => end(err, TOO_LONG, Status::Refused),
         Err(ReadError::Memory) => end(err, NO_MEMORY, Status::Memory),
@@ -89,7 +95,7 @@ pub fn golf<R: AllocGlobal, S: Source, O: Sink, E: Sink, G: Gate + Sync>(
     source: &mut S,
     out: &mut O,
     err: &mut E,
-    _gate: &G,
+    gate: &G,
 ) -> Status
     // What the status says where the words are a run line, and where they are not.
     ensures run { IsRun (words_of words.now) → FileMeans result
@@ -109,7 +115,7 @@ pub fn golf<R: AllocGlobal, S: Source, O: Sink, E: Sink, G: Gate + Sync>(
         (seen (S.left source.old) (S.faults source.old) (O.written out.old) (O.faults out.old) (E.written err.old) (E.faults err.old))
         (seen (S.left source.new) (S.faults source.new) (O.written out.new) (O.faults out.new) (E.written err.new) (E.faults err.new)) }
 {
-    serve(rt, words, source, out, err)
+    serve(rt, words, source, out, err, gate)
 }
 
 #[cfg(test)]

@@ -1,6 +1,6 @@
 //! A vector that contracts see as the list of its items.
 
-ghost use Rattle.std.specs.Prelude.{◌≡◌, [], ◌∷◌, ◌++◌, ◌<◌, ◌↔◌, length, remove, replicate, slice_get, slice_set, take, IsTrue, MatchOption, OnOk, OnErr};
+ghost use Rattle.std.specs.Prelude.{◌≡◌, [], ◌∷◌, ◌++◌, ◌<◌, ◌↔◌, length, remove, replicate, slice_get, slice_set, Some, take, IsTrue, MatchOption, OnOk, OnErr};
 ghost use Rattle.std.specs.Borrow.{Lends, sem, Array};
 ghost use Rattle.golf_base.specs.contracts.list.List.{the_row};
 ghost use Rattle.golf_base.specs.Overwritten.{overwritten};
@@ -69,6 +69,15 @@ impl<T> List<T> {
         ensures value { result.now ≡ self.old }
     {
         self.items.as_mut_slice()
+    }
+
+    /// Lends the item at a place.
+    pub fn item_mut(&mut self, at: usize) -> &mut T
+        requires { at < length self.old }
+        ensures* writes_back { sem 𝓛 (Lends (the_row T.row) T.row self.entry result (slice_set self.old at)) }
+        ensures value { slice_get self.old at ≡ Some result.now }
+    {
+        &mut self.items[at]
     }
 
     /// Takes the last item.
@@ -153,7 +162,8 @@ mod tests {
         list.push(5)?;
         list.extend_from_slice(&[8, 13])?;
         list.set(0, 2);
-        list.as_mut_slice()[1] = 4;
+        list.as_mut_slice()[1] = 5;
+        *list.item_mut(1) = 4;
         assert_eq!(rt; list.as_slice(), [2, 4, 8, 13].as_slice());
         assert_eq!(rt; list.remove(1), 4);
         assert_eq!(rt; list.pop(), Some(13));

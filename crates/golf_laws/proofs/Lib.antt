@@ -34,4 +34,7 @@ pub mod RealStops
 pub mod RealReports
 pub mod RealRuns
 pub mod Stopping
+pub mod Presence
+pub mod Printing
+pub mod Unset
 pub mod Tellings

@@ -1,7 +1,9 @@
 -- The laws, from the lemmas.
 use Rattle.golf_laws.specs.Invariant.{Nothing, Unfinalised}
 use Rattle.golf_laws.specs.Cutting.{Passes}
-use Rattle.golf_laws.specs.Laws.{DeadAreStill, LeadsNumber, LiveIsClosed, ChangesKeep, InstructionsMoveMembers, InstructionsSame, CollectionsKeep, TurnsKeep, TurnsCut, RecoveryUnseen, ReportedAreStill, RealRunsAgree, BookTellsOfEach}
+use Rattle.golf_laws.proofs.Presence.{references-present, stops-whole}
+use Rattle.golf_laws.proofs.Printing.{run-prefixed}
+use Rattle.golf_laws.specs.Laws.{DeadAreStill, LeadsNumber, LiveIsClosed, ChangesKeep, InstructionsMoveMembers, InstructionsSame, CollectionsKeep, TurnsKeep, TurnsCut, RecoveryUnseen, ReportedAreStill, RealRunsAgree, BookTellsOfEach, ReferencesPresent, PrintingApart}
 use Rattle.golf_laws.proofs.Closing.{closed_change, closed-ground}
 use Rattle.golf_laws.proofs.Confining.{confined_change}
 use Rattle.golf_laws.proofs.Changing.{closed_changes, confined_changes}
@@ -57,3 +59,9 @@ real_runs_agree code events recover = real-runs code recover events
 
 pub book_tells_of_each : BookTellsOfEach
 book_tells_of_each code events recover = book-tells code events recover
+
+pub references_are_present : ReferencesPresent
+references_are_present code events = (references-present code events, stops-whole code events)
+
+pub printing_is_apart : PrintingApart
+printing_is_apart code w s events = run-prefixed w code events s

@@ -17,10 +17,10 @@ use Rattle.golf_model.specs.Reporting.{numbers, entry_by, entry_of, entries, wit
 use Rattle.golf_model.specs.Futures.{Numbered}
 use Rattle.golf_model.proofs.Agreeing.{dead-sound}
 use Rattle.golf_laws.specs.Telling.{named, TellsOfEach}
-use Rattle.golf_laws.proofs.Leading.{numbered-start}
+use Rattle.golf_laws.proofs.Leading.{numbered-start, numbered-step, numbered-collect}
 use Rattle.golf_laws.proofs.RealReports.{numbers-append}
 use Rattle.golf_laws.proofs.SameFutures.{map-append}
-use Rattle.golf_laws.proofs.Stopping.{stops-numbered}
+use Rattle.golf_laws.proofs.Stopping.{stops-kept}
 
 -- a blocked goroutine has one entry
 entry_by-one : (g started : ℕ) (mode : Mode) → is_running mode ≡ false → map (λ (e : Reported). e.goroutine.0) (entry_by g started mode) ≡ g ∷ []
@@ -53,4 +53,4 @@ reports-tell recover sets (p ∷ ps) book told h n =
 
 pub book-tells : (code : Code) (events : List Event) (recover : Bool) → TellsOfEach [] (stops code events) (book_of (stops code events) recover (sets code))
 book-tells code events recover = reports-tell recover (sets code) (stops code events) new_book [] refl
-    (Every-from Numbered (stops code events) (λ p i. stops-numbered code events (start code) p (numbered-start code) i))
+    (Every-from Numbered (stops code events) (λ p i. stops-kept code Numbered (numbered-step code) numbered-collect events (start code) p (numbered-start code) i))

@@ -13,6 +13,8 @@ use Rattle.golf_model.specs.Running.{Event, run, stops}
 use Rattle.golf_model.specs.Reporting.{real_run, real_reports, book_of}
 use Rattle.golf_model.specs.Futures.{Numbered, Still, Leads, futures}
 use Rattle.golf_laws.specs.Invariant.{Closed, Confined, Good, Nothing, Sound, Unfinalised, ActorIn, Queueing}
+use Rattle.golf_model.specs.Presence.{IsWhole}
+use Rattle.golf_laws.specs.Printing.{prefixed}
 use Rattle.golf_laws.specs.Telling.{TellsOfEach}
 use Rattle.golf_laws.specs.Cutting.{Passes, KeepsFresh}
 
@@ -76,3 +78,11 @@ RealRunsAgree = (code : Code) (events : List Event) (recover : Bool)
 -- the book of a run reports each goroutine that a stop finds blocked outside the live set once, at the first such stop, and nobody else
 abbrev pub BookTellsOfEach : Type 0
 BookTellsOfEach = (code : Code) (events : List Event) (recover : Bool) → TellsOfEach [] (stops code events) (book_of (stops code events) recover (sets code))
+
+-- in every state of a plain run, and right before each of its collections, each reference is one to an object that is there
+abbrev pub ReferencesPresent : Type 0
+ReferencesPresent = (code : Code) (events : List Event) → IsWhole (run code (start code) events) × ((p : State) → In p (stops code events) → IsWhole p)
+
+-- what was printed before a run changes nothing of it
+abbrev pub PrintingApart : Type 0
+PrintingApart = (code : Code) (w : List ℕ) (s : State) (events : List Event) → run code (prefixed w s) events ≡ prefixed w (run code s events)

@@ -14,8 +14,10 @@ ghost use Rattle.golf_laws.specs.Laws.{
   InstructionsSame,
   LeadsNumber,
   LiveIsClosed,
+  PrintingApart,
   RealRunsAgree,
   RecoveryUnseen,
+  ReferencesPresent,
   ReportedAreStill,
   TurnsCut,
   TurnsKeep,
@@ -85,4 +87,14 @@ pub fn real_runs_agree()
 /// once, at the first collection that finds it, in rising number, and nobody else.
 pub fn book_tells_of_each()
     ensures { BookTellsOfEach }
+{}
+
+/// In every state of a run each reference is one to an object that is there.
+pub fn references_are_present()
+    ensures { ReferencesPresent }
+{}
+
+/// What was printed before a run changes nothing of it.
+pub fn printing_is_apart()
+    ensures { PrintingApart }
 {}

@@ -1,3 +1,5 @@
-pub mod Lasts
-pub mod Calls
-pub mod Spaced
+pub mod Takings
+pub mod Frames
+pub mod Lines
+pub mod Prints
+pub mod Turns

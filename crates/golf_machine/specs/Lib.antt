@@ -1,2 +1,3 @@
-pub mod Frames
-pub mod Bounds
+pub mod Acts
+pub mod Built
+pub mod Turns

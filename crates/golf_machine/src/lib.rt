@@ -1,10 +1,11 @@
-//! The machine of a program that has goroutine 1 alone: it steps the code of a plain file.
+//! The machine: the state before the first turn of a code, and a turn.
 #![tactic(auto)]
 
-mod frame;
-mod print;
-mod state;
-mod steps;
+mod entering;
+mod leaving;
+mod performing;
+mod printing;
+mod stepping;
+mod turning;
 
-pub use state::State;
-pub use steps::{Turned, start, turn};
+pub use turning::{Turned, start, turn};

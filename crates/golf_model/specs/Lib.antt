@@ -21,6 +21,7 @@ pub mod Living
 pub mod Collecting
 pub mod Running
 pub mod Reporting
+pub mod Presence
 pub mod Futures
 pub mod Graph
 pub mod Laws

@@ -1,4 +1,4 @@
 pub mod Lengths
-pub mod Runs
-pub mod Returns
+pub mod Places
+pub mod Builts
 pub mod Examples

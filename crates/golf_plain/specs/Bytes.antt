@@ -2,7 +2,7 @@
 use Rattle.std.specs.Prelude.{ℕ, ◌+◌, ◌-◌, ◌*◌, Bool, true, false, not, ◌&&◌, ◌||◌, ◌==◌, nat_le, nat_lt, cond, List, [], ◌∷◌, ◌++◌, length, slice_index, map, nat_eq}
 use Rattle.std.specs.List.{list_all, list_any}
 use Rattle.std.specs.Cmp.Lexicographic.{pointwise}
-use Rattle.golf_plain.specs.declared.plain.TheConstants.{MAX_INT, RESERVED}
+use Rattle.golf_plain.specs.declared.plain.TheConstants.{MAX_INT, RESERVED, INIT}
 
 -- a digit 0 to 9
 abbrev pub is_digit : ℕ → Bool
@@ -31,6 +31,10 @@ is_reserved x = is_among (map (λ r. r.now) RESERVED) x
 -- what a variable may be named
 abbrev pub is_variable : List ℕ → Bool
 is_variable x = is_name x && not (is_reserved x)
+
+-- what a function may be named
+abbrev pub is_function_name : List ℕ → Bool
+is_function_name x = is_variable x && not (pointwise nat_eq x INIT.now)
 
 -- the number that digits stand for, behind those of n
 abbrev pub value_from : ℕ → List ℕ → ℕ

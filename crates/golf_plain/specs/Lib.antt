@@ -1,5 +1,5 @@
 pub mod Bytes
+pub mod Text
+pub mod Scope
 pub mod Plain
 pub mod CodeOf
-pub mod Solo
-pub mod Program

@@ -4,21 +4,39 @@ use golf_base::List;
 
 pub const PACKAGE: &[u8; 13] = b"package main\n";
 
-pub const IMPORT: &[u8; 13] = b"import \"fmt\"\n";
+pub const IMPORT_FMT: &[u8; 13] = b"import \"fmt\"\n";
 
-pub const FUNC: &[u8; 14] = b"func main() {\n";
+pub const IMPORT_RUNTIME: &[u8; 17] = b"import \"runtime\"\n";
+
+pub const FUNC: &[u8; 5] = b"func ";
+
+pub const OPEN: &[u8; 1] = b"(";
+
+pub const PARAM: &[u8; 9] = b" chan int";
+
+pub const BEGIN: &[u8; 4] = b") {\n";
 
 pub const TAB: &[u8; 1] = b"\t";
 
 pub const DEFINE: &[u8; 4] = b" := ";
 
-pub const NEWLINE: &[u8; 1] = b"\n";
+pub const MAKE: &[u8; 15] = b"make(chan int)\n";
 
-pub const PRINT: &[u8; 13] = b"\tfmt.Println(";
+pub const ARROW: &[u8; 2] = b"<-";
+
+pub const SEND: &[u8; 4] = b" <- ";
+
+pub const GO: &[u8; 3] = b"go ";
+
+pub const COLLECT: &[u8; 13] = b"runtime.GC()\n";
+
+pub const PRINT: &[u8; 12] = b"fmt.Println(";
 
 pub const COMMA: &[u8; 2] = b", ";
 
 pub const CLOSE: &[u8; 2] = b")\n";
+
+pub const NEWLINE: &[u8; 1] = b"\n";
 
 pub const QUOTE: &[u8; 1] = b"\"";
 
@@ -27,6 +45,12 @@ pub const END: &[u8; 2] = b"}\n";
 pub const TRUE: &[u8; 4] = b"true";
 
 pub const FALSE: &[u8; 5] = b"false";
+
+/// The function that a program begins with.
+pub const MAIN: &[u8; 4] = b"main";
+
+/// What no function may be named, though a variable may.
+pub const INIT: &[u8; 4] = b"init";
 
 /// The greatest integer of a plain file, which is the greatest `int`.
 pub const MAX_INT: u64 = 9223372036854775807;
@@ -76,23 +100,52 @@ pub const RESERVED: [&[u8]; 40] = [
     b"_",
 ];
 
-/// A plain file: whether it imports `fmt`, and the lines of the body of `main`.
+/// A plain file: its imports and its functions, in order.
 #[derive(Debug, Drop)]
 pub struct Plain {
-    pub imports: bool,
+    pub imports: List<PlainImport>,
+    pub functions: List<PlainFunction>,
+}
+
+/// The package that an import line names.
+#[derive(Clone, Copy, Debug, PartialEq, Eq)]
+pub enum PlainImport {
+    Fmt,
+    Runtime,
+}
+
+/// A function, by its name, its parameters, which are channels, and the lines of its body.
+#[derive(Debug, Drop)]
+pub struct PlainFunction {
+    pub name: List<u8>,
+    pub params: List<List<u8>>,
     pub body: List<PlainLine>,
 }
 
-/// A line of the body of `main`.
+/// A line of the body of a function. Names are given by their bytes.
 #[derive(Debug, Drop)]
 pub enum PlainLine {
-    /// `x := n`, by the bytes of the name and the digits of the integer.
+    /// `x := n`, by the name and the digits of the integer.
     Declare(List<u8>, List<u8>),
+    /// `x := make(chan int)`
+    Make(List<u8>),
+    /// `x := <-c`
+    Take(List<u8>, List<u8>),
+    /// `<-c`
+    Receive(List<u8>),
+    /// `c <- e`; the operand is an integer or a variable.
+    Send(List<u8>, PlainOperand),
+    /// `f(a, ..)`
+    Call(List<u8>, List<List<u8>>),
+    /// `go f(a, ..)`
+    Go(List<u8>, List<List<u8>>),
+    /// `runtime.GC()`
+    Collect,
     /// `fmt.Println(..)`
     Print(List<PlainOperand>),
 }
 
-/// An operand of `fmt.Println`.
+/// An operand of `fmt.Println` or of a send.
 #[derive(Debug, Drop)]
 pub enum PlainOperand {
     /// The digits of an integer.

@@ -1,6 +1,6 @@
 use Rattle.std.proofs.Common.{refl, ap}
 use Rattle.std.specs.Prelude.{IfSome, Err}
-use Rattle.golf_plain.specs.declared.status.TheConstants.{TOO_LONG}
+use Rattle.golf_texts.specs.declared.status.TheConstants.{TOO_LONG}
 use Rattle.golf.specs.Means.{IsTooLong}
 use Rattle.golf.specs.Means.FileLine.{WhenTooLong}
 use Rattle.golf.proofs.Views.{refused-means, wanting-means, unread-means, usage-means, means-left, too-long, refused-long}

@@ -10,4 +10,6 @@ returns c = record {
   packages = (refl, refl, refl);
   blank = refl;
   others = (refl, refl, refl);
+  functions = (refl, refl, refl);
+  other_functions = (refl, refl);
 }

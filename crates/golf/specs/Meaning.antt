@@ -1,0 +1,36 @@
+-- What the words and a file mean: how the program ends, and what it writes to each of its sinks.
+use Rattle.std.specs.Prelude.{◌≡◌, ℕ, ◌≤◌, ◌<◌, List, [], ◌∷◌, length}
+use Rattle.golf_theory.specs.Membership.{In}
+use Rattle.golf_data.specs.declared.code.Code.{Code}
+use Rattle.golf_model.specs.State.{State}
+use Rattle.golf_model.specs.Living.{dead}
+use Rattle.golf_model.specs.Running.{stops}
+use Rattle.golf_model.specs.Futures.{Still}
+use Rattle.golf_laws.specs.Telling.{TellsOfEach}
+use Rattle.golf_plain.specs.declared.plain.Plain.{Plain}
+use Rattle.golf_plain.specs.Plain.{Reads}
+use Rattle.golf_plain.specs.CodeOf.{code_of}
+use Rattle.golf_texts.specs.declared.status.Status.{Status}
+use Rattle.golf_texts.specs.declared.status.Status.TheVariants as s
+use Rattle.golf_texts.specs.declared.status.TheConstants.{RUN, LIMIT, USAGE, TOO_LONG, NOT_BUILT}
+use Rattle.golf_texts.specs.Meaning.{events, out_of, err_of, reports_of, status_of}
+
+-- the words are a run line
+abbrev pub IsRun : List (List ℕ) → Type 0
+IsRun words = words ≡ RUN.now ∷ []
+
+-- the program accepts the file
+pub record Accepts (bytes : List ℕ) (p : Plain) : Type 0 where
+  pub within : length bytes ≤ LIMIT
+  pub reads : Reads bytes p
+
+-- What the reports of a run are worth: each names, once, exactly the goroutines that are blocked outside the live set right before its collection and that no earlier one named; and whoever is so takes no step in any continuation from there.
+pub record AreTrue (code : Code) : Type 0 where
+  pub each : TellsOfEach [] (stops code events) (reports_of code)
+  pub still : (p : State) (g : ℕ) → In p (stops code events) → In g (dead p) → Still code p g
+
+pub data Meaning (words : List (List ℕ)) (bytes : List ℕ) : Status → List ℕ → List ℕ → Type 0 where
+  Misused : (IsRun words → ⊥) → Meaning words bytes s.Usage [] USAGE.now
+  Overlong : IsRun words → LIMIT < length bytes → Meaning words bytes s.Refused [] TOO_LONG.now
+  Unknown : IsRun words → length bytes ≤ LIMIT → ((p : Plain) → Reads bytes p → ⊥) → Meaning words bytes s.Refused [] NOT_BUILT.now
+  Runs : (p : Plain) → IsRun words → Accepts bytes p → Meaning words bytes (status_of (code_of p)) (out_of (code_of p)) (err_of (code_of p))

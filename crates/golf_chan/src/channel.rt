@@ -1,0 +1,77 @@
+//! The channel under a number, and its buffer.
+
+ghost use Rattle.std.specs.Prelude.{◌≡◌, [], ◌∷◌, OnOk, OnErr, option_map, option_to_list};
+ghost use Rattle.golf_theory.specs.Maps.{find};
+ghost use Rattle.golf_model.specs.Waking.{received};
+ghost use Rattle.golf_state.specs.Looked.{values_of};
+ghost use Rattle.golf_chan.specs.Channels.{channel_of, buffered, shifted, unbuffered};
+
+use golf_base::{List, Memory, ObjectId};
+use golf_data::{Channel, Object, Value};
+use golf_state::{Given, State};
+
+/// The channel of this number, where there is one.
+pub fn channel_at(state: &State, object: ObjectId) -> Option<&Channel>
+    ensures { option_map (λ c. c.now) result ≡ channel_of (find object.0 state.now.objects) }
+{
+    match state.heap().get(object)? {
+        Object::Chan(channel) => Some(channel),
+        Object::Struct(_) => None,
+        Object::Slice(_) => None,
+        Object::Mutex(_) => None,
+        Object::Group(_) => None,
+        Object::Rw(_) => None,
+        Object::Cond(_) => None,
+    }
+}
+
+/// Adds a value to a channel's buffer.
+pub fn buffer(object: &mut Object, value: Value) -> Result<(), Memory>
+    ensures ok { OnOk result (object.new ≡ buffered value object.old) }
+    ensures err { OnErr result (object.new ≡ object.old) }
+{
+    if let Object::Chan(channel) = object {
+        channel.buffer.push(value)?;
+    }
+    Ok(())
+}
+
+// The values behind the first one, and one more at the end.
+fn shift(values: &mut List<Value>, value: Value)
+    ensures { values.new ≡ shifted (value ∷ []) values.old }
+{
+    let count = values.len();
+    if count > 0 {
+        let slice = values.as_mut_slice();
+        slice.rotate_left(1);
+        slice[count - 1] = value;
+    }
+}
+
+/// Takes the first value off a channel's buffer, and adds one where there is one. It takes no
+/// memory.
+pub fn take_first(object: &mut Object, more: Option<Value>)
+    ensures { object.new ≡ unbuffered (option_to_list more) object.old }
+{
+    if let Object::Chan(channel) = object {
+        match more {
+            Some(value) => shift(&mut channel.buffer, value),
+            None => {
+                if !channel.buffer.is_empty() {
+                    channel.buffer.remove(0);
+                }
+            }
+        }
+    }
+}
+
+/// What a receive gives: the value, and whether it was sent where that is asked for.
+pub fn received(with_ok: bool, value: Value, sent: bool) -> Given
+    ensures { values_of result ≡ received with_ok value sent }
+{
+    if with_ok {
+        Given::Two(value, sent)
+    } else {
+        Given::One(value)
+    }
+}

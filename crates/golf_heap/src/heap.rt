@@ -1,0 +1,195 @@
+//! Objects in rising order of number.
+
+ghost use Rattle.std.specs.Prelude.{◌≡◌, ◌+◌, ◌<◌, [], length, is_some, IsSome, option_map, slice_get, Some, IfOk, OnOk, OnErr};
+ghost use Rattle.std.specs.Borrow.{sem};
+ghost use Rattle.golf_theory.specs.Maps.{find, keys};
+ghost use Rattle.golf_heap.specs.Numbered.{IsNumbered, made, replaced, kept, rank};
+ghost use Rattle.golf_heap.specs.Lending.{LendsObject};
+
+use golf_base::{Memory, ObjectId};
+use golf_data::Object;
+use std::alloc::Global;
+use std::marker::Model;
+
+/// The objects that are there, and the last number that was given. Numbers are given from 1 in
+/// order of making, and none is used again.
+///
+/// `make` alone takes memory.
+#[derive(Debug, Drop)]
+pub struct Heap {
+    entries: Vec<(u32, Object)>,
+    last: u32,
+}
+
+impl Model for Heap {
+    ghost use Rattle.golf_heap.specs.Numbered.{Numbered, IsNumbered};
+
+    ghost Value = { Numbered };
+
+    ghost view = { λ h. record { objects = h.entries.items; last = h.last } };
+
+    ghost invariant = { λ h. IsNumbered (record { objects = h.entries.items; last = h.last }) };
+}
+
+impl Heap {
+    /// The heap without an object. It takes no memory.
+    pub fn new(alloc: Global) -> Heap
+        ensures { result ≡ record { objects = []; last = 0 } }
+    {
+        Heap {
+            entries: Vec::new(alloc),
+            last: 0,
+        }
+    }
+
+    /// Gives the object the next number. `Memory` also comes where the numbers are used up.
+    pub fn make(&mut self, object: Object) -> Result<ObjectId, Memory>
+        ensures number { IfOk result (λ id. id.0 ≡ self.old.last + 1) }
+        ensures ok { OnOk result (self.new ≡ made object self.old) }
+        ensures err { OnErr result (self.new ≡ self.old) }
+    {
+        let number = self.last.checked_add(1).ok_or(Memory)?;
+        self.entries.push((number, object))?;
+        self.last = number;
+        Ok(ObjectId(number))
+    }
+
+    /// Whether the object is there.
+    pub fn holds(&self, id: ObjectId) -> bool
+        ensures { result ≡ is_some (find id.0 self.now.objects) }
+    {
+        self.get(id).is_some()
+    }
+
+    /// How many objects there are.
+    pub fn count(&self) -> u32
+        ensures count { result ≡ length self.now.objects }
+        ensures numbers { IsNumbered self.now }
+    {
+        let _last = self.last;
+        self.entries.len() as u32
+    }
+
+    /// The last number that was given, 0 where none was.
+    pub fn last(&self) -> u32
+        ensures last { result ≡ self.now.last }
+        ensures numbers { IsNumbered self.now }
+    {
+        self.last
+    }
+
+    /// The object of this number, where it is there.
+    pub fn get(&self, id: ObjectId) -> Option<&Object>
+        ensures { option_map (λ x. x.now) result ≡ find id.0 self.now.objects }
+    {
+        let entry = self.entries.as_slice().get(self.place(id.0))?;
+        if entry.0 == id.0 {
+            Some(&entry.1)
+        } else {
+            None
+        }
+    }
+
+    /// Lends the object of this number, to be changed or replaced.
+    pub fn get_mut(&mut self, id: ObjectId) -> &mut Object
+        requires { IsSome (find id.0 self.old.objects) }
+        ensures* writes_back { sem 𝓛 (LendsObject self.entry id.0 result) }
+        ensures value { find id.0 self.old.objects ≡ Some result.now }
+        ensures numbers { IsNumbered self.old }
+    {
+        let at = self.place(id.0);
+        let entry = &mut self.entries[at];
+        &mut entry.1
+    }
+
+    /// Puts an object in the place of the one of this number. A number that is not there stays
+    /// away.
+    pub fn put(&mut self, id: ObjectId, object: Object)
+        ensures { self.new ≡ replaced id.0 object self.old }
+    {
+        if self.holds(id) {
+            *self.get_mut(id) = object;
+        }
+    }
+
+    /// Keeps the objects whose flag, in rising order of number, is true. It takes no memory.
+    pub fn retain(&mut self, keep: &[bool])
+        requires { length keep.now ≡ length self.old.objects }
+        ensures { self.new ≡ record self.old { objects = kept keep.now self.old.objects } }
+    {
+        keep_flagged(&mut self.entries, keep);
+    }
+
+    /// How many objects have a smaller number.
+    pub fn rank(&self, id: ObjectId) -> u32
+        ensures { result ≡ rank id.0 self.now.objects }
+    {
+        let _last = self.last;
+        self.place(id.0) as u32
+    }
+
+    /// The number of the object of this rank.
+    pub fn at(&self, rank: u32) -> ObjectId
+        requires { rank < length self.now.objects }
+        ensures { slice_get (keys self.now.objects) rank ≡ Some result.0 }
+    {
+        ObjectId(self.entries.as_slice()[rank as usize].0)
+    }
+
+    // How many entries stand before this number.
+    fn place(&self, number: u32) -> usize
+        ensures { result ≡ rank number self.now.objects }
+    {
+        self.entries
+            .as_slice()
+            .partition_point(|entry| entry.0 < number)
+    }
+}
+
+// Keeps the entries whose flag is true.
+fn keep_flagged(entries: &mut Vec<(u32, Object)>, keep: &[bool])
+    requires { length keep.now ≡ length entries.old.items }
+    ensures { entries.new.items ≡ kept keep.now entries.old.items }
+{
+    let mut at = keep.len();
+    while at > 0 {
+        at -= 1;
+        if !keep[at] {
+            entries.remove(at);
+        }
+    }
+}
+
+#[cfg(test)]
+mod tests {
+    use super::*;
+    use std::test::Fail;
+
+    #[test]
+    fn numbers_are_never_used_again(rt: HostRuntime) -> Result<(), Fail> {
+        let mut heap = Heap::new(rt.alloc());
+        assert_eq!(rt; heap.make(Object::Mutex(false))?, ObjectId(1));
+        assert!(rt; heap.holds(ObjectId(1)));
+        assert_eq!(rt; heap.count(), 1);
+        heap.retain(&[false]);
+        assert_eq!(rt; heap.make(Object::Mutex(true))?, ObjectId(2));
+        assert!(rt; !heap.holds(ObjectId(1)));
+        assert_eq!(rt; heap.count(), 1);
+        assert_eq!(rt; heap.last(), 2);
+        assert_eq!(rt; heap.rank(ObjectId(2)), 0);
+        assert_eq!(rt; heap.count(), 1);
+        assert_eq!(rt; heap.at(0), ObjectId(2));
+        Ok(())
+    }
+
+    #[test]
+    fn an_object_is_replaced(rt: HostRuntime) -> Result<(), Fail> {
+        let mut heap = Heap::new(rt.alloc());
+        let first = heap.make(Object::Mutex(false))?;
+        heap.put(first, Object::Mutex(true));
+        assert!(rt; matches!(heap.get(first), Some(Object::Mutex(true))));
+        heap.put(ObjectId(7), Object::Mutex(true));
+        assert!(rt; heap.get(ObjectId(7)).is_none());
+        Ok(())
+    }
+}

@@ -1,0 +1,8 @@
+//! The heap: objects under numbers that are given in order and never used again.
+//!
+//! - `Heap`: the objects that are there, and the last number that was given.
+#![tactic(auto)]
+
+mod heap;
+
+pub use heap::Heap;

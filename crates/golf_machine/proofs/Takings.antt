@@ -1,0 +1,47 @@
+-- Operands that are taken from the top.
+use Rattle.std.proofs.Common.{◌≡◌, ℕ, ◌+◌, ◌-◌, ◌<◌, ◌≤◌, Bool, true, false, cond, List, [], ◌∷◌, ◌++◌, length, take, drop, Option, Some, None, refl, sym, ap, ◌∙◌, inl, inr, arith}
+use Rattle.std.specs.Prelude.{reverse, nat_lt, slice_get, option_map}
+use Rattle.std.proofs.lemmas.Bool.{lt-ltb, le-ltb, cases_lt}
+use Rattle.std.proofs.lemmas.List.{reverse-append, reverse-reverse, length-reverse, take-append-drop, length-take-le, length-drop, take_at}
+use Rattle.golf_data.specs.declared.value.Value.{Value}
+use Rattle.golf_model.specs.Changes.{Change}
+use Rattle.golf_model.specs.Acting.{on_some, taking}
+use Rattle.golf_model.proofs.PlainForms.{taking-last, taking-short}
+use Rattle.golf_machine.specs.Acts.{last_of}
+
+last_of-short : (n : ℕ) (os : List Value) → length os < n → last_of n os ≡ None
+last_of-short n os l = ap (λ b. cond b None (Some (reverse (take n os)))) (lt-ltb (length os) n l)
+
+last_of-long : (n : ℕ) (os : List Value) → n ≤ length os → last_of n os ≡ Some (reverse (take n os))
+last_of-long n os l = ap (λ b. cond b None (Some (reverse (take n os)))) (le-ltb (length os) n l)
+
+-- taking so many operands acts on the last ones in source order, where there are so many
+pub taking-is : (n : ℕ) (os : List Value) (act : List Value → List Value → List Change) → taking n act os ≡ on_some (λ vs. act vs (drop n os)) (last_of n os)
+taking-is n os act = elim (cases_lt (length os) n) [
+  | inl l ↦ taking-short n os act l ∙ sym (ap (on_some (λ vs. act vs (drop n os))) (last_of-short n os l))
+  | inr l ↦
+      let args = reverse (take n os) in
+      let rest = reverse (drop n os) in
+      let count : length args ≡ n = length-reverse (take n os) ∙ length-take-le n os l in
+      let back : reverse (rest ++ args) ≡ os = reverse-append rest args ∙ ap (λ (xs : List Value). xs ++ reverse rest) (reverse-reverse (take n os)) ∙ ap (λ (xs : List Value). take n os ++ xs) (reverse-reverse (drop n os)) ∙ take-append-drop n os in
+      ap (λ (xs : List Value). taking n act xs) (sym back)
+      ∙ ap (λ k. taking k act (reverse (rest ++ args))) (sym count)
+      ∙ taking-last rest args act
+      ∙ ap (act args) (reverse-reverse (drop n os))
+      ∙ sym (ap (on_some (λ vs. act vs (drop n os))) (last_of-long n os l))
+]
+
+-- the last items of a list are the top operands
+pub last_items-is : (n : ℕ) (xs : List Value) → n ≤ length xs → Some (drop (length xs - n) xs) ≡ last_of n (reverse xs)
+last_items-is n xs l =
+    let m = length xs - n in
+    let parts : reverse xs ≡ reverse (drop m xs) ++ reverse (take m xs) = ap reverse (sym (take-append-drop m xs)) ∙ reverse-append (take m xs) (drop m xs) in
+    let size = length-reverse (drop m xs) in
+    let tail = length-drop m xs in
+    let whole = length-reverse xs in
+    sym (last_of-long n (reverse xs) (omega arith) ∙ ap (λ (ys : List Value). Some (reverse (take n ys))) parts
+    ∙ ap (λ (ys : List Value). Some (reverse ys)) (take_at (reverse (drop m xs)) (reverse (take m xs)) n (omega arith))
+    ∙ ap (λ (ys : List Value). Some ys) (reverse-reverse (drop m xs)))
+
+pub last_items-none : (n : ℕ) (xs : List Value) → length xs < n → None ≡ last_of n (reverse xs)
+last_items-none n xs l = let whole = length-reverse xs in sym (last_of-short n (reverse xs) (omega arith))

@@ -1,0 +1,115 @@
+-- Whose turn it is, and what the turn is.
+use Rattle.std.proofs.Common.{◌≡◌, ℕ, ◌+◌, ◌<◌, ◌≤◌, ◌%◌, ◌/◌, ◌^◌, Bool, true, false, ◌&&◌, not, ◌||◌, ◌==◌, List, [], ◌∷◌, length, get_or, map, Option, Some, None, refl, sym, ap, ◌∙◌, arith}
+use Rattle.std.specs.Prelude.{slice_get, option_map, option_and_then}
+use Rattle.std.proofs.lemmas.Bool.{and_parts}
+use Rattle.std.proofs.lemmas.List.{length-map}
+use Rattle.std.proofs.lemmas.Option.{slice_get-map, slice_get-get_or, slice_get_within}
+use Rattle.golf_base.specs.declared.ids.GoroutineId.{GoroutineId}
+use Rattle.golf_data.specs.declared.code.Code.{Code}
+use Rattle.golf_data.specs.declared.code.Function.{Function}
+use Rattle.golf_data.specs.declared.code.Line.{Line}
+use Rattle.golf_data.specs.declared.goroutine.Ending.{Ending}
+use Rattle.golf_data.specs.declared.goroutine.Leaving.{Leaving}
+use Rattle.golf_data.specs.declared.goroutine.Mode.{Mode}
+use Rattle.golf_data.specs.Places.{IsShort, HasPlaces}
+use Rattle.golf_theory.specs.Membership.{In}
+use Rattle.golf_theory.specs.Maps.{Entry, find, IsRising, keys_where}
+use Rattle.golf_theory.proofs.Lists.{In-slice_get}
+use Rattle.golf_theory.proofs.MapEntries.{Entry-keys_where}
+use Rattle.golf_theory.proofs.MapFinds.{find-Entry}
+use Rattle.golf_model.specs.Plain.{PlainFrame, PlainGoroutine}
+use Rattle.golf_model.specs.State.{State, is_running, not_empty, can_run, runnable, ending, ending_of}
+use Rattle.golf_model.specs.Changes.{Change, apply_all, behind_first}
+use Rattle.golf_model.specs.Turn.{changes, line_at, turn_of, turn_changes, whose_turn, step, frame_changes, performs}
+use Rattle.golf_model.specs.Running.{wants_collection, goroutine_collects}
+use Rattle.golf_state.specs.Looked.{frames_of, frames_in}
+use Rattle.golf_state.specs.Doing.{does, Stands, Runs}
+use Rattle.golf_state.proofs.Doings.{actor_of, does-is}
+
+-- ---- whose turn it is
+
+awake : (m : Option Ending) (xs : List ℕ) → ending_of m (not_empty xs) ≡ None → 0 < length xs
+awake (Some e) xs h = cc
+awake None [] h = cc
+awake None (x ∷ xs) h = omega arith
+
+module _ (s : State) (n : ℕ) (xs : List GoroutineId) (told : map (λ g. g.0) xs ≡ runnable s) (goes : ending s ≡ None) where
+  pub some_run : 0 < length xs
+  some_run = let l = awake s.recorded (runnable s) goes in let k = length-map xs (λ (g : GoroutineId). g.0) in let e = ap (λ (ys : List ℕ). length ys) told in omega (arith, l, k, e)
+
+  pub whose : whose_turn s n ≡ Some (get_or xs (n % length xs) (record { 0 = 0 })).0
+  whose =
+      let d : GoroutineId = record { 0 = 0 } in
+      let l = some_run in
+      ap (λ (ys : List ℕ). slice_get ys (n % length ys)) (sym told)
+      ∙ ap (λ k. slice_get (map (λ (g : GoroutineId). g.0) xs) (n % k)) (length-map xs (λ (g : GoroutineId). g.0))
+      ∙ slice_get-map (λ (g : GoroutineId). g.0) xs (n % length xs)
+      ∙ ap (option_map (λ (g : GoroutineId). g.0)) (slice_get-get_or xs (n % length xs) d (omega arith))
+
+mode-running : (m : Mode) → is_running m ≡ true → m ≡ Mode.Running
+mode-running Mode.Running h = refl
+mode-running (Mode.Blocked kind line waits ticket) h = cc
+
+-- a goroutine whose turn it is runs
+pub turn-runs : (s : State) (n g : ℕ) → IsRising s.goroutines → whose_turn s n ≡ Some g → Runs g s
+turn-runs s n g r h =
+    let i = Entry-keys_where (can_run s.queue) s.goroutines g (In-slice_get (runnable s) (n % length (runnable s)) g h) in
+    let x = i.0 in
+    let m = mode-running x.mode ((and_parts (is_running x.mode) (not (g == 0) || (not_empty x.frames || not_empty s.queue)) i.2).0) in
+    record {
+      frames = x.frames;
+      started = x.started;
+      found = find-Entry s.goroutines g x r i.1 ∙ ap (λ (k : Mode). let y : PlainGoroutine = record { frames = x.frames; mode = k; started = x.started } in Some y) m;
+    }
+
+-- ---- the step
+
+module _ (code : Code) (s : State) (n g : ℕ) (turn : whose_turn s n ≡ Some g) where
+  pub step-is : (s1 : State) → ((choice : ℕ) → s1 ≡ apply_all (turn_of code g choice s (find g s.goroutines)) s) → s1 ≡ step code s n
+  step-is s1 h = h (n / length (runnable s)) ∙ sym (ap (λ (o : Option ℕ). apply_all (turn_changes code (n / length (runnable s)) s o) s) turn)
+
+  pub wants-is : wants_collection code s n ≡ goroutine_collects code (find g s.goroutines)
+  wants-is = ap (λ (o : Option ℕ). goroutine_collects code (option_and_then (λ k. find k s.goroutines) o)) turn
+
+-- ---- the goroutine's frames
+
+pub no_first : {X : Type 0} (xs : List X) → None ≡ slice_get xs 0 → xs ≡ []
+no_first [] h = refl
+no_first (x ∷ xs) h = cc
+
+pub first-is : (fs : List PlainFrame) (f : PlainFrame) → Some f ≡ slice_get fs 0 → fs ≡ f ∷ behind_first fs
+first-is [] f h = cc
+first-is (g ∷ fs) f h = let same : g ≡ f = cc in ap (λ (x : PlainFrame). x ∷ fs) same
+
+module _ (g : ℕ) (s : State) (r : Runs g s) where
+  pub frames-are : frames_of g s ≡ r.frames
+  frames-are = ap frames_in r.found
+
+  abbrev pub stands-at : (f : PlainFrame) → Some f ≡ slice_get (frames_of g s) 0 → Stands g (f.at + 1) s
+  stands-at f e = record {
+    frame = f;
+    callers = behind_first r.frames;
+    started = r.started;
+    found = r.found ∙ ap (λ (fs : List PlainFrame). let x : PlainGoroutine = record { frames = fs; mode = Mode.Running; started = r.started } in Some x) (first-is r.frames f (e ∙ ap (λ (fs : List PlainFrame). slice_get fs 0) frames-are));
+    next = refl;
+  }
+
+  -- the turn of a goroutine at an instruction
+  pub turn-is : (code : Code) (f : PlainFrame) (at : Some f ≡ slice_get (frames_of g s) 0) (l : Line) (choice : ℕ) → f.leaving ≡ Leaving.No → Some l ≡ line_at code f.function f.at
+      → does (λ a. changes code l.instr a choice s) g l.line s ≡ apply_all (turn_of code g choice s (find g s.goroutines)) s
+  turn-is code f at l choice stays is =
+      let st = stands-at f at in
+      let x : PlainGoroutine = record { frames = f ∷ st.callers; mode = Mode.Running; started = st.started } in
+      does-is g (f.at + 1) s st (λ a. changes code l.instr a choice s) l.line
+      ∙ ap (λ (o : Option Line). apply_all (performs code g x f st.callers choice s o) s) is
+      ∙ ap (λ (m : Leaving). apply_all (frame_changes code g x f st.callers choice s m) s) (sym stays)
+      ∙ sym (ap (λ (o : Option PlainGoroutine). apply_all (turn_of code g choice s o) s) st.found)
+
+-- ---- places
+
+fits-in : (o : Option Function) (at : ℕ) (l : Line) → IsShort o → Some l ≡ option_and_then (λ fn. slice_get fn.body at) o → at + 1 < 2 ^ 32
+fits-in None at l h e = cc
+fits-in (Some fn) at l h e = let w = slice_get_within fn.body at l (sym e) in omega (arith, w, h)
+
+pub place-fits : (code : Code) (f at : ℕ) (l : Line) → HasPlaces code → Some l ≡ line_at code f at → at + 1 < 2 ^ 32
+place-fits code f at l h e = fits-in (slice_get code.functions f) at l (h f) e

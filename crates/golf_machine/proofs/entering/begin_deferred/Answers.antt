@@ -1,0 +1,30 @@
+use Rattle.std.proofs.Common.{◌≡◌, ℕ, ◌+◌, ◌<◌, ◌≤◌, ◌==◌, Bool, true, false, List, [], ◌∷◌, Option, Some, None, refl, sym, ap, ◌∙◌, arith}
+use Rattle.std.specs.Prelude.{option_map, slice_get}
+use Rattle.std.proofs.lemmas.Bool.{eq-eqb, ne_eqb}
+use Rattle.std.proofs.lemmas.Result.{on_ok_weaker, on_err_weaker, err_from_is_err_and}
+use Rattle.golf_data.specs.declared.goroutine.Frame.{Frame}
+use Rattle.golf_data.specs.declared.goroutine.Deferred.{Deferred}
+use Rattle.golf_data.specs.declared.goroutine.Mode.{Mode}
+use Rattle.golf_model.specs.Plain.{PlainFrame, PlainGoroutine, plain_frame, plain_frames}
+use Rattle.golf_model.specs.Waking.{on_top}
+use Rattle.golf_state.specs.Going.{went, undeferred, stored}
+use Rattle.golf_state.proofs.Doings.{runs-is, actor_of}
+use Rattle.golf_data.specs.declared.value.Value.{Value}
+use Rattle.golf_model.specs.State.{call_frame}
+use Rattle.golf_machine.proofs.Frames.{kept, deferred-full, deferred-enter}
+use Rattle.golf_machine.proofs.entering.begin_deferred.Goals as goal
+
+pub returns-then-depth-ge-MOST_FRAMES-clause-ok : goal.returns-then-depth-ge-MOST_FRAMES-clause-ok
+returns-then-depth-ge-MOST_FRAMES-clause-ok c =
+    deferred-full c.args.g.0 c.requires.0 c.args.state.now c.requires.1 c.args.line c.args.code.now c.in-Some.deferred.now c.in-Some.ensures (plain_frame c.in-Some-2.frame) c.overflow.new.state (ap (option_map plain_frame) (sym c.in-Some-2.is) ∙ c.in_ok-frame.ensures ∙ ap (λ (vs : List Value). call_frame c.args.code.now c.in-Some.deferred.now.function vs true) c.as_slice-arguments.ensures) (omega (arith, c.if-depth-ge-MOST_FRAMES.true, c.depth.ensures)) c.overflow.ensures
+
+pub returns-clause-ok : goal.returns-clause-ok
+returns-clause-ok c =
+    on_ok_weaker c.enter_deferred.result
+    (λ e. deferred-enter c.args.g.0 c.requires.0 c.args.state.now c.requires.1 c.args.line c.args.code.now c.in-Some.deferred.now c.in-Some.ensures (plain_frame c.in-Some-2.frame) (plain_frames c.enter_deferred.new.frames) (ap (option_map plain_frame) (sym c.in-Some-2.is) ∙ c.in_ok-frame.ensures ∙ ap (λ (vs : List Value). call_frame c.args.code.now c.in-Some.deferred.now.function vs true) c.as_slice-arguments.ensures) (omega (arith, c.if-depth-ge-MOST_FRAMES.false, c.depth.ensures))
+    (e ∙ ap (λ (fs : List PlainFrame). plain_frame c.in-Some-2.frame ∷ on_top undeferred fs) c.frames_mut.ensures.value))
+    c.enter_deferred.ensures.ok
+
+pub returns-clause-err : goal.returns-clause-err
+returns-clause-err c =
+    on_err_weaker c.enter_deferred.result (λ e. kept c.args.g.0 c.args.state.now _ _ e c.frames_mut.ensures.value c.frames_mut.ensures.same) c.enter_deferred.ensures.err

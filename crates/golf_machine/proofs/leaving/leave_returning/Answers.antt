@@ -1,0 +1,23 @@
+use Rattle.std.proofs.Common.{◌≡◌, ℕ, ◌+◌, ◌<◌, ◌≤◌, ◌==◌, Bool, true, false, List, [], ◌∷◌, Option, Some, None, refl, sym, ap, ◌∙◌, arith}
+use Rattle.std.specs.Prelude.{option_map, slice_get}
+use Rattle.std.proofs.lemmas.Bool.{eq-eqb, ne_eqb}
+use Rattle.std.proofs.lemmas.Result.{on_ok_weaker, on_err_weaker, err_from_is_err_and}
+use Rattle.golf_data.specs.declared.goroutine.Frame.{Frame}
+use Rattle.golf_data.specs.declared.goroutine.Deferred.{Deferred}
+use Rattle.golf_data.specs.declared.goroutine.Mode.{Mode}
+use Rattle.golf_model.specs.Plain.{PlainFrame, PlainGoroutine, plain_frame, plain_frames}
+use Rattle.golf_model.specs.Waking.{on_top}
+use Rattle.golf_state.specs.Going.{went, undeferred, stored}
+use Rattle.golf_state.proofs.Doings.{runs-is, actor_of}
+use Rattle.golf_model.specs.Calls.{returns_to, leaves_returning}
+use Rattle.golf_machine.proofs.Frames.{does-same, deferred-is, none_left}
+use Rattle.golf_machine.proofs.leaving.leave_returning.Goals as goal
+
+pub returns-clause-ok : goal.returns-clause-ok
+returns-clause-ok c =
+    let A = actor_of c.requires.1 c.args.line in
+    let none = sym (deferred-is c.args.g.0 c.requires.0 c.args.state.now c.requires.1 c.args.line) ∙ none_left _ (sym c.has_deferred.ensures ∙ c.if-has_deferred.false) in
+    on_ok_weaker c.return_to.result
+    (λ h. h c.args.line ∙ does-same c.args.g.0 c.requires.0 c.args.state.now c.requires.1 c.args.line (λ a. returns_to a c.args.value a.callers) (λ a. leaves_returning c.args.code.now a c.args.value a.frame.deferred)
+    (sym (ap (λ (ds : List Deferred). leaves_returning c.args.code.now A c.args.value ds) none)))
+    c.return_to.ensures.ok

@@ -1,0 +1,22 @@
+use Rattle.std.proofs.Common.{◌≡◌, ℕ, ◌+◌, ◌<◌, ◌≤◌, ◌==◌, Bool, true, false, List, [], ◌∷◌, Option, Some, None, refl, sym, ap, ◌∙◌, arith}
+use Rattle.std.specs.Prelude.{option_map, slice_get}
+use Rattle.std.proofs.lemmas.Bool.{eq-eqb, ne_eqb}
+use Rattle.std.proofs.lemmas.Result.{on_ok_weaker, on_err_weaker, err_from_is_err_and}
+use Rattle.golf_data.specs.declared.goroutine.Frame.{Frame}
+use Rattle.golf_data.specs.declared.goroutine.Deferred.{Deferred}
+use Rattle.golf_data.specs.declared.goroutine.Mode.{Mode}
+use Rattle.golf_model.specs.Plain.{PlainFrame, PlainGoroutine, plain_frame, plain_frames}
+use Rattle.golf_model.specs.Waking.{on_top}
+use Rattle.golf_state.specs.Going.{went, undeferred, stored}
+use Rattle.golf_state.proofs.Doings.{runs-is, actor_of}
+use Rattle.golf_model.specs.Calls.{unwinds_to, leaves_unwinding}
+use Rattle.golf_machine.proofs.Frames.{does-same, deferred-is, none_left}
+use Rattle.golf_machine.proofs.leaving.leave_unwinding.Goals as goal
+
+pub returns-clause-ok : goal.returns-clause-ok
+returns-clause-ok c =
+    let l = c.args.fault.line in
+    let A = actor_of c.requires.1 l in
+    let none = sym (deferred-is c.args.g.0 c.requires.0 c.args.state.now c.requires.1 l) ∙ none_left _ (sym c.has_deferred.ensures ∙ c.if-has_deferred.false) in
+    c.unwind_to.ensures l ∙ does-same c.args.g.0 c.requires.0 c.args.state.now c.requires.1 l (λ a. unwinds_to a c.args.fault a.callers) (λ a. leaves_unwinding c.args.code.now a c.args.fault a.frame.deferred)
+    (sym (ap (λ (ds : List Deferred). leaves_unwinding c.args.code.now A c.args.fault ds) none))

@@ -1,0 +1,23 @@
+use Rattle.std.proofs.Common.{◌≡◌, ℕ, ◌+◌, ◌<◌, ◌≤◌, ◌==◌, Bool, true, false, List, [], ◌∷◌, Option, Some, None, refl, sym, ap, ◌∙◌, arith}
+use Rattle.std.specs.Prelude.{option_map, slice_get}
+use Rattle.std.proofs.lemmas.Bool.{eq-eqb, ne_eqb}
+use Rattle.std.proofs.lemmas.Result.{on_ok_weaker, on_err_weaker, err_from_is_err_and}
+use Rattle.golf_data.specs.declared.goroutine.Frame.{Frame}
+use Rattle.golf_data.specs.declared.goroutine.Deferred.{Deferred}
+use Rattle.golf_data.specs.declared.goroutine.Mode.{Mode}
+use Rattle.golf_model.specs.Plain.{PlainFrame, PlainGoroutine, plain_frame, plain_frames}
+use Rattle.golf_model.specs.Waking.{on_top}
+use Rattle.golf_state.specs.Going.{went, undeferred, stored}
+use Rattle.golf_state.proofs.Doings.{runs-is, actor_of}
+use Rattle.golf_model.specs.Calls.{returns_to, returns, returns_by}
+use Rattle.golf_machine.proofs.Frames.{does-same, deferred-is, none_left}
+use Rattle.golf_machine.proofs.leaving.return_without_value.Goals as goal
+
+pub returns-clause-ok : goal.returns-clause-ok
+returns-clause-ok c =
+    let A = actor_of c.requires c.args.acting.line in
+    let none = sym (deferred-is c.args.acting.goroutine.0 c.args.acting.after c.args.state.now c.requires c.args.acting.line) ∙ none_left _ (sym c.has_deferred.ensures ∙ c.if-has_deferred.false) in
+    on_ok_weaker c.return_to.result
+    (λ h. h c.args.acting.line ∙ does-same c.args.acting.goroutine.0 c.args.acting.after c.args.state.now c.requires c.args.acting.line (λ a. returns_to a None a.callers) returns
+    (sym (ap (λ (ds : List Deferred). returns_by A None A.frame.operands ds) none)))
+    c.return_to.ensures.ok

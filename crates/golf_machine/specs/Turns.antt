@@ -1,0 +1,10 @@
+-- What a turn comes to.
+use Rattle.std.specs.Prelude.{Bool, true, false, Option, Some, None}
+use Rattle.golf_data.specs.declared.goroutine.Ending.{Ending}
+use Rattle.golf_machine.specs.declared.turning.Turned.{Turned}
+
+-- an ending comes first; else the collection that the turn's instruction asks for
+abbrev pub turned_of : Option Ending → Bool → Turned
+turned_of (Some e) collects = Turned.Ended e
+turned_of None true = Turned.WantsCollection
+turned_of None false = Turned.Went

@@ -1,0 +1,224 @@
+//! Frames that calls, goroutines, deferred calls and finalisers begin with.
+
+ghost use Rattle.std.specs.Prelude.{◌≡◌, ◌<◌, ◌∷◌, [], ℕ, Some, None, IfOk, OnOk, OnErr, option_map, reverse, slice_get, option_to_list, true};
+ghost use Rattle.golf_model.specs.Plain.{plain_frame, plain_frames};
+ghost use Rattle.golf_model.specs.State.{call_frame};
+ghost use Rattle.golf_model.specs.Changes.{apply_all, finish};
+ghost use Rattle.golf_data.specs.declared.goroutine.Ending.{Ending};
+ghost use Rattle.golf_data.specs.declared.goroutine.PanicKind.{PanicKind};
+ghost use Rattle.golf_model.specs.Calls.{calls, spawns, begins_deferred};
+ghost use Rattle.golf_model.specs.Finalising.{begins_queued};
+ghost use Rattle.golf_model.specs.Turn.{turn_of};
+ghost use Rattle.golf_theory.specs.Maps.{find};
+ghost use Rattle.golf_state.specs.Operands.{operands_of};
+ghost use Rattle.golf_state.specs.Doing.{does, Stands, Runs};
+ghost use Rattle.golf_machine.specs.Acts.{Acts, HasNoFrame, last_of, deferred_of, begins_latest};
+
+use golf_base::{GoroutineId, List, Memory, Room};
+use golf_data::{Code, Deferred, Ending, Frame, Leaving, PanicKind, Value};
+use golf_state::{Acting, State, enter, enter_deferred, pass};
+use std::alloc::Global;
+
+/// The most frames of a goroutine.
+const MOST_FRAMES: usize = 10_000;
+
+// The first frame of a call of the function of this number, where the code has one.
+fn open_frame(
+    alloc: Global,
+    code: &Code,
+    number: u32,
+    arguments: &[Value],
+    discards: bool,
+) -> Result<Option<Frame>, Memory>
+    ensures { IfOk result (λ frame. option_map plain_frame frame ≡ call_frame code.now number arguments.now discards) }
+{
+    let Some(function) = code.functions.as_slice().get(number as usize) else {
+        return Ok(None);
+    };
+    let mut slots = List::new(alloc);
+    slots.extend_from_slice(arguments)?;
+    let rest = (function.slots as usize).saturating_sub(arguments.len());
+    slots.extend_with(rest, Value::Int(0))?;
+    let mut operands = Room::new(alloc);
+    operands.reserve(function.depth as usize)?;
+    Ok(Some(Frame {
+        function: number,
+        at: 0,
+        slots,
+        operands,
+        deferred: List::new(alloc),
+        leaving: Leaving::No,
+        discards,
+    }))
+}
+
+// The last items, so many, in their order, where there are so many.
+fn last_items(items: &[Value], count: usize) -> Option<&[Value]>
+    ensures { option_map (λ vs. vs.now) result ≡ last_of count (reverse items.now) }
+{
+    if items.len() < count {
+        return None;
+    }
+    let (_, last) = items.split_at(items.len() - count);
+    Some(last)
+}
+
+/// The last operands of a goroutine, so many, in source order, where there are so many.
+pub fn last_values(state: &State, g: GoroutineId, count: u32) -> Option<&[Value]>
+    ensures { option_map (λ vs. vs.now) result ≡ last_of count (operands_of g.0 state.now) }
+{
+    match state.frame(g) {
+        Some(frame) => last_items(frame.operands.as_slice(), count as usize),
+        None => last_items(&[], count as usize),
+    }
+}
+
+// One frame more is too many: the program ends.
+fn overflow(state: &mut State, g: GoroutineId, line: u32)
+    ensures { state.new ≡ finish (Ending.Panicked PanicKind.StackOverflow g line) state.old }
+{
+    state.finish(Ending::Panicked {
+        kind: PanicKind::StackOverflow,
+        goroutine: g,
+        line,
+    });
+}
+
+/// Calls a function with the last operands, so many.
+pub fn call(
+    alloc: Global,
+    code: &Code,
+    state: &mut State,
+    acting: Acting,
+    number: u32,
+    count: u32,
+) -> Result<(), Memory>
+    requires { Stands acting.goroutine.0 acting.after state.old }
+    ensures ok { OnOk result (state.new ≡ does (λ a. calls code.now a number count) acting.goroutine.0 acting.line state.old) }
+    ensures err { OnErr result (state.new ≡ state.old) }
+{
+    let g = acting.goroutine;
+    let Some(arguments) = last_values(state, g, count) else {
+        return Ok(());
+    };
+    let Some(frame) = open_frame(alloc, code, number, arguments, false)? else {
+        return Ok(());
+    };
+    if state.depth(g) >= MOST_FRAMES {
+        overflow(state, g, acting.line);
+        return Ok(());
+    }
+    enter(state.frames_mut(g), frame, acting.after, count as usize)
+}
+
+// A list of one frame.
+fn frames_of(alloc: Global, frame: Frame) -> Result<List<Frame>, Memory>
+    ensures { IfOk result (λ frames. frames ≡ frame ∷ []) }
+{
+    let mut frames = List::new(alloc);
+    frames.push(frame)?;
+    Ok(frames)
+}
+
+/// Starts a goroutine on a function with the last operands, so many.
+pub fn go(
+    alloc: Global,
+    code: &Code,
+    state: &mut State,
+    acting: Acting,
+    number: u32,
+    count: u32,
+) -> Result<(), Memory>
+    requires { Stands acting.goroutine.0 acting.after state.old }
+    ensures ok { OnOk result (state.new ≡ does (λ a. spawns code.now a number count) acting.goroutine.0 acting.line state.old) }
+    ensures err { OnErr result (state.new ≡ state.old) }
+{
+    let g = acting.goroutine;
+    let Some(arguments) = last_values(state, g, count) else {
+        return Ok(());
+    };
+    let Some(frame) = open_frame(alloc, code, number, arguments, true)? else {
+        return Ok(());
+    };
+    state.spawn(frames_of(alloc, frame)?, acting.line)?;
+    pass(state.frames_mut(g), acting.after, count as usize);
+    Ok(())
+}
+
+// The last item.
+fn last(items: &[Deferred]) -> Option<&Deferred>
+    ensures { option_map (λ d. d.now) result ≡ slice_get (reverse items.now) 0 }
+{
+    items.last()
+}
+
+/// The latest deferred call of a goroutine's innermost frame, where there is one.
+pub fn latest_deferred(state: &State, g: GoroutineId) -> Option<&Deferred>
+    ensures { option_map (λ d. d.now) result ≡ slice_get (deferred_of g.0 state.now) 0 }
+{
+    let frame = state.frame(g)?;
+    last(frame.deferred.as_slice())
+}
+
+/// Begins the latest deferred call of a goroutine's innermost frame, where it has one.
+pub fn begin_deferred(
+    alloc: Global,
+    code: &Code,
+    state: &mut State,
+    g: GoroutineId,
+    line: u32,
+) -> Result<(), Memory>
+    requires { Acts g.0 state.old }
+    ensures ok { OnOk result (state.new ≡ does (λ a. begins_latest code.now a a.frame.deferred) g.0 line state.old) }
+    ensures err { OnErr result (state.new ≡ state.old) }
+{
+    let Some(deferred) = latest_deferred(state, g) else {
+        return Ok(());
+    };
+    let arguments = deferred.arguments.as_slice();
+    let Some(frame) = open_frame(alloc, code, deferred.function, arguments, true)? else {
+        return Ok(());
+    };
+    if state.depth(g) >= MOST_FRAMES {
+        overflow(state, g, line);
+        return Ok(());
+    }
+    enter_deferred(state.frames_mut(g), frame)
+}
+
+/// The goroutine without a frame takes the first entry of the finaliser queue, where it is
+/// goroutine 0 and there is one, and begins its function on its object.
+pub fn begin_queued(
+    alloc: Global,
+    code: &Code,
+    state: &mut State,
+    g: GoroutineId,
+) -> Result<(), Memory>
+    requires { HasNoFrame g.0 state.old }
+    ensures ok { OnOk result ((choice : ℕ) → state.new ≡ apply_all (turn_of code.now g.0 choice state.old (find g.0 state.old.goroutines)) state.old) }
+    ensures err { OnErr result (state.new ≡ state.old) }
+{
+    if g.0 != 0 {
+        return Ok(());
+    }
+    let Some(queued) = state.queue().first().copied() else {
+        return Ok(());
+    };
+    let argument = [Value::Ref(queued.object)];
+    let Some(frame) = open_frame(alloc, code, queued.function, &argument, true)? else {
+        return Ok(());
+    };
+    enter(state.frames_mut(g), frame, 0, 0)?;
+    state.take_queued();
+    Ok(())
+}
+
+/// The frames of goroutine 1 before the first turn: that of function 0, where the code has one.
+pub fn first_frames(alloc: Global, code: &Code) -> Result<List<Frame>, Memory>
+    ensures { IfOk result (λ frames. plain_frames frames ≡ option_to_list (call_frame code.now 0 [] true)) }
+{
+    match open_frame(alloc, code, 0, &[], true)? {
+        Some(frame) => frames_of(alloc, frame),
+        None => Ok(List::new(alloc)),
+    }
+}

@@ -1,0 +1,121 @@
+//! Frames that return or unwind, and goroutines that end.
+
+ghost use Rattle.std.specs.Prelude.{◌≡◌, ℕ, OnOk, OnErr};
+ghost use Rattle.golf_model.specs.Calls.{ends, returns, returns_to, unwinds_to, leaves_returning, leaves_unwinding};
+ghost use Rattle.golf_state.specs.Doing.{does, Stands};
+ghost use Rattle.golf_model.specs.State.{not_empty};
+ghost use Rattle.golf_machine.specs.Acts.{Acts, deferred_of};
+
+use crate::entering::{begin_deferred, latest_deferred};
+use golf_base::{GoroutineId, Memory};
+use golf_data::{Code, Ending, Fault, Value};
+use golf_state::{Acting, State, begin_return, return_frame, unwind_caller};
+use std::alloc::Global;
+
+// The goroutine's last frame is gone: it has ended, but goroutine 0 waits for its queue.
+fn end(state: &mut State, g: GoroutineId)
+    requires { Acts g.0 state.old }
+    ensures { (line : ℕ) → state.new ≡ does ends g.0 line state.old }
+{
+    if g.0 == 0 {
+        state.frames_mut(g).clear();
+    } else {
+        state.leave(g);
+    }
+}
+
+// The innermost frame is gone by returning; the program ends when goroutine 1 does.
+fn return_to(state: &mut State, g: GoroutineId, value: Option<Value>) -> Result<(), Memory>
+    requires { Acts g.0 state.old }
+    ensures ok { OnOk result ((line : ℕ) → state.new ≡ does (λ a. returns_to a value a.callers) g.0 line state.old) }
+    ensures err { OnErr result (state.new ≡ state.old) }
+{
+    if state.depth(g) > 1 {
+        return return_frame(state.frames_mut(g), value);
+    }
+    end(state, g);
+    if g.0 == 1 {
+        state.finish(Ending::Returned);
+    }
+    Ok(())
+}
+
+// The innermost frame is gone by unwinding: its caller unwinds, and the program ends with the last
+// frame.
+fn unwind_to(state: &mut State, g: GoroutineId, fault: Fault)
+    requires { Acts g.0 state.old }
+    ensures { (line : ℕ) → state.new ≡ does (λ a. unwinds_to a fault a.callers) g.0 line state.old }
+{
+    if state.depth(g) > 1 {
+        unwind_caller(state.frames_mut(g), fault);
+        return;
+    }
+    end(state, g);
+    state.finish(Ending::Panicked {
+        kind: fault.kind,
+        goroutine: g,
+        line: fault.line,
+    });
+}
+
+// Whether the innermost frame has deferred calls.
+fn has_deferred(state: &State, g: GoroutineId) -> bool
+    ensures { result ≡ not_empty (deferred_of g.0 state.now) }
+{
+    match latest_deferred(state, g) {
+        Some(_) => true,
+        None => false,
+    }
+}
+
+/// The goroutine returns without a value: with deferred calls its innermost frame is returning,
+/// else the frame is gone.
+pub fn return_without_value(state: &mut State, acting: Acting) -> Result<(), Memory>
+    requires { Stands acting.goroutine.0 acting.after state.old }
+    ensures ok { OnOk result (state.new ≡ does returns acting.goroutine.0 acting.line state.old) }
+    ensures err { OnErr result (state.new ≡ state.old) }
+{
+    if has_deferred(state, acting.goroutine) {
+        begin_return(state.frames_mut(acting.goroutine), acting.after);
+        return Ok(());
+    }
+    return_to(state, acting.goroutine, None)
+}
+
+/// The turn of a goroutine whose innermost frame is returning, from a return of this line.
+pub fn leave_returning(
+    alloc: Global,
+    code: &Code,
+    state: &mut State,
+    g: GoroutineId,
+    line: u32,
+    value: Option<Value>,
+) -> Result<(), Memory>
+    requires { Acts g.0 state.old }
+    ensures ok { OnOk result (state.new ≡ does (λ a. leaves_returning code.now a value a.frame.deferred) g.0 line state.old) }
+    ensures err { OnErr result (state.new ≡ state.old) }
+{
+    if has_deferred(state, g) {
+        return begin_deferred(alloc, code, state, g, line);
+    }
+    return_to(state, g, value)
+}
+
+/// The turn of a goroutine whose innermost frame is unwinding.
+pub fn leave_unwinding(
+    alloc: Global,
+    code: &Code,
+    state: &mut State,
+    g: GoroutineId,
+    fault: Fault,
+) -> Result<(), Memory>
+    requires { Acts g.0 state.old }
+    ensures ok { OnOk result (state.new ≡ does (λ a. leaves_unwinding code.now a fault a.frame.deferred) g.0 fault.line state.old) }
+    ensures err { OnErr result (state.new ≡ state.old) }
+{
+    if has_deferred(state, g) {
+        return begin_deferred(alloc, code, state, g, fault.line);
+    }
+    unwind_to(state, g, fault);
+    Ok(())
+}

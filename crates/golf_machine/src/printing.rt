@@ -1,0 +1,65 @@
+//! What `fmt.Println` prints.
+
+ghost use Rattle.std.specs.Prelude.{◌≡◌, ◌++◌, true, false, IfOk, MatchOption};
+ghost use Rattle.golf_model.specs.Values.{bytes_of, line_bytes};
+
+use golf_base::{List, Memory};
+use golf_data::Value;
+use std::alloc::Global;
+
+// Adds a value as it is printed, where it has a form.
+fn add_value(
+    alloc: Global,
+    text: &mut List<u8>,
+    texts: &[List<u8>],
+    value: Value,
+) -> Result<bool, Memory>
+    ensures { IfOk result (λ added. MatchOption (bytes_of texts.now value) (added ≡ false) (λ bytes. (added ≡ true) × (text.new ≡ text.old ++ bytes))) }
+{
+    match value {
+        Value::Int(n) => {
+            let digits = n.to_string(alloc)?;
+            text.extend_from_slice(digits.as_bytes())?;
+            Ok(true)
+        }
+        Value::Bool(true) => {
+            text.extend_from_slice(b"true")?;
+            Ok(true)
+        }
+        Value::Bool(false) => {
+            text.extend_from_slice(b"false")?;
+            Ok(true)
+        }
+        Value::Text(k) => match texts.get(k as usize) {
+            Some(found) => {
+                text.extend_from_slice(found.as_slice())?;
+                Ok(true)
+            }
+            None => Ok(false),
+        },
+        Value::Unit => Ok(false),
+        Value::Nil => Ok(false),
+        Value::Ref(_) => Ok(false),
+    }
+}
+
+/// The line of these values, one space between and a newline behind, where each has a form.
+pub fn line_of(
+    alloc: Global,
+    texts: &[List<u8>],
+    values: &[Value],
+) -> Result<Option<List<u8>>, Memory>
+    ensures { IfOk result (λ line. line ≡ line_bytes texts.now values.now) }
+{
+    let mut text = List::new(alloc);
+    for (i, value) in values.iter().enumerate() {
+        if i > 0 {
+            text.push(b' ')?;
+        }
+        if !add_value(alloc, &mut text, texts, *value)? {
+            return Ok(None);
+        }
+    }
+    text.push(b'\n')?;
+    Ok(Some(text))
+}

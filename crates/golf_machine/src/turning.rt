@@ -1,0 +1,71 @@
+//! The state before the first turn, and one turn.
+
+ghost use Rattle.std.specs.Prelude.{◌≡◌, None, IfOk, OnOk, OnErr};
+ghost use Rattle.golf_data.specs.Places.{HasPlaces};
+ghost use Rattle.golf_model.specs.State.{ending, start as start_of};
+ghost use Rattle.golf_model.specs.Turn.{step};
+ghost use Rattle.golf_model.specs.Values.{zeros_of};
+ghost use Rattle.golf_model.specs.Running.{wants_collection};
+ghost use Rattle.golf_machine.specs.Built.{HasBuiltLines};
+ghost use Rattle.golf_machine.specs.Turns.{turned_of};
+
+use crate::entering::first_frames;
+use crate::performing::zero_of;
+use crate::stepping::{act, collects};
+use golf_base::{List, Memory};
+use golf_data::{Code, Ending, Value};
+use golf_state::State;
+use std::alloc::Global;
+
+/// What a turn came to.
+#[derive(Clone, Copy, Debug, PartialEq, Eq)]
+pub enum Turned {
+    /// The program goes on.
+    Went,
+    /// The instruction was a collection, which is to follow; the goroutine stands behind it.
+    WantsCollection,
+    /// The program has ended.
+    Ended(Ending),
+}
+
+// The zero values of globals.
+fn zeros_of(alloc: Global, values: &[Value]) -> Result<List<Value>, Memory>
+    ensures { IfOk result (λ zeros. zeros ≡ zeros_of values.now) }
+{
+    let mut zeros = List::new(alloc);
+    for value in values {
+        zeros.push(zero_of(*value))?;
+    }
+    Ok(zeros)
+}
+
+/// The state before the first turn: goroutine 1 is at the first instruction of function 0, where
+/// the code has one.
+pub fn start(alloc: Global, code: &Code) -> Result<State, Memory>
+    ensures { IfOk result (λ state. state ≡ start_of code.now) }
+{
+    let globals = zeros_of(alloc, code.globals.as_slice())?;
+    let frames = first_frames(alloc, code)?;
+    State::new(alloc, globals, frames, code.main_line)
+}
+
+/// One turn: of the goroutines that can run, in rising order, the one at the place of the number,
+/// counted round. It takes all its memory first: on `Memory` the state is unchanged.
+pub fn turn(alloc: Global, code: &Code, state: &mut State, number: u64) -> Result<Turned, Memory>
+    requires places { HasPlaces code.now }
+    requires built { HasBuiltLines code.now }
+    requires goes { ending state.old ≡ None }
+    ensures ok { OnOk result (state.new ≡ step code.now state.old number) }
+    ensures turned { IfOk result (λ turned. turned ≡ turned_of (ending state.new) (wants_collection code.now state.old number)) }
+    ensures err { OnErr result (state.new ≡ state.old) }
+{
+    let runnable = state.runnable();
+    let g = runnable[(number % runnable.len() as u64) as usize];
+    let collects = collects(code, state, g);
+    act(alloc, code, state, g)?;
+    Ok(match state.ending() {
+        Some(ending) => Turned::Ended(ending),
+        None if collects => Turned::WantsCollection,
+        None => Turned::Went,
+    })
+}

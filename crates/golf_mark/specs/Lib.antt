@@ -1,0 +1,4 @@
+pub mod Waiters
+pub mod Working
+pub mod Marking
+pub mod Making

@@ -1,0 +1,36 @@
+//! The marking in one thread.
+
+ghost use Rattle.std.specs.Prelude.{IfOk};
+ghost use Rattle.golf_mark.specs.Marking.{MarksLeast};
+
+use crate::waiters::Waiters;
+use crate::work::{Work, scan};
+use golf_base::{Gate, Memory};
+use golf_model::{Graph, Marked};
+use std::alloc::Global;
+
+/// Marks the least closed set of a graph, in one thread.
+///
+/// The roots are marked first. Then each turn takes one marked place and marks all that it
+/// justifies, sleepers that wait on it among them, so that nothing is gone through twice. The gate
+/// is passed as marker 0 before each turn, the last one, which finds nothing, included; turns count
+/// from 0.
+pub fn mark_alone<G: Gate>(alloc: Global, graph: &Graph, gate: &G) -> Result<Marked, Memory>
+    ensures { IfOk result (MarksLeast graph.now) }
+{
+    let waiters = Waiters::new(alloc, graph)?;
+    let mut work = Work::new(alloc, graph.nodes() + graph.sleepers())?;
+    work.claim_all(graph.roots());
+    let mut turn = 0;
+    gate.pass(0, 0);
+    while let Some(place) = work.get(turn) {
+        scan(graph, &waiters, &mut work, place);
+        turn += 1;
+        gate.pass(0, turn as u64);
+    }
+    let marked = work.into_marked(alloc, graph.nodes())?;
+    Ok(marked)
+}
+
+#[cfg(test)]
+mod tests;

@@ -1,0 +1,14 @@
+pub mod Bind
+pub mod Many
+pub mod Digits
+pub mod PieceLaws
+pub mod SpellingLaws
+pub mod ItemLaws
+pub mod OperandLaws
+pub mod StatementLaws
+pub mod FunctionLaws
+pub mod TreeLaws
+pub mod Shrinking
+pub mod NameLaws
+pub mod Scoping
+pub mod PlainLaws

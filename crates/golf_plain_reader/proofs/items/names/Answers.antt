@@ -1,0 +1,19 @@
+use Rattle.std.proofs.Common.{◌≡◌, ◌∙◌, ap, sym}
+use Rattle.std.specs.Prelude.{Some}
+use Rattle.std.specs.Option.{option_map}
+use Rattle.golf_plain_reader.specs.Reading.{name_at, next_item}
+use Rattle.golf_plain_reader.proofs.Many.{front-item, with_front, all_at}
+use Rattle.golf_plain_reader.proofs.Shrinking.{name-shrinks}
+use Rattle.golf_plain_reader.proofs.items.names.Goals as goal
+
+item : (c : goal.In_ok-push-2) → next_item name_at c.loop-all.rest.now ≡ Some (Some (c.in-Some.x, c.in-Some.behind.now))
+item c = c.in_ok-x.ensures ∙ ap (λ o. Some (option_map (λ x. (x.0, x.1.now)) o)) c.in-Some.is
+
+pub loop-all-smaller : goal.loop-all-smaller
+loop-all-smaller c = name-shrinks c.loop-all.rest.now (c.in-Some.x, c.in-Some.behind.now) (item c)
+
+pub loop-all-preserved : goal.loop-all-preserved
+loop-all-preserved c =
+    ap (λ xs. with_front xs (all_at (next_item name_at) name-shrinks c.in-Some.behind.now)) c.in_ok-push-2.ensures.ok
+    ∙ sym (front-item (next_item name_at) name-shrinks c.loop-all.all c.loop-all.rest.now (c.in-Some.x, c.in-Some.behind.now) (item c))
+    ∙ c.loop-all.invariant

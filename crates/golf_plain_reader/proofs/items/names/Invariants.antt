@@ -1,0 +1,12 @@
+use Rattle.std.proofs.Common.{◌≡◌, length}
+use Rattle.golf_plain_reader.specs.Reading.{name_at, next_item, items_at}
+use Rattle.golf_plain_reader.proofs.Many.{all_at, with_front}
+use Rattle.golf_plain_reader.proofs.Shrinking.{name-shrinks}
+use Rattle.golf_plain_reader.proofs.items.names.Given as goal
+
+-- what was read so far, and what is left
+abbrev pub invariant-loop-all : goal.invariant-loop-all
+invariant-loop-all l = with_front l.all (all_at (next_item name_at) name-shrinks l.rest) ≡ items_at name_at l.fn.bytes
+
+abbrev pub decreases-loop-all : goal.decreases-loop-all
+decreases-loop-all l = length l.rest

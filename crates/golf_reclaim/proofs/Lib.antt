@@ -1,0 +1,4 @@
+pub mod Flags
+pub mod Entries
+pub mod Meaning
+pub mod Reports

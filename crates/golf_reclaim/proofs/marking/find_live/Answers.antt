@@ -1,0 +1,23 @@
+use Rattle.std.proofs.Common.{◌≡◌, Bool, List, map, subst, ap, ◌∙◌}
+use Rattle.golf_model.specs.declared.graph.GraphParts.{GraphParts}
+use Rattle.golf_model.specs.declared.graph.Sleeper.{Sleeper}
+use Rattle.golf_model.specs.Reporting.{numbers}
+use Rattle.golf_mark.specs.Marking.{MarksLeast}
+use Rattle.golf_reclaim.specs.Flags.{count_set, unflagged}
+use Rattle.golf_reclaim.proofs.Meaning.{live-count, dead-flags}
+use Rattle.golf_reclaim.proofs.marking.find_live.Goals as goal
+
+pub returns-clause-objects : goal.returns-clause-objects
+returns-clause-objects g c =
+    let m = c.in_ok-marked.marked in
+    c.count_set-objects.ensures ∙ ap count_set c.as_slice.ensures
+    ∙ live-count c.args.state.now c.requires.numbered c.requires.whole m (subst (λ (p : GraphParts). MarksLeast p m) c.in_ok-graph.ensures c.in_ok-marked.ensures)
+
+pub returns-clause-dead : goal.returns-clause-dead
+returns-clause-dead g c =
+    let m = c.in_ok-marked.marked in
+    ap numbers
+    (c.in_ok-dead.ensures.dead
+    ∙ ap (λ (l : List Bool). unflagged l (map (λ (x : Sleeper). x.goroutine) c.in_ok-graph.graph.sleepers)) c.as_slice-2.ensures
+    ∙ ap (λ (p : GraphParts). unflagged m.awake (map (λ (x : Sleeper). x.goroutine) p.sleepers)) c.in_ok-graph.ensures)
+    ∙ dead-flags c.args.state.now c.requires.numbered c.requires.whole m (subst (λ (p : GraphParts). MarksLeast p m) c.in_ok-graph.ensures c.in_ok-marked.ensures)

@@ -1,0 +1,10 @@
+//! One collection: which objects and goroutines are live, what is left, and what the report says.
+#![tactic(auto)]
+
+mod collection;
+#[cfg(test)]
+mod fixture;
+mod marking;
+mod reported;
+
+pub use collection::collect;

@@ -1,0 +1,6 @@
+mod Rotating
+mod Collecting
+mod Goings
+mod Telling
+mod Turning
+mod Ending

@@ -1,0 +1,45 @@
+-- A run after so many turns.
+use Rattle.std.specs.Prelude.{◌≡◌, ℕ, ◌≤◌, Bool, false, List, [], ◌∷◌}
+use Rattle.std.specs.Io.KnownBytes.{Appends}
+use Rattle.golf_data.specs.declared.code.Code.{Code}
+use Rattle.golf_data.specs.declared.report.Book.{Book}
+use Rattle.golf_data.specs.declared.report.Report.{Report}
+use Rattle.golf_model.specs.State.{State, start}
+use Rattle.golf_model.specs.Collecting.{sets}
+use Rattle.golf_model.specs.Running.{run, stops}
+use Rattle.golf_model.specs.Reporting.{book_after, book_of, new_book}
+use Rattle.golf_texts.specs.Texts.{reports_text}
+use Rattle.golf_texts.specs.Meaning.{rotate_from, anyone_reported}
+use Rattle.golf_laws.specs.Printing.{prefixed}
+use Rattle.golf_run.specs.HasRun.{Sinks}
+
+-- the plain machine after so many turns
+unfoldable pub at : Code → ℕ → State
+at code k = run code (start code) (rotate_from 0 k)
+
+-- the states right before its collections
+unfoldable pub stops_to : Code → ℕ → List State
+stops_to code k = stops code (rotate_from 0 k)
+
+-- their reports
+unfoldable pub reports_to : Code → ℕ → List Report
+reports_to code k = book_of (stops_to code k) false (sets code)
+
+-- a book, and these collections behind it
+abbrev pub books : Bool → Book → List State → Book
+books may_set book [] = book
+books may_set book (p ∷ ps) = books may_set (book_after false may_set book p) ps
+
+unfoldable pub book_to : Code → ℕ → Book
+book_to code k = books (sets code) new_book (stops_to code k)
+
+-- the state is that of the plain machine but for what was printed, and that was written; the reports were written, and the book has them
+pub record IsUnderWay (code : Code) (k : ℕ) (state : State) (ledger : Book) (reported : Bool) (old now : Sinks) : Type 0 where
+  pub same : at code k ≡ prefixed (at code k).output state
+  pub taken : state.output ≡ []
+  pub book : ledger ≡ book_to code k
+  pub found : reported ≡ anyone_reported (reports_to code k)
+  pub few : ledger.collections ≤ k
+  pub none_gone : ledger.reclaimed ≡ []
+  pub out : Appends old.out now.out (at code k).output
+  pub err : Appends old.err now.err (reports_text (reports_to code k))

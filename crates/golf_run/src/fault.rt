@@ -1,0 +1,31 @@
+//! Why a run does not go on.
+
+ghost use Rattle.std.specs.Prelude.{◌≡◌};
+ghost use Rattle.golf_run.specs.declared.fault.RunFault.TheVariants as faults;
+
+use golf_base::{Memory, WriteFault};
+
+/// Why a run did not go on.
+#[derive(Clone, Copy, Debug, PartialEq, Eq)]
+pub enum RunFault {
+    /// Memory was wanting.
+    Memory,
+    /// A write to one of the sinks failed.
+    Write,
+}
+
+impl From<Memory> for RunFault {
+    ghost from_gives = { λ _ e. e ≡ faults.Memory };
+
+    fn from(_: Memory) -> Self {
+        RunFault::Memory
+    }
+}
+
+impl From<WriteFault> for RunFault {
+    ghost from_gives = { λ _ e. e ≡ faults.Write };
+
+    fn from(_: WriteFault) -> Self {
+        RunFault::Write
+    }
+}

@@ -1,0 +1,8 @@
+//! The run of a code: its turns and collections, what it prints and what it reports.
+#![tactic(auto)]
+
+mod fault;
+mod turns;
+
+pub use fault::RunFault;
+pub use turns::run;

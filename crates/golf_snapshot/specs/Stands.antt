@@ -1,0 +1,32 @@
+-- What the places of a state's graph stand for.
+use Rattle.std.specs.Prelude.{◌≡◌, ℕ, ◌+◌, List, length, Option, Some, slice_get, ◌↔◌}
+use Rattle.golf_data.specs.declared.value.Object.{Object}
+use Rattle.golf_model.specs.Plain.{PlainGoroutine}
+use Rattle.golf_model.specs.State.{State}
+use Rattle.golf_model.specs.Reaching.{Reach, sources}
+use Rattle.golf_model.specs.Living.{Node, Live}
+use Rattle.golf_model.specs.Graph.{Least, IsInRange}
+use Rattle.golf_model.specs.Presence.{IsWhole}
+use Rattle.golf_model.specs.Futures.{Numbered}
+use Rattle.golf_snapshot.specs.Parts.{sleeping, live_parts, retained_parts}
+
+-- the object of a node
+abbrev pub IsObject : State → ℕ → ℕ → Type 0
+IsObject s k o = (x : Object) × (slice_get s.objects k ≡ Some (o, x))
+
+-- the goroutine of a sleeper
+abbrev pub IsSleeper : State → ℕ → ℕ → Type 0
+IsSleeper s j g = (r : PlainGoroutine) × (slice_get (sleeping s) j ≡ Some (g, r))
+
+-- a node is in the least closed set where its object is live, and a sleeper where its goroutine is
+pub record LivesAlike (s : State) : Type 0 where
+  pub objects : (k o : ℕ) → IsObject s k o → Least (live_parts s) k ↔ Live s (Node.AnObject o)
+  pub goroutines : (j g : ℕ) → IsSleeper s j g → Least (live_parts s) (length s.objects + j) ↔ Live s (Node.AGoroutine g)
+
+-- in every state in which references are to objects that are there
+abbrev pub LiveGraph : Type 0
+LiveGraph = (s : State) → Numbered s → IsWhole s → LivesAlike s
+
+-- a node is in the least closed set where its object is reached
+abbrev pub RetainedGraph : Type 0
+RetainedGraph = (s : State) (gone : List ℕ) (k o : ℕ) → Numbered s → IsWhole s → IsObject s k o → Least (retained_parts s gone) k ↔ Reach s (sources s gone) o

@@ -1,0 +1,26 @@
+-- The entries of a map, one number after another.
+use Rattle.std.specs.Prelude.{ℕ, Bool, not, List, [], ◌∷◌, map, filter, Option, Some, None, nat_lt}
+use Rattle.golf_theory.specs.Maps.{only}
+use Rattle.golf_data.specs.declared.value.Object.{Object}
+use Rattle.golf_model.specs.Plain.{PlainGoroutine}
+use Rattle.golf_model.specs.Refs.{object_refs}
+use Rattle.golf_model.specs.declared.graph.Sleeper.{Sleeper}
+use Rattle.golf_snapshot.specs.Parts.{is_awake, sleeper_of}
+
+-- the entry with this key and value, where there is a value
+abbrev pub entry_at : {X : Type 0} → ℕ → Option X → List (ℕ × X)
+entry_at k None = []
+entry_at k (Some x) = (k, x) ∷ []
+
+-- the entries with keys below this one
+abbrev pub before : {X : Type 0} → ℕ → List (ℕ × X) → List (ℕ × X)
+before k es = only (λ j. nat_lt j k) es
+
+-- the references of an object, where it is there
+abbrev pub refs_at : Option Object → List ℕ
+refs_at None = []
+refs_at (Some x) = object_refs x
+
+-- the sleepers among these goroutines
+abbrev pub sleepers_of : List (ℕ × Object) → List (ℕ × PlainGoroutine) → List Sleeper
+sleepers_of objects es = map (sleeper_of objects) (filter (λ e. not (is_awake e.0 e.1)) es)

@@ -1,0 +1,117 @@
+//! The nodes: one for each object that is there, by its rank.
+
+ghost use Rattle.std.specs.Prelude.{◌≡◌, ◌++◌, ◌<◌, IfOk, OnOk, length, map};
+ghost use Rattle.golf_theory.specs.Maps.{find};
+ghost use Rattle.golf_model.specs.Refs.{object_refs, has_finaliser, refs_where};
+ghost use Rattle.golf_snapshot.specs.Parts.{ranks, number_of, row_of};
+ghost use Rattle.golf_snapshot.specs.Stepping.{entry_at, refs_at};
+
+use crate::references::{add_value, add_values};
+use golf_base::{List, Memory, ObjectId};
+use golf_data::Object;
+use golf_heap::Heap;
+use golf_state::State;
+use std::alloc::Global;
+
+/// The numbers of the objects, in rising order.
+pub(crate) fn numbers(alloc: Global, heap: &Heap) -> Result<List<ObjectId>, Memory>
+    ensures { IfOk result (λ numbers. numbers ≡ map number_of heap.now.objects) }
+{
+    let mut numbers = List::new(alloc);
+    for rank in 0..heap.count() {
+        numbers.push(heap.at(rank))?;
+    }
+    Ok(numbers)
+}
+
+/// For each node the nodes that it refers to.
+pub(crate) fn children(alloc: Global, heap: &Heap) -> Result<List<List<u32>>, Memory>
+    ensures { IfOk result (λ rows. rows ≡ map (row_of heap.now.objects) heap.now.objects) }
+{
+    let mut rows = List::new(alloc);
+    for rank in 0..heap.count() {
+        let row = row(alloc, heap, heap.at(rank))?;
+        rows.push(row)?;
+    }
+    Ok(rows)
+}
+
+// The nodes that the object of this number refers to.
+fn row(alloc: Global, heap: &Heap, id: ObjectId) -> Result<List<u32>, Memory>
+    ensures { IfOk result (λ row. row ≡ ranks heap.now.objects (refs_at (find id.0 heap.now.objects))) }
+{
+    let mut nodes = List::new(alloc);
+    add_object_at(heap, &mut nodes, id)?;
+    Ok(nodes)
+}
+
+/// For each node whether its object has a finaliser.
+pub(crate) fn finalised(alloc: Global, state: &State) -> Result<List<bool>, Memory>
+    ensures { IfOk result (λ flags. flags ≡ map (λ e. has_finaliser state.now e.0) state.now.objects) }
+{
+    let heap = state.heap();
+    let mut flags = List::new(alloc);
+    for rank in 0..heap.count() {
+        flags.push(has_finaliser(state, heap.at(rank)))?;
+    }
+    Ok(flags)
+}
+
+fn has_finaliser(state: &State, id: ObjectId) -> bool
+    ensures { result ≡ has_finaliser state.now id.0 }
+{
+    state.finaliser(id).is_some()
+}
+
+/// Adds the nodes that objects with a finaliser refer to.
+pub(crate) fn add_finalised(state: &State, nodes: &mut List<u32>) -> Result<(), Memory>
+    ensures { OnOk result (nodes.new ≡ nodes.old ++ ranks state.now.objects (refs_where (has_finaliser state.now) state.now.objects)) }
+{
+    let heap = state.heap();
+    for rank in 0..heap.count() {
+        add_if_finalised(state, nodes, heap.at(rank))?;
+    }
+    Ok(())
+}
+
+// Adds the nodes that the object of this number refers to, where it has a finaliser.
+fn add_if_finalised(state: &State, nodes: &mut List<u32>, id: ObjectId) -> Result<(), Memory>
+    ensures { OnOk result (nodes.new
+        ≡ nodes.old ++ ranks state.now.objects (refs_where (has_finaliser state.now) (entry_at id.0 (find id.0 state.now.objects)))) }
+{
+    match state.heap().get(id) {
+        Some(object) => {
+            if has_finaliser(state, id) {
+                add_object(state.heap(), nodes, object)?;
+            }
+            Ok(())
+        }
+        None => Ok(()),
+    }
+}
+
+// Adds the nodes that the object of this number refers to, where it is there.
+fn add_object_at(heap: &Heap, nodes: &mut List<u32>, id: ObjectId) -> Result<(), Memory>
+    ensures { OnOk result (nodes.new ≡ nodes.old ++ ranks heap.now.objects (refs_at (find id.0 heap.now.objects))) }
+{
+    match heap.get(id) {
+        Some(object) => add_object(heap, nodes, object),
+        None => Ok(()),
+    }
+}
+
+// Adds the nodes that an object refers to.
+fn add_object(heap: &Heap, nodes: &mut List<u32>, object: &Object) -> Result<(), Memory>
+    ensures { OnOk result (nodes.new ≡ nodes.old ++ ranks heap.now.objects (object_refs object.now)) }
+{
+    match object {
+        Object::Struct(values) => add_values(heap, nodes, values.as_slice()),
+        Object::Slice(values) => add_values(heap, nodes, values.as_slice()),
+        Object::Chan(channel) => {
+            add_values(heap, nodes, channel.buffer.as_slice())?;
+            add_value(heap, nodes, channel.zero)
+        }
+        Object::Cond(mutex) => add_value(heap, nodes, *mutex),
+        Object::Mutex(_) | Object::Group(_) | Object::Rw(_) => Ok(()),
+    }
+}

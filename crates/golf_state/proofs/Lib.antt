@@ -1,0 +1,5 @@
+pub mod Tops
+pub mod PlaceLaws
+pub mod WaiterLaws
+pub mod Numbered
+pub mod Doings

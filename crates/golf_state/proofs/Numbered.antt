@@ -1,0 +1,49 @@
+-- The list of goroutines as a list of numbers.
+use Rattle.std.proofs.Common.{◌≡◌, ℕ, zero, suc, ◌+◌, ◌<◌, ◌≤◌, List, [], ◌∷◌, ◌++◌, length, take, drop, get_or, map, refl, sym, ap, ◌∙◌, arith}
+use Rattle.std.specs.Prelude.{insert}
+use Rattle.std.proofs.lemmas.List.{map-append, length-map, take_all, drop_all, append-nil}
+use Rattle.golf_base.specs.declared.ids.GoroutineId.{GoroutineId}
+use Rattle.golf_theory.specs.Stored.{placed}
+use Rattle.golf_theory.proofs.Placing.{placed_here}
+use Rattle.golf_state.specs.Inside.{numbers}
+
+pub number-at : (xs : List GoroutineId) (i : ℕ) (x : GoroutineId) → i < length xs → x ≡ get_or xs i x → get_or (numbers xs) i 0 ≡ x.0
+number-at [] i x l h = absurd (omega arith)
+number-at (y ∷ ys) zero x l h = ap (λ (g : GoroutineId). g.0) (sym h)
+number-at (y ∷ ys) (suc i) x l h = number-at ys i x (omega arith) h
+
+numbers-take : (n : ℕ) (xs : List GoroutineId) → numbers (take n xs) ≡ take n (numbers xs)
+numbers-take zero xs = refl
+numbers-take (suc n) [] = refl
+numbers-take (suc n) (x ∷ xs) = ap (λ (ys : List ℕ). x.0 ∷ ys) (numbers-take n xs)
+
+numbers-drop : (n : ℕ) (xs : List GoroutineId) → numbers (drop n xs) ≡ drop n (numbers xs)
+numbers-drop zero xs = refl
+numbers-drop (suc n) [] = refl
+numbers-drop (suc n) (x ∷ xs) = numbers-drop n xs
+
+numbers-insert : (xs : List GoroutineId) (i : ℕ) (g : GoroutineId) → numbers (insert xs i g) ≡ take i (numbers xs) ++ g.0 ∷ drop i (numbers xs)
+numbers-insert xs i g =
+    map-append (λ (h : GoroutineId). h.0) (take i xs) (g ∷ drop i xs)
+    ∙ ap (λ (ys : List ℕ). ys ++ g.0 ∷ numbers (drop i xs)) (numbers-take i xs)
+    ∙ ap (λ (ys : List ℕ). take i (numbers xs) ++ g.0 ∷ ys) (numbers-drop i xs)
+
+-- the place is before a larger number
+pub insert-before : (xs : List GoroutineId) (i : ℕ) (g x : GoroutineId) → i < length xs → x ≡ get_or xs i x → g.0 < x.0
+    → placed g.0 (numbers xs) ≡ take i (numbers xs) ++ placed g.0 (drop i (numbers xs)) → numbers (insert xs i g) ≡ placed g.0 (numbers xs)
+insert-before xs i g x l h above so_far =
+    let n = length-map xs (λ (h : GoroutineId). h.0) in
+    let larger = number-at xs i x l h in
+    numbers-insert xs i g ∙ sym (so_far ∙ ap (λ (ys : List ℕ). take i (numbers xs) ++ ys) (placed_here g.0 (numbers xs) i (omega arith) (omega arith)))
+
+-- or at the end
+pub insert-last : (xs : List GoroutineId) (i : ℕ) (g : GoroutineId) → length xs ≤ i
+    → placed g.0 (numbers xs) ≡ take i (numbers xs) ++ placed g.0 (drop i (numbers xs)) → numbers (insert xs i g) ≡ placed g.0 (numbers xs)
+insert-last xs i g l so_far =
+    let n = length-map xs (λ (h : GoroutineId). h.0) in
+    let none = drop_all i (numbers xs) (omega arith) in
+    numbers-insert xs i g ∙ ap (λ (ys : List ℕ). take i (numbers xs) ++ g.0 ∷ ys) none
+    ∙ sym (so_far ∙ ap (λ (ys : List ℕ). take i (numbers xs) ++ placed g.0 ys) none)
+
+pub numbers-push : (xs : List GoroutineId) (g : GoroutineId) → numbers (xs ++ g ∷ []) ≡ numbers xs ++ g.0 ∷ []
+numbers-push xs g = map-append (λ (h : GoroutineId). h.0) xs (g ∷ [])

@@ -1,0 +1,7 @@
+use Rattle.golf_state.specs.Going.{undeferred}
+use Rattle.golf_state.proofs.Tops.{below_changed}
+use Rattle.golf_state.proofs.calls.enter_deferred.Goals as goal
+
+pub returns-then-count-gt0-clause-ok : goal.returns-then-count-gt0-clause-ok
+returns-then-count-gt0-clause-ok c =
+    below_changed c.args.frames.now c.push.new.self c.len-count.result c.args.frame c.item_mut.result.now c.take_deferred.new.frame undeferred c.len-count.ensures c.if-count-gt0.true c.in_ok-push.ensures.ok c.item_mut.ensures.value c.take_deferred.ensures

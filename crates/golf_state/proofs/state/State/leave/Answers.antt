@@ -1,0 +1,34 @@
+use Rattle.std.proofs.Common.{◌≡◌, ℕ, ◌≤◌, false, List, length, refl, sym, ap, ◌∙◌, arith}
+use Rattle.std.proofs.lemmas.List.{length-set}
+use Rattle.golf_theory.specs.Stored.{without}
+use Rattle.golf_model.specs.Plain.{PlainGoroutine}
+use Rattle.golf_model.specs.State.{State}
+use Rattle.golf_state.specs.Inside.{plain_state}
+use Rattle.golf_state.specs.Places.{running_of}
+use Rattle.golf_state.specs.declared.places.Place.{Place}
+use Rattle.golf_state.proofs.PlaceLaws.{clear-past, clear-at, clear-state, runs-left}
+use Rattle.golf_state.proofs.state.State.leave.Goals as goal
+
+pub returns-then-g-len : goal.returns-then-g-len
+returns-then-g-len c =
+    let s = c.self.inside in
+    rw (← c.self.view_is)
+    (ap (λ (es : List (ℕ × PlainGoroutine)). record (plain_state s) { goroutines = es }) (clear-past s.goroutines.items c.args.g.0 (omega (arith, c.if-g-len.true, c.len.ensures, s.goroutines.ok.0))))
+
+pub invariant_of-self : goal.invariant_of-self
+invariant_of-self c =
+    let gs = c.self.inside.goroutines.items in
+    let g = c.args.g.0 in
+    let r = c.index_mut-place.result.now.goroutine in
+    let q : Place = record { goroutine = record { frames = c.new.result; mode = r.mode; started = r.started }; present = false } in
+    record {
+      running = c.leave_out.ensures ∙ ap (without g) c.self.invariant.running ∙ runs-left gs g ∙ ap running_of (sym (clear-at gs g q refl));
+      few = omega (arith, length-set gs g q, c.self.invariant.few);
+    }
+
+pub returns : goal.returns
+returns c =
+    let s = c.self.inside in
+    let r = c.index_mut-place.result.now.goroutine in
+    let q : Place = record { goroutine = record { frames = c.new.result; mode = r.mode; started = r.started }; present = false } in
+    rw (← c.self.view_is) (clear-state (plain_state s) s.goroutines.items c.args.g.0 q refl)

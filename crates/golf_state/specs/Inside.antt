@@ -1,0 +1,30 @@
+-- The state in memory, and what it caches.
+use Rattle.std.specs.Prelude.{◌≡◌, ◌≤◌, ◌^◌, ℕ, List, length, map}
+use Rattle.golf_base.specs.declared.ids.GoroutineId.{GoroutineId}
+use Rattle.golf_model.specs.State.{State}
+use Rattle.golf_state.specs.Places.{plain_entries, running_of}
+use Rattle.golf_state.specs.declared.state.State.TheInside.{Inside}
+
+-- the numbers of goroutines
+abbrev pub numbers : List GoroutineId → List ℕ
+numbers gs = map (λ g. g.0) gs
+
+-- operands are told by their items alone
+abbrev pub plain_state : Inside → State
+plain_state s = record {
+  globals = s.globals;
+  objects = s.heap.objects;
+  finalisers = s.finalisers;
+  goroutines = plain_entries s.goroutines.items;
+  queue = s.queue;
+  output = s.output;
+  last_object = s.heap.last;
+  next_goroutine = length s.goroutines.items;
+  next_ticket = s.next_ticket;
+  recorded = s.recorded;
+}
+
+-- the list of those that run is that of the goroutines, and each goroutine has a number
+pub record IsCached (s : Inside) : Type 0 where
+  pub running : numbers s.running.items ≡ running_of (plain_entries s.goroutines.items)
+  pub few : length s.goroutines.items ≤ 2 ^ 32

@@ -1,0 +1,10 @@
+pub mod Places
+pub mod Looked
+pub mod Lending
+pub mod LendingTop
+pub mod Waited
+pub mod Seen
+pub mod Inside
+pub mod Going
+pub mod Doing
+pub mod Operands

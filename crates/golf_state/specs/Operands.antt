@@ -1,0 +1,20 @@
+-- The operands of a goroutine's innermost frame, the top one first.
+use Rattle.std.specs.Prelude.{ℕ, List, [], ◌∷◌, Option, Some, None}
+use Rattle.golf_data.specs.declared.value.Value.{Value}
+use Rattle.golf_model.specs.Plain.{PlainFrame}
+use Rattle.golf_model.specs.State.{State}
+use Rattle.golf_state.specs.Looked.{frames_of}
+
+abbrev pub top_operands : List PlainFrame → List Value
+top_operands [] = []
+top_operands (f ∷ fs) = f.operands
+
+-- none where there is no frame
+abbrev pub operands_of : ℕ → State → List Value
+operands_of g s = top_operands (frames_of g s)
+
+-- the top two, the top one second
+abbrev pub two_of : List Value → Option (Value × Value)
+two_of [] = None
+two_of (y ∷ []) = None
+two_of (y ∷ x ∷ rest) = Some (x, y)

@@ -1,0 +1,42 @@
+//! The last operands of a goroutine's innermost frame.
+
+ghost use Rattle.std.specs.Prelude.{◌≡◌, slice_get, reverse};
+ghost use Rattle.golf_state.specs.Operands.{operands_of, two_of};
+
+use crate::state::State;
+use golf_base::GoroutineId;
+use golf_data::Value;
+
+// The last item.
+fn last(items: &[Value]) -> Option<Value>
+    ensures { result ≡ slice_get (reverse items.now) 0 }
+{
+    items.last().copied()
+}
+
+// The last two items, the last one second.
+fn last_two(items: &[Value]) -> Option<(Value, Value)>
+    ensures { result ≡ two_of (reverse items.now) }
+{
+    let count = items.len();
+    if count < 2 {
+        return None;
+    }
+    Some((items[count - 2], items[count - 1]))
+}
+
+/// The last operand of a goroutine's innermost frame, where there is one.
+pub fn last_operand(state: &State, g: GoroutineId) -> Option<Value>
+    ensures { result ≡ slice_get (operands_of g.0 state.now) 0 }
+{
+    let frame = state.frame(g)?;
+    last(frame.operands.as_slice())
+}
+
+/// The last two operands of a goroutine's innermost frame, the last one second, where there are two.
+pub fn last_operands(state: &State, g: GoroutineId) -> Option<(Value, Value)>
+    ensures { result ≡ two_of (operands_of g.0 state.now) }
+{
+    let frame = state.frame(g)?;
+    last_two(frame.operands.as_slice())
+}

@@ -1,0 +1,359 @@
+//! The state: what it tells, and the changes that a turn is made of.
+
+ghost use Rattle.std.specs.Prelude.{◌≡◌, ◌<◌, ◌≤◌, ◌^◌, ◌+◌, ◌-◌, ℕ, [], ◌∷◌, length, map, true, false, Some, None, IfOk, OnOk, OnErr, IsSome, IfSome, option_map, slice_get};
+ghost use Rattle.std.specs.Borrow.{sem};
+ghost use Rattle.golf_theory.specs.Maps.{find, Rises, IsRising};
+ghost use Rattle.golf_data.specs.declared.goroutine.Mode.{Mode};
+ghost use Rattle.golf_model.specs.Plain.{PlainGoroutine, plain_frame, plain_frames, plain_goroutine};
+ghost use Rattle.golf_model.specs.State.{runnable, ending, is_running};
+ghost use Rattle.golf_model.specs.Waiting.{first};
+ghost use Rattle.golf_model.specs.Waking.{resumed};
+ghost use Rattle.golf_model.specs.Changes.{make, replace, become, block, spawn, leave, finish, take_queued, output as printed};
+ghost use Rattle.golf_heap.specs.Numbered.{Numbered};
+ghost use Rattle.golf_state.specs.Looked.{looked_up, runs, frames_of, reframed, passed_on, values_of, opening};
+ghost use Rattle.golf_state.specs.Waited.{waiting_of};
+ghost use Rattle.golf_state.specs.Lending.{LendsFrames, LendsObject};
+
+use crate::frames::{Given, pass_on, resume};
+use crate::places::{Place, has_no_call, is_running, place_of};
+use crate::running::{behind_first, leave_out, put_in};
+use crate::waiters::{Waiting, first_waiter};
+use golf_base::{GoroutineId, List, Memory, ObjectId};
+use golf_data::{Ending, Frame, Goroutine, Mode, Object, Queued, Side, Value, Wait, WaitKind};
+use golf_heap::Heap;
+use std::alloc::Global;
+use std::marker::Model;
+
+/// The state of a running program, seen as that of the plain machine. Of the operands of a frame
+/// contracts see the items alone.
+///
+/// A call that answers `Memory` leaves it unchanged. Where objects, goroutines or tickets have used
+/// up their numbers, the answer is `Memory` too.
+#[derive(Debug, Drop)]
+pub struct State {
+    globals: List<Value>,
+    heap: Heap,
+    finalisers: List<(u32, u32)>,
+    goroutines: Vec<Place>,
+    running: Vec<GoroutineId>,
+    queue: List<Queued>,
+    output: List<u8>,
+    next_ticket: u64,
+    recorded: Option<Ending>,
+}
+
+impl Model for State {
+    ghost use Rattle.golf_model.specs.State.{State};
+
+    ghost Value = { State };
+
+    ghost use Rattle.golf_state.specs.Inside.{plain_state, IsCached};
+
+    ghost view = { plain_state };
+
+    ghost invariant = { IsCached };
+}
+
+impl State {
+    /// The state without an object in which goroutine 1, started at this line, runs with these
+    /// frames, and goroutine 0 has none.
+    pub fn new(
+        alloc: Global,
+        globals: List<Value>,
+        frames: List<Frame>,
+        line: u32,
+    ) -> Result<State, Memory>
+        ensures { IfOk result (λ state. state ≡ opening globals (plain_frames frames) line) }
+    {
+        let mut goroutines = Vec::new(alloc);
+        goroutines.push(place_of(List::new(alloc), 0))?;
+        goroutines.push(place_of(frames, line))?;
+        let mut running = Vec::new(alloc);
+        running.push(GoroutineId(0))?;
+        running.push(GoroutineId(1))?;
+        Ok(State {
+            globals,
+            heap: Heap::new(alloc),
+            finalisers: List::new(alloc),
+            goroutines,
+            running,
+            queue: List::new(alloc),
+            output: List::new(alloc),
+            next_ticket: 0,
+            recorded: None,
+        })
+    }
+
+    // ---- what it tells, without memory
+
+    /// The goroutines that can run, in rising order.
+    pub fn runnable(&self) -> &[GoroutineId]
+        ensures runnable { map (λ g. g.0) result.now ≡ runnable self.now }
+        ensures rises { IsRising self.now.goroutines }
+    {
+        let running = self.running.as_slice();
+        if has_no_call(self.queue.as_slice(), self.goroutines.as_slice()) {
+            behind_first(running)
+        } else {
+            running
+        }
+    }
+
+    /// How the program has ended: as recorded, else asleep where no goroutine can run.
+    pub fn ending(&self) -> Option<Ending>
+        ensures { result ≡ ending self.now }
+    {
+        if self.recorded.is_none() && self.runnable().is_empty() {
+            return Some(Ending::Asleep);
+        }
+        self.recorded
+    }
+
+    /// The number that the next goroutine gets: those that there are or were have smaller ones.
+    pub fn next_goroutine(&self) -> u64
+        ensures { result ≡ self.now.next_goroutine }
+    {
+        self.goroutines.len() as u64
+    }
+
+    /// The goroutine of this number, where it has not ended.
+    pub fn goroutine(&self, g: GoroutineId) -> Option<&Goroutine>
+        ensures { option_map (λ r. plain_goroutine r.now) result ≡ find g.0 self.now.goroutines }
+    {
+        let place = self.goroutines.get(g.0 as usize)?;
+        if place.present {
+            Some(&place.goroutine)
+        } else {
+            None
+        }
+    }
+
+    /// The innermost frame of a goroutine, where it has not ended and has one.
+    pub fn frame(&self, g: GoroutineId) -> Option<&Frame>
+        ensures { option_map (λ f. plain_frame f.now) result ≡ slice_get (frames_of g.0 self.now) 0 }
+    {
+        let goroutine = self.goroutine(g)?;
+        goroutine.frames.as_slice().last()
+    }
+
+    /// How many frames a goroutine has; none where it has ended.
+    pub fn depth(&self, g: GoroutineId) -> usize
+        ensures { result ≡ length (frames_of g.0 self.now) }
+    {
+        match self.goroutine(g) {
+            Some(goroutine) => goroutine.frames.len(),
+            None => 0,
+        }
+    }
+
+    /// The globals.
+    pub fn globals(&self) -> &[Value]
+        ensures { result.now ≡ self.now.globals }
+    {
+        self.globals.as_slice()
+    }
+
+    /// The objects, and the last number that was given.
+    pub fn heap(&self) -> &Heap
+        ensures { result.now ≡ record { objects = self.now.objects; last = self.now.last_object } }
+    {
+        &self.heap
+    }
+
+    /// The function of an object's finaliser, where it has one.
+    pub fn finaliser(&self, object: ObjectId) -> Option<u32>
+        ensures { result ≡ find object.0 self.now.finalisers }
+    {
+        function_of(self.finalisers.as_slice(), object.0)
+    }
+
+    /// The finalisers that are to be called, the next one first.
+    pub fn queue(&self) -> &[Queued]
+        ensures { result.now ≡ self.now.queue }
+    {
+        self.queue.as_slice()
+    }
+
+    /// The goroutine of least ticket among those that wait on the object with that side.
+    pub fn first_waiter(&self, object: ObjectId, side: Side) -> Option<Waiting>
+        ensures first { result ≡ option_map waiting_of (first object.0 side self.now.goroutines) }
+        ensures blocked { IfSome (first object.0 side self.now.goroutines) (λ w. find w.number self.now.goroutines ≡ Some w.goroutine × is_running w.goroutine.mode ≡ false) }
+    {
+        first_waiter(self.goroutines.as_slice(), object, side)
+    }
+
+    /// What was printed and not cleared.
+    pub fn output(&self) -> &[u8]
+        ensures { result.now ≡ self.now.output }
+    {
+        self.output.as_slice()
+    }
+
+    // ---- objects
+
+    /// Gives an object the next number.
+    pub fn make(&mut self, object: Object) -> Result<ObjectId, Memory>
+        ensures number { IfOk result (λ id. id.0 ≡ self.old.last_object + 1) }
+        ensures ok { OnOk result (self.new ≡ make object self.old) }
+        ensures err { OnErr result (self.new ≡ self.old) }
+    {
+        self.heap.make(object)
+    }
+
+    /// Lends an object, to be changed or replaced.
+    pub fn object_mut(&mut self, object: ObjectId) -> &mut Object
+        requires { IsSome (find object.0 self.old.objects) }
+        ensures* writes_back { sem 𝓛 (LendsObject self.entry object.0 result) }
+        ensures value { find object.0 self.old.objects ≡ Some result.now }
+        ensures rises { Rises 1 self.old.objects }
+    {
+        self.heap.get_mut(object)
+    }
+
+    // ---- goroutines
+
+    /// Lends the frames of a goroutine that runs, the innermost one last.
+    pub fn frames_mut(&mut self, g: GoroutineId) -> &mut List<Frame>
+        requires { runs g.0 self.old ≡ true }
+        ensures* writes_back { sem 𝓛 (LendsFrames self.entry g.0 result) }
+        ensures value { plain_frames result.now ≡ frames_of g.0 self.old }
+        ensures same { reframed g.0 (frames_of g.0 self.old) self.old ≡ self.old }
+    {
+        let place = &mut self.goroutines[g.0 as usize];
+        let goroutine = &mut place.goroutine;
+        &mut goroutine.frames
+    }
+
+    /// Starts a goroutine with this frame, at this line.
+    pub fn spawn(&mut self, frames: List<Frame>, line: u32) -> Result<GoroutineId, Memory>
+        ensures number { IfOk result (λ g. g.0 ≡ self.old.next_goroutine) }
+        ensures ok { OnOk result (self.new ≡ spawn (record { frames = plain_frames frames; mode = Mode.Running; started = line }) self.old) }
+        ensures err { OnErr result (self.new ≡ self.old) }
+    {
+        let number = u32::try_from(self.goroutines.len()).map_err(|_| Memory)?;
+        let g = GoroutineId(number);
+        self.running.push(g)?;
+        match self.goroutines.push(place_of(frames, line)) {
+            Ok(()) => Ok(g),
+            Err(_) => {
+                self.running.pop();
+                Err(Memory)
+            }
+        }
+    }
+
+    /// The goroutine blocks, with the next ticket. Its innermost frame goes on at a place without so
+    /// many of its operands.
+    pub fn block(
+        &mut self,
+        g: GoroutineId,
+        kind: WaitKind,
+        line: u32,
+        waits: List<Wait>,
+        after: u32,
+        taken: usize,
+    ) -> Result<(), Memory>
+        ensures ok { OnOk result (self.new ≡ looked_up g.0 (λ r. block g.0 kind line waits (passed_on after taken r)) self.old) }
+        ensures err { OnErr result (self.new ≡ self.old) }
+    {
+        let ticket = self.next_ticket;
+        let next_ticket = ticket.checked_add(1).ok_or(Memory)?;
+        if g.0 as usize >= self.goroutines.len() {
+            return Ok(());
+        }
+        let place = &mut self.goroutines[g.0 as usize];
+        if place.present {
+            pass_on(&mut place.goroutine, after, taken);
+            place.goroutine.mode = Mode::Blocked {
+                kind,
+                line,
+                waits,
+                ticket,
+            };
+            leave_out(&mut self.running, g);
+            self.next_ticket = next_ticket;
+        }
+        Ok(())
+    }
+
+    /// The goroutine goes on where its wait says, with these values on top of its operands.
+    pub fn wake(&mut self, g: GoroutineId, wait: Wait, given: Given) -> Result<(), Memory>
+        ensures ok { OnOk result (self.new ≡ looked_up g.0 (λ r. become g.0 (resumed wait (values_of given) r)) self.old) }
+        ensures err { OnErr result (self.new ≡ self.old) }
+    {
+        if g.0 as usize >= self.goroutines.len() {
+            return Ok(());
+        }
+        self.running.reserve(1)?;
+        let place = &mut self.goroutines[g.0 as usize];
+        if place.present {
+            let ran = is_running(&place.goroutine.mode);
+            resume(&mut place.goroutine, wait, given)?;
+            if !ran {
+                put_in(&mut self.running, g);
+            }
+        }
+        Ok(())
+    }
+
+    /// The goroutine has ended.
+    pub fn leave(&mut self, g: GoroutineId)
+        ensures { self.new ≡ leave g.0 self.old }
+    {
+        if g.0 as usize >= self.goroutines.len() {
+            return;
+        }
+        let alloc = *self.goroutines.allocator();
+        let place = &mut self.goroutines[g.0 as usize];
+        place.goroutine.frames = List::new(alloc);
+        place.present = false;
+        leave_out(&mut self.running, g);
+    }
+
+    // ---- the program
+
+    /// The program has ended.
+    pub fn finish(&mut self, ending: Ending)
+        ensures { self.new ≡ finish ending self.old }
+    {
+        self.recorded = Some(ending);
+    }
+
+    /// Takes the next finaliser that is to be called.
+    pub fn take_queued(&mut self) -> Option<Queued>
+        ensures first { result ≡ slice_get self.old.queue 0 }
+        ensures rest { self.new ≡ take_queued self.old }
+    {
+        if self.queue.is_empty() {
+            return None;
+        }
+        Some(self.queue.remove(0))
+    }
+
+    /// Adds to what was printed.
+    pub fn add_output(&mut self, piece: &[u8]) -> Result<(), Memory>
+        ensures ok { OnOk result (self.new ≡ printed piece.now self.old) }
+        ensures err { OnErr result (self.new ≡ self.old) }
+    {
+        self.output.extend_from_slice(piece)
+    }
+
+    /// Drops what was printed, once it was written.
+    pub fn clear_output(&mut self)
+        ensures { self.new ≡ record self.old { output = [] } }
+    {
+        self.output.clear();
+    }
+}
+
+// The function at an object's number.
+fn function_of(finalisers: &[(u32, u32)], object: u32) -> Option<u32>
+    ensures { result ≡ find object finalisers.now }
+{
+    for (of, function) in finalisers {
+        if *of == object {
+            return Some(*function);
+        }
+    }
+    None
+}

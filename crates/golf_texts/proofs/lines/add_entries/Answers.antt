@@ -1,0 +1,8 @@
+use Rattle.std.proofs.Common.{◌∙◌, ap, sym, ◌++◌}
+use Rattle.golf_texts.proofs.Growing.{one-line}
+use Rattle.golf_texts.proofs.lines.add_entries.Goals as goal
+
+pub loop-entry-preserved : goal.loop-entry-preserved
+loop-entry-preserved c =
+    one-line c.args.entries.now c.loop-entry.entry-index _ c.args.text.now c.loop-entry.text c.extend_from_slice.new.self c.as_bytes.result.now c.loop-entry-test.true c.loop-entry.invariant
+    (c.as_bytes.ensures.value ∙ c.in_ok-entry_line.ensures) c.in_ok-extend_from_slice.ensures.ok

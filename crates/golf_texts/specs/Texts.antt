@@ -1,0 +1,116 @@
+-- The lines that a run writes to standard error (profile).
+use Rattle.std.specs.Prelude.{ℕ, Bool, true, false, cond, List, [], ◌∷◌, ◌++◌, Option, Some, None, length, codes, decimal, slice_get, unwrap_or}
+use Rattle.std.specs.Fmt.{signed_decimal}
+use Rattle.golf_base.specs.declared.ids.GoroutineId.{GoroutineId}
+use Rattle.golf_data.specs.declared.goroutine.Ending.{Ending}
+use Rattle.golf_data.specs.declared.goroutine.PanicKind.{PanicKind}
+use Rattle.golf_data.specs.declared.goroutine.WaitKind.{WaitKind}
+use Rattle.golf_data.specs.declared.report.Entry.{Entry}
+use Rattle.golf_data.specs.declared.report.Report.{Report}
+
+-- how a goroutine is blocked (the words of Go's own traces, as far as they have them)
+abbrev pub wait_text : WaitKind → List ℕ
+wait_text WaitKind.Receive = codes "chan receive"
+wait_text WaitKind.ReceiveNil = codes "chan receive (nil chan)"
+wait_text WaitKind.Send = codes "chan send"
+wait_text WaitKind.SendNil = codes "chan send (nil chan)"
+wait_text WaitKind.Select = codes "select"
+wait_text WaitKind.SelectNone = codes "select (no cases)"
+wait_text WaitKind.Lock = codes "sync.Mutex.Lock"
+wait_text WaitKind.Group = codes "sync.WaitGroup.Wait"
+wait_text WaitKind.ReadLock = codes "sync.RWMutex.RLock"
+wait_text WaitKind.WriteLock = codes "sync.RWMutex.Lock"
+wait_text WaitKind.Condition = codes "sync.Cond.Wait"
+
+-- the line of a goroutine that can never run again
+abbrev pub entry_line : Entry → List ℕ
+entry_line e =
+    codes "goroutine " ++ (decimal e.goroutine.0 ++ (codes ": " ++ (wait_text e.wait ++ (codes " at line " ++ (decimal e.line ++ (codes ", started at line " ++ (decimal e.started ++ codes "\n")))))))
+
+abbrev pub entry_lines : List Entry → List ℕ
+entry_lines [] = []
+entry_lines (e ∷ es) = entry_line e ++ entry_lines es
+
+-- what a collection found
+abbrev pub found_text : Report → List ℕ
+found_text r =
+    codes "collection " ++ (decimal r.number ++ (codes ": marked " ++ (decimal r.marked ++ (codes ", reported " ++ decimal (length r.reported)))))
+
+-- what it left
+abbrev pub left_text : Report → List ℕ
+left_text r =
+    codes ", kept " ++ (decimal r.kept ++ (codes ", reclaimed " ++ (decimal r.reclaimed ++ (codes ", objects " ++ (decimal r.objects ++ codes "\n")))))
+
+-- a collection, and each goroutine that it reports
+abbrev pub report_text : Report → List ℕ
+report_text r = (found_text r ++ left_text r) ++ entry_lines r.reported
+
+abbrev pub reports_text : List Report → List ℕ
+reports_text [] = []
+reports_text (r ∷ rs) = report_text r ++ reports_text rs
+
+-- why a goroutine panics (the words of Go's runtime and of package sync)
+abbrev pub panic_text : List (List ℕ) → PanicKind → List ℕ
+panic_text texts (PanicKind.Custom k) = unwrap_or (slice_get texts k) []
+panic_text texts PanicKind.NilPointer = codes "runtime error: invalid memory address or nil pointer dereference"
+panic_text texts (PanicKind.Index at bound) =
+    codes "runtime error: index out of range [" ++ (signed_decimal at ++ (codes "] with length " ++ decimal bound))
+panic_text texts PanicKind.DivideByZero = codes "runtime error: integer divide by zero"
+panic_text texts PanicKind.SliceSize = codes "runtime error: makeslice: len out of range"
+panic_text texts PanicKind.ChanSize = codes "makechan: size out of range"
+panic_text texts PanicKind.SendClosed = codes "send on closed channel"
+panic_text texts PanicKind.CloseClosed = codes "close of closed channel"
+panic_text texts PanicKind.CloseNil = codes "close of nil channel"
+panic_text texts PanicKind.NegativeGroup = codes "sync: negative WaitGroup counter"
+panic_text texts PanicKind.UnlockUnlocked = codes "sync: unlock of unlocked mutex"
+panic_text texts PanicKind.UnlockUnlockedRw = codes "sync: Unlock of unlocked RWMutex"
+panic_text texts PanicKind.RUnlockUnlocked = codes "sync: RUnlock of unlocked RWMutex"
+panic_text texts PanicKind.ReaderLimit = codes "sync: too many readers"
+panic_text texts PanicKind.FinalizerSet = codes "runtime.SetFinalizer: finalizer already set"
+panic_text texts PanicKind.StackOverflow = codes "stack overflow"
+
+-- a fatal error runs no deferred call (profile)
+abbrev pub is_fatal : PanicKind → Bool
+is_fatal (PanicKind.Custom k) = false
+is_fatal PanicKind.NilPointer = false
+is_fatal (PanicKind.Index at bound) = false
+is_fatal PanicKind.DivideByZero = false
+is_fatal PanicKind.SliceSize = false
+is_fatal PanicKind.ChanSize = false
+is_fatal PanicKind.SendClosed = false
+is_fatal PanicKind.CloseClosed = false
+is_fatal PanicKind.CloseNil = false
+is_fatal PanicKind.NegativeGroup = false
+is_fatal PanicKind.UnlockUnlocked = true
+is_fatal PanicKind.UnlockUnlockedRw = true
+is_fatal PanicKind.RUnlockUnlocked = true
+is_fatal PanicKind.ReaderLimit = true
+is_fatal PanicKind.FinalizerSet = true
+is_fatal PanicKind.StackOverflow = true
+
+abbrev pub fault_word : Bool → List ℕ
+fault_word true = codes "fatal error: "
+fault_word false = codes "panic: "
+
+-- the line of a panic or of a fatal error of a goroutine
+abbrev pub fault_line : List (List ℕ) → PanicKind → GoroutineId → ℕ → List ℕ
+fault_line texts kind g line =
+    fault_word (is_fatal kind) ++ (panic_text texts kind ++ (codes " (goroutine " ++ (decimal g.0 ++ (codes ", line " ++ (decimal line ++ codes ")\n")))))
+
+abbrev pub asleep_line : List ℕ
+asleep_line = codes "fatal error: all goroutines are asleep - deadlock!\n"
+
+-- the line of a program that has crashed; one that has returned has none
+abbrev pub ending_line : List (List ℕ) → Ending → List ℕ
+ending_line texts Ending.Returned = []
+ending_line texts (Ending.Panicked kind g line) = fault_line texts kind g line
+ending_line texts Ending.Asleep = asleep_line
+
+-- the line of a program that has not ended after so many turns
+abbrev pub stopped_line : ℕ → List ℕ
+stopped_line turns = codes "stopped after " ++ (decimal turns ++ codes " turns\n")
+
+-- the last line of a run of so many turns
+abbrev pub last_line : List (List ℕ) → ℕ → Option Ending → List ℕ
+last_line texts turns (Some e) = ending_line texts e
+last_line texts turns None = stopped_line turns

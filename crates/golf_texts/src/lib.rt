@@ -1,0 +1,9 @@
+//! What a run writes to standard error, and how the program ends: the texts, the status, and the
+//! definitions of what the run of a code writes.
+#![tactic(auto)]
+
+mod lines;
+mod status;
+
+pub use lines::{ending_line, report_text, stopped_line};
+pub use status::{LIMIT, NO_MEMORY, NOT_BUILT, READ_FAULT, RUN, Status, TOO_LONG, TURNS, USAGE};

@@ -1,0 +1,44 @@
+//! How the program ends, and the lines that it writes to standard error.
+
+/// The one word of a run.
+pub const RUN: &[u8; 3] = b"run";
+
+/// How many turns a run has.
+pub const TURNS: u32 = 1_000_000;
+
+/// The most bytes of a file.
+pub const LIMIT: u32 = 1_048_576;
+
+pub const USAGE: &[u8; 104] =
+    b"usage: golf run [--schedule S] [--turns N] [--every N] [--markers N] [--recover]\n       golf generate N\n";
+
+pub const READ_FAULT: &[u8; 11] = b"read fault\n";
+
+pub const TOO_LONG: &[u8; 33] = b"refused: more than 1048576 bytes\n";
+
+pub const NOT_BUILT: &[u8; 19] = b"refused: not built\n";
+
+pub const NO_MEMORY: &[u8; 14] = b"out of memory\n";
+
+/// How the program ends. The number of a status is its place in this list, from 0.
+#[derive(Clone, Copy, Debug, PartialEq, Eq)]
+pub enum Status {
+    /// The run returned, and nothing was reported.
+    Clean,
+    /// The run returned, and something was reported.
+    Found,
+    /// The run ended by a panic, by a fatal error or asleep.
+    Crashed,
+    /// The run has not ended after its turns or its choices.
+    Spent,
+    /// The file is too long, or is no accepted file.
+    Refused,
+    /// The words are no line of the grammar of words.
+    Usage,
+    /// The source failed.
+    ReadFault,
+    /// A sink failed.
+    WriteFault,
+    /// Memory was wanting.
+    Memory,
+}
