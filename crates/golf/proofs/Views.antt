@@ -1,5 +1,5 @@
 -- What the ends of a call mean.
-use Rattle.std.proofs.Common.{◌≡◌, ℕ, Bool, true, false, List, [], ◌++◌, length, length-append, refl, sym, subst, ap, ◌∙◌, ◌⊎◌, inl, inr, append-nil, arith}
+use Rattle.std.proofs.Common.{◌≡◌, ◌≤◌, ℕ, Bool, true, false, List, [], ◌++◌, length, length-append, refl, sym, subst, ap, ◌∙◌, ◌⊎◌, inl, inr, append-nil, arith}
 use Rattle.std.specs.Prelude.{Option, Some, None, IfSome}
 use Rattle.std.specs.Io.KnownBytes.{Appends, Keeps, Consumes, IsAtEnd}
 use Rattle.std.proofs.KnownBytes.{Keeps-refl, Appends-nil, Appends-trans}
@@ -17,11 +17,16 @@ use Rattle.golf_laws.proofs.MainLaws as Law
 use Rattle.golf_run.specs.HasRun.{Sinks, sinks, GotFronts, GotWhole as GotBoth}
 use Rattle.golf_data.specs.declared.goroutine.Ending.{Ending}
 use Rattle.golf_model.specs.State.{ending}
-use Rattle.golf.specs.Meaning.{IsRun, Accepts, AreTrue, Meaning}
-use Rattle.golf.specs.Meaning.Meaning.{Misused, Overlong, Unknown, Runs}
-use Rattle.golf.specs.Means.{View, seen, Begins, GotFront, IsFront, RunsWhole, IsTooLong, IsRefused, FileLine, Cut, HasFailed, HasWanted, FileMeans, UsageMeans, Causes, GotWhole, IsComplete}
-use Rattle.golf.specs.Means.FileLine.{WhenUnread, WhenTooLong, WhenNotBuilt, WhenWanting}
-use Rattle.golf.specs.Ends.{EndsWith}
+use Rattle.golf_texts.specs.Texts.{lexical_line}
+use Rattle.golf_reader.specs.declared.refusal.Refusal.{Refusal}
+use Rattle.golf_reader.specs.declared.refusal.Refusal.TheVariants as refusals
+use Rattle.golf_reader.specs.Refusals.{HasCode, IsRefusedBy}
+use Rattle.golf.specs.Meaning.{IsRun, Accepts, AreTrue, RefusedBy, Meaning}
+use Rattle.golf.specs.Meaning.RefusedBy.{TooLong, Unlexed, Unbuilt}
+use Rattle.golf.specs.Meaning.Meaning.{Misused, Refused, Runs}
+use Rattle.golf.specs.Means.{View, seen, Begins, GotFront, IsFront, RunsWhole, IsRefused, FileLine, Cut, HasFailed, HasWanted, FileMeans, UsageMeans, Causes, GotWhole, IsComplete}
+use Rattle.golf.specs.Means.FileLine.{WhenUnread, WhenRefused, WhenWanting}
+use Rattle.golf.specs.Ends.{EndsWith, Refuses}
 use Rattle.golf.proofs.Words.{run-decided}
 
 -- a sink that got nothing got a front of any text
@@ -73,24 +78,20 @@ module _ (left left' : Option (List ℕ)) (rf rf' : ℕ) (out : Option (List ℕ
   usage-means r same (inl e) = subst (λ t. UsageMeans t old new) (sym e.0) (subst (λ l. Keeps left l) (sym same) (Keeps-refl left), Keeps-refl out, e.1)
   usage-means r same (inr e) = subst (λ t. UsageMeans t old new) (sym e.0) (subst (λ l. Keeps left l) (sym same) (Keeps-refl left), Keeps-refl out, e.2, e.1)
 
--- one code is that of every tree of the file
-code-is : (bytes : List ℕ) (code : Code) → ((q : Plain) → Reads bytes q → ◌≡◌ {A = Option Code} (Some code) (Some (code_of q))) → (q : Plain) → Reads bytes q → code ≡ code_of q
-code-is bytes code all q k = let e = all q k in cc
-
 -- the reports of a run are true
 pub are-true : (code : Code) → AreTrue code
 unfolding reports_of
 are-true code = record { each = Law.book_tells_of_each code events false; still = Law.reported_are_still code events }
 
-module _ (bytes : List ℕ) (p : Plain) (code : Code) (accepted : Accepts bytes p) (is : code ≡ code_of p) (all : (q : Plain) → Reads bytes q → ◌≡◌ {A = Option Code} (Some code) (Some (code_of q))) (rf : ℕ) (out out' : Option (List ℕ)) (of of' : ℕ) (err : Option (List ℕ)) (ef : ℕ) where
+module _ (bytes : List ℕ) (p : Plain) (code : Code) (accepted : Accepts bytes p) (is : code ≡ code_of p) (all : (q : Plain) → Reads bytes q → code ≡ code_of q) (rf : ℕ) (out out' : Option (List ℕ)) (of of' : ℕ) (err : Option (List ℕ)) (ef : ℕ) where
   abbrev start : View
   start = seen (Some bytes) rf out of err ef
 
   out-front : WritesFront out out' (out_of code) → GotFront bytes out out'
-  out-front f = record { runs = λ q h. subst (λ c. WritesFront out out' (out_of c)) (code-is bytes code all q h.reads) f; refused = λ none. absurd (none p accepted) }
+  out-front f = record { runs = λ q h. subst (λ c. WritesFront out out' (out_of c)) (all q h.reads) f; refused = λ none. absurd (none p accepted) }
 
   err-front : (front : List ℕ) → Begins front (err_of code) → IsFront front bytes
-  err-front front b = record { runs = λ q h. subst (λ c. Begins front (err_of c)) (code-is bytes code all q h.reads) b; refused = λ none. absurd (none p accepted) }
+  err-front front b = record { runs = λ q h. subst (λ c. Begins front (err_of c)) (all q h.reads) b; refused = λ none. absurd (none p accepted) }
 
   whole-run : (err' : Option (List ℕ)) (ef' : ℕ) (r : Status) → GotBoth r code (sinks out of err ef) (sinks out' of' err' ef') → RunsWhole r start (seen (Some bytes) rf out' of' err' ef')
   whole-run err' ef' r g = record {
@@ -181,14 +182,12 @@ module _ (bytes : List ℕ) (left' : Option (List ℕ)) (rf rf' : ℕ) (out out'
 
   line-told : (line : List ℕ) → FileLine judged judged' line → FileLine (told (Some bytes)) told' line
   line-told _ (WhenUnread h) = absurd (no-rise h)
-  line-told _ (WhenTooLong h) = WhenTooLong h
-  line-told _ (WhenNotBuilt h) = WhenNotBuilt h
+  line-told _ (WhenRefused line h) = WhenRefused line h
   line-told _ WhenWanting = WhenWanting
 
   line-untold : (line : List ℕ) → FileLine judged judged' line → FileLine (told None) told' line
   line-untold _ (WhenUnread h) = absurd (no-rise h)
-  line-untold _ (WhenTooLong h) = WhenTooLong tt
-  line-untold _ (WhenNotBuilt h) = WhenNotBuilt tt
+  line-untold _ (WhenRefused line h) = WhenRefused line tt
   line-untold _ WhenWanting = WhenWanting
 
   cut-told : (piece : List ℕ) → Cut judged judged' piece → Cut (told (Some bytes)) told' piece
@@ -265,8 +264,7 @@ module _ (words : List (List ℕ)) (rf rf' : ℕ) (out out' : Option (List ℕ))
   Quiet = (Rose rf rf' → ⊥) × (Rose of of' → ⊥) × (Rose ef ef' → ⊥)
 
   refused-whole : IsRun words → Keeps out out' → IsRefused bytes err err' → GotWhole words bytes s.Refused before after
-  refused-whole run k (inl h) = ([], TOO_LONG.now, Overlong run h.0, kept-nil out out' k, h.1)
-  refused-whole run k (inr h) = ([], NOT_BUILT.now, Unknown run h.0.0 h.0.1, kept-nil out out' k, h.1)
+  refused-whole run k h = ([], h.0, Refused h.0 run h.1, kept-nil out out' k, h.2)
 
   -- a run that went to its end
   full : IsRun words → (r : Status) → RunsWhole r before after → (r ≡ s.Memory) ⊎ GotWhole words bytes r before after
@@ -317,11 +315,53 @@ is-complete words None left' rf rf' out out' of of' err err' ef ef' r m u = tt
 is-complete words (Some bytes) left' rf rf' out out' of of' err err' ef ef' r m u = λ a b c. whole words rf rf' out out' of of' err err' ef ef' left' bytes (run-decided words) (a, b, c) r m u
 
 -- more known bytes were taken than a file may have
-pub too-long : (left left' : Option (List ℕ)) → ReadsSome left left' LIMIT → IfSome left IsTooLong
+pub too-long : (left left' : Option (List ℕ)) → ReadsSome left left' LIMIT → IfSome left (λ bytes. RefusedBy bytes TOO_LONG.now)
 too-long None left' h = tt
 too-long (Some xs) None h = absurd h.1
-too-long (Some xs) (Some ys) h = omega (arith, ap length h.1, length-append h.0 ys, h.2)
+too-long (Some xs) (Some ys) h = TooLong (omega (arith, ap length h.1, length-append h.0 ys, h.2))
 
-pub refused-long : (left err err' : Option (List ℕ)) → IfSome left IsTooLong → Appends err err' TOO_LONG.now → IfSome left (λ bytes. IsRefused bytes err err')
+pub refused-long : (left err err' : Option (List ℕ)) → IfSome left (λ bytes. RefusedBy bytes TOO_LONG.now) → Appends err err' TOO_LONG.now → IfSome left (λ bytes. IsRefused bytes err err')
 refused-long None err err' h written = tt
-refused-long (Some xs) err err' h written = inl (h, written)
+refused-long (Some xs) err err' h written = (TOO_LONG.now, h, written)
+
+-- ---- a file that is refused
+
+module _ (bytes : List ℕ) (within : length bytes ≤ LIMIT) (out : Option (List ℕ)) (of : ℕ) (err err' : Option (List ℕ)) (ef ef' : ℕ) where
+  abbrev unrun : View
+  unrun = seen (Some bytes) 0 out of err ef
+
+  abbrev unrun' : View
+  unrun' = seen (Some bytes) 0 out of err' ef'
+
+  wants : (r : Status) → EndsWith r s.Memory NO_MEMORY.now err err' ef ef' → FileMeans r unrun unrun'
+  wants r e = wanting-means (Some bytes) (Some bytes) 0 0 out of err err' ef ef' r e
+
+  refused : (line : List ℕ) (r : Status) → RefusedBy bytes line → EndsWith r s.Refused line err err' ef ef' → FileMeans r unrun unrun'
+  refused line r why e = refused-means (Some bytes) (Some bytes) 0 0 out of err err' ef ef' line r (WhenRefused line why) (λ written. (line, why, written)) e
+
+  pub refusal-means : (refusal : Refusal) (r : Status) → IsRefusedBy bytes refusal → Refuses r refusal err err' ef ef' → FileMeans r unrun unrun'
+  refusal-means (refusals.Lexical line byte) r why (inl e) = refused (lexical_line line byte) r (Unlexed line byte within why) e
+  refusal-means (refusals.Lexical line byte) r why (inr e) = wants r e
+  refusal-means refusals.NotBuilt r why (inl e) = refused NOT_BUILT.now r (Unbuilt within why) e
+  refusal-means refusals.NotBuilt r why (inr e) = wants r e
+  refusal-means refusals.Memory r why (inl e) = wants r e
+  refusal-means refusals.Memory r why (inr e) = wants r e
+
+  -- a line was written, or its write failed
+  ended-causes : (r status : Status) (line : List ℕ) → ((v w : View) → w.read_faults ≡ v.read_faults → w.out_faults ≡ v.out_faults → w.err_faults ≡ v.err_faults → Causes status v w) → EndsWith r status line err err' ef ef' → Causes r unrun unrun'
+  ended-causes r status line quiet (inl e) = subst (λ t. Causes t unrun unrun') (sym e.0) (quiet unrun unrun' refl refl e.2)
+  ended-causes r status line quiet (inr e) = subst (λ t. Causes t unrun unrun') (sym e.0) (inr e.2, omega arith)
+
+  wanted-causes : (r : Status) → EndsWith r s.Memory NO_MEMORY.now err err' ef ef' → Causes r unrun unrun'
+  wanted-causes r e = ended-causes r s.Memory NO_MEMORY.now (λ v w a b c. (a, b, c)) e
+
+  refused-causes : (line : List ℕ) (r : Status) → EndsWith r s.Refused line err err' ef ef' → Causes r unrun unrun'
+  refused-causes line r e = ended-causes r s.Refused line (λ v w a b c. (a, b, c)) e
+
+  pub refusal-causes : (refusal : Refusal) (r : Status) → Refuses r refusal err err' ef ef' → Causes r unrun unrun'
+  refusal-causes (refusals.Lexical line byte) r (inl e) = refused-causes (lexical_line line byte) r e
+  refusal-causes (refusals.Lexical line byte) r (inr e) = wanted-causes r e
+  refusal-causes refusals.NotBuilt r (inl e) = refused-causes NOT_BUILT.now r e
+  refusal-causes refusals.NotBuilt r (inr e) = wanted-causes r e
+  refusal-causes refusals.Memory r (inl e) = wanted-causes r e
+  refusal-causes refusals.Memory r (inr e) = wanted-causes r e

@@ -2,9 +2,29 @@
 use Rattle.std.specs.Prelude.{◌≡◌, ℕ, ◌⊎◌, List, Option}
 use Rattle.std.specs.Io.KnownBytes.{Appends}
 use Rattle.golf_base.specs.Causes.{Rose, WritesFront}
+use Rattle.golf_reader.specs.declared.refusal.Refusal.{Refusal}
+use Rattle.golf_reader.specs.declared.refusal.Refusal.TheVariants as refusals
+use Rattle.golf_texts.specs.Texts.{lexical_line}
+use Rattle.golf_texts.specs.declared.status.TheConstants.{NOT_BUILT, NO_MEMORY}
 use Rattle.golf_texts.specs.declared.status.Status.{Status}
 use Rattle.golf_texts.specs.declared.status.Status.TheVariants as s
 
 -- the line was written with that status, or the write failed in the middle of it
 abbrev pub EndsWith : Status → Status → List ℕ → Option (List ℕ) → Option (List ℕ) → ℕ → ℕ → Type 0
 EndsWith result status line err err' before now = ((result ≡ status) × Appends err err' line × (now ≡ before)) ⊎ ((result ≡ s.WriteFault) × WritesFront err err' line × Rose before now)
+
+-- the line of a refusal
+abbrev pub refusal_line : Refusal → List ℕ
+refusal_line (refusals.Lexical line byte) = lexical_line line byte
+refusal_line refusals.NotBuilt = NOT_BUILT.now
+refusal_line refusals.Memory = NO_MEMORY.now
+
+-- how the program ends with it
+abbrev pub refusal_status : Refusal → Status
+refusal_status (refusals.Lexical line byte) = s.Refused
+refusal_status refusals.NotBuilt = s.Refused
+refusal_status refusals.Memory = s.Memory
+
+-- the refusal's line was written with its status, or memory was wanting for the line
+abbrev pub Refuses : Status → Refusal → Option (List ℕ) → Option (List ℕ) → ℕ → ℕ → Type 0
+Refuses result refusal err err' before now = EndsWith result (refusal_status refusal) (refusal_line refusal) err err' before now ⊎ EndsWith result s.Memory NO_MEMORY.now err err' before now

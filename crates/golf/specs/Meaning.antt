@@ -10,9 +10,11 @@ use Rattle.golf_laws.specs.Telling.{TellsOfEach}
 use Rattle.golf_plain.specs.declared.plain.Plain.{Plain}
 use Rattle.golf_plain.specs.Plain.{Reads}
 use Rattle.golf_plain.specs.CodeOf.{code_of}
+use Rattle.golf_reader.specs.Refusals.{IsUnlexed, IsUnbuilt}
 use Rattle.golf_texts.specs.declared.status.Status.{Status}
 use Rattle.golf_texts.specs.declared.status.Status.TheVariants as s
 use Rattle.golf_texts.specs.declared.status.TheConstants.{RUN, LIMIT, USAGE, TOO_LONG, NOT_BUILT}
+use Rattle.golf_texts.specs.Texts.{lexical_line}
 use Rattle.golf_texts.specs.Meaning.{events, out_of, err_of, reports_of, status_of}
 
 -- the words are a run line
@@ -29,8 +31,13 @@ pub record AreTrue (code : Code) : Type 0 where
   pub each : TellsOfEach [] (stops code events) (reports_of code)
   pub still : (p : State) (g : ℕ) → In p (stops code events) → In g (dead p) → Still code p g
 
+-- the line with which a file is refused
+pub data RefusedBy (bytes : List ℕ) : List ℕ → Type 0 where
+  TooLong : LIMIT < length bytes → RefusedBy bytes TOO_LONG.now
+  Unlexed : (line byte : ℕ) → length bytes ≤ LIMIT → IsUnlexed bytes line byte → RefusedBy bytes (lexical_line line byte)
+  Unbuilt : length bytes ≤ LIMIT → IsUnbuilt bytes → RefusedBy bytes NOT_BUILT.now
+
 pub data Meaning (words : List (List ℕ)) (bytes : List ℕ) : Status → List ℕ → List ℕ → Type 0 where
   Misused : (IsRun words → ⊥) → Meaning words bytes s.Usage [] USAGE.now
-  Overlong : IsRun words → LIMIT < length bytes → Meaning words bytes s.Refused [] TOO_LONG.now
-  Unknown : IsRun words → length bytes ≤ LIMIT → ((p : Plain) → Reads bytes p → ⊥) → Meaning words bytes s.Refused [] NOT_BUILT.now
+  Refused : (line : List ℕ) → IsRun words → RefusedBy bytes line → Meaning words bytes s.Refused [] line
   Runs : (p : Plain) → IsRun words → Accepts bytes p → Meaning words bytes (status_of (code_of p)) (out_of (code_of p)) (err_of (code_of p))

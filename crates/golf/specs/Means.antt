@@ -1,17 +1,16 @@
 -- What the status of a call says of the words, of the file, of what the sinks got and of what failed.
-use Rattle.std.specs.Prelude.{◌≡◌, ℕ, ◌≤◌, ◌<◌, ◌⊎◌, List, [], ◌++◌, map, length, Option, IfSome, string_bytes}
+use Rattle.std.specs.Prelude.{◌≡◌, ℕ, ◌≤◌, ◌⊎◌, List, [], ◌++◌, map, Option, IfSome, string_bytes}
 use Rattle.std.specs.declared.string.String.{String}
 use Rattle.std.specs.declared.alloc.Global.{Global}
 use Rattle.std.specs.Io.KnownBytes.{Appends, Keeps}
 use Rattle.golf_base.specs.Causes.{Rose, WritesFront}
 use Rattle.golf_plain.specs.declared.plain.Plain.{Plain}
-use Rattle.golf_plain.specs.Plain.{Reads}
 use Rattle.golf_plain.specs.CodeOf.{code_of}
 use Rattle.golf_texts.specs.declared.status.Status.{Status}
 use Rattle.golf_texts.specs.declared.status.Status.TheVariants as s
-use Rattle.golf_texts.specs.declared.status.TheConstants.{LIMIT, USAGE, READ_FAULT, TOO_LONG, NOT_BUILT, NO_MEMORY}
+use Rattle.golf_texts.specs.declared.status.TheConstants.{USAGE, READ_FAULT, NO_MEMORY}
 use Rattle.golf_texts.specs.Meaning.{out_of, err_of, status_of}
-use Rattle.golf.specs.Meaning.{Accepts, AreTrue, Meaning}
+use Rattle.golf.specs.Meaning.{Accepts, AreTrue, RefusedBy, Meaning}
 
 -- the bytes of the words
 abbrev pub words_of : List (String Global) → List (List ℕ)
@@ -57,21 +56,14 @@ pub record RunsWhole (answer : Status) (old new : View) : Type 0 where
   pub err : Appends old.err new.err (err_of (code_of plain))
   pub reports : AreTrue (code_of plain)
 
-abbrev pub IsTooLong : List ℕ → Type 0
-IsTooLong bytes = LIMIT < length bytes
-
-abbrev pub IsNotBuilt : List ℕ → Type 0
-IsNotBuilt bytes = (length bytes ≤ LIMIT) × ((p : Plain) → Reads bytes p → ⊥)
-
--- the file is too long, or no plain file, and the second sink got its line
+-- the file is refused, and the second sink got the line that says why
 abbrev pub IsRefused : List ℕ → Option (List ℕ) → Option (List ℕ) → Type 0
-IsRefused bytes old new = (IsTooLong bytes × Appends old new TOO_LONG.now) ⊎ (IsNotBuilt bytes × Appends old new NOT_BUILT.now)
+IsRefused bytes old new = (line : List ℕ) × RefusedBy bytes line × Appends old new line
 
 -- a line of a cause that the second sink may get for a file, and why
 pub data FileLine (old new : View) : List ℕ → Type 0 where
   WhenUnread : Rose old.read_faults new.read_faults → FileLine old new READ_FAULT.now
-  WhenTooLong : IfSome old.left IsTooLong → FileLine old new TOO_LONG.now
-  WhenNotBuilt : IfSome old.left IsNotBuilt → FileLine old new NOT_BUILT.now
+  WhenRefused : (line : List ℕ) → IfSome old.left (λ bytes. RefusedBy bytes line) → FileLine old new line
   WhenWanting : FileLine old new NO_MEMORY.now
 
 -- a sink failed and the second got no more; or the second failed in the middle of a cause's line

@@ -5,13 +5,14 @@ ghost use Rattle.std.specs.Io.KnownBytes.{Appends};
 ghost use Rattle.golf_base.specs.Causes.{WritesFront, HasCause};
 ghost use Rattle.golf.specs.Meaning.{IsRun};
 ghost use Rattle.golf.specs.Means.{words_of, seen, FileMeans, UsageMeans, Causes, IsComplete};
-ghost use Rattle.golf.specs.Ends.{EndsWith};
 
+use crate::ends::{end, refuse};
 use golf_base::{Gate, ReadError, Sink, Source, read_file, write_all};
-use golf_plain_reader::read_plain;
+use golf_reader::read;
 use golf_run::{RunFault, run};
-use golf_texts::{LIMIT, NO_MEMORY, NOT_BUILT, READ_FAULT, RUN, Status, TOO_LONG, USAGE};
+use golf_texts::{LIMIT, NO_MEMORY, READ_FAULT, RUN, Status, TOO_LONG, USAGE};
 use std::alloc::Global;
+use std::thread::Threads;
 
 fn is_run(words: &[String]) -> bool
     ensures { IsTrue result ↔ IsRun (words_of words.now) }
@@ -19,18 +20,9 @@ fn is_run(words: &[String]) -> bool
     words.len() == 1 && words[0].as_bytes() == RUN.as_slice()
 }
 
-/// Writes a last line, and answers the status, or that the write failed.
-pub(crate) fn end<E: Sink>(err: &mut E, line: &[u8], status: Status) -> Status
-    ensures { EndsWith result status line.now (E.written err.old) (E.written err.new) (E.faults err.old) (E.faults err.new) }
-{
-    match write_all(err, line) {
-        Ok(()) => status,
-        Err(_) => Status::WriteFault,
-    }
-}
-
 // Judges the bytes of a file, and runs it.
-fn judge<O: Sink, E: Sink, G: Gate>(
+fn judge<R: Threads + Sync, O: Sink, E: Sink, G: Gate + Sync>(
+    rt: &R,
     alloc: Global,
     bytes: &[u8],
     out: &mut O,
@@ -45,12 +37,11 @@ fn judge<O: Sink, E: Sink, G: Gate>(
         (seen (Some bytes.now) 0 (O.written out.old) (O.faults out.old) (E.written err.old) (E.faults err.old))
         (seen (Some bytes.now) 0 (O.written out.new) (O.faults out.new) (E.written err.new) (E.faults err.new)) }
 {
-    let code = match read_plain(alloc, bytes) {
-        Ok(Some(code)) => code,
-        Ok(None) => return end(err, NOT_BUILT, Status::Refused),
-        Err(_) => return end(err, NO_MEMORY, Status::Memory),
+    let code = match read(alloc, bytes) {
+        Ok(code) => code,
+        Err(refusal) => return refuse(alloc, err, refusal),
     };
-    match run(alloc, &code, out, err, gate) {
+    match run(rt, alloc, &code, out, err, gate) {
         Ok(status) => status,
         Err(RunFault::Write) => Status::WriteFault,
         Err(RunFault::Memory) => end(err, NO_MEMORY, Status::Memory),
@@ -58,7 +49,7 @@ fn judge<O: Sink, E: Sink, G: Gate>(
 }
 
 // Looks at the words, reads the file, judges it and runs it.
-fn serve<R: AllocGlobal, S: Source, O: Sink, E: Sink, G: Gate>(
+fn serve<R: AllocGlobal + Threads + Sync, S: Source, O: Sink, E: Sink, G: Gate + Sync>(
     rt: &R,
     words: &[String],
     source: &mut S,
@@ -80,7 +71,7 @@ fn serve<R: AllocGlobal, S: Source, O: Sink, E: Sink, G: Gate>(
         return end(err, USAGE, Status::Usage);
     }
     match read_file(rt.alloc(), source, LIMIT) {
-        Ok(bytes) => judge(rt.alloc(), bytes.as_slice(), out, err, gate),
+        Ok(bytes) => judge(rt, rt.alloc(), bytes.as_slice(), out, err, gate),
         Err(ReadError::ReadFault) => end(err, READ_FAULT, Status::ReadFault),
         Err(ReadError::TooLong) => end(err, TOO_LONG, Status::Refused),
         Err(ReadError::Memory) => end(err, NO_MEMORY, Status::Memory),
@@ -89,7 +80,7 @@ fn serve<R: AllocGlobal, S: Source, O: Sink, E: Sink, G: Gate>(
 
 /// All that the program does: it looks at the words, reads the file from `source`, judges it and
 /// runs it. What the file prints goes to `out`, everything else to `err`.
-pub fn golf<R: AllocGlobal, S: Source, O: Sink, E: Sink, G: Gate + Sync>(
+pub fn golf<R: AllocGlobal + Threads + Sync, S: Source, O: Sink, E: Sink, G: Gate + Sync>(
     rt: &R,
     words: &[String],
     source: &mut S,
@@ -118,5 +109,7 @@ pub fn golf<R: AllocGlobal, S: Source, O: Sink, E: Sink, G: Gate + Sync>(
     serve(rt, words, source, out, err, gate)
 }
 
+#[cfg(test)]
+mod marking_tests;
 #[cfg(test)]
 mod tests;

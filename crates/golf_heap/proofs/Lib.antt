@@ -1,2 +1,8 @@
 pub mod Ranks
-pub mod Entries
+pub mod Numbers
+pub mod Gathering
+pub mod Stored
+pub mod Order
+pub mod Freeing
+pub mod Finding
+pub mod Writing

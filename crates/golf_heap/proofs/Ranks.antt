@@ -1,12 +1,10 @@
 -- Places and keys of a map whose keys rise.
-use Rattle.std.proofs.Common.{◌≡◌, ℕ, zero, suc, ◌+◌, ◌<◌, ◌≤◌, Bool, true, false, cond, List, [], ◌∷◌, ◌++◌, length, take, drop, get_or, Option, Some, None, ◌==◌, nat_lt, refl, sym, ap, ◌∙◌, arith, slice_get, slice_set}
-use Rattle.std.specs.List.{AllWithin}
-use Rattle.std.specs.List.Sorted.{IsNonDecreasingBy, IsPartitionPoint}
-use Rattle.std.proofs.lemmas.Bool.{eq-eqb, ne_eqb, lt-ltb, le-ltb, ltb-true, ltb-false}
-use Rattle.golf_theory.specs.Maps.{find, put, Rises, AllBelow}
+use Rattle.std.proofs.Common.{◌≡◌, ℕ, zero, suc, ◌+◌, ◌<◌, ◌≤◌, Bool, true, false, cond, List, [], ◌∷◌, length, get_or, Option, Some, None, ◌==◌, nat_lt, refl, sym, ap, ◌∙◌, arith, slice_get}
+use Rattle.std.specs.List.Sorted.{IsNonDecreasingBy}
+use Rattle.std.proofs.lemmas.Bool.{ne_eqb, lt-ltb, le-ltb, ltb-true, ltb-false}
+use Rattle.golf_theory.specs.Maps.{find, Rises, AllBelow}
 use Rattle.golf_theory.proofs.MapFinds.{find_below}
-use Rattle.golf_theory.proofs.MapOrder.{Rises-less, AllBelow-more}
-use Rattle.golf_theory.proofs.Placing.{put_below}
+use Rattle.golf_theory.proofs.MapOrder.{Rises-less}
 use Rattle.golf_heap.specs.Numbered.{rank, kept}
 
 -- an entry, where it has the key
@@ -58,21 +56,6 @@ module _ {X : Type 0} where
             let l : k ≤ e.0 = ltb-false e.0 k t in
             ap (λ (o : Option X). cond (k == e.0) (Some e.1) o) (find_below k (suc e.0) es (omega arith) r.1)
       ] refl
-
-  -- a change at the rank is a change at the key
-  pub put-rank : (k j : ℕ) (v x : X) (es : List (ℕ × X)) → Rises j es → slice_get es (rank k es) ≡ Some (k, x) → slice_set es (rank k es) (k, v) ≡ put k v es
-  put-rank k j v x [] r h = refl
-  put-rank k j v x (e ∷ es) r h =
-      elim (nat_lt e.0 k) as (λ t. nat_lt e.0 k ≡ t → slice_get (e ∷ es) (cond t (suc (rank k es)) 0) ≡ Some (k, x) → slice_set (e ∷ es) (cond t (suc (rank k es)) 0) (k, v) ≡ ((e.0, cond (k == e.0) v e.1) ∷ put k v es)) [
-        | true ↦ λ t i.
-            let l : e.0 < k = ltb-true e.0 k t in
-            ap (λ (r : List (ℕ × X)). e ∷ r) (put-rank k (suc e.0) v x es r.1 i) ∙ ap (λ b. (e.0, cond b v e.1) ∷ put k v es) (sym (ne_eqb k e.0 (λ a. omega arith)))
-        | false ↦ λ t i.
-            let same : k ≡ e.0 = cc in
-            ap (λ (r : List (ℕ × X)). (k, v) ∷ r) (sym (put_below k v (suc e.0) es (omega arith) r.1))
-            ∙ ap (λ n. (n, v) ∷ put k v es) same
-            ∙ ap (λ b. (e.0, cond b v e.1) ∷ put k v es) (sym (eq-eqb k e.0 same))
-      ] refl h
 
   -- there are no more keys than numbers
   pub few : (k n : ℕ) (es : List (ℕ × X)) → k ≤ n → Rises k es → AllBelow n es → length es + k ≤ n

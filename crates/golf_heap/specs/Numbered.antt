@@ -1,5 +1,5 @@
 -- What a heap is seen as: objects under numbers that are given in order and never used again (profile).
-use Rattle.std.specs.Prelude.{ℕ, suc, ◌+◌, Bool, true, false, cond, List, [], ◌∷◌, nat_lt}
+use Rattle.std.specs.Prelude.{ℕ, suc, ◌+◌, Bool, cond, List, [], ◌∷◌, nat_lt}
 use Rattle.golf_theory.specs.Maps.{put, add, Rises, AllBelow}
 use Rattle.golf_data.specs.declared.value.Object.{Object}
 

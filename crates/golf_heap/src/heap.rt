@@ -6,29 +6,34 @@ ghost use Rattle.golf_theory.specs.Maps.{find, keys};
 ghost use Rattle.golf_heap.specs.Numbered.{IsNumbered, made, replaced, kept, rank};
 ghost use Rattle.golf_heap.specs.Lending.{LendsObject};
 
+use crate::places::{Place, close_up, free, key_of, rank_of};
 use golf_base::{Memory, ObjectId};
 use golf_data::Object;
+use slab::Slab;
 use std::alloc::Global;
 use std::marker::Model;
 
 /// The objects that are there, and the last number that was given. Numbers are given from 1 in
 /// order of making, and none is used again.
 ///
-/// `make` alone takes memory.
+/// The objects lie in a slab, whose keys are used again and are seen nowhere else. An object is
+/// found by a binary search for its number. `make` alone takes memory.
 #[derive(Debug, Drop)]
 pub struct Heap {
-    entries: Vec<(u32, Object)>,
+    slots: Slab<(u32, Object)>,
+    places: Vec<Place>,
     last: u32,
 }
 
 impl Model for Heap {
-    ghost use Rattle.golf_heap.specs.Numbered.{Numbered, IsNumbered};
+    ghost use Rattle.golf_heap.specs.Numbered.{Numbered};
+    ghost use Rattle.golf_heap.specs.Kept.{gathered, IsStored};
 
     ghost Value = { Numbered };
 
-    ghost view = { λ h. record { objects = h.entries.items; last = h.last } };
+    ghost view = { λ h. record { objects = gathered h.slots h.places.items; last = h.last } };
 
-    ghost invariant = { λ h. IsNumbered (record { objects = h.entries.items; last = h.last }) };
+    ghost invariant = { λ h. IsStored h.slots h.places.items h.last };
 }
 
 impl Heap {
@@ -37,7 +42,8 @@ impl Heap {
         ensures { result ≡ record { objects = []; last = 0 } }
     {
         Heap {
-            entries: Vec::new(alloc),
+            slots: Slab::new(alloc),
+            places: Vec::new(alloc),
             last: 0,
         }
     }
@@ -49,7 +55,10 @@ impl Heap {
         ensures err { OnErr result (self.new ≡ self.old) }
     {
         let number = self.last.checked_add(1).ok_or(Memory)?;
-        self.entries.push((number, object))?;
+        self.slots.reserve(1)?;
+        let key = self.slots.vacant_key();
+        self.places.push(Place { number, key })?;
+        self.slots.insert_reserved((number, object));
         self.last = number;
         Ok(ObjectId(number))
     }
@@ -67,7 +76,7 @@ impl Heap {
         ensures numbers { IsNumbered self.now }
     {
         let _last = self.last;
-        self.entries.len() as u32
+        self.places.len() as u32
     }
 
     /// The last number that was given, 0 where none was.
@@ -82,12 +91,9 @@ impl Heap {
     pub fn get(&self, id: ObjectId) -> Option<&Object>
         ensures { option_map (λ x. x.now) result ≡ find id.0 self.now.objects }
     {
-        let entry = self.entries.as_slice().get(self.place(id.0))?;
-        if entry.0 == id.0 {
-            Some(&entry.1)
-        } else {
-            None
-        }
+        let key = key_of(self.places.as_slice(), id.0)?;
+        let slot = self.slots.get(key)?;
+        Some(&slot.1)
     }
 
     /// Lends the object of this number, to be changed or replaced.
@@ -97,9 +103,10 @@ impl Heap {
         ensures value { find id.0 self.old.objects ≡ Some result.now }
         ensures numbers { IsNumbered self.old }
     {
-        let at = self.place(id.0);
-        let entry = &mut self.entries[at];
-        &mut entry.1
+        let at = rank_of(self.places.as_slice(), id.0);
+        let key = self.places[at].key;
+        let slot = &mut self.slots[key];
+        &mut slot.1
     }
 
     /// Puts an object in the place of the one of this number. A number that is not there stays
@@ -117,7 +124,8 @@ impl Heap {
         requires { length keep.now ≡ length self.old.objects }
         ensures { self.new ≡ record self.old { objects = kept keep.now self.old.objects } }
     {
-        keep_flagged(&mut self.entries, keep);
+        free(&mut self.slots, self.places.as_slice(), keep);
+        close_up(&mut self.places, keep);
     }
 
     /// How many objects have a smaller number.
@@ -125,7 +133,7 @@ impl Heap {
         ensures { result ≡ rank id.0 self.now.objects }
     {
         let _last = self.last;
-        self.place(id.0) as u32
+        rank_of(self.places.as_slice(), id.0) as u32
     }
 
     /// The number of the object of this rank.
@@ -133,30 +141,7 @@ impl Heap {
         requires { rank < length self.now.objects }
         ensures { slice_get (keys self.now.objects) rank ≡ Some result.0 }
     {
-        ObjectId(self.entries.as_slice()[rank as usize].0)
-    }
-
-    // How many entries stand before this number.
-    fn place(&self, number: u32) -> usize
-        ensures { result ≡ rank number self.now.objects }
-    {
-        self.entries
-            .as_slice()
-            .partition_point(|entry| entry.0 < number)
-    }
-}
-
-// Keeps the entries whose flag is true.
-fn keep_flagged(entries: &mut Vec<(u32, Object)>, keep: &[bool])
-    requires { length keep.now ≡ length entries.old.items }
-    ensures { entries.new.items ≡ kept keep.now entries.old.items }
-{
-    let mut at = keep.len();
-    while at > 0 {
-        at -= 1;
-        if !keep[at] {
-            entries.remove(at);
-        }
+        ObjectId(self.places.as_slice()[rank as usize].number)
     }
 }
 

@@ -4,5 +4,6 @@
 #![tactic(auto)]
 
 mod heap;
+mod places;
 
 pub use heap::Heap;

@@ -5,4 +5,10 @@ pub mod Flags
 pub mod Gaining
 pub mod Turns
 pub mod Marked
-pub mod Made
+pub mod Winning
+pub mod Running
+pub mod Tending
+pub mod Settling
+pub mod Gathers
+pub mod Whole
+pub mod Readying

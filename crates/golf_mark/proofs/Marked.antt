@@ -5,8 +5,8 @@ use Rattle.std.specs.List.Sorted.{IsStrictlyIncreasing}
 use Rattle.std.proofs.lemmas.List.{get_or-take, get_or-drop, length-take-le, length-drop}
 use Rattle.golf_theory.specs.Membership.{In}
 use Rattle.golf_model.specs.declared.graph.Marked.{Marked}
-use Rattle.golf_mark.specs.Marking.{IsSet, HasMarked}
-use Rattle.golf_mark.proofs.Flags.{IsSet-below}
+use Rattle.golf_marks.specs.Flags.{IsSet, HasMarked}
+use Rattle.golf_marks.proofs.Flags.{IsSet-below}
 
 pub take-IsSet : (n : ℕ) (bits : List Bool) (p : ℕ) → n ≤ length bits → IsSet (take n bits) p → (p < n) × IsSet bits p
 take-IsSet n bits p low h =

@@ -1,4 +1,8 @@
 pub mod Waiters
 pub mod Working
 pub mod Marking
-pub mod Making
+pub mod Scanning
+pub mod Turning
+pub mod Finishing
+pub mod Gathering
+pub mod Ready

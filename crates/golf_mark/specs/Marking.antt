@@ -1,23 +1,8 @@
 -- What a marking gives.
-use Rattle.std.specs.Prelude.{◌≡◌, ◌+◌, ◌<◌, ◌↔◌, ℕ, List, Bool, true, false, length, slice_index_or}
-use Rattle.std.specs.List.Sorted.{IsStrictlyIncreasing}
-use Rattle.golf_theory.specs.Membership.{In}
 use Rattle.golf_model.specs.declared.graph.GraphParts.{GraphParts}
 use Rattle.golf_model.specs.declared.graph.Marked.{Marked}
 use Rattle.golf_model.specs.Graph.{node_count, sleeper_count, Least}
-
--- the flag of this number is true. There is none past the last one
-abbrev pub IsSet : List Bool → ℕ → Type 0
-IsSet flags n = slice_index_or flags n false ≡ true
-
--- the marking has the places of this property: a flag for each node and each sleeper, and the marked nodes, each once, in rising number
-pub record HasMarked (nodes sleepers : ℕ) (P : ℕ → Type 0) (m : Marked) : Type 0 where
-  pub flag_count : length m.flags ≡ nodes
-  pub awake_count : length m.awake ≡ sleepers
-  pub flags : (p : ℕ) → IsSet m.flags p ↔ ((p < nodes) × P p)
-  pub awake : (s : ℕ) → s < sleepers → IsSet m.awake s ↔ P (nodes + s)
-  pub rising : IsStrictlyIncreasing m.order
-  pub order : (p : ℕ) → In p m.order ↔ IsSet m.flags p
+use Rattle.golf_marks.specs.Flags.{HasMarked}
 
 -- the marking is the least closed set of the graph
 abbrev pub MarksLeast : GraphParts → Marked → Type 0

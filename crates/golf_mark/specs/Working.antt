@@ -4,7 +4,7 @@ use Rattle.golf_theory.specs.Membership.{In}
 use Rattle.golf_base.specs.Roomy.{Roomy}
 use Rattle.golf_model.specs.declared.graph.GraphParts.{GraphParts}
 use Rattle.golf_model.specs.Graph.{node_count, sleeper_count, Justifies, Least}
-use Rattle.golf_mark.specs.Marking.{IsSet}
+use Rattle.golf_marks.specs.Flags.{IsSet}
 
 -- how many places there are, and the marked ones in the order of marking
 pub record Working : Type 0 where

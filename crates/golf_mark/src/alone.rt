@@ -31,6 +31,3 @@ pub fn mark_alone<G: Gate>(alloc: Global, graph: &Graph, gate: &G) -> Result<Mar
     let marked = work.into_marked(alloc, graph.nodes())?;
     Ok(marked)
 }
-
-#[cfg(test)]
-mod tests;

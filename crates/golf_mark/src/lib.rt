@@ -3,9 +3,14 @@
 #![tactic(auto)]
 
 mod alone;
-#[cfg(test)]
-mod graphs;
+mod conclude;
+mod deal;
+mod finish;
+mod marker;
+mod markers;
+mod scanner;
 mod waiters;
 mod work;
 
 pub use alone::mark_alone;
+pub use markers::Markers;

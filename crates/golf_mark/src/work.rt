@@ -4,7 +4,7 @@ ghost use Rattle.std.specs.Prelude.{◌≡◌, ◌+◌, ◌-◌, ◌^◌, ◌<�
 ghost use Rattle.std.specs.List.Sorted.{IsStrictlyIncreasing};
 ghost use Rattle.golf_theory.specs.Membership.{In, Every};
 ghost use Rattle.golf_model.specs.Graph.{node_count, sleeper_count, Justifies};
-ghost use Rattle.golf_mark.specs.Marking.{HasMarked, IsSet};
+ghost use Rattle.golf_marks.specs.Flags.{HasMarked, IsSet};
 ghost use Rattle.golf_mark.specs.Waiters.{IsWaiters};
 ghost use Rattle.golf_mark.specs.Working.{Gains, IsScanned, Working};
 

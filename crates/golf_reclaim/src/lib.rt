@@ -7,4 +7,4 @@ mod fixture;
 mod marking;
 mod reported;
 
-pub use collection::collect;
+pub use collection::{Options, collect};

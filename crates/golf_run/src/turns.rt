@@ -14,13 +14,18 @@ use crate::fault::RunFault;
 use golf_base::{Gate, List, Memory, Sink, write_all};
 use golf_data::{Book, Code, Ending};
 use golf_machine::{Turned, start, turn};
-use golf_reclaim::collect;
+use golf_reclaim::{Options, collect};
 use golf_state::State;
 use golf_texts::{Status, TURNS, ending_line, report_text, stopped_line};
 use std::alloc::Global;
+use std::thread::Threads;
+
+/// How many markers mark in each collection.
+const MARKERS: u32 = 2;
 
 // Collects, and writes the report. It answers whether the report names a goroutine.
-fn tell<E: Sink, G: Gate>(
+fn tell<R: Threads + Sync, E: Sink, G: Gate + Sync>(
+    rt: &R,
     alloc: Global,
     state: &State,
     book: &mut Book,
@@ -33,7 +38,8 @@ fn tell<E: Sink, G: Gate>(
     requires count { book.old.collections < 2 ^ 32 - 1 }
     ensures { HasTold result state.now book.old book.new (E.written err.old) (E.written err.new) (E.faults err.old) (E.faults err.new) }
 {
-    let report = collect(alloc, state, book, gate)?;
+    let options = Options { markers: MARKERS };
+    let report = collect(rt, alloc, state, book, options, gate)?;
     let text = report_text(alloc, &report)?;
     write_all(err, text.as_slice())?;
     Ok(!report.reported.is_empty())
@@ -63,7 +69,8 @@ fn status_by(reported: bool, ending: Option<Ending>) -> Status
 /// Runs the code by the schedule `rotate`, and answers how the program ends. What a turn prints is
 /// written to `out` behind it, the report of a collection to `err` behind that, and at the end the
 /// last line. The gate is handed to each marking.
-pub fn run<O: Sink, E: Sink, G: Gate>(
+pub fn run<R: Threads + Sync, O: Sink, E: Sink, G: Gate + Sync>(
+    rt: &R,
     alloc: Global,
     code: &Code,
     out: &mut O,
@@ -87,7 +94,7 @@ pub fn run<O: Sink, E: Sink, G: Gate>(
         write_all(out, state.output())?;
         state.clear_output();
         match turned {
-            Turned::WantsCollection => found |= tell(alloc, &state, &mut book, err, gate)?,
+            Turned::WantsCollection => found |= tell(rt, alloc, &state, &mut book, err, gate)?,
             Turned::Went | Turned::Ended(_) => {}
         }
     }

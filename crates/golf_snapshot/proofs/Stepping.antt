@@ -1,9 +1,9 @@
 -- Lists and maps, one place or one number after another.
 use Rattle.std.proofs.Common.{◌≡◌, ℕ, zero, suc, ◌+◌, ◌<◌, ◌≤◌, Bool, true, false, ◌||◌, cond, List, [], ◌∷◌, ◌++◌, length, map, take, get_or, Option, Some, None, ◌==◌, nat_lt, ◌⊎◌, inl, inr, refl, sym, ap, ◌∙◌, subst, arith, slice_get, append_assoc, append-nil}
-use Rattle.std.specs.Prelude.{is_some}
+use Rattle.std.specs.Prelude.{is_some, option_map}
 use Rattle.std.proofs.lemmas.Bool.{eq-eqb, ne_eqb, lt-ltb, le-ltb, cases_eq, cases_lt}
-use Rattle.std.proofs.lemmas.List.{take_more, take_all, map-append}
-use Rattle.std.proofs.lemmas.Option.{slice_get_within, get_or_from_slice_get}
+use Rattle.std.proofs.lemmas.List.{take_more, take_all, map-append, length-map}
+use Rattle.std.proofs.lemmas.Option.{slice_get-map, slice_get_within, get_or_from_slice_get}
 use Rattle.golf_theory.specs.Membership.{In, is_in}
 use Rattle.golf_theory.specs.Maps.{Entry, find, keys, Rises, IsRising, AllBelow}
 use Rattle.golf_theory.proofs.Lists.{In-cases, In-map, In-get_or}
@@ -12,7 +12,7 @@ use Rattle.golf_theory.proofs.MapFinds.{find-Entry, find_below, Entry-below}
 use Rattle.golf_theory.proofs.MapCuts.{only-all}
 use Rattle.golf_theory.proofs.MapOrder.{Rises-less}
 use Rattle.golf_base.specs.declared.ids.GoroutineId.{GoroutineId}
-use Rattle.golf_snapshot.specs.Stepping.{entry_at, before}
+use Rattle.golf_snapshot.specs.Stepping.{entry_at}
 use Rattle.golf_snapshot.proofs.Ranking.{Entry-at}
 
 -- ---- by places
@@ -33,10 +33,10 @@ entry-of-key [] i k h = cc
 entry-of-key (e ∷ es) zero k h = let s : e.0 ≡ k = cc in (e.1, ap (λ (n : ℕ). Some (n, e.1)) s)
 entry-of-key (e ∷ es) (suc i) k h = entry-of-key es i k h
 
-pub find-at : {X : Type 0} (es : List (ℕ × X)) (i k : ℕ) (x : X) → Rises 1 es → slice_get es i ≡ Some (k, x) → find k es ≡ Some x
-find-at es i k x r e = find-Entry es k x (Rises-less 0 1 es (omega arith) r) (Entry-at es i (k, x) e)
+pub find-at : {X : Type 0} (es : List (ℕ × X)) (i k : ℕ) (x : X) → IsRising es → slice_get es i ≡ Some (k, x) → find k es ≡ Some x
+find-at es i k x r e = find-Entry es k x r (Entry-at es i (k, x) e)
 
-pub take-entry : {X : Type 0} (es : List (ℕ × X)) (i k : ℕ) → Rises 1 es → slice_get (keys es) i ≡ Some k → take (i + 1) es ≡ take i es ++ entry_at k (find k es)
+pub take-entry : {X : Type 0} (es : List (ℕ × X)) (i k : ℕ) → IsRising es → slice_get (keys es) i ≡ Some k → take (i + 1) es ≡ take i es ++ entry_at k (find k es)
 take-entry es i k r h =
     let e = entry-of-key es i k h in
     take-next es i (k, e.0) e.1 ∙ ap (λ (m : Option _). take i es ++ entry_at k m) (sym (find-at es i k e.0 r e.1))
@@ -49,64 +49,44 @@ found-in_keys k (e ∷ es) = elim (k == e.0) as (λ b. is_some (cond b (Some e.1
   | false ↦ found-in_keys k es
 ]
 
--- ---- by numbers
+abbrev numbers : List GoroutineId → List ℕ
+numbers gs = map (λ g. g.0) gs
 
-module _ {X : Type 0} where
-  before_none : (j k : ℕ) (es : List (ℕ × X)) → k ≤ j → Rises j es → before k es ≡ []
-  before_none j k [] l r = refl
-  before_none j k (e ∷ es) l r =
-      ap (λ b. cond b (e ∷ before k es) (before k es)) (le-ltb e.0 k (omega arith)) ∙ before_none (suc e.0) k es (omega arith) r.1
-
-  before-next : (j k : ℕ) (es : List (ℕ × X)) → Rises j es → before (k + 1) es ≡ before k es ++ entry_at k (find k es)
-  before-next j k [] r = refl
-  before-next j k (e ∷ es) r = elim (cases_lt e.0 k) [
-    | inl l ↦
-        ap (λ b. cond b (e ∷ before (k + 1) es) (before (k + 1) es)) (lt-ltb e.0 (k + 1) (omega arith))
-        ∙ ap (λ (z : List (ℕ × X)). e ∷ z) (before-next (suc e.0) k es r.1)
-        ∙ ap (λ b. cond b (e ∷ before k es) (before k es) ++ entry_at k (find k es)) (sym (lt-ltb e.0 k l))
-        ∙ ap (λ b. cond (nat_lt e.0 k) (e ∷ before k es) (before k es) ++ entry_at k (cond b (Some e.1) (find k es))) (sym (ne_eqb k e.0 (λ a. omega arith)))
-    | inr ge ↦ elim (cases_eq k e.0) [
-      | inl same ↦
-          ap (λ b. cond b (e ∷ before (k + 1) es) (before (k + 1) es)) (lt-ltb e.0 (k + 1) (omega arith))
-          ∙ ap (λ (z : List (ℕ × X)). e ∷ z) (before_none (suc e.0) (k + 1) es (omega arith) r.1)
-          ∙ ap (λ (n : ℕ). (n, e.1) ∷ []) (sym same)
-          ∙ ap (λ (z : List (ℕ × X)). z ++ (k, e.1) ∷ []) (sym (before_none (suc e.0) k es (omega arith) r.1))
-          ∙ ap (λ b. cond b (e ∷ before k es) (before k es) ++ (k, e.1) ∷ []) (sym (le-ltb e.0 k ge))
-          ∙ ap (λ b. cond (nat_lt e.0 k) (e ∷ before k es) (before k es) ++ entry_at k (cond b (Some e.1) (find k es))) (sym (eq-eqb k e.0 same))
-      | inr apart ↦
-          let above : k < e.0 = omega arith in
-          before_none e.0 (k + 1) (e ∷ es) (omega arith) (omega arith, r.1)
-          ∙ ap (entry_at k) (sym (find_below k e.0 (e ∷ es) above (omega arith, r.1)))
-          ∙ ap (λ (z : List (ℕ × X)). z ++ entry_at k (find k (e ∷ es))) (sym (before_none e.0 k (e ∷ es) (omega arith) (omega arith, r.1)))
-    ]
-  ]
-
-  before-all : (n : ℕ) (es : List (ℕ × X)) → AllBelow n es → before n es ≡ es
-  before-all n es a = only-all (λ j. nat_lt j n) es (λ k x i. lt-ltb k n (Entry-below n es k x a i))
+-- the number at a place, by the list of numbers
+listed-at : {X : Type 0} (es : List (ℕ × X)) (gs : List GoroutineId) (i : ℕ) (d : GoroutineId) → numbers gs ≡ keys es → i < length gs → slice_get (keys es) i ≡ Some (get_or gs i d).0
+listed-at es gs i d e l =
+    ap (λ (ns : List ℕ). slice_get ns i) (sym e) ∙ slice_get-map (λ (g : GoroutineId). g.0) gs i ∙ ap (option_map (λ (g : GoroutineId). g.0)) (read gs i d l)
+  where
+    read : (gs : List GoroutineId) (i : ℕ) (d : GoroutineId) → i < length gs → slice_get gs i ≡ Some (get_or gs i d)
+    read [] i d l = absurd (omega arith)
+    read (g ∷ gs) zero d l = refl
+    read (g ∷ gs) (suc i) d l = read gs i d (omega arith)
 
 -- G gathers from pieces of a map what it gathers from the whole
 module _ {X Y : Type 0} (G : List (ℕ × X) → List Y) (nil : G [] ≡ []) (append : (xs ys : List (ℕ × X)) → G (xs ++ ys) ≡ G xs ++ G ys) where
-  pub gather-init : (old : List Y) (es : List (ℕ × X)) → IsRising es → old ≡ old ++ G (before 0 es)
-  gather-init old es r = sym (append-nil old) ∙ ap (λ (l : List Y). old ++ l) (sym (ap G (before_none 0 0 es (omega arith) r) ∙ nil))
+  pub gather-init : (old : List Y) (es : List (ℕ × X)) → old ≡ old ++ G (take 0 es)
+  gather-init old es = sym (append-nil old) ∙ ap (λ (l : List Y). old ++ l) (sym nil)
 
   gather-more : (old text later : List Y) (xs ys zs : List (ℕ × X)) → zs ≡ xs ++ ys → text ≡ old ++ G xs → later ≡ text ++ G ys → later ≡ old ++ G zs
   gather-more old text later xs ys zs cut so is =
       is ∙ ap (λ (l : List Y). l ++ G ys) so ∙ append_assoc old (G xs) (G ys) ∙ ap (λ (l : List Y). old ++ l) (sym (append xs ys) ∙ ap G (sym cut))
 
-  pub gather-next : (old text later : List Y) (es : List (ℕ × X)) (k : ℕ) → IsRising es → text ≡ old ++ G (before k es) → later ≡ text ++ G (entry_at k (find k es)) → later ≡ old ++ G (before (k + 1) es)
-  gather-next old text later es k r so is = gather-more old text later (before k es) (entry_at k (find k es)) (before (k + 1) es) (before-next 0 k es r) so is
+  pub gather-next : (old text later : List Y) (es : List (ℕ × X)) (i k : ℕ) → IsRising es → slice_get (keys es) i ≡ Some k → text ≡ old ++ G (take i es) → later ≡ text ++ G (entry_at k (find k es)) → later ≡ old ++ G (take (i + 1) es)
+  gather-next old text later es i k r at so is = gather-more old text later (take i es) (entry_at k (find k es)) (take (i + 1) es) (take-entry es i k r at) so is
 
-  pub gather-done : (old all : List Y) (es : List (ℕ × X)) (k n : ℕ) → AllBelow n es → k ≡ n → all ≡ old ++ G (before k es) → all ≡ old ++ G es
-  gather-done old all es k n below same e = e ∙ ap (λ m. old ++ G (before m es)) same ∙ ap (λ (z : List (ℕ × X)). old ++ G z) (before-all n es below)
+  pub gather-done : (old all : List Y) (es : List (ℕ × X)) (i : ℕ) → length es ≤ i → all ≡ old ++ G (take i es) → all ≡ old ++ G es
+  gather-done old all es i l e = e ∙ ap (λ (z : List (ℕ × X)). old ++ G z) (take_all i es l)
 
-  -- the same by places
-  pub gather-rank : (old text later : List Y) (es : List (ℕ × X)) (i k : ℕ) → Rises 1 es → slice_get (keys es) i ≡ Some k → text ≡ old ++ G (take i es) → later ≡ text ++ G (entry_at k (find k es)) → later ≡ old ++ G (take (i + 1) es)
-  gather-rank old text later es i k r at so is = gather-more old text later (take i es) (entry_at k (find k es)) (take (i + 1) es) (take-entry es i k r at) so is
+  -- the same along the list of the keys
+  pub gather-listed : (old text later : List Y) (es : List (ℕ × X)) (gs : List GoroutineId) (i : ℕ) (d : GoroutineId) → IsRising es → numbers gs ≡ keys es → i < length gs → text ≡ old ++ G (take i es)
+      → later ≡ text ++ G (entry_at (get_or gs i d).0 (find (get_or gs i d).0 es)) → later ≡ old ++ G (take (i + 1) es)
+  gather-listed old text later es gs i d r e l so is = gather-next old text later es i (get_or gs i d).0 r (listed-at es gs i d e l) so is
+
+  pub gather-end : (old all : List Y) (es : List (ℕ × X)) (gs : List GoroutineId) (i : ℕ) → numbers gs ≡ keys es → length gs ≤ i → all ≡ old ++ G (take i es) → all ≡ old ++ G es
+  gather-end old all es gs i e l is =
+      gather-done old all es i (omega (arith, l, length-map gs (λ (g : GoroutineId). g.0), ap length e, length-map es (λ (z : ℕ × X). z.0))) is
 
 -- ---- whether a goroutine is among some
-
-abbrev numbers : List GoroutineId → List ℕ
-numbers gs = map (λ g. g.0) gs
 
 pub among-next : (g : ℕ) (gs : List GoroutineId) (i : ℕ) (d : GoroutineId) → i < length gs → (g ≡ (get_or gs i d).0 → ⊥) → is_in g (numbers (take i gs)) ≡ false → is_in g (numbers (take (i + 1) gs)) ≡ false
 among-next g gs i d l apart none =

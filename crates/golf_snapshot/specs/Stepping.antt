@@ -1,6 +1,5 @@
 -- The entries of a map, one number after another.
-use Rattle.std.specs.Prelude.{ℕ, Bool, not, List, [], ◌∷◌, map, filter, Option, Some, None, nat_lt}
-use Rattle.golf_theory.specs.Maps.{only}
+use Rattle.std.specs.Prelude.{ℕ, Bool, not, List, [], ◌∷◌, map, filter, Option, Some, None}
 use Rattle.golf_data.specs.declared.value.Object.{Object}
 use Rattle.golf_model.specs.Plain.{PlainGoroutine}
 use Rattle.golf_model.specs.Refs.{object_refs}
@@ -11,10 +10,6 @@ use Rattle.golf_snapshot.specs.Parts.{is_awake, sleeper_of}
 abbrev pub entry_at : {X : Type 0} → ℕ → Option X → List (ℕ × X)
 entry_at k None = []
 entry_at k (Some x) = (k, x) ∷ []
-
--- the entries with keys below this one
-abbrev pub before : {X : Type 0} → ℕ → List (ℕ × X) → List (ℕ × X)
-before k es = only (λ j. nat_lt j k) es
 
 -- the references of an object, where it is there
 abbrev pub refs_at : Option Object → List ℕ

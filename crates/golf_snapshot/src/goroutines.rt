@@ -3,7 +3,6 @@
 ghost use Rattle.std.specs.Prelude.{◌≡◌, ◌++◌, IfOk, OnOk, map, not};
 ghost use Rattle.golf_theory.specs.Maps.{find};
 ghost use Rattle.golf_theory.specs.Membership.{is_in};
-ghost use Rattle.golf_model.specs.Futures.{Numbered};
 ghost use Rattle.golf_model.specs.Plain.{plain_goroutine};
 ghost use Rattle.golf_model.specs.Refs.{queue_refs, goroutine_refs_where};
 ghost use Rattle.golf_snapshot.specs.Parts.{ranks, is_awake, awake_refs, sleeping, sleeper_of};
@@ -31,11 +30,10 @@ pub(crate) fn add_queue(heap: &Heap, nodes: &mut List<u32>, queue: &[Queued]) ->
 
 /// Adds the nodes of the goroutines that are live at once.
 pub(crate) fn add_awake(state: &State, nodes: &mut List<u32>) -> Result<(), Memory>
-    requires { Numbered state.now }
     ensures { OnOk result (nodes.new ≡ nodes.old ++ ranks state.now.objects (awake_refs state.now.goroutines)) }
 {
-    for number in 0..state.next_goroutine() {
-        add_if_awake(state, nodes, goroutine_id(number)?)?;
+    for g in state.goroutines() {
+        add_if_awake(state, nodes, *g)?;
     }
     Ok(())
 }
@@ -46,22 +44,13 @@ pub(crate) fn add_others(
     nodes: &mut List<u32>,
     gone: &[GoroutineId],
 ) -> Result<(), Memory>
-    requires { Numbered state.now }
     ensures { OnOk result (nodes.new
         ≡ nodes.old ++ ranks state.now.objects (goroutine_refs_where (λ g. not (is_in g (map (λ h. h.0) gone.now))) state.now.goroutines)) }
 {
-    for number in 0..state.next_goroutine() {
-        add_unless_gone(state, nodes, gone, goroutine_id(number)?)?;
+    for g in state.goroutines() {
+        add_unless_gone(state, nodes, gone, *g)?;
     }
     Ok(())
-}
-
-// The goroutine id of a number that a state has given.
-fn goroutine_id(number: u64) -> Result<GoroutineId, Memory>
-    ensures { IfOk result (λ g. g.0 ≡ number) }
-{
-    let number = u32::try_from(number).map_err(|_| Memory)?;
-    Ok(GoroutineId(number))
 }
 
 // Adds the nodes of the goroutine of this number, where it is live at once.
@@ -126,12 +115,11 @@ fn is_awake(g: GoroutineId, goroutine: &Goroutine) -> bool
 
 /// The blocked goroutines but goroutine 0, in rising number.
 pub(crate) fn sleepers(alloc: Global, state: &State) -> Result<List<Sleeper>, Memory>
-    requires { Numbered state.now }
     ensures { IfOk result (λ sleepers. sleepers ≡ map (sleeper_of state.now.objects) (sleeping state.now)) }
 {
     let mut sleepers = List::new(alloc);
-    for number in 0..state.next_goroutine() {
-        add_if_asleep(alloc, state, &mut sleepers, goroutine_id(number)?)?;
+    for g in state.goroutines() {
+        add_if_asleep(alloc, state, &mut sleepers, *g)?;
     }
     Ok(sleepers)
 }

@@ -1,6 +1,6 @@
 -- The list of goroutines as a list of numbers.
 use Rattle.std.proofs.Common.{◌≡◌, ℕ, zero, suc, ◌+◌, ◌<◌, ◌≤◌, List, [], ◌∷◌, ◌++◌, length, take, drop, get_or, map, refl, sym, ap, ◌∙◌, arith}
-use Rattle.std.specs.Prelude.{insert}
+use Rattle.std.specs.Prelude.{insert, remove}
 use Rattle.std.proofs.lemmas.List.{map-append, length-map, take_all, drop_all, append-nil}
 use Rattle.golf_base.specs.declared.ids.GoroutineId.{GoroutineId}
 use Rattle.golf_theory.specs.Stored.{placed}
@@ -22,28 +22,17 @@ numbers-drop zero xs = refl
 numbers-drop (suc n) [] = refl
 numbers-drop (suc n) (x ∷ xs) = numbers-drop n xs
 
-numbers-insert : (xs : List GoroutineId) (i : ℕ) (g : GoroutineId) → numbers (insert xs i g) ≡ take i (numbers xs) ++ g.0 ∷ drop i (numbers xs)
+pub numbers-insert : (xs : List GoroutineId) (i : ℕ) (g : GoroutineId) → numbers (insert xs i g) ≡ insert (numbers xs) i g.0
 numbers-insert xs i g =
     map-append (λ (h : GoroutineId). h.0) (take i xs) (g ∷ drop i xs)
     ∙ ap (λ (ys : List ℕ). ys ++ g.0 ∷ numbers (drop i xs)) (numbers-take i xs)
     ∙ ap (λ (ys : List ℕ). take i (numbers xs) ++ g.0 ∷ ys) (numbers-drop i xs)
 
--- the place is before a larger number
-pub insert-before : (xs : List GoroutineId) (i : ℕ) (g x : GoroutineId) → i < length xs → x ≡ get_or xs i x → g.0 < x.0
-    → placed g.0 (numbers xs) ≡ take i (numbers xs) ++ placed g.0 (drop i (numbers xs)) → numbers (insert xs i g) ≡ placed g.0 (numbers xs)
-insert-before xs i g x l h above so_far =
-    let n = length-map xs (λ (h : GoroutineId). h.0) in
-    let larger = number-at xs i x l h in
-    numbers-insert xs i g ∙ sym (so_far ∙ ap (λ (ys : List ℕ). take i (numbers xs) ++ ys) (placed_here g.0 (numbers xs) i (omega arith) (omega arith)))
-
--- or at the end
-pub insert-last : (xs : List GoroutineId) (i : ℕ) (g : GoroutineId) → length xs ≤ i
-    → placed g.0 (numbers xs) ≡ take i (numbers xs) ++ placed g.0 (drop i (numbers xs)) → numbers (insert xs i g) ≡ placed g.0 (numbers xs)
-insert-last xs i g l so_far =
-    let n = length-map xs (λ (h : GoroutineId). h.0) in
-    let none = drop_all i (numbers xs) (omega arith) in
-    numbers-insert xs i g ∙ ap (λ (ys : List ℕ). take i (numbers xs) ++ g.0 ∷ ys) none
-    ∙ sym (so_far ∙ ap (λ (ys : List ℕ). take i (numbers xs) ++ placed g.0 ys) none)
-
 pub numbers-push : (xs : List GoroutineId) (g : GoroutineId) → numbers (xs ++ g ∷ []) ≡ numbers xs ++ g.0 ∷ []
 numbers-push xs g = map-append (λ (h : GoroutineId). h.0) xs (g ∷ [])
+
+pub numbers-remove : (xs : List GoroutineId) (i : ℕ) → numbers (remove xs i) ≡ remove (numbers xs) i
+numbers-remove xs i =
+    map-append (λ (h : GoroutineId). h.0) (take i xs) (drop (suc i) xs)
+    ∙ ap (λ (ys : List ℕ). ys ++ numbers (drop (suc i) xs)) (numbers-take i xs)
+    ∙ ap (λ (ys : List ℕ). take i (numbers xs) ++ ys) (numbers-drop (suc i) xs)

@@ -1,13 +1,13 @@
 -- The look for the first waiter.
-use Rattle.std.proofs.Common.{◌≡◌, ℕ, suc, ◌+◌, ◌<◌, ◌≤◌, Bool, true, false, cond, ◌&&◌, List, [], ◌∷◌, Option, Some, None, length, drop, get_or, map, ◌==◌, refl, sym, ap, ◌∙◌, arith, drop_of_length-le, inl, inr}
+use Rattle.std.proofs.Common.{◌≡◌, ℕ, zero, suc, ◌+◌, ◌<◌, ◌≤◌, Bool, true, false, cond, ◌&&◌, List, [], ◌∷◌, Option, Some, None, length, drop, get_or, map, ◌==◌, refl, sym, ap, ◌∙◌, arith, drop_of_length-le, inl, inr}
 use Rattle.std.specs.Prelude.{option_map, nat_lt, IfSome}
-use Rattle.std.proofs.lemmas.List.{drop_more, length-map}
+use Rattle.std.proofs.lemmas.List.{drop_more, length-map, get_or-map}
+use Rattle.golf_base.specs.declared.ids.GoroutineId.{GoroutineId}
 use Rattle.golf_data.specs.declared.goroutine.Side.{Side}
 use Rattle.golf_data.specs.declared.goroutine.Wait.{Wait}
 use Rattle.golf_data.specs.declared.goroutine.Mode.{Mode}
 use Rattle.golf_theory.specs.Membership.{In}
-use Rattle.golf_theory.specs.Maps.{find}
-use Rattle.golf_theory.specs.Stored.{entries}
+use Rattle.golf_theory.specs.Maps.{Entry, find, keys}
 use Rattle.golf_theory.proofs.MapFinds.{find-Entry}
 use Rattle.golf_theory.proofs.Placing.{Rises-entries}
 use Rattle.golf_model.specs.State.{is_running}
@@ -17,7 +17,10 @@ use Rattle.golf_model.specs.Plain.{PlainGoroutine}
 use Rattle.golf_model.specs.Waiting.{Waiter, same_side, wait_for, waits_of, waiter_of, first, waiters, earlier}
 use Rattle.golf_state.specs.Places.{plain_place, plain_places, plain_entries}
 use Rattle.golf_state.specs.Seen.{seen_of, sooner, waiter_in}
+use Rattle.golf_state.specs.Inside.{numbers}
 use Rattle.golf_state.specs.declared.places.Place.{Place}
+use Rattle.golf_state.proofs.Numbered.{number-at}
+use Rattle.golf_state.proofs.PlaceLaws.{present as plain-present, read-found}
 
 -- ---- along the waits of a goroutine
 
@@ -42,20 +45,48 @@ sooner-earlier (Some v) None = refl
 sooner-earlier (Some v) (Some w) =
     elim (nat_lt (seen_of w).ticket (seen_of v).ticket) as (λ b. cond b (Some (seen_of w)) (Some (seen_of v)) ≡ option_map seen_of (cond b (Some w) (Some v))) [ true ↦ refl | false ↦ refl ]
 
-first-cons : (o : ℕ) (side : Side) (k : ℕ) (p : Option PlainGoroutine) (ps : List (Option PlainGoroutine)) → first o side (entries k (p ∷ ps)) ≡ earlier (waiter_in k o side p) (first o side (entries (suc k) ps))
-first-cons o side k None ps = refl
-first-cons o side k (Some r) ps = refl
+at-Entry : {X : Type 0} (es : List (ℕ × X)) (i : ℕ) (d : ℕ × X) → i < length es → Entry es (get_or es i d).0 (get_or es i d).1
+at-Entry [] i d l = absurd (omega arith)
+at-Entry (e ∷ es) zero d l = inl (refl, refl)
+at-Entry (e ∷ es) (suc i) d l = inr (at-Entry es i d (omega arith))
 
--- one place more, before the others
-pub seen_more : (o : ℕ) (side : Side) (gs : List Place) (i : ℕ) (p : Place) → i < length gs → p ≡ get_or gs i p
-    → sooner (option_map seen_of (waiter_in i o side (plain_place p))) (option_map seen_of (first o side (entries (i + 1) (plain_places (drop (i + 1) gs))))) ≡ option_map seen_of (first o side (entries i (plain_places (drop i gs))))
-seen_more o side gs i p l h =
-    let one : i + 1 ≡ suc i = omega arith in
-    ap (λ k. sooner (option_map seen_of (waiter_in i o side (plain_place p))) (option_map seen_of (first o side (entries k (plain_places (drop (i + 1) gs)))))) one
-    ∙ sooner-earlier (waiter_in i o side (plain_place p)) (first o side (entries (suc i) (plain_places (drop (i + 1) gs))))
-    ∙ ap (option_map seen_of) (sym (first-cons o side i (plain_place p) (plain_places (drop (i + 1) gs))))
-    ∙ ap (λ (q : Place). option_map seen_of (first o side (entries i (plain_places (q ∷ drop (i + 1) gs))))) h
-    ∙ ap (λ (qs : List Place). option_map seen_of (first o side (entries i (plain_places qs)))) (sym (drop_more gs i p l))
+-- what is read is read with any default
+pub read-back : {X : Type 0} (xs : List X) (i : ℕ) (d : X) → i < length xs → get_or xs i d ≡ get_or xs i (get_or xs i d)
+read-back [] i d l = absurd (omega arith)
+read-back (x ∷ xs) zero d l = refl
+read-back (x ∷ xs) (suc i) d l = read-back xs i d (omega arith)
+
+pub no_one : ℕ × PlainGoroutine
+no_one = (0, record { frames = []; mode = Mode.Running; started = 0 })
+
+-- the goroutines that are present, by their entries
+module _ (gs : List Place) (present : List GoroutineId) (at : ℕ) (g : GoroutineId) where
+  pub listed : numbers present ≡ keys (plain_entries gs) → at < length present → g ≡ get_or present at g → (at < length (plain_entries gs)) × (g.0 ≡ (get_or (plain_entries gs) at no_one).0)
+  listed e l is =
+      let n : length present ≡ length (plain_entries gs) = sym (length-map present (λ (h : GoroutineId). h.0)) ∙ ap length e ∙ length-map (plain_entries gs) (λ (z : ℕ × PlainGoroutine). z.0) in
+      let within : at < length (plain_entries gs) = omega (arith, l, n) in (
+        within,
+        sym (number-at present at g l is) ∙ ap (λ (ns : List ℕ). get_or ns at 0) e ∙ get_or-map (λ (z : ℕ × PlainGoroutine). z.0) (plain_entries gs) at no_one 0 within,
+      )
+
+  pub listed-found : numbers present ≡ keys (plain_entries gs) → at < length present → g ≡ get_or present at g → find g.0 (plain_entries gs) ≡ Some (get_or (plain_entries gs) at no_one).1
+  listed-found e l is =
+      let k = listed e l is in
+      let es = plain_entries gs in
+      ap (λ (n : ℕ). find n es) k.1 ∙ find-Entry es (get_or es at no_one).0 (get_or es at no_one).1 (Rises-entries 0 (plain_places gs)) (at-Entry es at no_one k.0)
+
+  -- one goroutine more, before the others
+  pub seen_more : (o : ℕ) (side : Side) (p : Place) → numbers present ≡ keys (plain_entries gs) → at < length present → g ≡ get_or present at g → p ≡ get_or gs g.0 p
+      → sooner (option_map seen_of (waiter_in g.0 o side (plain_place p))) (option_map seen_of (first o side (drop (at + 1) (plain_entries gs)))) ≡ option_map seen_of (first o side (drop at (plain_entries gs)))
+  seen_more o side p e l is h =
+      let es = plain_entries gs in
+      let k = listed e l is in
+      let read = read-found gs g.0 p (get_or es at no_one).1 (listed-found e l is) h in
+      let here : plain_place p ≡ Some (get_or es at no_one).1 = plain-present p read.0 ∙ ap (λ (r : PlainGoroutine). Some r) read.1 in
+      let waiter : waiter_in g.0 o side (plain_place p) ≡ waiter_of o side (get_or es at no_one) = ap (waiter_in g.0 o side) here ∙ ap (λ (n : ℕ). waiter_of o side (n, (get_or es at no_one).1)) k.1 in
+      ap (λ (w : Option Waiter). sooner (option_map seen_of w) (option_map seen_of (first o side (drop (at + 1) es)))) waiter
+      ∙ sooner-earlier (waiter_of o side (get_or es at no_one)) (first o side (drop (at + 1) es))
+      ∙ ap (λ (fs : List (ℕ × PlainGoroutine)). option_map seen_of (first o side fs)) (sym (drop_more es at no_one k.0))
 
 -- ---- the first waiter is blocked
 

@@ -1,6 +1,7 @@
 -- The state in memory, and what it caches.
 use Rattle.std.specs.Prelude.{◌≡◌, ◌≤◌, ◌^◌, ℕ, List, length, map}
 use Rattle.golf_base.specs.declared.ids.GoroutineId.{GoroutineId}
+use Rattle.golf_theory.specs.Maps.{keys}
 use Rattle.golf_model.specs.State.{State}
 use Rattle.golf_state.specs.Places.{plain_entries, running_of}
 use Rattle.golf_state.specs.declared.state.State.TheInside.{Inside}
@@ -24,7 +25,8 @@ plain_state s = record {
   recorded = s.recorded;
 }
 
--- the list of those that run is that of the goroutines, and each goroutine has a number
+-- the lists of those that are there, and of those that run, are those of the goroutines, and each goroutine has a number
 pub record IsCached (s : Inside) : Type 0 where
+  pub present : numbers s.present.items ≡ keys (plain_entries s.goroutines.items)
   pub running : numbers s.running.items ≡ running_of (plain_entries s.goroutines.items)
   pub few : length s.goroutines.items ≤ 2 ^ 32

@@ -1,4 +1,5 @@
 pub mod Places
+pub mod Rising
 pub mod Looked
 pub mod Lending
 pub mod LendingTop

@@ -12,7 +12,7 @@ mod calls;
 mod frames;
 mod operands;
 mod places;
-mod running;
+mod rising;
 mod state;
 mod waiters;
 

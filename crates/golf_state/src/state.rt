@@ -2,7 +2,7 @@
 
 ghost use Rattle.std.specs.Prelude.{◌≡◌, ◌<◌, ◌≤◌, ◌^◌, ◌+◌, ◌-◌, ℕ, [], ◌∷◌, length, map, true, false, Some, None, IfOk, OnOk, OnErr, IsSome, IfSome, option_map, slice_get};
 ghost use Rattle.std.specs.Borrow.{sem};
-ghost use Rattle.golf_theory.specs.Maps.{find, Rises, IsRising};
+ghost use Rattle.golf_theory.specs.Maps.{find, keys, Rises, IsRising};
 ghost use Rattle.golf_data.specs.declared.goroutine.Mode.{Mode};
 ghost use Rattle.golf_model.specs.Plain.{PlainGoroutine, plain_frame, plain_frames, plain_goroutine};
 ghost use Rattle.golf_model.specs.State.{runnable, ending, is_running};
@@ -16,7 +16,7 @@ ghost use Rattle.golf_state.specs.Lending.{LendsFrames, LendsObject};
 
 use crate::frames::{Given, pass_on, resume};
 use crate::places::{Place, has_no_call, is_running, place_of};
-use crate::running::{behind_first, leave_out, put_in};
+use crate::rising::{add_last, behind_first, leave_out, put_in};
 use crate::waiters::{Waiting, first_waiter};
 use golf_base::{GoroutineId, List, Memory, ObjectId};
 use golf_data::{Ending, Frame, Goroutine, Mode, Object, Queued, Side, Value, Wait, WaitKind};
@@ -35,6 +35,7 @@ pub struct State {
     heap: Heap,
     finalisers: List<(u32, u32)>,
     goroutines: Vec<Place>,
+    present: Vec<GoroutineId>,
     running: Vec<GoroutineId>,
     queue: List<Queued>,
     output: List<u8>,
@@ -68,14 +69,14 @@ impl State {
         let mut goroutines = Vec::new(alloc);
         goroutines.push(place_of(List::new(alloc), 0))?;
         goroutines.push(place_of(frames, line))?;
-        let mut running = Vec::new(alloc);
-        running.push(GoroutineId(0))?;
-        running.push(GoroutineId(1))?;
+        let present = first_two(alloc)?;
+        let running = first_two(alloc)?;
         Ok(State {
             globals,
             heap: Heap::new(alloc),
             finalisers: List::new(alloc),
             goroutines,
+            present,
             running,
             queue: List::new(alloc),
             output: List::new(alloc),
@@ -109,11 +110,12 @@ impl State {
         self.recorded
     }
 
-    /// The number that the next goroutine gets: those that there are or were have smaller ones.
-    pub fn next_goroutine(&self) -> u64
-        ensures { result ≡ self.now.next_goroutine }
+    /// The goroutines that have not ended, in rising order; goroutine 0 among them.
+    pub fn goroutines(&self) -> &[GoroutineId]
+        ensures present { map (λ g. g.0) result.now ≡ keys self.now.goroutines }
+        ensures rises { IsRising self.now.goroutines }
     {
-        self.goroutines.len() as u64
+        self.present.as_slice()
     }
 
     /// The goroutine of this number, where it has not ended.
@@ -179,7 +181,12 @@ impl State {
         ensures first { result ≡ option_map waiting_of (first object.0 side self.now.goroutines) }
         ensures blocked { IfSome (first object.0 side self.now.goroutines) (λ w. find w.number self.now.goroutines ≡ Some w.goroutine × is_running w.goroutine.mode ≡ false) }
     {
-        first_waiter(self.goroutines.as_slice(), object, side)
+        first_waiter(
+            self.goroutines.as_slice(),
+            self.present.as_slice(),
+            object,
+            side,
+        )
     }
 
     /// What was printed and not cleared.
@@ -232,14 +239,12 @@ impl State {
     {
         let number = u32::try_from(self.goroutines.len()).map_err(|_| Memory)?;
         let g = GoroutineId(number);
-        self.running.push(g)?;
-        match self.goroutines.push(place_of(frames, line)) {
-            Ok(()) => Ok(g),
-            Err(_) => {
-                self.running.pop();
-                Err(Memory)
-            }
-        }
+        self.present.reserve(1)?;
+        self.running.reserve(1)?;
+        self.goroutines.push(place_of(frames, line))?;
+        add_last(&mut self.present, g);
+        add_last(&mut self.running, g);
+        Ok(g)
     }
 
     /// The goroutine blocks, with the next ticket. Its innermost frame goes on at a place without so
@@ -307,6 +312,7 @@ impl State {
         let place = &mut self.goroutines[g.0 as usize];
         place.goroutine.frames = List::new(alloc);
         place.present = false;
+        leave_out(&mut self.present, g);
         leave_out(&mut self.running, g);
     }
 
@@ -344,6 +350,16 @@ impl State {
     {
         self.output.clear();
     }
+}
+
+// Goroutines 0 and 1.
+fn first_two(alloc: Global) -> Result<Vec<GoroutineId>, Memory>
+    ensures { IfOk result (λ goroutines. map (λ g. g.0) goroutines.items ≡ 0 ∷ 1 ∷ []) }
+{
+    let mut goroutines = Vec::new(alloc);
+    goroutines.push(GoroutineId(0))?;
+    goroutines.push(GoroutineId(1))?;
+    Ok(goroutines)
 }
 
 // The function at an object's number.

@@ -1,9 +1,9 @@
 //! Who waits on an object.
 
-ghost use Rattle.std.specs.Prelude.{◌≡◌, ◌==◌, ◌≤◌, ◌^◌, ◌&&◌, Some, None, length, option_map};
-ghost use Rattle.golf_theory.specs.Stored.{entries};
+ghost use Rattle.std.specs.Prelude.{◌≡◌, ◌==◌, ◌&&◌, Some, None, map, option_map};
+ghost use Rattle.golf_theory.specs.Maps.{keys};
 ghost use Rattle.golf_model.specs.Waiting.{side_number, same_side, wait_for, first};
-ghost use Rattle.golf_state.specs.Places.{plain_place, plain_places};
+ghost use Rattle.golf_state.specs.Places.{plain_place, plain_entries};
 ghost use Rattle.golf_state.specs.Seen.{seen_of, sooner, waiter_in};
 ghost use Rattle.golf_state.specs.Waited.{waiting_of};
 
@@ -59,8 +59,8 @@ fn wait_for(waits: &[Wait], object: ObjectId, side: Side) -> Option<Wait>
 }
 
 // The goroutine at a place as a waiter, where it is one.
-fn waiter_in(number: u32, place: &Place, object: ObjectId, side: Side) -> Option<Seen>
-    ensures { result ≡ option_map seen_of (waiter_in number object.0 side (plain_place place.now)) }
+fn waiter_in(g: GoroutineId, place: &Place, object: ObjectId, side: Side) -> Option<Seen>
+    ensures { result ≡ option_map seen_of (waiter_in g.0 object.0 side (plain_place place.now)) }
 {
     if !place.present {
         return None;
@@ -69,9 +69,8 @@ fn waiter_in(number: u32, place: &Place, object: ObjectId, side: Side) -> Option
         Mode::Running => None,
         Mode::Blocked { waits, ticket, .. } => {
             let wait = wait_for(waits.as_slice(), object, side)?;
-            let goroutine = GoroutineId(number);
             Some(Seen {
-                waiting: Waiting { goroutine, wait },
+                waiting: Waiting { goroutine: g, wait },
                 ticket: *ticket,
             })
         }
@@ -89,16 +88,23 @@ fn sooner(seen: Option<Seen>, other: Option<Seen>) -> Option<Seen>
     }
 }
 
-/// The goroutine of least ticket among those that wait on the object with that side.
-pub fn first_waiter(places: &[Place], object: ObjectId, side: Side) -> Option<Waiting>
-    requires { length places.now ≤ 2 ^ 32 }
-    ensures { result ≡ option_map waiting_of (first object.0 side (entries 0 (plain_places places.now))) }
+/// The goroutine of least ticket among those that wait on the object with that side. It looks at
+/// the goroutines that are present.
+pub fn first_waiter(
+    places: &[Place],
+    present: &[GoroutineId],
+    object: ObjectId,
+    side: Side,
+) -> Option<Waiting>
+    requires { map (λ g. g.0) present.now ≡ keys (plain_entries places.now) }
+    ensures { result ≡ option_map waiting_of (first object.0 side (plain_entries places.now)) }
 {
     let mut best = None;
-    let mut at = places.len();
+    let mut at = present.len();
     while at > 0 {
         at -= 1;
-        best = sooner(waiter_in(at as u32, &places[at], object, side), best);
+        let g = present[at];
+        best = sooner(waiter_in(g, &places[g.0 as usize], object, side), best);
     }
     match best {
         Some(seen) => Some(seen.waiting),

@@ -114,3 +114,11 @@ stopped_line turns = codes "stopped after " ++ (decimal turns ++ codes " turns\n
 abbrev pub last_line : List (List ℕ) → ℕ → Option Ending → List ℕ
 last_line texts turns (Some e) = ending_line texts e
 last_line texts turns None = stopped_line turns
+
+-- the line of a file whose bytes are no tokens from this byte on, which stands on this line
+abbrev pub lexical_line : ℕ → ℕ → List ℕ
+lexical_line line byte = codes "refused: line " ++ (decimal line ++ (codes ": byte " ++ (decimal byte ++ codes "\n")))
+
+-- the line of a file whose tokens no tree prints; the fault is on this line
+abbrev pub syntax_line : ℕ → List ℕ
+syntax_line line = codes "refused: line " ++ (decimal line ++ codes ": syntax\n")

@@ -17,6 +17,7 @@ ghost use Rattle.golf_texts.specs.Texts.{
   stopped_line as stopped_bytes,
 };
 
+use crate::refusals::list_of;
 use golf_base::{GoroutineId, List, Memory};
 use golf_data::{Ending, Entry, PanicKind, Report, WaitKind};
 use std::alloc::Global;
@@ -180,9 +181,10 @@ fn fault_line(
 fn asleep_line(alloc: Global) -> Result<List<u8>, Memory>
     ensures { IfOk result (λ text. text ≡ asleep_bytes) }
 {
-    let mut text = List::new(alloc);
-    text.extend_from_slice(b"fatal error: all goroutines are asleep - deadlock!\n")?;
-    Ok(text)
+    list_of(
+        alloc,
+        b"fatal error: all goroutines are asleep - deadlock!\n",
+    )
 }
 
 /// The line of a program that has crashed; empty for one that has returned. `texts` is the code's
@@ -206,7 +208,5 @@ pub fn stopped_line(alloc: Global, turns: u32) -> Result<List<u8>, Memory>
     ensures { IfOk result (λ line. line ≡ stopped_bytes turns) }
 {
     let line = format!(in alloc; "stopped after {turns} turns\n")?;
-    let mut text = List::new(alloc);
-    text.extend_from_slice(line.as_bytes())?;
-    Ok(text)
+    list_of(alloc, line.as_bytes())
 }

@@ -1,8 +1,9 @@
 use super::golf;
-use golf_base::{List, MemorySink, MemorySource, OpenGate};
+use golf_base::{Gate, List, MemorySink, MemorySource, OpenGate};
 use golf_texts::{LIMIT, NOT_BUILT, READ_FAULT, Status, TOO_LONG, USAGE};
 use std::alloc::Global;
 use std::test::Fail;
+use std::thread::Threads;
 
 const EMPTY_MAIN: &[u8] = b"package main\nfunc main() {\n}\n";
 
@@ -15,12 +16,16 @@ const VARIABLE: &[u8] =
 const LEAK: &[u8] =
     b"package main\nimport \"fmt\"\nimport \"runtime\"\nfunc recv(c chan int) {\n\t<-c\n}\nfunc leak() {\n\tc := make(chan int)\n\tgo recv(c)\n}\nfunc main() {\n\tleak()\n\tfmt.Println(1)\n\truntime.GC()\n}\n";
 
+// Goroutine 2 waits on a channel of the main one, and goroutine 3 on one that goroutine 2 refers to.
+pub(super) const TWO_ROUNDS: &[u8] =
+    b"package main\nimport \"fmt\"\nimport \"runtime\"\nfunc two(a chan int, b chan int) {\n\t<-a\n\tb <- 1\n}\nfunc three(b chan int) {\n\t<-b\n}\nfunc start(a chan int) {\n\tb := make(chan int)\n\tgo two(a, b)\n\tgo three(b)\n}\nfunc main() {\n\ta := make(chan int)\n\tstart(a)\n\tfmt.Println(1)\n\tfmt.Println(2)\n\tfmt.Println(3)\n\tfmt.Println(4)\n\truntime.GC()\n}\n";
+
 // How a call ended, and what it wrote.
 #[derive(Drop)]
-struct Outcome {
-    status: Status,
-    out: MemorySink,
-    err: MemorySink,
+pub(super) struct Outcome {
+    pub(super) status: Status,
+    pub(super) out: MemorySink,
+    pub(super) err: MemorySink,
 }
 
 // A list of these numbers.
@@ -32,12 +37,24 @@ fn numbers(alloc: Global, items: &[u32]) -> Result<List<u32>, Fail> {
 
 // The program over a file in memory, of which the calls with these numbers fail, and those of the
 // output sink. The source and both sinks take four bytes a call.
-fn call<R: AllocGlobal>(
+fn call<R: AllocGlobal + Threads + Sync>(
     rt: &R,
     words: &[&str],
     file: List<u8>,
     read_faults: &[u32],
     write_faults: &[u32],
+) -> Result<Outcome, Fail> {
+    call_with(rt, words, file, read_faults, write_faults, &OpenGate)
+}
+
+// The same with a gate.
+fn call_with<R: AllocGlobal + Threads + Sync, G: Gate + Sync>(
+    rt: &R,
+    words: &[&str],
+    file: List<u8>,
+    read_faults: &[u32],
+    write_faults: &[u32],
+    gate: &G,
 ) -> Result<Outcome, Fail> {
     let alloc = rt.alloc();
     let mut source = MemorySource::new(file, 4, numbers(alloc, read_faults)?);
@@ -47,14 +64,23 @@ fn call<R: AllocGlobal>(
     for word in words {
         given.push(String::from_str(alloc, *word)?)?;
     }
-    let status = golf(rt, &given, &mut source, &mut out, &mut err, &OpenGate);
+    let status = golf(rt, &given, &mut source, &mut out, &mut err, gate);
     Ok(Outcome { status, out, err })
 }
 
-fn run<R: AllocGlobal>(rt: &R, file: &[u8]) -> Result<Outcome, Fail> {
+// A run of this file, whose markers pass the gate.
+pub(super) fn run_with<R: AllocGlobal + Threads + Sync, G: Gate + Sync>(
+    rt: &R,
+    file: &[u8],
+    gate: &G,
+) -> Result<Outcome, Fail> {
     let mut bytes = List::new(rt.alloc());
     bytes.extend_from_slice(file)?;
-    call(rt, &["run"], bytes, &[], &[])
+    call_with(rt, &["run"], bytes, &[], &[], gate)
+}
+
+fn run<R: AllocGlobal + Threads + Sync>(rt: &R, file: &[u8]) -> Result<Outcome, Fail> {
+    run_with(rt, file, &OpenGate)
 }
 
 #[test]
@@ -95,7 +121,7 @@ fn a_variable_may_be_named_main_or_init(rt: HostRuntime) -> Result<(), Fail> {
 
 #[test]
 fn files_that_are_no_plain_files_are_refused(rt: HostRuntime) -> Result<(), Fail> {
-    let bodies: [&[u8]; 12] = [
+    let bodies: [&[u8]; 10] = [
         b"\tfmt.Println(y)\n",
         b"\tx := 1\n\tx := 2\n",
         b"\tint := 1\n",
@@ -103,10 +129,8 @@ fn files_that_are_no_plain_files_are_refused(rt: HostRuntime) -> Result<(), Fail
         b"\t_ := 1\n",
         b"\tfor := 1\n",
         b"\tx := 9223372036854775808\n",
-        b"\tx := 01\n",
         b"\tx:=1\n",
         b"\tfmt.Println(1,2)\n",
-        b"\tfmt.Println(\"a\\q\")\n",
         b"\tfmt.Println(1)",
     ];
     for body in bodies.iter() {
@@ -119,6 +143,27 @@ fn files_that_are_no_plain_files_are_refused(rt: HostRuntime) -> Result<(), Fail
         assert_eq!(rt; got.out.written(), b"".as_slice());
         assert_eq!(rt; got.err.written(), NOT_BUILT.as_slice());
     }
+    Ok(())
+}
+
+// Whether a file is refused with this line.
+fn is_refused<R: AllocGlobal + Threads + Sync>(
+    rt: &R,
+    file: &[u8],
+    line: &[u8],
+) -> Result<bool, Fail> {
+    let Outcome { status, out, err } = run(rt, file)?;
+    Ok(status == Status::Refused && out.written().is_empty() && err.written() == line)
+}
+
+#[test]
+fn bytes_that_do_not_lex_are_refused_at_their_place(rt: HostRuntime) -> Result<(), Fail> {
+    let unclosed = b"package main\nfunc main() {\n\tx := \"ab";
+    assert!(rt; is_refused(&rt, unclosed.as_slice(), b"refused: line 3: byte 36\n")?);
+    let zero = b"package main\nfunc main() {\n\tx := 01\n}\n";
+    assert!(rt; is_refused(&rt, zero.as_slice(), b"refused: line 3: byte 34\n")?);
+    let escape = b"package main\nfunc main() {\n\tx := \"a\\q\"\n}\n";
+    assert!(rt; is_refused(&rt, escape.as_slice(), b"refused: line 3: byte 36\n")?);
     Ok(())
 }
 
@@ -211,9 +256,7 @@ fn a_program_that_waits_alone_is_asleep(rt: HostRuntime) -> Result<(), Fail> {
 
 #[test]
 fn a_waiter_is_live_by_two_rounds_of_root_growth(rt: HostRuntime) -> Result<(), Fail> {
-    let file =
-        b"package main\nimport \"fmt\"\nimport \"runtime\"\nfunc two(a chan int, b chan int) {\n\t<-a\n\tb <- 1\n}\nfunc three(b chan int) {\n\t<-b\n}\nfunc start(a chan int) {\n\tb := make(chan int)\n\tgo two(a, b)\n\tgo three(b)\n}\nfunc main() {\n\ta := make(chan int)\n\tstart(a)\n\tfmt.Println(1)\n\tfmt.Println(2)\n\tfmt.Println(3)\n\tfmt.Println(4)\n\truntime.GC()\n}\n";
-    let got = run(&rt, file)?;
+    let got = run(&rt, TWO_ROUNDS)?;
     assert!(rt; got.status == Status::Clean);
     assert_eq!(rt; got.out.written(), b"1\n2\n3\n4\n".as_slice());
     assert_eq!(rt;

@@ -1,8 +1,8 @@
 use Rattle.std.proofs.Common.{refl, ap}
 use Rattle.std.specs.Prelude.{IfSome, Err}
 use Rattle.golf_texts.specs.declared.status.TheConstants.{TOO_LONG}
-use Rattle.golf.specs.Means.{IsTooLong}
-use Rattle.golf.specs.Means.FileLine.{WhenTooLong}
+use Rattle.golf.specs.Meaning.{RefusedBy}
+use Rattle.golf.specs.Means.FileLine.{WhenRefused}
 use Rattle.golf.proofs.Views.{refused-means, wanting-means, unread-means, usage-means, means-left, too-long, refused-long}
 use Rattle.golf.proofs.top.serve.Goals as goal
 
@@ -20,8 +20,8 @@ returns-in-Err-ReadFault-clause-run g c = λ run.
 
 pub returns-in-Err-TooLong-clause-run : goal.returns-in-Err-TooLong-clause-run
 returns-in-Err-TooLong-clause-run g c = λ run.
-    let long : IfSome (g.S.Source.left c.args.source.now) IsTooLong = too-long _ (g.S.Source.left c.read_file.new.source) (c.in-Err-TooLong.ensures.too_long (ap (λ e. Err e) c.in-Err-TooLong.field-0-is)) in
-    refused-means (g.S.Source.left c.args.source.now) _ _ _ _ _ _ _ _ _ TOO_LONG.now c.end-in-Err-TooLong.result (WhenTooLong long) (λ written. refused-long (g.S.Source.left c.args.source.now) _ _ long written) c.end-in-Err-TooLong.ensures
+    let long : IfSome (g.S.Source.left c.args.source.now) (λ bytes. RefusedBy bytes TOO_LONG.now) = too-long _ (g.S.Source.left c.read_file.new.source) (c.in-Err-TooLong.ensures.too_long (ap (λ e. Err e) c.in-Err-TooLong.field-0-is)) in
+    refused-means (g.S.Source.left c.args.source.now) _ _ _ _ _ _ _ _ _ TOO_LONG.now c.end-in-Err-TooLong.result (WhenRefused TOO_LONG.now long) (λ written. refused-long (g.S.Source.left c.args.source.now) _ _ long written) c.end-in-Err-TooLong.ensures
 
 pub returns-in-Err-Memory-clause-run : goal.returns-in-Err-Memory-clause-run
 returns-in-Err-Memory-clause-run g c = λ run. wanting-means _ _ _ _ _ _ _ _ _ _ c.end-in-Err-Memory.result c.end-in-Err-Memory.ensures

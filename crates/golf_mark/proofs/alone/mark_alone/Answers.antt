@@ -2,7 +2,7 @@ use Rattle.std.proofs.Common.{◌≡◌, ℕ, ◌-◌, List, arith, sym, subst}
 use Rattle.golf_theory.specs.Membership.{In}
 use Rattle.golf_theory.proofs.Lists.{In-get_or}
 use Rattle.golf_model.specs.Graph.{node_count, sleeper_count, Least}
-use Rattle.golf_mark.specs.Marking.{HasMarked}
+use Rattle.golf_marks.specs.Flags.{HasMarked}
 use Rattle.golf_mark.specs.Working.{Gains}
 use Rattle.golf_mark.proofs.Ranges.{Least-below}
 use Rattle.golf_mark.proofs.Marked.{HasMarked-same}

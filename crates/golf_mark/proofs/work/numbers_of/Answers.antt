@@ -1,5 +1,5 @@
 use Rattle.std.proofs.Common.{ℕ, ◌+◌, List, subst, sym, rules}
-use Rattle.golf_mark.proofs.Flags.{AreNumbers, AreNumbers-yes, AreNumbers-no}
+use Rattle.golf_marks.proofs.Flags.{AreNumbers, AreNumbers-yes, AreNumbers-no}
 use Rattle.golf_mark.proofs.work.numbers_of.Goals as goal
 use Rattle.golf_mark.proofs.work.numbers_of.Goals.{then-flag+in_ok-push, else-flag}
 

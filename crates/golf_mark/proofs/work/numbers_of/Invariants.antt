@@ -1,4 +1,4 @@
-use Rattle.golf_mark.proofs.Flags.{AreNumbers}
+use Rattle.golf_marks.proofs.Flags.{AreNumbers}
 use Rattle.golf_mark.proofs.work.numbers_of.Given as goal
 
 abbrev pub invariant-loop-number : goal.invariant-loop-number

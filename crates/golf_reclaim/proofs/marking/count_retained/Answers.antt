@@ -6,7 +6,7 @@ use Rattle.golf_reclaim.proofs.Meaning.{retained-count}
 use Rattle.golf_reclaim.proofs.marking.count_retained.Goals as goal
 
 pub returns : goal.returns
-returns c =
+returns g c =
     let m = c.in_ok-marked.marked in
     c.count_set.ensures
     ∙ ap count_set

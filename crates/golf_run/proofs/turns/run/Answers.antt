@@ -47,7 +47,7 @@ returns-in_err-write_all g c =
     (inl (subst (λ f. Rose f (g.O.Sink.faults c.write_all.new.sink)) c.loop-number.invariant.steady.out c.in_err-write_all.ensures.cause.failed, c.loop-number.invariant.steady.err))
 
 pub tell-requires-clause-numbered : goal.tell-requires-clause-numbered
-tell-requires-clause-numbered g c =
+tell-requires-clause-numbered g c = λ κs within.
     let code = c.args.code.now in
     let k = c.loop-number.number in
     let state = c.loop-number.state in
@@ -57,7 +57,7 @@ tell-requires-clause-numbered g c =
     subst Numbered (sym cleared) (sane-next code c.requires.built k state goes c.loop-number.invariant.under_way.same).numbered
 
 pub tell-requires-clause-whole : goal.tell-requires-clause-whole
-tell-requires-clause-whole g c =
+tell-requires-clause-whole g c = λ κs within.
     let code = c.args.code.now in
     let k = c.loop-number.number in
     let state = c.loop-number.state in

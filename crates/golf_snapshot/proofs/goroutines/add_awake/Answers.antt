@@ -1,23 +1,24 @@
-use Rattle.std.proofs.Common.{arith, refl, ap, sym, ◌≡◌, ◌∙◌, ◌++◌, [], List, ℕ, Bool, not, map}
+use Rattle.std.proofs.Common.{arith, refl, ap, sym, ◌≡◌, ◌∙◌, ◌++◌, [], List, ℕ, Bool, not, map, get_or}
 use Rattle.golf_theory.specs.Membership.{is_in}
 use Rattle.golf_theory.specs.Maps.{find}
+use Rattle.golf_base.specs.declared.ids.GoroutineId.{GoroutineId}
 use Rattle.golf_snapshot.specs.Stepping.{entry_at, sleepers_of}
-use Rattle.golf_snapshot.proofs.Stepping.{gather-init, gather-next, gather-done}
+use Rattle.golf_snapshot.proofs.Stepping.{gather-init, gather-listed, gather-end}
 use Rattle.golf_snapshot.proofs.Gathering.{AwakeNodes, awake-append}
 use Rattle.golf_snapshot.proofs.goroutines.add_awake.Goals as goal
 
-pub loop-number-init : goal.loop-number-init
-loop-number-init c =
+pub loop-g-init : goal.loop-g-init
+loop-g-init c =
     let s = c.args.state.now in
-    gather-init (AwakeNodes s.objects) refl (awake-append s.objects) c.args.nodes.now s.goroutines c.requires.goroutines_rise
+    gather-init (AwakeNodes s.objects) refl (awake-append s.objects) c.args.nodes.now s.goroutines
 
-pub loop-number-preserved : goal.loop-number-preserved
-loop-number-preserved c =
+pub loop-g-preserved : goal.loop-g-preserved
+loop-g-preserved c =
     let s = c.args.state.now in
-    gather-next (AwakeNodes s.objects) refl (awake-append s.objects) c.args.nodes.now c.loop-number.nodes c.add_if_awake.new.nodes s.goroutines c.loop-number.number c.requires.goroutines_rise c.loop-number.invariant
-    (c.in_ok-add_if_awake.ensures ∙ ap (λ (k : ℕ). c.loop-number.nodes ++ AwakeNodes s.objects (entry_at k (find k s.goroutines))) c.in_ok-goroutine_id.ensures)
+    let d : GoroutineId = record { 0 = 0 } in
+    gather-listed (AwakeNodes s.objects) refl (awake-append s.objects) c.args.nodes.now c.loop-g.nodes c.add_if_awake.new.nodes s.goroutines c.goroutines-g-items.result.now c.loop-g.g-index d c.goroutines-g-items.ensures.rises c.goroutines-g-items.ensures.present c.loop-g-test.true c.loop-g.invariant c.in_ok-add_if_awake.ensures
 
 pub returns : goal.returns
 returns c =
     let s = c.args.state.now in
-    gather-done (AwakeNodes s.objects) refl (awake-append s.objects) c.args.nodes.now c.loop-number.nodes s.goroutines c.loop-number.number s.next_goroutine c.requires.goroutines_below (omega arith) c.loop-number.invariant
+    gather-end (AwakeNodes s.objects) refl (awake-append s.objects) c.args.nodes.now c.loop-g.nodes s.goroutines c.goroutines-g-items.result.now c.loop-g.g-index c.goroutines-g-items.ensures.present c.loop-g-test.false c.loop-g.invariant

@@ -1,8 +1,7 @@
-use Rattle.std.proofs.Common.{◌≡◌, ◌++◌}
+use Rattle.std.proofs.Common.{◌≡◌, ◌++◌, take}
 use Rattle.golf_snapshot.specs.Parts.{ranks, awake_refs}
-use Rattle.golf_snapshot.specs.Stepping.{before}
 use Rattle.golf_snapshot.proofs.goroutines.add_awake.Given as goal
 
--- what those below the number gave
-abbrev pub invariant-loop-number : goal.invariant-loop-number
-invariant-loop-number l = l.nodes ≡ l.fn.nodes ++ ranks l.state.objects (awake_refs (before l.number l.state.goroutines))
+-- what the goroutines so far gave
+abbrev pub invariant-loop-g : goal.invariant-loop-g
+invariant-loop-g l = l.nodes ≡ l.fn.nodes ++ ranks l.state.objects (awake_refs (take l.g-index l.state.goroutines))

@@ -1,8 +1,7 @@
-use Rattle.std.proofs.Common.{◌≡◌, ◌++◌}
+use Rattle.std.proofs.Common.{◌≡◌, ◌++◌, take}
 use Rattle.golf_snapshot.specs.Stepping.{sleepers_of}
-use Rattle.golf_snapshot.specs.Stepping.{before}
 use Rattle.golf_snapshot.proofs.goroutines.sleepers.Given as goal
 
--- what those below the number gave
-abbrev pub invariant-loop-number : goal.invariant-loop-number
-invariant-loop-number l = l.sleepers ≡ sleepers_of l.state.objects (before l.number l.state.goroutines)
+-- what the goroutines so far gave
+abbrev pub invariant-loop-g : goal.invariant-loop-g
+invariant-loop-g l = l.sleepers ≡ sleepers_of l.state.objects (take l.g-index l.state.goroutines)

@@ -1,20 +1,15 @@
-use Rattle.std.proofs.Common.{List, sym, ap, ◌∙◌}
-use Rattle.std.specs.Prelude.{slice_get}
-use Rattle.golf_heap.specs.Numbered.{Numbered, rank}
-use Rattle.golf_heap.proofs.Entries.{item-at, no_item-at, there, elsewhere, nowhere}
+use Rattle.golf_heap.proofs.Gathering.{Rises-keyed}
+use Rattle.golf_heap.proofs.Finding.{found-at, found-none, never-empty}
 use Rattle.golf_heap.proofs.heap.Heap.get.Goals as goal
 
-pub returns-in_err-entry : goal.returns-in_err-entry
-returns-in_err-entry c =
-    let at = no_item-at c.as_slice.result.now c.place.result c.in_err-entry.ensures.lookup in
-    rw (c.from_residual.ensures, ← c.self.view_is) (nowhere c.args.id.0 c.place.result c.self.inside.entries.items c.self.invariant.rises (c.place.ensures ∙ ap (λ (s : Numbered). rank c.args.id.0 s.objects) (sym c.self.view_is)) (rw c.as_slice.ensures.value at at))
+pub key_of-requires : goal.key_of-requires
+key_of-requires c = rw c.as_slice.ensures.value (Rises-keyed c.self.inside.slots 1 c.self.inside.places.items c.self.invariant.numbers.rises)
 
-pub returns-then-entry-id : goal.returns-then-entry-id
-returns-then-entry-id c =
-    let at = item-at c.as_slice.result.now c.place.result c.in_ok-entry.entry c.in_ok-entry.ensures.lookup in
-    rw (← c.self.view_is) (there c.args.id.0 c.place.result c.self.inside.entries.items c.in_ok-entry.entry.now c.self.invariant.rises (c.place.ensures ∙ ap (λ (s : Numbered). rank c.args.id.0 s.objects) (sym c.self.view_is)) (rw c.as_slice.ensures.value at at) c.if-entry-id.true)
+pub returns-in_err-key : goal.returns-in_err-key
+returns-in_err-key c = rw (c.from_residual.ensures, ← c.self.view_is) (found-none c.self.inside.slots c.self.inside.places.items c.args.id.0 (rw c.as_slice.ensures.value at c.in_err-key.ensures))
 
-pub returns-else-entry-id : goal.returns-else-entry-id
-returns-else-entry-id c =
-    let at = item-at c.as_slice.result.now c.place.result c.in_ok-entry.entry c.in_ok-entry.ensures.lookup in
-    rw (← c.self.view_is) (elsewhere c.args.id.0 c.place.result c.self.inside.entries.items c.in_ok-entry.entry.now c.self.invariant.rises (c.place.ensures ∙ ap (λ (s : Numbered). rank c.args.id.0 s.objects) (sym c.self.view_is)) (rw c.as_slice.ensures.value at at) c.if-entry-id.false)
+pub returns-in_err-slot : goal.returns-in_err-slot
+returns-in_err-slot c = absurd (never-empty c.self.inside.slots c.self.inside.places.items c.args.id.0 c.in_ok-key.key c.self.invariant.held (rw c.as_slice.ensures.value at c.in_ok-key.ensures) c.in_err-slot.ensures)
+
+pub returns : goal.returns
+returns c = rw (← c.self.view_is) (found-at c.self.inside.slots c.self.inside.places.items c.args.id.0 c.in_ok-key.key c.in_ok-slot.slot.now (rw c.as_slice.ensures.value at c.in_ok-key.ensures) c.in_ok-slot.ensures)

@@ -1,4 +1,4 @@
-use Rattle.golf_heap.proofs.Entries.{unchanged}
+use Rattle.golf_heap.proofs.Numbers.{unchanged}
 use Rattle.golf_heap.proofs.heap.Heap.put.Goals as goal
 use Rattle.std.proofs.Common.{sym, ◌∙◌}
 

@@ -1,7 +1,7 @@
 use Rattle.std.proofs.Common.{◌≡◌, ◌≤◌, ℕ, ◌++◌, List, Bool, take, drop, length, ap, ◌∙◌, subst, arith}
 use Rattle.std.specs.Prelude.{◌↔◌}
 use Rattle.golf_theory.specs.Membership.{In}
-use Rattle.golf_mark.specs.Marking.{IsSet}
+use Rattle.golf_marks.specs.Flags.{IsSet}
 use Rattle.golf_mark.proofs.Marked.{HasMarked-cut}
 use Rattle.golf_mark.proofs.work.Work.into_marked.Goals as goal
 

@@ -1,6 +1,7 @@
 use Rattle.std.proofs.Common.{◌≡◌, ℕ, ◌+◌, ◌<◌, ◌≤◌, List, length, get_or, Option, Some, refl, sym, ap, ◌∙◌, rules, arith}
 use Rattle.std.proofs.lemmas.List.{length-set}
-use Rattle.golf_theory.specs.Maps.{put}
+use Rattle.golf_theory.specs.Maps.{put, keys}
+use Rattle.golf_theory.proofs.MapKeys.{keys-put}
 use Rattle.golf_theory.specs.Stored.{without}
 use Rattle.golf_data.specs.declared.goroutine.Mode.{Mode}
 use Rattle.golf_model.specs.Plain.{PlainGoroutine, plain_goroutine}
@@ -11,6 +12,10 @@ use Rattle.golf_state.specs.Looked.{on_goroutine, passed_on}
 use Rattle.golf_state.specs.Places.{plain_place, plain_entries, running_of}
 use Rattle.golf_state.specs.declared.places.Place.{Place}
 use Rattle.golf_state.proofs.PlaceLaws.{present, beyond, found-at, absent-at, set-at, set-state, same-state, runs-blocked}
+use Rattle.golf_theory.proofs.Placing.{Rises-entries}
+use Rattle.golf_model.specs.State.{is_running}
+use Rattle.golf_state.specs.Places.{plain_places}
+use Rattle.golf_state.proofs.Rises.{Rises-keys, Rises-keys_where}
 use Rattle.golf_state.proofs.state.State.block.Goals as goal
 
 pub returns-then-g-len-clause-ok : goal.returns-then-g-len-clause-ok
@@ -33,6 +38,7 @@ invariant_of-self c =
     let v : PlainGoroutine = record (passed_on c.args.after c.args.taken (plain_goroutine p.goroutine)) { mode = mode } in
     let e : plain_place q ≡ Some v = present q c.if-place.true ∙ ap (λ (r : PlainGoroutine). Some (record r { mode = mode })) c.pass_on.ensures in
     record {
+      present = c.self.invariant.present ∙ sym (keys-put g v (plain_entries gs)) ∙ ap keys (sym (set-at gs g p q v l h c.if-place.true e));
       running = c.leave_out.ensures ∙ ap (without g) c.self.invariant.running ∙ runs-blocked gs g v refl ∙ ap running_of (sym (set-at gs g p q v l h c.if-place.true e));
       few = omega (arith, length-set gs g q, c.self.invariant.few);
     }
@@ -69,3 +75,6 @@ returns-else-place-clause-ok c =
     let act : PlainGoroutine → State → State = λ r. block c.args.g.0 c.args.kind c.args.line c.args.waits (passed_on c.args.after c.args.taken r) in
     rw (← c.self.view_is)
     (same-state (plain_state s) gs g p p h refl ∙ sym (ap (λ (o : Option PlainGoroutine). on_goroutine act o (plain_state s)) (absent-at gs g p l h c.if-place.false)))
+
+pub leave_out-requires : goal.leave_out-requires
+leave_out-requires c = rw c.self.invariant.running (Rises-keys_where (λ g r. is_running r.mode) 0 (plain_entries c.self.inside.goroutines.items) (Rises-entries 0 (plain_places c.self.inside.goroutines.items)))

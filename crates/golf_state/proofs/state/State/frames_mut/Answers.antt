@@ -8,6 +8,8 @@ use Rattle.golf_state.specs.Inside.{plain_state}
 use Rattle.golf_state.specs.Looked.{on_goroutine, runs, frames_in}
 use Rattle.golf_state.specs.Places.{plain_place, plain_places, plain_entries, running_of}
 use Rattle.golf_state.specs.declared.places.Place.{Place}
+use Rattle.golf_theory.specs.Maps.{keys}
+use Rattle.golf_theory.proofs.MapKeys.{keys-put}
 use Rattle.golf_theory.proofs.Placing.{Rises-entries}
 use Rattle.golf_state.proofs.PlaceLaws.{put-same, present, running-found, place-found, read-found, set-at, set-state, runs-same}
 use Rattle.golf_state.proofs.state.State.frames_mut.Goals as goal
@@ -30,6 +32,7 @@ invariant_of-self-lent c = λ w.
     let v : PlainGoroutine = record f.0 { frames = plain_frames w } in
     let e : plain_place q ≡ Some v = present q is.0 ∙ ap (λ (r : PlainGoroutine). Some (record r { frames = plain_frames w })) is.1 in
     record {
+      present = c.self.invariant.present ∙ sym (keys-put g v (plain_entries gs)) ∙ ap keys (sym (set-at gs g p q v (place-found gs g f.0 f.1) c.index_mut-place.ensures.value is.0 e));
       running = c.self.invariant.running ∙ runs-same gs g f.0 v f.1 refl ∙ ap running_of (sym (set-at gs g p q v (place-found gs g f.0 f.1) c.index_mut-place.ensures.value is.0 e));
       few = omega (arith, length-set gs g q, c.self.invariant.few);
     }

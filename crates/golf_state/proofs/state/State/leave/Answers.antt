@@ -1,12 +1,18 @@
-use Rattle.std.proofs.Common.{◌≡◌, ℕ, ◌≤◌, false, List, length, refl, sym, ap, ◌∙◌, arith}
+use Rattle.std.proofs.Common.{◌≡◌, ◌==◌, not, ℕ, ◌≤◌, false, List, length, refl, sym, ap, ◌∙◌, arith}
 use Rattle.std.proofs.lemmas.List.{length-set}
+use Rattle.golf_theory.specs.Maps.{keys}
+use Rattle.golf_theory.proofs.MapKeys.{keys-only}
 use Rattle.golf_theory.specs.Stored.{without}
 use Rattle.golf_model.specs.Plain.{PlainGoroutine}
 use Rattle.golf_model.specs.State.{State}
 use Rattle.golf_state.specs.Inside.{plain_state}
-use Rattle.golf_state.specs.Places.{running_of}
+use Rattle.golf_state.specs.Places.{plain_entries, running_of}
 use Rattle.golf_state.specs.declared.places.Place.{Place}
 use Rattle.golf_state.proofs.PlaceLaws.{clear-past, clear-at, clear-state, runs-left}
+use Rattle.golf_theory.proofs.Placing.{Rises-entries}
+use Rattle.golf_model.specs.State.{is_running}
+use Rattle.golf_state.specs.Places.{plain_places}
+use Rattle.golf_state.proofs.Rises.{Rises-keys, Rises-keys_where}
 use Rattle.golf_state.proofs.state.State.leave.Goals as goal
 
 pub returns-then-g-len : goal.returns-then-g-len
@@ -22,7 +28,8 @@ invariant_of-self c =
     let r = c.index_mut-place.result.now.goroutine in
     let q : Place = record { goroutine = record { frames = c.new.result; mode = r.mode; started = r.started }; present = false } in
     record {
-      running = c.leave_out.ensures ∙ ap (without g) c.self.invariant.running ∙ runs-left gs g ∙ ap running_of (sym (clear-at gs g q refl));
+      present = c.leave_out.ensures ∙ ap (without g) c.self.invariant.present ∙ sym (keys-only (λ h. not (h == g)) (plain_entries gs)) ∙ ap keys (sym (clear-at gs g q refl));
+      running = c.leave_out-2.ensures ∙ ap (without g) c.self.invariant.running ∙ runs-left gs g ∙ ap running_of (sym (clear-at gs g q refl));
       few = omega (arith, length-set gs g q, c.self.invariant.few);
     }
 
@@ -32,3 +39,9 @@ returns c =
     let r = c.index_mut-place.result.now.goroutine in
     let q : Place = record { goroutine = record { frames = c.new.result; mode = r.mode; started = r.started }; present = false } in
     rw (← c.self.view_is) (clear-state (plain_state s) s.goroutines.items c.args.g.0 q refl)
+
+pub leave_out-requires : goal.leave_out-requires
+leave_out-requires c = rw c.self.invariant.present (Rises-keys 0 (plain_entries c.self.inside.goroutines.items) (Rises-entries 0 (plain_places c.self.inside.goroutines.items)))
+
+pub leave_out-requires-2 : goal.leave_out-requires-2
+leave_out-requires-2 c = rw c.self.invariant.running (Rises-keys_where (λ g r. is_running r.mode) 0 (plain_entries c.self.inside.goroutines.items) (Rises-entries 0 (plain_places c.self.inside.goroutines.items)))

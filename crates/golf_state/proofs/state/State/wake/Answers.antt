@@ -1,6 +1,8 @@
 use Rattle.std.proofs.Common.{◌≡◌, ℕ, ◌<◌, ◌≤◌, true, false, List, length, Option, Some, refl, sym, ap, ◌∙◌, arith}
 use Rattle.std.proofs.lemmas.List.{length-set}
 use Rattle.std.proofs.lemmas.Result.{err_from_is_err_and}
+use Rattle.golf_theory.specs.Maps.{keys}
+use Rattle.golf_theory.proofs.MapKeys.{keys-put}
 use Rattle.golf_theory.specs.Stored.{placed}
 use Rattle.golf_model.specs.Plain.{PlainGoroutine, plain_goroutine}
 use Rattle.golf_model.specs.State.{State}
@@ -12,6 +14,10 @@ use Rattle.golf_state.specs.Places.{plain_place, plain_entries, running_of}
 use Rattle.golf_state.specs.declared.places.Place.{Place}
 use Rattle.golf_theory.specs.Stored.{entries}
 use Rattle.golf_state.proofs.PlaceLaws.{present, beyond, found-at, absent-at, set-at, set-plain_same, set-state, same-state, runs-woken, runs-same}
+use Rattle.golf_theory.proofs.Placing.{Rises-entries}
+use Rattle.golf_model.specs.State.{is_running}
+use Rattle.golf_state.specs.Places.{plain_places}
+use Rattle.golf_state.proofs.Rises.{Rises-keys, Rises-keys_where}
 use Rattle.golf_state.proofs.state.State.wake.Goals as goal
 
 pub returns-then-g-len-clause-ok : goal.returns-then-g-len-clause-ok
@@ -28,6 +34,7 @@ invariant_of-self-in_err-resume c =
     let q : Place = record { goroutine = c.resume.new.goroutine; present = p.present } in
     let same : plain_place q ≡ plain_place p = present q c.if-place.true ∙ ap (λ (r : PlainGoroutine). Some r) c.in_err-resume.ensures.err ∙ sym (present p c.if-place.true) in
     record {
+      present = c.self.invariant.present ∙ sym (ap (λ (ps : List (Option PlainGoroutine)). keys (entries 0 ps)) (set-plain_same gs g p q c.index_mut-place.ensures.value same));
       running = ap numbers c.reserve.ensures.items ∙ c.self.invariant.running ∙ sym (ap (λ (ps : List (Option PlainGoroutine)). running_of (entries 0 ps)) (set-plain_same gs g p q c.index_mut-place.ensures.value same));
       few = omega (arith, length-set gs g q, c.self.invariant.few);
     }
@@ -52,6 +59,7 @@ invariant_of-self-then-not-ran c =
     let v : PlainGoroutine = resumed c.args.wait (values_of c.args.given) (plain_goroutine p.goroutine) in
     let e : plain_place q ≡ Some v = present q c.if-place.true ∙ ap (λ (r : PlainGoroutine). Some r) c.in_ok-resume.ensures.ok in
     record {
+      present = c.self.invariant.present ∙ sym (keys-put g v (plain_entries gs)) ∙ ap keys (sym (set-at gs g p q v l h c.if-place.true e));
       running =
           c.put_in.ensures ∙ ap (λ xs. placed g (numbers xs)) c.reserve.ensures.items ∙ ap (placed g) c.self.invariant.running
           ∙ runs-woken gs g (plain_goroutine p.goroutine) v (found-at gs g p l h c.if-place.true) (sym c.is_running-ran.ensures ∙ c.if-not-ran.true) refl
@@ -70,6 +78,7 @@ invariant_of-self-else-not-ran c =
     let v : PlainGoroutine = resumed c.args.wait (values_of c.args.given) (plain_goroutine p.goroutine) in
     let e : plain_place q ≡ Some v = present q c.if-place.true ∙ ap (λ (r : PlainGoroutine). Some r) c.in_ok-resume.ensures.ok in
     record {
+      present = c.self.invariant.present ∙ sym (keys-put g v (plain_entries gs)) ∙ ap keys (sym (set-at gs g p q v l h c.if-place.true e));
       running =
           ap numbers c.reserve.ensures.items ∙ c.self.invariant.running
           ∙ runs-same gs g (plain_goroutine p.goroutine) v (found-at gs g p l h c.if-place.true) (sym c.is_running-ran.ensures ∙ c.if-not-ran.false)
@@ -120,3 +129,8 @@ returns-else-place-clause-ok c =
     let act : PlainGoroutine → State → State = λ r. become g (resumed c.args.wait (values_of c.args.given) r) in
     rw (← c.self.view_is)
     (same-state (plain_state s) gs g p p h refl ∙ sym (ap (λ (o : Option PlainGoroutine). on_goroutine act o (plain_state s)) (absent-at gs g p l h c.if-place.false)))
+
+pub put_in-requires-clause-rises : goal.put_in-requires-clause-rises
+put_in-requires-clause-rises c =
+    rw (c.reserve.ensures.items, c.self.invariant.running)
+    (Rises-keys_where (λ g r. is_running r.mode) 0 (plain_entries c.self.inside.goroutines.items) (Rises-entries 0 (plain_places c.self.inside.goroutines.items)))

@@ -1,0 +1,71 @@
+//! Files and their declarations. Each has the line of its first token.
+
+use crate::expressions::Expr;
+use crate::statements::{Stmt, Var};
+use crate::types::{Name, TypeExpr};
+use golf_base::List;
+
+/// A whole file of package `main`.
+#[derive(Debug, Drop)]
+pub struct File {
+    pub imports: List<Import>,
+    pub declarations: List<Decl>,
+}
+
+/// An import declaration.
+#[derive(Debug, Drop)]
+pub enum Import {
+    /// `import "path"`
+    One(u32, List<u8>),
+    /// `import ("path"; ..)`
+    Group(u32, List<List<u8>>),
+}
+
+/// A top-level declaration.
+#[derive(Debug, Drop)]
+pub enum Decl {
+    /// `const name = value`
+    Const(u32, Name, Const),
+    Var(Var),
+    /// `type name struct { fields }`
+    Struct(u32, Name, List<Field>),
+    Func(Func),
+}
+
+/// `func (receiver) name(parameters) result { body }`
+#[derive(Debug, Drop)]
+pub struct Func {
+    pub line: u32,
+    pub receiver: Option<Receiver>,
+    pub name: Name,
+    pub parameters: List<Field>,
+    pub result: Option<TypeExpr>,
+    pub body: List<Stmt>,
+}
+
+/// `(name *type_name)`
+#[derive(Debug, Drop)]
+pub struct Receiver {
+    pub name: Name,
+    pub type_name: Name,
+}
+
+/// Names that share a type: `first, more.. T`.
+#[derive(Debug, Drop)]
+pub struct Field {
+    pub first: Name,
+    pub more: List<Name>,
+    pub of_type: TypeExpr,
+}
+
+/// The value of a constant.
+#[derive(Debug, Drop)]
+pub enum Const {
+    /// The digits of an integer.
+    Integer(List<u8>),
+    /// The digits of an integer with `-` in front.
+    Negative(List<u8>),
+    Text(List<u8>),
+    True,
+    False,
+}

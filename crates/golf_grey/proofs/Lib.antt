@@ -1,0 +1,6 @@
+pub mod Steps
+pub mod Rows
+pub mod Stages
+pub mod Taking
+pub mod Making
+pub mod Pair

@@ -1,0 +1,49 @@
+-- A new hand.
+use Rattle.std.proofs.Common.{◌≡◌, [], ℕ, ◌-◌, ◌<◌, ◌≤◌, List, length, sym, ap, subst, arith}
+use Rattle.std.specs.Prelude.{sum_by, ◌*◌, vec_capacity}
+use Rattle.std.proofs.lemmas.List.Sums.{sum_by-le}
+use Rattle.golf_theory.proofs.Sums.{total_length, get_or_of}
+use Rattle.std.specs.Global.{Vec}
+use mathlib.Core.Option.{some}
+use lib.ListN.{get_elem?}
+use Rattle.golf_grey.specs.declared.hand.GreyHand.{GreyHand}
+use Rattle.golf_grey.specs.Rule.{all_parts}
+use Rattle.golf_grey.specs.Hands.{Thief, Owner, GreyPass, AllHandsIn, pushed, pushed_by, OwnerFits, IsHandIn, IsNewHand, IsRow, row_weight, IsStage, AllFresh}
+use Rattle.golf_grey.proofs.Stages.{at_low, exists_at}
+
+pub owner_fits : (thieves : List Thief) (owners : List Owner) (c n j : ℕ) (w : Owner) → n ≡ length thieves → n < all_parts → IsStage thieves (all_parts - n) n owners → AllFresh c owners → get_elem? owners j ≡ some w → OwnerFits thieves c j w
+owner_fits thieves owners c n j w n_is small s fresh d =
+    let low = at_low owners j w d in
+    let t = exists_at thieves j (omega (arith, s.len)) in
+    record { deque = λ u e. (s.each j u w e d).0; flavor = (s.each j t.0 w t.1 d).1; parts = omega (arith, s.low j w d (omega (arith, s.len)), n_is); fresh = fresh j w d }
+
+pub hand_fits : (thieves : List Thief) (c j : ℕ) (h : GreyHand) (own : Owner) (passes : Vec GreyPass) → h.own ≡ own → h.passes ≡ passes → h.number ≡ j → h.owners.items ≡ [] → length thieves ≤ vec_capacity h.owners → h.rows.items ≡ [] → length thieves ≤ vec_capacity h.rows → j < length thieves → OwnerFits thieves c j own → IsRow thieves passes.items → ((f : ℕ → ℕ) → row_weight f passes.items ≡ 0)
+    → IsHandIn thieves c h × IsNewHand h
+hand_fits thieves c j h own passes o p n no_owner owner_room no_row row_room low fits row none =
+    let f : OwnerFits thieves c h.number h.own = subst (λ (x : ℕ × Owner). OwnerFits thieves c x.0 x.1) (λ i. (sym n i, sym o i)) fits in (
+      record {
+        row = subst (λ (x : Vec GreyPass). IsRow thieves x.items) (sym p) row;
+        low = omega (arith, n);
+        own = f.deque;
+        parts = f.parts;
+        index = omega (arith, f.fresh.index);
+        count = omega (arith, ap (λ (l : List ℕ). length l) f.fresh.pushed);
+        room = f.fresh.room;
+        no_owner = no_owner;
+        owner_room = owner_room;
+        no_row = no_row;
+        row_room = row_room;
+      },
+      record {
+        none_pushed = f.fresh.pushed;
+        none_taken = λ g. omega (arith, ap (sum_by g) f.fresh.taken, none g, ap (λ (x : Vec GreyPass). row_weight g x.items) p);
+      },
+    )
+
+-- all hands together push at most so often as each may
+pub pushed_within : (thieves : List Thief) (capacity : ℕ) (hands : List GreyHand) → AllHandsIn thieves capacity hands → pushed_by (λ _. 1) hands ≤ length thieves * capacity
+pushed_within thieves capacity hands all =
+    subst (λ (n : ℕ). pushed_by (λ _. 1) hands ≤ n * capacity) all.0
+    (sum_by-le (λ (h : GreyHand). sum_by (λ _. 1) (pushed h)) capacity hands (λ k d low.
+    let h = exists_at hands k low in
+    subst (λ (x : GreyHand). sum_by (λ _. 1) (pushed x) ≤ capacity) (sym (get_or_of hands k h.0 d h.1)) (omega (arith, (all.1 k h.0 h.1).0.count, total_length (pushed h.0)))))

@@ -1,0 +1,136 @@
+-- The owners and the thieves of all deques, one after another.
+use Rattle.std.proofs.Common.{◌≡◌, ◌≢◌, ℕ, zero, suc, ◌+◌, ◌<◌, ◌≤◌, ◌⊎◌, List, [], ◌∷◌, ◌++◌, length, set, refl, sym, ap, ◌∙◌, subst, arith, ⊎_elim, inl, inr, length-append}
+use Rattle.std.proofs.Math.ListN.{length-set}
+use mathlib.Core.Option.{some, some-injective, some-ne-none}
+use lib.ListN.{get_elem?}
+use Rattle.std.specs.Prelude.{sum_by}
+use Rattle.crossbeam_deque.specs.Handles.{view, IsPassOf, worker_deque, stealer_deque, worker_flavor, stealer_flavor, worker_view, worker_index, worker_capacity}
+use Rattle.crossbeam_deque.proofs.Lists.{at_set}
+use Rattle.golf_theory.specs.Membership.{Every}
+use Rattle.golf_grey.specs.Hands.{Thief, Owner, GreyPass, RowFits, row_weight, IsStage, IsFresh, AllFresh}
+use Rattle.std.proofs.lemmas.List.Sums.{sum_by_push}
+
+pub push_cases : {A : Type 0} (l : List A) (a b : A) (j : ℕ) → get_elem? (l ++ a ∷ []) j ≡ some b → ((j < length l) × (get_elem? l j ≡ some b)) ⊎ ((j ≡ length l) × (a ≡ b))
+push_cases [] a b zero e = inr (refl, some-injective a b e)
+push_cases [] a b (suc j) e = absurd (some-ne-none b (sym e))
+push_cases (x ∷ xs) a b zero e = inl (omega arith, e)
+push_cases (x ∷ xs) a b (suc j) e = ⊎_elim (λ t. inl (let l = t.0 in omega arith, t.1)) (λ t. inr (ap suc t.0, t.1)) (push_cases xs a b j e)
+
+pub at_low : {A : Type 0} (l : List A) (j : ℕ) (a : A) → get_elem? l j ≡ some a → j < length l
+at_low [] j a e = absurd (some-ne-none a (sym e))
+at_low (x ∷ xs) zero a e = omega arith
+at_low (x ∷ xs) (suc j) a e = omega (arith, at_low xs j a e)
+
+pub stage_push : (thieves : List Thief) (owners : List Owner) (p k : ℕ) (t : Thief) (w : Owner) → length owners ≡ k → length thieves ≡ k → IsStage thieves p k owners
+    → worker_deque w ≡ stealer_deque t → worker_flavor w ≡ 0 → stealer_flavor t ≡ 0 → (worker_view w).parts ≡ p → IsStage (thieves ++ t ∷ []) p (k + 1) (owners ++ w ∷ [])
+stage_push thieves owners p k t w ol tl s deque fw ft parts = record {
+  len = omega (arith, length-append owners (w ∷ []), length-append thieves (t ∷ []));
+  each = λ j u x e d. ⊎_elim
+      (λ (a : (j < length thieves) × (get_elem? thieves j ≡ some u)). ⊎_elim
+      (λ (b : (j < length owners) × (get_elem? owners j ≡ some x)). s.each j u x a.1 b.1)
+      (λ (b : (j ≡ length owners) × (w ≡ x)). absurd (omega arith))
+      (push_cases owners w x j d))
+      (λ (a : (j ≡ length thieves) × (t ≡ u)). ⊎_elim
+      (λ (b : (j < length owners) × (get_elem? owners j ≡ some x)). absurd (omega arith))
+      (λ (b : (j ≡ length owners) × (w ≡ x)).
+      subst (λ (y : Owner). (worker_deque y ≡ stealer_deque u) × (worker_flavor y ≡ 0) × (stealer_flavor u ≡ 0)) b.1
+      (subst (λ (y : Thief). (worker_deque w ≡ stealer_deque y) × (worker_flavor w ≡ 0) × (stealer_flavor y ≡ 0)) a.1 (deque, fw, ft)))
+      (push_cases owners w x j d))
+      (push_cases thieves t u j e);
+  low = λ j x d l. ⊎_elim
+      (λ (b : (j < length owners) × (get_elem? owners j ≡ some x)). s.low j x b.1 (omega arith))
+      (λ (b : (j ≡ length owners) × (w ≡ x)). subst (λ (y : Owner). (worker_view y).parts ≡ p) b.1 parts)
+      (push_cases owners w x j d);
+  high = λ j x d l. absurd (let h = at_low (owners ++ w ∷ []) j x d in omega (arith, length-append owners (w ∷ [])));
+}
+
+pub fresh_push : (c : ℕ) (owners : List Owner) (w : Owner) → AllFresh c owners → IsFresh c w → AllFresh c (owners ++ w ∷ [])
+fresh_push c owners w all one j x e = ⊎_elim (λ (b : (j < length owners) × (get_elem? owners j ≡ some x)). all j x b.1) (λ (b : (j ≡ length owners) × (w ≡ x)). subst (IsFresh c) b.1 one) (push_cases owners w x j e)
+
+-- the owner at k has changed its parts
+stage_set : (thieves : List Thief) (owners : List Owner) (p k m j₀ : ℕ) (w x : Owner) → get_elem? owners j₀ ≡ some w → worker_deque x ≡ worker_deque w → worker_flavor x ≡ worker_flavor w
+    → IsStage thieves p k owners → ((j : ℕ) (u : Owner) → j ≢ j₀ → get_elem? owners j ≡ some u → (j < m → (worker_view u).parts ≡ p) × (m ≤ j → (worker_view u).parts ≡ p + 1))
+    → (j₀ < m → (worker_view x).parts ≡ p) → (m ≤ j₀ → (worker_view x).parts ≡ p + 1) → IsStage thieves p m (set owners j₀ x)
+stage_set thieves owners p k m j₀ w x at deque flavor s others low high = record {
+  len = length-set owners j₀ x ∙ s.len;
+  each = λ j t u e d. ⊎_elim
+      (λ (a : (j ≡ j₀) × (x ≡ u)). let was = s.each j t w e (ap (λ (n : ℕ). get_elem? owners n) a.0 ∙ at) in
+      subst (λ (y : Owner). (worker_deque y ≡ stealer_deque t) × (worker_flavor y ≡ 0) × (stealer_flavor t ≡ 0)) a.1 (deque ∙ was.0, flavor ∙ was.1, was.2))
+      (λ (a : (j ≢ j₀) × (get_elem? owners j ≡ some u)). s.each j t u e a.1)
+      (at_set owners j₀ j x u d);
+  low = λ j u d l. ⊎_elim
+      (λ (a : (j ≡ j₀) × (x ≡ u)). subst (λ (y : Owner). (worker_view y).parts ≡ p) a.1 (low (let e = a.0 in omega arith)))
+      (λ (a : (j ≢ j₀) × (get_elem? owners j ≡ some u)). (others j u a.0 a.1).0 l)
+      (at_set owners j₀ j x u d);
+  high = λ j u d l. ⊎_elim
+      (λ (a : (j ≡ j₀) × (x ≡ u)). subst (λ (y : Owner). (worker_view y).parts ≡ p + 1) a.1 (high (let e = a.0 in omega arith)))
+      (λ (a : (j ≢ j₀) × (get_elem? owners j ≡ some u)). (others j u a.0 a.1).1 l)
+      (at_set owners j₀ j x u d);
+}
+
+-- a part less at k
+pub stage_up : (thieves : List Thief) (owners : List Owner) (p k : ℕ) (w x : Owner) → get_elem? owners k ≡ some w → worker_deque x ≡ worker_deque w → worker_flavor x ≡ worker_flavor w
+    → (worker_view x).parts ≡ p → IsStage thieves p k owners → IsStage thieves p (k + 1) (set owners k x)
+stage_up thieves owners p k w x at deque flavor parts s = stage_set thieves owners p k (k + 1) k w x at deque flavor s
+    (λ j u apart e. ((λ l. s.low j u e (omega arith)), λ l. s.high j u e (omega arith))) (λ _. parts) (λ l. absurd (omega arith))
+
+-- a part more at k
+pub stage_down : (thieves : List Thief) (owners : List Owner) (p k : ℕ) (w x : Owner) → get_elem? owners k ≡ some w → worker_deque x ≡ worker_deque w → worker_flavor x ≡ worker_flavor w
+    → (worker_view x).parts ≡ p + 1 → IsStage thieves p (k + 1) owners → IsStage thieves p k (set owners k x)
+stage_down thieves owners p k w x at deque flavor parts s = stage_set thieves owners p (k + 1) k k w x at deque flavor s
+    (λ j u apart e. ((λ l. s.low j u e (omega arith)), λ l. s.high j u e (omega arith))) (λ l. absurd (omega arith)) (λ _. parts)
+
+-- all have p parts, or one more than q
+pub stage_turn : (thieves : List Thief) (owners : List Owner) (p q n : ℕ) → length owners ≤ n → q + 1 ≡ p → IsStage thieves p n owners → IsStage thieves q 0 owners
+stage_turn thieves owners p q n whole one s = record { len = s.len; each = s.each; low = λ j w e l. absurd (omega arith); high = λ j w e l. s.low j w e (let h = at_low owners j w e in omega arith) ∙ sym one }
+
+pub stage_back : (thieves : List Thief) (owners : List Owner) (p q n : ℕ) → q + 1 ≡ p → IsStage thieves q 0 owners → IsStage thieves p (length owners) owners
+stage_back thieves owners p q n one s = record { len = s.len; each = s.each; low = λ j w e l. s.high j w e (omega arith) ∙ one; high = λ j w e l. absurd (let h = at_low owners j w e in omega arith) }
+
+pub every_at : {X : Type 0} (P : X → Type 0) (xs : List X) → ((k : ℕ) (x : X) → get_elem? xs k ≡ some x → P x) → Every P xs
+every_at P [] f = tt
+every_at P (x ∷ xs) f = (f zero x refl, every_at P xs (λ k y at. f (suc k) y at))
+
+pub exists_at : {A : Type 0} (l : List A) (j : ℕ) → j < length l → (a : A) × (get_elem? l j ≡ some a)
+exists_at [] j h = absurd (omega arith)
+exists_at (x ∷ xs) zero h = (x, refl)
+exists_at (x ∷ xs) (suc j) h = exists_at xs j (omega arith)
+
+pub stage_fifo : (thieves : List Thief) (p k : ℕ) (owners : List Owner) → IsStage thieves p k owners → (j : ℕ) (t : Thief) → get_elem? thieves j ≡ some t → stealer_flavor t ≡ 0
+stage_fifo thieves p k owners s j t e = let w = exists_at owners j (let l = at_low thieves j t e in omega (arith, s.len)) in (s.each j t w.0 e w.1).2
+
+pub fresh_set : (c : ℕ) (owners : List Owner) (j : ℕ) (w x : Owner) → get_elem? owners j ≡ some w → (worker_view x).pushed ≡ (worker_view w).pushed → (worker_view x).taken ≡ (worker_view w).taken → worker_index x ≡ worker_index w → worker_capacity w ≤ worker_capacity x
+    → AllFresh c owners → AllFresh c (set owners j x)
+fresh_set c owners j w x at pushed taken index room all k u e = ⊎_elim
+    (λ (a : (k ≡ j) × (x ≡ u)). let f = all j w at in subst (IsFresh c) a.1 (record { pushed = pushed ∙ f.pushed; taken = taken ∙ f.taken; index = index ∙ f.index; room = omega (arith, f.room) }))
+    (λ (a : (k ≢ j) × (get_elem? owners k ≡ some u)). all k u a.1)
+    (at_set owners j k x u e)
+
+pub row_push : (thieves : List Thief) (row : List GreyPass) (j : ℕ) (p : GreyPass) → length row ≡ j → RowFits thieves row → ((t : Thief) → get_elem? thieves j ≡ some t → IsPassOf (stealer_deque t) p) → (view p).parts ≡ 1 → (view p).pushed ≡ [] → RowFits thieves (row ++ p ∷ [])
+row_push thieves row j p len fits one parts pushed k t q e d = ⊎_elim
+    (λ (a : (k < length row) × (get_elem? row k ≡ some q)). fits k t q e a.1)
+    (λ (a : (k ≡ length row) × (p ≡ q)).
+    let P : GreyPass → Type 0 = λ y. IsPassOf (stealer_deque t) y × ((view y).parts ≡ 1) × ((view y).pushed ≡ []) in
+    subst P a.1 (one t (ap (λ (n : ℕ). get_elem? thieves n) (sym len ∙ sym a.0) ∙ e), parts, pushed))
+    (push_cases row p q k d)
+
+pub weight_push : (f : ℕ → ℕ) (row : List GreyPass) (p : GreyPass) → row_weight f (row ++ p ∷ []) ≡ row_weight f row + sum_by f (view p).taken
+weight_push f row p = sum_by_push (λ (q : GreyPass). sum_by f (view q).taken) row p
+
+last_at : {A : Type 0} (l : List A) (a : A) (n : ℕ) → length l ≡ n → get_elem? (l ++ a ∷ []) n ≡ some a
+last_at [] a zero e = refl
+last_at [] a (suc n) e = absurd (omega arith)
+last_at (x ∷ xs) a zero e = absurd (omega arith)
+last_at (x ∷ xs) a (suc n) e = last_at xs a n (omega arith)
+
+front_at : {A : Type 0} (l : List A) (a : A) (j : ℕ) (b : A) → get_elem? l j ≡ some b → get_elem? (l ++ a ∷ []) j ≡ some b
+front_at [] a j b e = absurd (some-ne-none b (sym e))
+front_at (x ∷ xs) a zero b e = e
+front_at (x ∷ xs) a (suc j) b e = front_at xs a j b e
+
+-- after a pop
+pub at_end : {A : Type 0} (l more : List A) (a : A) (n : ℕ) → l ≡ more ++ a ∷ [] → n ≡ length more → get_elem? l n ≡ some a
+at_end {A = A} l more a n is e = subst (λ (x : List A). get_elem? x n ≡ some a) (sym is) (last_at more a n (sym e))
+
+pub longer : {A : Type 0} (l more : List A) (a : A) → l ≡ more ++ a ∷ [] → (j : ℕ) (b : A) → get_elem? more j ≡ some b → get_elem? l j ≡ some b
+longer {A = A} l more a is j b e = subst (λ (x : List A). get_elem? x j ≡ some b) (sym is) (front_at more a j b e)

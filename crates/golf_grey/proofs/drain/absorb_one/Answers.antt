@@ -1,0 +1,32 @@
+use Rattle.std.proofs.Common.{◌-◌, sym, ap, subst, arith}
+use Rattle.std.specs.Global.{Global}
+use Rattle.atomic_blocks.specs.Lent.{RowsId}
+use Rattle.crossbeam_deque.specs.Handles.{IsPassOf}
+use Rattle.golf_grey.specs.declared.rule.GreyView.{GreyView}
+use Rattle.golf_theory.proofs.Sums.{at_index}
+use Rattle.golf_grey.proofs.Steps.{merges}
+use Rattle.golf_grey.proofs.Stages.{stage_down, exists_at}
+use Rattle.golf_grey.proofs.drain.absorb_one.Goals as goal
+
+pub absorb-requires-clause-table : goal.absorb-requires-clause-table
+absorb-requires-clause-table c =
+    let w = c.index_mut-owner.result.now in
+    let at = at_index c.args.owners.now.items c.args.j w c.requires.low c.index_mut-owner.ensures.value in
+    let t = exists_at c.args.thieves.now.items c.args.j (omega (arith, c.requires.low, c.requires.stage.len)) in
+    subst (λ (d : RowsId × Global). IsPassOf d c.args.pass) (sym (c.requires.stage.each c.args.j t.0 w t.1 at).0) (c.requires.pass t.0 t.1)
+
+pub absorb-requires-clause-rule : goal.absorb-requires-clause-rule
+absorb-requires-clause-rule c =
+    let w = c.index_mut-owner.result.now in
+    let at = at_index c.args.owners.now.items c.args.j w c.requires.low c.index_mut-owner.ensures.value in
+    let parts = c.requires.stage.low c.args.j w at (omega arith) in
+    merges _ _ _ _ (omega (arith, parts, c.requires.more))
+
+pub returns-clause-stage : goal.returns-clause-stage
+returns-clause-stage c =
+    let w = c.index_mut-owner.result.now in
+    let x = c.absorb.new.self in
+    let at = at_index c.args.owners.now.items c.args.j w c.requires.low c.index_mut-owner.ensures.value in
+    let parts = c.requires.stage.low c.args.j w at (omega arith) in
+    stage_down c.args.thieves.now.items c.args.owners.now.items (4294967295 - c.args.more) c.args.j w x at c.absorb.ensures.same.0.0 c.absorb.ensures.same.0.1
+    (omega (arith, ap (λ (v : GreyView). v.parts) c.absorb.ensures.rule, parts, c.requires.one.0)) c.requires.stage

@@ -1,0 +1,137 @@
+//! The end of a pool: each deque gets back its passes, and is emptied.
+
+ghost use Rattle.std.specs.Prelude.{◌≡◌, ◌+◌, ◌-◌, ◌<◌, ◌≤◌, ℕ, sum_by, length, vec_capacity, vec_len, [], ◌∷◌, ◌++◌};
+ghost use mathlib.Core.Option.{some};
+ghost use lib.ListN.{get_elem?};
+ghost use Rattle.crossbeam_deque.specs.Handles.{view, IsPassOf, stealer_deque, worker_flavor, worker_view};
+ghost use Rattle.golf_grey.specs.Rule.{all_parts};
+ghost use Rattle.golf_grey.specs.Hands.{AllHandsIn, IsStage, IsRow, AllRows, row_weight, rows_weight, pushed_by, taken_by, pushed_in, taken_in, Thief as SpecThief, Owner as SpecOwner};
+
+use crate::hand::GreyHand;
+use crate::rule::{Deal, GreyView, Owner, Take, Thief};
+use crossbeam_deque::Pass;
+use golf_base::{List, Room};
+
+// Adds an item for which there is room.
+fn put<T: Drop>(list: &mut Vec<T>, item: T)
+    requires { vec_len list.old < vec_capacity list.old }
+    ensures items { list.new.items ≡ list.old.items ++ item ∷ [] }
+    ensures len { vec_len list.new ≡ vec_len list.old + 1 }
+    ensures room { vec_capacity list.old ≤ vec_capacity list.new }
+{
+    match list.push(item) {
+        Ok(()) => {}
+        Err(_) => unreachable!(),
+    }
+}
+
+// The owners by rising number, and all rows of passes.
+pub(crate) fn take_apart(
+    thieves: &Vec<Thief>,
+    capacity: u32,
+    hands: List<GreyHand>,
+) -> (Vec<Owner>, Vec<Vec<Pass<u32, GreyView>>>)
+    requires hands { AllHandsIn thieves.now.items capacity hands }
+    requires some { 0 < length thieves.now.items }
+    ensures stage { IsStage thieves.now.items (all_parts - length thieves.now.items) (length thieves.now.items) result.0.items }
+    ensures rows { AllRows thieves.now.items result.1.items × (length result.1.items ≡ length thieves.now.items) }
+    ensures pushed { (f : ℕ → ℕ) → pushed_in f result.0.items ≡ pushed_by f hands }
+    ensures taken { (f : ℕ → ℕ) → taken_in f result.0.items + rows_weight f result.1.items ≡ taken_by f hands }
+{
+    let mut rest = hands;
+    let Some(first) = rest.pop() else {
+        unreachable!()
+    };
+    let GreyHand {
+        own,
+        passes,
+        number: _,
+        mut owners,
+        mut rows,
+    } = first;
+    put(&mut owners, own);
+    put(&mut rows, passes);
+    while let Some(hand) = rest.pop() {
+        let GreyHand {
+            own,
+            passes,
+            number: _,
+            owners: _,
+            rows: _,
+        } = hand;
+        put(&mut owners, own);
+        put(&mut rows, passes);
+    }
+    (owners, rows)
+}
+
+// An owner takes in a pass.
+fn absorb_one(
+    thieves: &Vec<Thief>,
+    owners: &mut Vec<Owner>,
+    j: usize,
+    pass: Pass<u32, GreyView>,
+    more: usize,
+)
+    requires low { j < length owners.old.items }
+    requires more { more + 1 < all_parts }
+    requires stage { IsStage thieves.now.items (all_parts - 1 - more) (j + 1) owners.old.items }
+    requires pass { (t : SpecThief) → get_elem? thieves.now.items j ≡ some t → IsPassOf (stealer_deque t) pass }
+    requires one { ((view pass).parts ≡ 1) × ((view pass).pushed ≡ []) }
+    ensures stage { IsStage thieves.now.items (all_parts - 1 - more) j owners.new.items }
+    ensures pushed { (f : ℕ → ℕ) → pushed_in f owners.new.items ≡ pushed_in f owners.old.items }
+    ensures taken { (f : ℕ → ℕ) → taken_in f owners.new.items ≡ taken_in f owners.old.items + sum_by f (view pass).taken }
+{
+    let owner = &mut owners[j];
+    owner.absorb::<Deal>(pass);
+}
+
+// The owners take in a row of passes.
+pub(crate) fn absorb_row(
+    thieves: &Vec<Thief>,
+    owners: &mut Vec<Owner>,
+    row: Vec<Pass<u32, GreyView>>,
+    more: usize,
+)
+    requires more { more + 1 < all_parts }
+    requires stage { IsStage thieves.now.items (all_parts - 1 - more) (length thieves.now.items) owners.old.items }
+    requires row { IsRow thieves.now.items row.items }
+    ensures stage { IsStage thieves.now.items (all_parts - more) (length thieves.now.items) owners.new.items }
+    ensures pushed { (f : ℕ → ℕ) → pushed_in f owners.new.items ≡ pushed_in f owners.old.items }
+    ensures taken { (f : ℕ → ℕ) → taken_in f owners.new.items ≡ taken_in f owners.old.items + row_weight f row.items }
+{
+    let mut rest = row;
+    while let Some(pass) = rest.pop() {
+        let j = rest.len();
+        absorb_one(thieves, owners, j, pass, more);
+    }
+}
+
+// All that is left in a deque.
+fn drain(owner: Owner, left: &mut Room<u32>)
+    requires flavor { worker_flavor owner ≡ 0 }
+    requires all { (worker_view owner).parts ≡ all_parts }
+    requires room { length (worker_view owner).pushed ≤ left.old.spare }
+    ensures left { (f : ℕ → ℕ) → sum_by f left.new.items + sum_by f (worker_view owner).taken ≡ sum_by f left.old.items + sum_by f (worker_view owner).pushed }
+    ensures room { left.old.spare ≤ left.new.spare + length (worker_view owner).pushed }
+{
+    let mut owner = owner;
+    while let Some(place) = owner.pop_as::<Take>() {
+        left.push_ready(place);
+    }
+}
+
+// All that is left in the deques.
+pub(crate) fn drain_all(owners: Vec<Owner>, left: Room<u32>) -> List<u32>
+    requires owners { (j : ℕ) (w : SpecOwner) → get_elem? owners.items j ≡ some w → (worker_flavor w ≡ 0) × ((worker_view w).parts ≡ all_parts) }
+    requires empty { left.items ≡ [] }
+    requires room { pushed_in (λ _. 1) owners.items ≤ left.spare }
+    ensures { (f : ℕ → ℕ) → sum_by f result + taken_in f owners.items ≡ pushed_in f owners.items }
+{
+    let mut left = left;
+    let mut rest = owners;
+    while let Some(owner) = rest.pop() {
+        drain(owner, &mut left);
+    }
+    left.into_list()
+}

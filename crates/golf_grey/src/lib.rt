@@ -1,0 +1,20 @@
+//! Grey places: marked and not yet scanned. Each hand pushes to a deque of its own, takes from its
+//! front, and steals from the fronts of the others.
+//!
+//! What all hands took and what is left is what was pushed, each place as often. Steps take no
+//! memory and never wait.
+#![tactic(auto)]
+
+mod drain;
+mod hand;
+mod made;
+mod opening;
+mod pool;
+mod rule;
+mod steal;
+#[cfg(test)]
+mod tests;
+
+pub use hand::GreyHand;
+pub use pool::{GreyPool, Left};
+pub use rule::GreyView;

@@ -1,0 +1,93 @@
+-- Places and slots of which only the flagged ones are kept.
+use Rattle.std.proofs.Common.{◌≡◌, ◌≢◌, ◌⊎◌, inl, inr, ℕ, zero, suc, ◌+◌, ◌<◌, ◌≤◌, Bool, true, false, cond, List, [], ◌∷◌, ◌++◌, length, take, drop, set, get_or, Option, Some, None, refl, sym, ap, ◌∙◌, arith, subst}
+use Rattle.std.specs.Prelude.{IsSome}
+use Rattle.std.proofs.lemmas.List.{drop_more, take_more_set, drop-set-lt, append_assoc}
+use Rattle.slab.specs.Slab.{get, Updates}
+use Rattle.golf_data.specs.declared.value.Object.{Object}
+use Rattle.golf_theory.specs.Maps.{Rises}
+use Rattle.golf_heap.specs.declared.places.Place.{Place}
+use Rattle.golf_heap.specs.Numbered.{kept}
+use Rattle.golf_heap.specs.Kept.{keyed, gathered, object_in, IsOf, Holds}
+use Rattle.golf_heap.proofs.Gathering.{Slots}
+use Rattle.golf_heap.proofs.Order.{apart}
+
+-- the slots of the places below `at`, and of those that are flagged, are as they were
+abbrev pub Spared : Slots → Slots → List Place → List Bool → ℕ → Type 0
+Spared s now ps keep at = (i : ℕ) (d : Place) → i < length ps → (i < at) ⊎ (get_or keep i false ≡ true) → get now (get_or ps i d).key ≡ get s (get_or ps i d).key
+
+pub spared-less : (s now : Slots) (ps : List Place) (keep : List Bool) (at : ℕ) → Spared s now ps keep (suc at) → Spared s now ps keep at
+spared-less s now ps keep at p = λ i d l w. p i d l (elim w [
+  | inl b ↦ inl (omega arith)
+  | inr t ↦ inr t
+])
+
+other : (keep : List Bool) (at i : ℕ) → get_or keep at false ≡ false → (i < at) ⊎ (get_or keep i false ≡ true) → i ≢ at
+other keep at i f (inl l) = λ same. omega (arith, l, same)
+other keep at i f (inr t) = λ same. cc
+
+-- one of them, whose flag is false, is emptied
+pub spared-freed : (s now after : Slots) (ps : List Place) (keep : List Bool) (j at : ℕ) (d : Place) → Rises j (keyed ps) → Holds s ps → at < length ps → get_or keep at false ≡ false → Updates now after (get_or ps at d).key None → Spared s now ps keep (suc at) → Spared s after ps keep at
+spared-freed s now after ps keep j at d r h l f u p = λ i e m w.
+    let differ : (get_or ps i e).key ≢ (get_or ps at d).key =
+    subst (λ (x : Place). (get_or ps i e).key ≢ x.key) (same_item ps at e d l) (apart s j ps i at e r h m l (other keep at i f w)) in
+    u.others (get_or ps i e).key differ ∙ spared-less s now ps keep at p i e m w
+  where
+    same_item : (ps : List Place) (i : ℕ) (d e : Place) → i < length ps → get_or ps i d ≡ get_or ps i e
+    same_item [] i d e l = absurd (omega arith)
+    same_item (p ∷ ps) zero d e l = refl
+    same_item (p ∷ ps) (suc i) d e l = same_item ps i d e (omega arith)
+
+-- what is left when all were looked at
+pub gathered-kept : (s now : Slots) (keep : List Bool) (ps : List Place) → ((i : ℕ) (d : Place) → i < length ps → get_or keep i false ≡ true → get now (get_or ps i d).key ≡ get s (get_or ps i d).key) → gathered now (kept keep ps) ≡ kept keep (gathered s ps)
+gathered-kept s now [] ps p = refl
+gathered-kept s now (b ∷ bs) [] p = refl
+gathered-kept s now (b ∷ bs) (x ∷ ps) p =
+    let more : gathered now (kept bs ps) ≡ kept bs (gathered s ps) = gathered-kept s now bs ps (λ i d l t. p (suc i) d (omega arith) t) in
+    elim b as (λ t. b ≡ t → gathered now (cond t (x ∷ kept bs ps) (kept bs ps)) ≡ cond t ((x.number, object_in (get s x.key)) ∷ kept bs (gathered s ps)) (kept bs (gathered s ps))) [
+      | true ↦ λ t. ap (λ o. (x.number, object_in o) ∷ gathered now (kept bs ps)) (p 0 x (omega arith) t) ∙ ap (λ (es : List (ℕ × Object)). (x.number, object_in (get s x.key)) ∷ es) more
+      | false ↦ λ t. more
+    ] refl
+
+pub Holds-kept : (s now : Slots) (keep : List Bool) (ps : List Place) → ((i : ℕ) (d : Place) → i < length ps → get_or keep i false ≡ true → get now (get_or ps i d).key ≡ get s (get_or ps i d).key) → Holds s ps → Holds now (kept keep ps)
+Holds-kept s now [] ps p h = tt
+Holds-kept s now (b ∷ bs) [] p h = tt
+Holds-kept s now (b ∷ bs) (x ∷ ps) p h =
+    let more : Holds now (kept bs ps) = Holds-kept s now bs ps (λ i d l t. p (suc i) d (omega arith) t) h.1 in
+    elim b as (λ t. b ≡ t → Holds now (cond t (x ∷ kept bs ps) (kept bs ps))) [
+      | true ↦ λ t. (subst (IsOf x.number) (sym (p 0 x (omega arith) t)) h.0, more)
+      | false ↦ λ t. more
+    ] refl
+
+-- one step from the last flag on
+pub kept_more : {X : Type 0} (keep : List Bool) (xs : List X) (at : ℕ) (b : Bool) (d : X) → at < length keep → length keep ≡ length xs → get_or keep at false ≡ b → kept (drop at keep) (drop at xs) ≡ cond b (get_or xs at d ∷ kept (drop (suc at) keep) (drop (suc at) xs)) (kept (drop (suc at) keep) (drop (suc at) xs))
+kept_more {X} keep xs at b d l same f =
+    let two : at + 1 ≡ suc at = omega arith in
+    let flags : drop at keep ≡ b ∷ drop (suc at) keep = drop_more keep at false l ∙ ap (λ (z : Bool). z ∷ drop (at + 1) keep) f ∙ ap (λ (n : ℕ). b ∷ drop n keep) two in
+    let items : drop at xs ≡ get_or xs at d ∷ drop (suc at) xs = drop_more xs at d (omega arith) ∙ ap (λ (n : ℕ). get_or xs at d ∷ drop n xs) two in
+    ap (λ (z : List Bool). kept z (drop at xs)) flags ∙ ap (λ (z : List X). kept (b ∷ drop (suc at) keep) z) items
+
+-- one step of closing up: the item goes behind those that were kept
+pub closed_more : (keep : List Bool) (now all : List Place) (count at : ℕ) (x : Place) → at < length keep → length now ≡ length keep → count ≤ at → get_or keep at false ≡ true → x ≡ get_or now at x → take count now ++ kept (drop at keep) (drop at now) ≡ all → take (count + 1) (set now count x) ++ kept (drop (at + 1) keep) (drop (at + 1) (set now count x)) ≡ all
+closed_more keep now all count at x l same c f is e =
+    let two : at + 1 ≡ suc at = omega arith in
+    let rest : List Place = kept (drop (suc at) keep) (drop (suc at) now) in
+    let front : take (count + 1) (set now count x) ≡ take count now ++ x ∷ [] = take_more_set now count x (omega arith) in
+    let back : drop (at + 1) (set now count x) ≡ drop (suc at) now = drop-set-lt (at + 1) now count x (omega arith) ∙ ap (λ (n : ℕ). drop n now) two in
+    ap (λ (z : List Place). z ++ kept (drop (at + 1) keep) (drop (at + 1) (set now count x))) front
+    ∙ ap (λ (z : List Place). (take count now ++ x ∷ []) ++ kept (drop (at + 1) keep) z) back
+    ∙ ap (λ (n : ℕ). (take count now ++ x ∷ []) ++ kept (drop n keep) (drop (suc at) now)) two
+    ∙ append_assoc (take count now) (x ∷ []) rest
+    ∙ ap (λ (z : Place). take count now ++ z ∷ rest) is
+    ∙ ap (λ (z : List Place). take count now ++ z) (sym (kept_more keep now at true x l (sym same) f))
+    ∙ e
+
+pub skipped_more : (keep : List Bool) (now all : List Place) (count at : ℕ) (d : Place) → at < length keep → length now ≡ length keep → get_or keep at false ≡ false → take count now ++ kept (drop at keep) (drop at now) ≡ all → take count now ++ kept (drop (at + 1) keep) (drop (at + 1) now) ≡ all
+skipped_more keep now all count at d l same f e =
+    let two : at + 1 ≡ suc at = omega arith in
+    ap (λ (n : ℕ). take count now ++ kept (drop n keep) (drop n now)) two
+    ∙ ap (λ (z : List Place). take count now ++ z) (sym (kept_more keep now at false d l (sym same) f))
+    ∙ e
+
+pub is-filled : (k : ℕ) (o : Option (ℕ × Object)) → IsOf k o → IsSome o
+is-filled k None h = absurd h
+is-filled k (Some e) h = refl

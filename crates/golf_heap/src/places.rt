@@ -1,0 +1,81 @@
+//! Where the objects stand in the slab.
+
+ghost use Rattle.std.specs.Prelude.{◌≡◌, ◌+◌, length, None};
+ghost use Rattle.slab.specs.Slab.{slab_len, ContainsKey, Updates};
+ghost use Rattle.golf_theory.specs.Maps.{find, Rises};
+ghost use Rattle.golf_heap.specs.Numbered.{kept, rank};
+ghost use Rattle.golf_heap.specs.Kept.{Holds, gathered, keyed};
+
+use golf_data::Object;
+use slab::Slab;
+
+/// The key of the object of a number.
+#[derive(Clone, Copy, Debug)]
+pub struct Place {
+    pub number: u32,
+    pub key: usize,
+}
+
+/// How many places have a smaller number.
+pub fn rank_of(places: &[Place], number: u32) -> usize
+    requires { Rises 1 (keyed places.now) }
+    ensures { result ≡ rank number (keyed places.now) }
+{
+    places.partition_point(|place| place.number < number)
+}
+
+/// The key of the object of this number.
+pub fn key_of(places: &[Place], number: u32) -> Option<usize>
+    requires { Rises 1 (keyed places.now) }
+    ensures { result ≡ find number (keyed places.now) }
+{
+    let place = places.get(rank_of(places, number))?;
+    if place.number == number {
+        Some(place.key)
+    } else {
+        None
+    }
+}
+
+/// Takes the objects of the places whose flag is false out of the slab.
+pub fn free(slots: &mut Slab<(u32, Object)>, places: &[Place], keep: &[bool])
+    requires flags { length keep.now ≡ length places.now }
+    requires rises { Rises 1 (keyed places.now) }
+    requires held { Holds slots.old places.now }
+    requires only { slab_len slots.old ≡ length places.now }
+    ensures same { gathered slots.new (kept keep.now places.now) ≡ kept keep.now (gathered slots.old places.now) }
+    ensures held { Holds slots.new (kept keep.now places.now) }
+    ensures only { slab_len slots.new ≡ length (kept keep.now places.now) }
+{
+    let mut at = places.len();
+    while at > 0 {
+        at -= 1;
+        if !keep[at] {
+            empty(slots, places[at].key);
+        }
+    }
+}
+
+// Drops what is under a key.
+fn empty(slots: &mut Slab<(u32, Object)>, key: usize)
+    requires { ContainsKey slots.old key }
+    ensures updates { Updates slots.old slots.new key None }
+    ensures len { slab_len slots.new + 1 ≡ slab_len slots.old }
+{
+    slots.remove(key);
+}
+
+/// Keeps the places whose flag is true.
+pub fn close_up(places: &mut Vec<Place>, keep: &[bool])
+    requires { length keep.now ≡ length places.old.items }
+    ensures { places.new.items ≡ kept keep.now places.old.items }
+{
+    let mut count = 0;
+    for at in 0..keep.len() {
+        if keep[at] {
+            places[count] = places[at];
+            count += 1;
+        }
+    }
+    places.truncate(count);
+}

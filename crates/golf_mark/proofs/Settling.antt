@@ -1,0 +1,115 @@
+-- A turn of the finishing scan.
+use Rattle.std.proofs.Common.{◌≡◌, ℕ, ◌+◌, ◌-◌, ◌*◌, ◌<◌, ◌≤◌, inl, inr, List, [], ◌∷◌, ◌++◌, Bool, length, length-append, sym, ap, ◌∙◌, subst, arith}
+use Rattle.std.proofs.lemmas.Bool.{cases_eq}
+use Rattle.std.proofs.lemmas.List.{length_push}
+use Rattle.golf_theory.specs.Membership.{In}
+use Rattle.golf_theory.proofs.Lists.{In-left, In-right, In-cases}
+use Rattle.golf_base.specs.Roomy.{Roomy}
+use Rattle.golf_marks.specs.declared.marks.Marks.{Marks}
+use Rattle.golf_marks.specs.declared.marks.MarkSeat.{MarkSeat}
+use Rattle.golf_marks.specs.Flags.{IsSet}
+use Rattle.golf_marks.specs.Places.{word_count}
+use Rattle.golf_marks.specs.Seats.{graph_in, claimed, known, IsSameSeat}
+use Rattle.golf_mark.specs.declared.scanner.Scanner.{Scanner}
+use Rattle.golf_mark.specs.Finishing.{IsIdle, IsCovered, KnowsWon, KeepsSeat}
+use Rattle.golf_mark.specs.Scanning.{IsScannerOf, Wins}
+use Rattle.golf_mark.specs.Working.{IsScanned}
+
+-- what is left to do
+abbrev pub work_of : Marks → Scanner → ℕ
+work_of marks s = 2 * (word_count (graph_in marks) - length (claimed s.seat)) + length s.won.items
+
+-- what settling keeps
+pub record IsSettling (marks : Marks) (todo : List Bool) (from : ℕ) (old s : Scanner) : Type 0 where
+  pub fits : IsScannerOf marks s
+  pub won : KnowsWon marks s
+  pub keeps : KeepsSeat old s
+  pub covered : IsCovered marks todo from s
+
+-- a place that was won is taken out
+pub popped : (marks : Marks) (s : Scanner) (won : Roomy ℕ) (place : ℕ) → s.won.items ≡ won.items ++ place ∷ [] → won.spare + length won.items ≡ s.won.spare + length s.won.items → IsScannerOf marks s → IsScannerOf marks (record { seat = s.seat; won = won })
+popped marks s won place items spare fits = record {
+  seat = fits.seat;
+  within = omega (arith, fits.within, ap length items, length_push won.items place);
+  bounded = fits.bounded;
+  room = omega (arith, fits.room, spare);
+}
+
+-- and scanned
+pub settles : (marks : Marks) (todo : List Bool) (from place : ℕ) (old a b : Scanner) (won : Roomy ℕ) → a.won.items ≡ won.items ++ place ∷ [] → Wins marks (record { seat = a.seat; won = won }) b
+    → IsScanned (graph_in marks) (known b.seat) place → IsSettling marks todo from old a → IsSettling marks todo from old b
+settles marks todo from place old a b won items w scanned s = record {
+  fits = w.fits;
+  won = λ p h. elim (In-cases p won.items w.won.0 (subst (λ (l : List ℕ). In p l) w.won.2 h)) [
+    | inl i ↦ let r = s.won p (subst (λ (l : List ℕ). In p l) (sym items) (In-left p won.items (place ∷ []) i)) in (r.0, w.known p r.1)
+    | inr i ↦ w.won.3 p i
+  ];
+  keeps = record { known = λ p h. w.known p (s.keeps.known p h); parts = w.parts ∙ s.keeps.parts };
+  covered = λ p low h. elim (In-cases p (claimed a.seat) w.won.0 (subst (λ (l : List ℕ). In p l) w.won.1 h)) [
+    | inl i ↦ elim (s.covered p low i) [
+      | inl done ↦ inl (λ q j. w.known q (done q j))
+      | inr j ↦ elim j [
+        | inl k ↦ elim (In-cases p won.items (place ∷ []) (subst (λ (l : List ℕ). In p l) items k)) [
+          | inl m ↦ inr (inl (subst (λ (l : List ℕ). In p l) (sym w.won.2) (In-left p won.items w.won.0 m)))
+          | inr m ↦ elim m [ inl e ↦ inl (subst (λ (q : ℕ). IsScanned (graph_in marks) (known b.seat) q) (sym e) scanned) | inr none ↦ absurd none ]
+        ]
+        | inr k ↦ inr (inr k)
+      ]
+    ]
+    | inr i ↦ inr (inl (subst (λ (l : List ℕ). In p l) (sym w.won.2) (In-right p won.items w.won.0 i)))
+  ];
+}
+
+-- which leaves less to do
+pub settles_less : (marks : Marks) (place : ℕ) (a b : Scanner) (won : Roomy ℕ) → a.won.items ≡ won.items ++ place ∷ [] → Wins marks (record { seat = a.seat; won = won }) b → work_of marks b < work_of marks a
+settles_less marks place a b won items w =
+    omega (arith, ap length items, length_push won.items place, ap length w.won.1, length-append (claimed a.seat) w.won.0, ap length w.won.2, length-append won.items w.won.0, w.fits.bounded)
+
+-- a scanner whose seat has looked at a place
+pub looked : (marks : Marks) (s : Scanner) (seat : MarkSeat) → IsIdle marks s → IsSameSeat s.seat seat → claimed seat ≡ claimed s.seat → length (claimed s.seat) ≤ word_count (graph_in marks) → IsScannerOf marks (record { seat = seat; won = s.won })
+looked marks s seat idle same claims bounded = record {
+  seat = record { table = same.table ∙ idle.seat.table; graph = same.graph ∙ idle.seat.graph };
+  within = omega (arith, ap length idle.none);
+  bounded = omega (arith, bounded, ap length claims);
+  room = omega (arith, idle.room);
+}
+
+-- a place that is not noted, or not claimed
+pub passes_over : (marks : Marks) (todo : List Bool) (place : ℕ) (a b : Scanner) → claimed b.seat ≡ claimed a.seat → ((p : ℕ) → In p (known a.seat) → In p (known b.seat)) → b.won ≡ a.won → (In place (claimed a.seat) → IsSet todo place → ⊥)
+    → IsCovered marks todo place a → IsCovered marks todo (place + 1) b
+passes_over marks todo place a b claims knows won none covered p low h =
+    let h' = subst (λ (l : List ℕ). In p l) claims h in
+    elim (covered p low h') [
+      | inl done ↦ inl (λ q j. knows q (done q j))
+      | inr j ↦ elim j [
+        | inl k ↦ inr (inl (subst (λ (r : Roomy ℕ). In p r.items) (sym won) k))
+        | inr k ↦ elim (cases_eq p place) [
+          | inl e ↦ absurd (none (subst (λ (q : ℕ). In q (claimed a.seat)) e h') (subst (λ (q : ℕ). IsSet todo q) e k.1))
+          | inr apart ↦ inr (inr (omega (arith, k.0, apart), k.1))
+        ]
+      ]
+    ]
+
+-- the place is scanned
+pub settled_at : (marks : Marks) (todo : List Bool) (place : ℕ) (a b : Scanner) (seat : MarkSeat) → a.won.items ≡ [] → claimed seat ≡ claimed a.seat → ((p : ℕ) → In p (known a.seat) → In p (known seat))
+    → Wins marks (record { seat = seat; won = a.won }) b → IsScanned (graph_in marks) (known b.seat) place → IsCovered marks todo place a → IsCovered marks todo (place + 1) b
+settled_at marks todo place a b seat idle claims knows w scanned covered p low h =
+    elim (In-cases p (claimed seat) w.won.0 (subst (λ (l : List ℕ). In p l) w.won.1 h)) [
+      | inl i ↦ elim (covered p low (subst (λ (l : List ℕ). In p l) claims i)) [
+        | inl done ↦ inl (λ q j. w.known q (knows q (done q j)))
+        | inr j ↦ elim j [
+          | inl k ↦ absurd (subst (λ (l : List ℕ). In p l) idle k)
+          | inr k ↦ elim (cases_eq p place) [
+            | inl e ↦ inl (subst (λ (q : ℕ). IsScanned (graph_in marks) (known b.seat) q) (sym e) scanned)
+            | inr apart ↦ inr (inr (omega (arith, k.0, apart), k.1))
+          ]
+        ]
+      ]
+      | inr i ↦ inr (inl (subst (λ (l : List ℕ). In p l) (sym w.won.2) (In-right p a.won.items w.won.0 i)))
+    ]
+
+pub won_known : (marks : Marks) (a b : Scanner) → a.won.items ≡ [] → Wins marks a b → KnowsWon marks b
+won_known marks a b idle w p h = elim (In-cases p a.won.items w.won.0 (subst (λ (l : List ℕ). In p l) w.won.2 h)) [
+  | inl i ↦ absurd (subst (λ (l : List ℕ). In p l) idle i)
+  | inr i ↦ w.won.3 p i
+]

@@ -1,0 +1,43 @@
+-- At the end the claimed places are the least closed set.
+use Rattle.std.proofs.Common.{◌≡◌, ℕ, ◌<◌, inl, inr, List, [], ◌∷◌, Bool, ap, subst, arith}
+use Rattle.std.specs.Prelude.{◌↔◌}
+use Rattle.std.proofs.lemmas.List.Sums.{sum_by-cons}
+use Rattle.golf_theory.specs.Membership.{In, Every}
+use Rattle.golf_theory.specs.Counting.{times}
+use Rattle.golf_theory.proofs.Derivations.{Reached-least}
+use Rattle.golf_theory.proofs.Times.{In-times}
+use Rattle.golf_model.specs.declared.graph.GraphParts.{GraphParts}
+use Rattle.golf_model.specs.Graph.{Justifies, Least, IsInRange}
+use Rattle.golf_marks.specs.declared.marks.Marks.{Marks}
+use Rattle.golf_marks.specs.declared.marks.MarkSeat.{MarkSeat}
+use Rattle.golf_marks.specs.Places.{place_count}
+use Rattle.golf_marks.specs.Seats.{graph_in, claimed, known, claim_count}
+use Rattle.golf_mark.specs.declared.scanner.Scanner.{Scanner}
+use Rattle.golf_mark.specs.Finishing.{IsCovered}
+use Rattle.golf_mark.proofs.Ranges.{Least-below}
+
+pub claimed_least : (marks : Marks) (todo : List Bool) (s : Scanner) (seats : List MarkSeat) → IsInRange (graph_in marks) → seats ≡ s.seat ∷ []
+    → ((p : ℕ) → 0 < claim_count p seats → Least (graph_in marks) p) → ((p : ℕ) → Every (λ t. In p (known t) → 0 < claim_count p seats) seats)
+    → IsCovered marks todo (place_count (graph_in marks)) s → s.won.items ≡ [] → ((p : ℕ) → In p (graph_in marks).roots → In p (known s.seat))
+    → (p : ℕ) → 0 < claim_count p seats ↔ Least (graph_in marks) p
+claimed_least marks todo s seats fit is sound knows covered none roots p = (
+  sound p,
+  Reached-least (λ q. In q g.roots) (Justifies g) (λ q. 0 < claim_count q seats)
+      (λ q r. known_claimed q (roots q r))
+      (λ q x c j.
+      let mine : In q (claimed s.seat) = In-times q (claimed s.seat) (omega (arith, c, ap (claim_count q) is, sum_by-cons (λ (t : MarkSeat). times q (claimed t)) s.seat [])) in
+      let low : q < place_count g = Least-below g fit q (sound q c) in
+      elim (covered q low mine) [
+        | inl done ↦ known_claimed x (done x j)
+        | inr k ↦ elim k [
+          | inl w ↦ absurd (subst (λ (l : List ℕ). In q l) none w)
+          | inr pending ↦ absurd (omega (arith, pending.0, low))
+        ]
+      ]) p,
+)
+  where
+    g : GraphParts
+    g = graph_in marks
+
+    known_claimed : (q : ℕ) → In q (known s.seat) → 0 < claim_count q seats
+    known_claimed q h = (subst (λ (l : List MarkSeat). Every (λ t. In q (known t) → 0 < claim_count q seats) l) is (knows q)).0 h

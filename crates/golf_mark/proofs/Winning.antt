@@ -1,0 +1,70 @@
+-- One claim after another.
+use Rattle.std.proofs.Common.{◌≡◌, ℕ, ◌+◌, ◌<◌, ◌≤◌, inl, inr, List, [], ◌∷◌, ◌++◌, length, refl, sym, ap, ◌∙◌, subst, append_assoc, append-nil, arith}
+use Rattle.std.proofs.lemmas.List.{length_push}
+use Rattle.golf_theory.specs.Membership.{In}
+use Rattle.golf_theory.proofs.Lists.{In-left, In-right, In-cases}
+use Rattle.golf_marks.specs.declared.marks.Marks.{Marks}
+use Rattle.golf_marks.specs.Places.{place_count, word_count}
+use Rattle.golf_marks.specs.Seats.{graph_in, claimed, known, IsSeatOf, IsSameSeat}
+use Rattle.golf_mark.specs.declared.scanner.Scanner.{Scanner}
+use Rattle.golf_mark.specs.Scanning.{IsScannerOf, Wins}
+
+pub Wins-none : (marks : Marks) (s : Scanner) → IsScannerOf marks s → Wins marks s s
+Wins-none marks s fits = record { fits = fits; known = λ p h. h; parts = refl; won = ([], sym (append-nil (claimed s.seat)), sym (append-nil s.won.items), λ p h. absurd h) }
+
+pub Wins-trans : (marks : Marks) (a b c : Scanner) → Wins marks a b → Wins marks b c → Wins marks a c
+Wins-trans marks a b c f g = record {
+  fits = g.fits;
+  known = λ p h. g.known p (f.known p h);
+  parts = g.parts ∙ f.parts;
+  won = (
+    f.won.0 ++ g.won.0,
+    g.won.1 ∙ ap (λ (l : List ℕ). l ++ g.won.0) f.won.1 ∙ append_assoc (claimed a.seat) f.won.0 g.won.0,
+    g.won.2 ∙ ap (λ (l : List ℕ). l ++ g.won.0) f.won.2 ∙ append_assoc a.won.items f.won.0 g.won.0,
+    λ p h. elim (In-cases p f.won.0 g.won.0 h) [ inl i ↦ let r = f.won.3 p i in (r.0, g.known p r.1) | inr i ↦ g.won.3 p i ],
+  );
+}
+
+same_seat : (marks : Marks) (a b : Scanner) → IsScannerOf marks a → IsSameSeat a.seat b.seat → IsSeatOf marks b.seat
+same_seat marks a b fits same = record { table = same.table ∙ fits.seat.table; graph = same.graph ∙ fits.seat.graph }
+
+keeps_known : (a b : Scanner) (place : ℕ) → known b.seat ≡ known a.seat ++ place ∷ [] → (p : ℕ) → In p (known a.seat) → In p (known b.seat)
+keeps_known a b place is p h = subst (λ (l : List ℕ). In p l) (sym is) (In-left p (known a.seat) (place ∷ []) h)
+
+-- the claim is won
+pub Wins-won : (marks : Marks) (a b : Scanner) (place : ℕ) → place < place_count (graph_in marks) → IsScannerOf marks a → IsSameSeat a.seat b.seat → claimed b.seat ≡ claimed a.seat ++ place ∷ [] → known b.seat ≡ known a.seat ++ place ∷ []
+    → length (claimed b.seat) ≤ word_count (graph_in marks) → b.won.items ≡ a.won.items ++ place ∷ [] → b.won.spare + 1 ≡ a.won.spare → Wins marks a b
+Wins-won marks a b place low fits same claims knows bounded items spare = record {
+  fits = record {
+    seat = same_seat marks a b fits same;
+    within = omega (arith, fits.within, ap length claims, ap length items, length_push (claimed a.seat) place, length_push a.won.items place);
+    bounded = bounded;
+    room = omega (arith, fits.room, spare, ap length items, length_push a.won.items place);
+  };
+  known = keeps_known a b place knows;
+  parts = same.parts;
+  won = (
+    place ∷ [],
+    claims,
+    items,
+    λ p h. elim h [
+      | inl e ↦ (omega (arith, e, low), subst (λ (l : List ℕ). In p l) (sym knows) (In-right p (known a.seat) (place ∷ []) (inl e)))
+      | inr none ↦ absurd none
+    ],
+  );
+}
+
+-- the claim is lost
+pub Wins-lost : (marks : Marks) (a b : Scanner) (place : ℕ) → IsScannerOf marks a → IsSameSeat a.seat b.seat → claimed b.seat ≡ claimed a.seat → known b.seat ≡ known a.seat ++ place ∷ []
+    → b.won ≡ a.won → Wins marks a b
+Wins-lost marks a b place fits same claims knows won = record {
+  fits = record {
+    seat = same_seat marks a b fits same;
+    within = omega (arith, fits.within, ap length claims, ap (λ r. length r.items) won);
+    bounded = omega (arith, fits.bounded, ap length claims);
+    room = omega (arith, fits.room, ap (λ r. r.spare) won, ap (λ r. length r.items) won);
+  };
+  known = keeps_known a b place knows;
+  parts = same.parts;
+  won = ([], claims ∙ sym (append-nil (claimed a.seat)), ap (λ r. r.items) won ∙ sym (append-nil a.won.items), λ p h. absurd h);
+}

@@ -1,0 +1,40 @@
+use Rattle.std.proofs.Common.{◌∷◌, [], ◌∙◌, ℕ, List, refl, sym, subst}
+use Rattle.golf_theory.specs.Membership.{In}
+use Rattle.golf_theory.proofs.Lists.{In-push, In-left}
+use Rattle.golf_theory.proofs.Times.{none-times}
+use Rattle.golf_model.specs.declared.graph.GraphParts.{GraphParts}
+use Rattle.golf_marks.specs.Seats.{known, claimed}
+use Rattle.golf_mark.specs.declared.scanner.Scanner.{Scanner}
+use Rattle.golf_mark.specs.Working.{IsScanned}
+use Rattle.golf_mark.proofs.Settling.{passes_over, settled_at, won_known}
+use Rattle.golf_mark.proofs.finish.settle_at.Goals as goal
+
+pub returns-then-not-is_marked-clause-covered : goal.returns-then-not-is_marked-clause-covered
+returns-then-not-is_marked-clause-covered c =
+    let a = c.args.scanner.now in
+    let b : Scanner = record { seat = c.is_marked.new.seat; won = a.won } in
+    passes_over c.args.marks.now c.args.todo.now c.args.place a b c.is_marked.ensures.claimed
+    (λ p h. subst (λ (l : List ℕ). In p l) (sym c.if-not-is_marked.ensures.known) h) refl
+    (λ i _. none-times c.args.place (claimed a.seat) (c.is_marked.ensures.unclaimed c.if-not-is_marked.true) i)
+    c.requires.covered
+
+pub scan-requires-clause-known : goal.scan-requires-clause-known
+scan-requires-clause-known c = subst (λ (l : List ℕ). In c.args.place l) (sym c.if-not-is_marked.ensures.known) (In-push c.args.place (known c.args.scanner.now.seat))
+
+pub settle_won-requires-clause-won : goal.settle_won-requires-clause-won
+settle_won-requires-clause-won c =
+    won_known c.args.marks.now (record { seat = c.is_marked.new.seat; won = c.args.scanner.now.won }) c.scan.new.scanner c.requires.idle.none c.scan.ensures.wins
+
+pub settle_won-requires-clause-covered : goal.settle_won-requires-clause-covered
+settle_won-requires-clause-covered c =
+    settled_at c.args.marks.now c.args.todo.now c.args.place c.args.scanner.now c.scan.new.scanner c.is_marked.new.seat c.requires.idle.none c.is_marked.ensures.claimed
+    (λ p h. subst (λ (l : List ℕ). In p l) (sym c.if-not-is_marked.ensures.known) (In-left p (known c.args.scanner.now.seat) (c.args.place ∷ []) h))
+    c.scan.ensures.wins
+    (subst (λ (d : GraphParts). IsScanned d (known c.scan.new.scanner.seat) c.args.place) (sym c.requires.graph) c.scan.ensures.scanned)
+    c.requires.covered
+
+pub returns-clause-keeps : goal.returns-clause-keeps
+returns-clause-keeps c = record {
+  known = λ p h. c.settle_won.ensures.keeps.known p (c.scan.ensures.wins.known p (subst (λ (l : List ℕ). In p l) (sym c.if-not-is_marked.ensures.known) (In-left p (known c.args.scanner.now.seat) (c.args.place ∷ []) h)));
+  parts = c.settle_won.ensures.keeps.parts ∙ c.scan.ensures.wins.parts ∙ c.is_marked.ensures.same.parts;
+}

@@ -1,0 +1,62 @@
+-- The markers after their run, taken together.
+use Rattle.std.specs.Prelude.{◌≡◌, ◌+◌, ◌<◌, ◌≤◌, ℕ, List, Bool, length, sum_by}
+use mathlib.Core.Option.{some}
+use lib.ListN.{get_elem?}
+use Rattle.golf_theory.specs.Membership.{In}
+use Rattle.golf_marks.specs.declared.marks.Marks.{Marks}
+use Rattle.golf_marks.specs.declared.marks.MarkSeat.{MarkSeat}
+use Rattle.golf_marks.specs.Flags.{IsSet}
+use Rattle.golf_marks.specs.Places.{place_count}
+use Rattle.golf_marks.specs.Seats.{graph_in, claimed, known, parts, IsSeatOf}
+use Rattle.golf_grey.specs.declared.hand.GreyHand.{GreyHand}
+use Rattle.golf_grey.specs.declared.pool.GreyPool.{GreyPool}
+use Rattle.golf_grey.specs.Hands.{pushed, took}
+use Rattle.golf_mark.specs.declared.marker.Marker.{Marker}
+use Rattle.golf_mark.specs.Turning.{IsMarkerOf, IsTended}
+
+-- the marker k has run
+pub record HasRun (marks : Marks) (pool : GreyPool) (k : ℕ) (m : Marker) : Type 0 where
+  pub fits : IsMarkerOf marks pool m
+  pub tended : IsTended (graph_in marks) m
+  pub number : m.hand.number ≡ k
+
+abbrev pub AllRun : Marks → GreyPool → List Marker → Type 0
+AllRun marks pool ms = (k : ℕ) (m : Marker) → get_elem? ms k ≡ some m → HasRun marks pool k m
+
+-- each of the first roots is known to a marker
+abbrev pub IsRooted : List ℕ → List Marker → Type 0
+IsRooted roots ms = (p : ℕ) → In p roots → (k : ℕ) × (m : Marker) × (get_elem? ms k ≡ some m) × In p (known m.scanner.seat)
+
+-- how many seats the markers stand for
+abbrev pub marker_parts : List Marker → ℕ
+marker_parts ms = sum_by (λ m. parts m.scanner.seat) ms
+
+-- one seat that has taken others in, and the places that were missed
+pub record Finisher : Type 0 where
+  pub seat : MarkSeat
+  pub todo : List Bool
+
+pub record IsFinisherOf (marks : Marks) (f : Finisher) : Type 0 where
+  pub seat : IsSeatOf marks f.seat
+  pub todo : length f.todo ≡ place_count (graph_in marks)
+
+-- the markers but for the rest are taken in
+pub record IsGathered (marks : Marks) (ms rest : List Marker) (f : Finisher) : Type 0 where
+  pub fits : IsFinisherOf marks f
+  pub begins : (k : ℕ) (m : Marker) → get_elem? rest k ≡ some m → get_elem? ms k ≡ some m
+  pub all : (k : ℕ) (m : Marker) → get_elem? ms k ≡ some m → k < length rest → get_elem? rest k ≡ some m
+  pub sums : (h : ℕ → ℕ) → sum_by h (claimed f.seat) + sum_by (λ m. sum_by h (claimed m.scanner.seat)) rest ≡ sum_by (λ m. sum_by h (claimed m.scanner.seat)) ms
+  pub counted : parts f.seat + marker_parts rest ≡ marker_parts ms
+  pub told : (k : ℕ) (m : Marker) → get_elem? ms k ≡ some m → length rest ≤ k → (p : ℕ) → In p (known m.scanner.seat) → In p (known f.seat)
+  pub noted : (k : ℕ) (m : Marker) → get_elem? ms k ≡ some m → length rest ≤ k → (p : ℕ) → p < place_count (graph_in marks) → IsSet m.missed.items p → IsSet f.todo p
+
+-- the hands of the markers but for the rest, the last first
+pub record IsHandedOver (ms rest : List Marker) (hands : List GreyHand) : Type 0 where
+  pub count : length hands + length rest ≡ length ms
+  pub from : (k : ℕ) (h : GreyHand) → get_elem? hands k ≡ some h → (j : ℕ) × (m : Marker) × (get_elem? ms j ≡ some m) × (m.hand ≡ h) × (j + k + 1 ≡ length ms)
+  pub sums_pushed : (f : ℕ → ℕ) → sum_by (λ (h : GreyHand). sum_by f (pushed h)) hands + sum_by (λ (m : Marker). sum_by f (pushed m.hand)) rest ≡ sum_by (λ (m : Marker). sum_by f (pushed m.hand)) ms
+  pub sums_taken : (f : ℕ → ℕ) → sum_by (λ (h : GreyHand). took f h) hands + sum_by (λ (m : Marker). took f m.hand) rest ≡ sum_by (λ (m : Marker). took f m.hand) ms
+
+-- what was claimed was taken or is left
+abbrev pub IsEvenWith : List Marker → List ℕ → Type 0
+IsEvenWith ms left = (f : ℕ → ℕ) → sum_by (λ m. sum_by f (claimed m.scanner.seat)) ms ≡ sum_by (λ m. took f m.hand) ms + sum_by f left

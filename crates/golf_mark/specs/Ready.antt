@@ -1,0 +1,45 @@
+-- Markers before their run.
+use Rattle.std.specs.Prelude.{◌≡◌, ◌<◌, ◌≤◌, ℕ, List, [], length}
+use mathlib.Core.Option.{some}
+use lib.ListN.{get_elem?}
+use Rattle.golf_theory.specs.Membership.{In}
+use Rattle.golf_base.specs.Roomy.{Roomy}
+use Rattle.golf_marks.specs.declared.marks.Marks.{Marks}
+use Rattle.golf_marks.specs.declared.marks.MarkSeat.{MarkSeat}
+use Rattle.golf_marks.specs.Seats.{graph_in, known, seat_count}
+use Rattle.golf_grey.specs.declared.hand.GreyHand.{GreyHand}
+use Rattle.golf_grey.specs.declared.pool.GreyPool.{GreyPool}
+use Rattle.golf_grey.specs.Hands.{took, hand_count}
+use Rattle.golf_mark.specs.declared.marker.Marker.{Marker}
+use Rattle.golf_mark.specs.Gathering.{marker_parts}
+use Rattle.golf_mark.specs.Turning.{IsMarkerOf, Keeps}
+use Rattle.golf_mark.specs.Waiters.{IsWaiters}
+
+-- the marker k has taken nothing yet
+pub record IsFresh (marks : Marks) (pool : GreyPool) (k : ℕ) (m : Marker) : Type 0 where
+  pub fits : IsMarkerOf marks pool m
+  pub none : (f : ℕ → ℕ) → took f m.hand ≡ 0
+  pub number : m.hand.number ≡ k
+
+abbrev pub AllFresh : Marks → GreyPool → List Marker → Type 0
+AllFresh marks pool ms = (k : ℕ) (m : Marker) → get_elem? ms k ≡ some m → IsFresh marks pool k m
+
+-- a marker has claimed a root
+pub record Seeds (marks : Marks) (pool : GreyPool) (root : ℕ) (old new : Marker) : Type 0 where
+  pub fits : IsMarkerOf marks pool new
+  pub keeps : Keeps old new
+  pub took : (f : ℕ → ℕ) → took f new.hand ≡ took f old.hand
+  pub there : In root (known new.scanner.seat)
+
+-- all that marking needs is there
+pub record IsReady (marks : Marks) (pool : GreyPool) (waiters : List (List ℕ)) (ms : List Marker) (hands : Roomy GreyHand) (seats : Roomy MarkSeat) : Type 0 where
+  pub waiting : IsWaiters (graph_in marks) waiters
+  pub some_marker : 0 < length ms
+  pub few : length ms ≤ 16
+  pub count : length ms ≡ hand_count pool
+  pub parts : marker_parts ms ≡ seat_count marks
+  pub fresh : AllFresh marks pool ms
+  pub no_hand : hands.items ≡ []
+  pub hand_room : length ms ≤ hands.spare
+  pub no_seat : seats.items ≡ []
+  pub seat_room : 0 < seats.spare

@@ -1,0 +1,57 @@
+-- A marker and its turns.
+use Rattle.std.specs.Prelude.{◌≡◌, ◌<◌, ◌≤◌, ◌==◌, ◌⊎◌, if◌then◌else◌, ℕ, List, [], ◌∷◌, length}
+use Rattle.golf_theory.specs.Membership.{In}
+use Rattle.golf_model.specs.declared.graph.GraphParts.{GraphParts}
+use Rattle.golf_marks.specs.declared.marks.Marks.{Marks}
+use Rattle.golf_marks.specs.Flags.{IsSet}
+use Rattle.golf_marks.specs.Places.{place_count, word_count}
+use Rattle.golf_marks.specs.Seats.{graph_in, claimed, known, parts}
+use Rattle.golf_grey.specs.declared.pool.GreyPool.{GreyPool}
+use Rattle.golf_grey.specs.Hands.{pushed, took, capacity_of, IsHandOf}
+use Rattle.golf_mark.specs.declared.marker.Marker.{Marker}
+use Rattle.golf_mark.specs.Scanning.{IsScannerOf}
+use Rattle.golf_mark.specs.Working.{IsScanned}
+
+-- between turns a marker has pushed what it claimed
+pub record IsMarkerOf (marks : Marks) (pool : GreyPool) (m : Marker) : Type 0 where
+  pub scanner : IsScannerOf marks m.scanner
+  pub idle : m.scanner.won.items ≡ []
+  pub hand : IsHandOf pool m.hand
+  pub same : pushed m.hand ≡ claimed m.scanner.seat
+  pub room : word_count (graph_in marks) ≤ capacity_of pool
+  pub missed : length m.missed.items ≡ place_count (graph_in marks)
+
+-- the weight by which a place counts itself
+abbrev pub is_one : ℕ → ℕ → ℕ
+is_one p q = (if q == p then 1 else 0)
+
+-- each place that it took is scanned, or noted as missed
+abbrev pub IsTended : GraphParts → Marker → Type 0
+IsTended g m = (p : ℕ) → p < place_count g → 0 < took (is_one p) m.hand → IsScanned g (known m.scanner.seat) p ⊎ IsSet m.missed.items p
+
+-- it knows what it knew, and stands for the same seats and the same hand
+pub record Keeps (old new : Marker) : Type 0 where
+  pub known : (p : ℕ) → In p (known old.scanner.seat) → In p (known new.scanner.seat)
+  pub parts : parts new.scanner.seat ≡ parts old.scanner.seat
+  pub number : new.hand.number ≡ old.hand.number
+
+-- a place that was taken is tended
+pub record Tends (marks : Marks) (pool : GreyPool) (place : ℕ) (old new : Marker) : Type 0 where
+  pub fits : IsMarkerOf marks pool new
+  pub keeps : Keeps old new
+  pub took : (f : ℕ → ℕ) → took f new.hand ≡ took f old.hand
+  pub missed : (p : ℕ) → IsSet old.missed.items p → IsSet new.missed.items p
+  pub here : place < place_count (graph_in marks) → IsScanned (graph_in marks) (known new.scanner.seat) place ⊎ IsSet new.missed.items place
+
+-- a marker goes through some turns
+pub record Runs (marks : Marks) (pool : GreyPool) (old new : Marker) : Type 0 where
+  pub fits : IsMarkerOf marks pool new
+  pub keeps : Keeps old new
+  pub tended : IsTended (graph_in marks) old → IsTended (graph_in marks) new
+
+-- each marker of a list goes through some turns
+abbrev pub EachRuns : Marks → GreyPool → List Marker → List Marker → Type 0
+EachRuns marks pool [] [] = Unit {0}
+EachRuns marks pool [] (b ∷ bs) = ⊥
+EachRuns marks pool (a ∷ rest) [] = ⊥
+EachRuns marks pool (a ∷ rest) (b ∷ bs) = Runs marks pool a b × EachRuns marks pool rest bs

@@ -1,0 +1,104 @@
+//! What several markers have marked, taken together.
+
+ghost use Rattle.std.specs.Prelude.{◌≡◌, ◌+◌, ◌<◌, ◌≤◌, ℕ, [], length, false};
+ghost use mathlib.Core.Option.{some};
+ghost use lib.ListN.{get_elem?};
+ghost use Rattle.golf_theory.specs.Membership.{In};
+ghost use Rattle.golf_model.specs.Graph.{IsInRange};
+ghost use Rattle.golf_marks.specs.Flags.{IsSet};
+ghost use Rattle.golf_marks.specs.Places.{place_count};
+ghost use Rattle.golf_marks.specs.Seats.{graph_in, seat_count};
+ghost use Rattle.golf_grey.specs.Hands.{hand_count};
+ghost use Rattle.golf_mark.specs.Gathering.{AllRun, IsRooted, marker_parts};
+ghost use Rattle.golf_mark.specs.Marking.{MarksLeast};
+ghost use Rattle.golf_mark.specs.Waiters.{IsWaiters};
+
+use crate::finish::settle;
+use crate::marker::Marker;
+use crate::scanner::Scanner;
+use crate::waiters::Waiters;
+use golf_base::Room;
+use golf_grey::{GreyHand, GreyPool};
+use golf_marks::{MarkSeat, Marks};
+use golf_model::{Graph, Marked};
+
+// Notes what the other flags note.
+fn note(todo: &mut Vec<bool>, missed: Vec<bool>)
+    requires { length missed.items ≡ length todo.old.items }
+    ensures length { length todo.new.items ≡ length todo.old.items }
+    ensures kept { (p : ℕ) → IsSet todo.old.items p → IsSet todo.new.items p }
+    ensures noted { (p : ℕ) → IsSet missed.items p → IsSet todo.new.items p }
+{
+    for place in 0..missed.len() {
+        if missed[place] {
+            todo[place] = true;
+        }
+    }
+}
+
+// Notes these places.
+fn note_left(todo: &mut Vec<bool>, left: &[u32])
+    ensures length { length todo.new.items ≡ length todo.old.items }
+    ensures kept { (p : ℕ) → IsSet todo.old.items p → IsSet todo.new.items p }
+    ensures noted { (p : ℕ) → p < length todo.old.items → In p left.now → IsSet todo.new.items p }
+{
+    for place in left {
+        let place = *place as usize;
+        if place < todo.len() {
+            todo[place] = true;
+        }
+    }
+}
+
+/// What the markers have marked, after the finishing scan.
+pub(crate) fn conclude(
+    marks: Marks,
+    pool: GreyPool,
+    graph: &Graph,
+    waiters: &Waiters,
+    markers: Vec<Marker>,
+    hands: Room<GreyHand>,
+    seats: Room<MarkSeat>,
+) -> Marked
+    requires graph { graph_in marks ≡ graph.now }
+    requires waiters { IsWaiters graph.now waiters.now }
+    requires in_range { IsInRange graph.now }
+    requires some { 0 < length markers.items }
+    requires count { length markers.items ≡ hand_count pool }
+    requires run { AllRun marks pool markers.items }
+    requires parts { marker_parts markers.items ≡ seat_count marks }
+    requires rooted { IsRooted graph.now.roots markers.items }
+    requires hands { (hands.items ≡ []) × (length markers.items ≤ hands.spare) }
+    requires seats { (seats.items ≡ []) × (0 < seats.spare) }
+    ensures { MarksLeast graph.now result }
+{
+    let mut rest = markers;
+    let mut hands = hands;
+    let Some(first) = rest.pop() else {
+        unreachable!()
+    };
+    let Marker {
+        mut scanner,
+        hand,
+        missed: mut todo,
+    } = first;
+    hands.push_ready(hand);
+    while let Some(marker) = rest.pop() {
+        let Marker {
+            scanner: theirs,
+            hand,
+            missed,
+        } = marker;
+        hands.push_ready(hand);
+        let Scanner { seat, won: _ } = theirs;
+        marks.join(&mut scanner.seat, seat);
+        note(&mut todo, missed);
+    }
+    let left = pool.close(hands.into_list());
+    note_left(&mut todo, left.places.as_slice());
+    settle(&marks, graph, waiters, &mut scanner, todo.as_slice());
+    let Scanner { seat, won: _ } = scanner;
+    let mut seats = seats;
+    seats.push_ready(seat);
+    marks.close(seats.into_list())
+}

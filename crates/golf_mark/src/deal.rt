@@ -1,0 +1,97 @@
+//! The markers before their run: what each works with, and the roots that each claims.
+
+ghost use Rattle.std.specs.Prelude.{◌≡◌, ◌<◌, ◌≤◌, ℕ, length, IfOk};
+ghost use Rattle.golf_theory.specs.Membership.{In, Every};
+ghost use Rattle.golf_model.specs.Graph.{IsInRange};
+ghost use Rattle.golf_marks.specs.Places.{place_count, word_count};
+ghost use Rattle.golf_marks.specs.Seats.{graph_in, seat_count, IsNewSeatOf};
+ghost use Rattle.golf_grey.specs.Hands.{AreAllHands, AreNewHands, capacity_of, hand_count};
+ghost use Rattle.golf_mark.specs.Gathering.{IsRooted, marker_parts};
+ghost use Rattle.golf_mark.specs.Ready.{AllFresh, Seeds};
+ghost use Rattle.golf_mark.specs.Turning.{IsMarkerOf};
+
+use crate::marker::{Marker, push_all};
+use crate::scanner::{Scanner, claim};
+use golf_base::{List, Memory, Room};
+use golf_grey::{GreyHand, GreyPool};
+use golf_marks::{MarkSeat, Marks};
+use golf_model::Graph;
+use std::alloc::Global;
+
+/// A marker for each seat and hand, by rising number.
+pub(crate) fn equip(
+    alloc: Global,
+    marks: &Marks,
+    pool: &GreyPool,
+    places: u32,
+    seats: List<MarkSeat>,
+    hands: List<GreyHand>,
+) -> Result<Vec<Marker>, Memory>
+    requires places { place_count (graph_in marks.now) ≡ places }
+    requires capacity { word_count (graph_in marks.now) ≤ capacity_of pool.now }
+    requires same { length seats ≡ length hands }
+    requires seats { Every (IsNewSeatOf marks.now) seats }
+    requires hands { AreAllHands pool.now hands }
+    requires new { AreNewHands hands }
+    ensures count { IfOk result (λ markers. length markers.items ≡ hand_count pool.now) }
+    ensures parts { IfOk result (λ markers. marker_parts markers.items ≡ length seats) }
+    ensures fresh { IfOk result (λ markers. AllFresh marks.now pool.now markers.items) }
+{
+    let mut seats = seats;
+    let mut hands = hands;
+    let mut markers = Vec::with_capacity(alloc, hands.len())?;
+    while let Some(hand) = hands.pop() {
+        let Some(seat) = seats.pop() else {
+            unreachable!()
+        };
+        let missed = Vec::from_elem(alloc, false, places as usize)?;
+        let mut won = Room::new(alloc);
+        won.reserve(places.max(1) as usize)?;
+        let scanner = Scanner { seat, won };
+        markers.push(Marker {
+            scanner,
+            hand,
+            missed,
+        })?;
+    }
+    Ok(markers)
+}
+
+// A marker claims a root.
+fn seed(marks: &Marks, pool: &GreyPool, marker: &mut Marker, root: u32)
+    requires fits { IsMarkerOf marks.now pool.now marker.old }
+    requires place { root < place_count (graph_in marks.now) }
+    requires root { In root (graph_in marks.now).roots }
+    ensures { Seeds marks.now pool.now root marker.old marker.new }
+{
+    claim(marks, &mut marker.scanner, root);
+    push_all(pool, &mut marker.hand, marker.scanner.won.as_slice());
+    marker.scanner.won.clear();
+}
+
+/// Deals the roots out: of n markers the marker k claims the roots at the places k, k + n, and so on.
+pub(crate) fn deal(
+    marks: &Marks,
+    pool: &GreyPool,
+    graph: &Graph,
+    markers: Vec<Marker>,
+) -> Vec<Marker>
+    requires graph { graph_in marks.now ≡ graph.now }
+    requires some { 0 < length markers.items }
+    requires fresh { AllFresh marks.now pool.now markers.items }
+    ensures count { length result.items ≡ length markers.items }
+    ensures parts { marker_parts result.items ≡ marker_parts markers.items }
+    ensures fresh { AllFresh marks.now pool.now result.items }
+    ensures rooted { IsRooted graph.now.roots result.items }
+    ensures in_range { IsInRange graph.now }
+{
+    let _nodes = graph.nodes();
+    let roots = graph.roots();
+    let mut markers = markers;
+    let count = markers.len();
+    for i in 0..roots.len() {
+        let marker = &mut markers[i % count];
+        seed(marks, pool, marker, roots[i]);
+    }
+    markers
+}

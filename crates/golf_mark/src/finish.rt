@@ -1,0 +1,90 @@
+//! The finishing scan, of what the markers have left.
+
+ghost use Rattle.std.specs.Prelude.{◌≡◌, ◌+◌, ◌<◌, ◌≤◌, ℕ, length};
+ghost use Rattle.golf_marks.specs.Places.{place_count};
+ghost use Rattle.golf_marks.specs.Seats.{graph_in};
+ghost use Rattle.golf_mark.specs.Finishing.{IsIdle, IsCovered, KeepsSeat, KnowsWon};
+ghost use Rattle.golf_mark.specs.Scanning.{IsScannerOf};
+ghost use Rattle.golf_mark.specs.Waiters.{IsWaiters};
+
+use crate::scanner::{Scanner, scan};
+use crate::waiters::Waiters;
+use golf_marks::Marks;
+use golf_model::Graph;
+
+// Scans what was won, until nothing is.
+fn settle_won(
+    marks: &Marks,
+    graph: &Graph,
+    waiters: &Waiters,
+    scanner: &mut Scanner,
+    todo: &[bool],
+    from: u32,
+)
+    requires fits { IsScannerOf marks.now scanner.old }
+    requires graph { graph_in marks.now ≡ graph.now }
+    requires waiters { IsWaiters graph.now waiters.now }
+    requires won { KnowsWon marks.now scanner.old }
+    requires covered { IsCovered marks.now todo.now from scanner.old }
+    ensures idle { IsIdle marks.now scanner.new }
+    ensures keeps { KeepsSeat scanner.old scanner.new }
+    ensures covered { IsCovered marks.now todo.now from scanner.new }
+{
+    let _ = todo;
+    let _ = from;
+    while let Some(place) = scanner.won.pop() {
+        scan(marks, graph, waiters, scanner, place);
+    }
+}
+
+// Scans a place where it is noted and marked, and what is won from there.
+fn settle_at(
+    marks: &Marks,
+    graph: &Graph,
+    waiters: &Waiters,
+    scanner: &mut Scanner,
+    todo: &[bool],
+    place: u32,
+)
+    requires idle { IsIdle marks.now scanner.old }
+    requires graph { graph_in marks.now ≡ graph.now }
+    requires waiters { IsWaiters graph.now waiters.now }
+    requires place { place < place_count (graph_in marks.now) }
+    requires small { place_count (graph_in marks.now) < 4294967296 }
+    requires todo { length todo.now ≡ place_count (graph_in marks.now) }
+    requires covered { IsCovered marks.now todo.now place scanner.old }
+    ensures idle { IsIdle marks.now scanner.new }
+    ensures keeps { KeepsSeat scanner.old scanner.new }
+    ensures covered { IsCovered marks.now todo.now (place + 1) scanner.new }
+{
+    if !todo[place as usize] {
+        return;
+    }
+    if !marks.is_marked(&mut scanner.seat, place) {
+        return;
+    }
+    scan(marks, graph, waiters, scanner, place);
+    settle_won(marks, graph, waiters, scanner, todo, place + 1);
+}
+
+/// Scans all places that are noted, and what is won from there.
+pub(crate) fn settle(
+    marks: &Marks,
+    graph: &Graph,
+    waiters: &Waiters,
+    scanner: &mut Scanner,
+    todo: &[bool],
+)
+    requires idle { IsIdle marks.now scanner.old }
+    requires graph { graph_in marks.now ≡ graph.now }
+    requires waiters { IsWaiters graph.now waiters.now }
+    requires todo { length todo.now ≡ place_count (graph_in marks.now) }
+    requires covered { IsCovered marks.now todo.now 0 scanner.old }
+    ensures idle { IsIdle marks.now scanner.new }
+    ensures keeps { KeepsSeat scanner.old scanner.new }
+    ensures covered { IsCovered marks.now todo.now (place_count (graph_in marks.now)) scanner.new }
+{
+    for place in 0..graph.nodes() + graph.sleepers() {
+        settle_at(marks, graph, waiters, scanner, todo, place);
+    }
+}

@@ -1,0 +1,98 @@
+-- From the words at the end to flags.
+use Rattle.std.proofs.Common.{◌≡◌, ℕ, zero, suc, ◌+◌, ◌<◌, ◌≤◌, ◌⊎◌, inl, inr, List, [], ◌∷◌, ◌++◌, length, get_or, Bool, true, false, cond, eqb, sym, ap, ◌∙◌, subst, arith, refl}
+use Rattle.std.specs.Prelude.{◌==◌, ◌↔◌, sum_by, slice_index}
+use Rattle.std.specs.List.Sorted.{IsStrictlyIncreasing}
+use Rattle.std.proofs.lemmas.Bool.{eqb-true, eq-eqb}
+use Rattle.std.proofs.lemmas.List.Sums.{sum_by_push}
+use Rattle.golf_theory.specs.Membership.{In, Every}
+use Rattle.golf_theory.specs.Counting.{times}
+use Rattle.golf_theory.proofs.Lists.{In-left, In-right, In-cases, Every-left, Every-right, Every-from}
+use Rattle.golf_theory.proofs.Times.{times-append}
+use Rattle.golf_model.specs.declared.graph.Marked.{Marked}
+use Rattle.golf_marks.specs.declared.marks.Marks.{Marks}
+use Rattle.golf_marks.specs.declared.marks.MarkSeat.{MarkSeat}
+use Rattle.golf_marks.specs.Flags.{IsSet, HasMarked}
+use Rattle.golf_marks.specs.Seats.{claimed, known, parts, claim_count, part_count, IsSeatOf}
+use Rattle.golf_marks.proofs.Flags.{IsSet-below}
+
+-- flags that say which words are 1, where the words count
+pub HasMarked-words : (words : List ℕ) (count : ℕ → ℕ) (nodes sleepers : ℕ) (m : Marked)
+    → ((p : ℕ) → slice_index words p ≡ count p) → ((p : ℕ) → count p ≤ 1)
+    → length m.flags ≡ nodes → ((k : ℕ) → k < nodes → get_or m.flags k false ≡ (slice_index words (0 + k) == 1))
+    → length m.awake ≡ sleepers → ((k : ℕ) → k < sleepers → get_or m.awake k false ≡ (slice_index words (nodes + k) == 1))
+    → IsStrictlyIncreasing m.order → ((n : ℕ) → In n m.order ↔ IsSet m.flags n)
+    → HasMarked nodes sleepers (λ p. 0 < count p) m
+HasMarked-words words count nodes sleepers m is once flags_long flags awake_long awake rising members = record {
+  flag_count = flags_long;
+  awake_count = awake_long;
+  flags = λ p. (
+    λ h.
+        let low : p < nodes = omega (arith, IsSet-below m.flags p h) in
+        let one : slice_index words (0 + p) ≡ 1 = eqb-true (slice_index words (0 + p)) 1 (sym (flags p low) ∙ h) in
+        (low, omega (arith, one, is (0 + p), ap count (zero_plus p))),
+    λ h.
+        let one : slice_index words (0 + p) ≡ 1 = omega (arith, is (0 + p), ap count (zero_plus p), once p, h.1) in
+        flags p h.0 ∙ eq-eqb (slice_index words (0 + p)) 1 one,
+  );
+  awake = λ s low. (
+    λ h. let one : slice_index words (nodes + s) ≡ 1 = eqb-true (slice_index words (nodes + s)) 1 (sym (awake s low) ∙ h) in omega (arith, one, is (nodes + s)),
+    λ h. let one : slice_index words (nodes + s) ≡ 1 = omega (arith, is (nodes + s), once (nodes + s), h) in awake s low ∙ eq-eqb (slice_index words (nodes + s)) 1 one,
+  );
+  rising = rising;
+  order = members;
+}
+  where
+    zero_plus : (p : ℕ) → 0 + p ≡ p
+    zero_plus p = omega arith
+
+-- of these seats all but the rest are taken in
+pub record IsGathered (m : Marks) (all rest : List MarkSeat) (s : MarkSeat) : Type 0 where
+  pub seats : Every (IsSeatOf m) rest
+  pub seat : IsSeatOf m s
+  pub parts : parts s + part_count rest ≡ part_count all
+  pub claimed : (p : ℕ) → times p (claimed s) + claim_count p rest ≡ claim_count p all
+  pub known : (p : ℕ) (t : MarkSeat) → In t all → In p (known t) → In t rest ⊎ In p (known s)
+
+-- the last one is taken out first
+pub gathers_first : (m : Marks) (all rest : List MarkSeat) (s : MarkSeat) → Every (IsSeatOf m) all → all ≡ rest ++ s ∷ [] → IsGathered m all rest s
+gathers_first m all rest s seats is =
+    let each = subst (λ (l : List MarkSeat). Every (IsSeatOf m) l) is seats in
+    record {
+      seats = Every-left (IsSeatOf m) rest (s ∷ []) each;
+      seat = (Every-right (IsSeatOf m) rest (s ∷ []) each).0;
+      parts = omega (arith, ap part_count is, sum_by_push (λ (t : MarkSeat). parts t) rest s);
+      claimed = λ p. omega (arith, ap (claim_count p) is, sum_by_push (λ (t : MarkSeat). times p (claimed t)) rest s);
+      known = λ p t h k. elim (In-cases t rest (s ∷ []) (subst (λ (l : List MarkSeat). In t l) is h)) [
+        | inl i ↦ inl i
+        | inr i ↦ elim i [ inl e ↦ inr (subst (λ (u : MarkSeat). In p (known u)) e k) | inr none ↦ absurd none ]
+      ];
+    }
+
+-- one more is taken in
+pub gathers_next : (m : Marks) (all old rest : List MarkSeat) (s t u : MarkSeat) → IsGathered m all old s → old ≡ rest ++ t ∷ []
+    → IsSeatOf m u → parts u ≡ parts s + parts t → claimed u ≡ claimed s ++ claimed t → known u ≡ known s ++ known t → IsGathered m all rest u
+gathers_next m all old rest s t u g is seat same_parts same_claims same_known =
+    let each = subst (λ (l : List MarkSeat). Every (IsSeatOf m) l) is g.seats in
+    record {
+      seats = Every-left (IsSeatOf m) rest (t ∷ []) each;
+      seat = seat;
+      parts = omega (arith, g.parts, same_parts, ap part_count is, sum_by_push (λ (x : MarkSeat). parts x) rest t);
+      claimed = λ p. omega (arith, g.claimed p, ap (times p) same_claims, times-append p (claimed s) (claimed t), ap (claim_count p) is, sum_by_push (λ (x : MarkSeat). times p (claimed x)) rest t);
+      known = λ p x h k. elim (g.known p x h k) [
+        | inl i ↦ elim (In-cases x rest (t ∷ []) (subst (λ (l : List MarkSeat). In x l) is i)) [
+          | inl j ↦ inl j
+          | inr j ↦ elim j [
+            | inl e ↦ inr (subst (λ (l : List ℕ). In p l) (sym same_known) (In-right p (known s) (known t) (subst (λ (y : MarkSeat). In p (known y)) e k)))
+            | inr none ↦ absurd none
+          ]
+        ]
+        | inr i ↦ inr (subst (λ (l : List ℕ). In p l) (sym same_known) (In-left p (known s) (known t) i))
+      ];
+    }
+
+-- no seat that has a part is none of them
+pub empty_parts : (seats : List MarkSeat) → seats ≡ [] → part_count seats ≡ 0
+empty_parts seats is = ap part_count is
+
+pub seat_among : (m : Marks) (all : List MarkSeat) (s : MarkSeat) (p : ℕ) → ((t : MarkSeat) → In t all → In p (known t) → In p (known s)) → Every (λ t. In p (known t) → In p (known s)) all
+seat_among m all s p f = Every-from (λ t. In p (known t) → In p (known s)) all f

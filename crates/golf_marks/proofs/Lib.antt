@@ -1,0 +1,4 @@
+pub mod Flags
+pub mod NewSeats
+pub mod Steps
+pub mod Closing

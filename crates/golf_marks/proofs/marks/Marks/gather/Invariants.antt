@@ -1,0 +1,13 @@
+use Rattle.std.proofs.Common.{◌≡◌, ℕ, ◌+◌, length}
+use Rattle.golf_theory.specs.Membership.{In, Every}
+use Rattle.golf_theory.specs.Counting.{times}
+use Rattle.golf_marks.specs.declared.marks.MarkSeat.{MarkSeat}
+use Rattle.golf_marks.specs.Seats.{claimed, known, parts, claim_count, part_count, IsSeatOf}
+use Rattle.golf_marks.proofs.Closing.{IsGathered}
+use Rattle.golf_marks.proofs.marks.Marks.gather.Given as goal
+
+abbrev pub invariant-loop-other : goal.invariant-loop-other
+invariant-loop-other l = IsGathered l.self l.fn.seats l.seats l.seat
+
+abbrev pub decreases-loop-other : goal.decreases-loop-other
+decreases-loop-other l = length l.seats

@@ -1,0 +1,76 @@
+-- The rule of the mark words: what holds between any two steps of any threads, and what a step tells its seat.
+use Rattle.std.specs.Prelude.{◌≡◌, ℕ, ◌+◌, ◌-◌, ◌<◌, ◌≤◌, ◌==◌, List, [], ◌∷◌, ◌++◌, length, slice_index, sum_by, if◌then◌else◌}
+use mathlib.Core.Option.{some}
+use lib.ListN.{get_elem?}
+use Rattle.atomic_table.specs.Table.{State, Me, Step}
+use Rattle.golf_theory.specs.Membership.{In}
+use Rattle.golf_theory.specs.Counting.{times}
+use Rattle.golf_model.specs.declared.graph.GraphParts.{GraphParts}
+use Rattle.golf_model.specs.Graph.{Least}
+use Rattle.golf_marks.specs.declared.rule.View.{View}
+use Rattle.golf_marks.specs.declared.rule.Plan.{Plan}
+use Rattle.golf_marks.specs.Places.{word_count}
+
+abbrev pub view_of : GraphParts → ℕ → List ℕ → List ℕ → View
+view_of g parts claimed known = record { graph = g; parts = parts; claimed = claimed; known = known }
+
+abbrev pub graph_of : Plan → GraphParts
+graph_of plan = plan.graph.value
+
+-- a view without a part has claimed nothing; another one names the graph of the words; what it claimed it knows, and what it knows is marked
+pub record Fits (g : GraphParts) (words : List ℕ) (v : View) : Type 0 where
+  pub idle : v.parts ≡ 0 → v.claimed ≡ []
+  pub graph : 0 < v.parts → v.graph ≡ g
+  pub own : (p : ℕ) → In p v.claimed → In p v.known
+  pub known : (p : ℕ) → In p v.known → slice_index words p ≡ 1
+
+-- words are bits; a place is claimed as often as its bit says; the parts add up to the seats; each view fits; and a marked place is in the least closed set
+pub record Holds (plan : Plan) (s : State (Unit {0}) View) : Type 0 where
+  pub size : length s.words ≡ word_count (graph_of plan)
+  pub bits : (p : ℕ) → slice_index s.words p ≤ 1
+  pub claims : (p : ℕ) → sum_by (λ v. times p v.claimed) s.views ≡ slice_index s.words p
+  pub parts : sum_by (λ v. v.parts) s.views ≡ plan.seats
+  pub views : (seat : ℕ) (v : View) → get_elem? s.views seat ≡ some v → Fits (graph_of plan) s.words v
+  pub sound : (p : ℕ) → slice_index s.words p ≡ 1 → Least (graph_of plan) p
+
+-- the first view has all parts
+abbrev pub first_view : Plan → View
+first_view plan = view_of (graph_of plan) plan.seats [] []
+
+-- what a claim that found the word n tells
+pub record Claims (place : ℕ) (v : View) (n : ℕ) (w : View) : Type 0 where
+  pub bit : n ≤ 1
+  pub view : w ≡ view_of v.graph v.parts (if n == 0 then v.claimed ++ place ∷ [] else v.claimed) (v.known ++ place ∷ [])
+  pub once : n ≡ 0 → times place v.claimed ≡ 0
+  pub bounded : length w.claimed ≤ word_count v.graph
+
+-- what a look that found the word n tells
+pub record Looks (place : ℕ) (v : View) (n : ℕ) (w : View) : Type 0 where
+  pub bit : n ≤ 1
+  pub view : w ≡ view_of v.graph v.parts v.claimed (if n == 1 then v.known ++ place ∷ [] else v.known)
+  pub known : In place v.known → n ≡ 1
+  pub unclaimed : n ≡ 0 → times place v.claimed ≡ 0
+  pub bounded : length v.claimed ≤ word_count v.graph
+
+abbrev pub ClaimTells : Step (Unit {0}) → Me (Unit {0}) View → ℕ → Me (Unit {0}) View → Type 0
+ClaimTells step me n now = Claims step.word me.0 n now.0 × (now.1 ≡ me.1)
+
+abbrev pub LookTells : Step (Unit {0}) → Me (Unit {0}) View → ℕ → Me (Unit {0}) View → Type 0
+LookTells step me n now = Looks step.word me.0 n now.0 × (now.1 ≡ me.1)
+
+-- a split gives one part away, and all that is known
+abbrev pub left_view : View → View
+left_view v = view_of v.graph (v.parts - 1) v.claimed v.known
+
+abbrev pub right_view : View → View
+right_view v = view_of v.graph 1 [] v.known
+
+-- a join takes everything in, and leaves nothing
+abbrev pub both_views : View → View → View
+both_views v w = view_of v.graph (v.parts + w.parts) (v.claimed ++ w.claimed) (v.known ++ w.known)
+
+abbrev pub no_graph : GraphParts
+no_graph = record { numbers = []; children = []; finalised = []; roots = []; sleepers = [] }
+
+abbrev pub spent_view : View
+spent_view = view_of no_graph 0 [] []

@@ -1,0 +1,178 @@
+//! The mark words and their seats.
+
+ghost use Rattle.std.specs.Prelude.{◌≡◌, ◌<◌, ◌≤◌, ◌+◌, ◌++◌, ◌∷◌, ℕ, [], length, IfOk, IsTrue, if◌then◌else◌, false};
+ghost use Rattle.golf_model.specs.Graph.{node_count, sleeper_count};
+ghost use Rattle.golf_marks.specs.Places.{place_count, word_count};
+ghost use Rattle.golf_marks.specs.Rule.{graph_of};
+
+use crate::close::{fill, numbers_of};
+use crate::deal::deal;
+use crate::rule::{Claim, Deal, Look, Plan, Ruled, View};
+use atomic_table::{Seat, Table};
+use golf_base::{List, Memory, Room};
+use golf_model::{Graph, Marked};
+use std::alloc::Global;
+use std::snapshot::Snapshot;
+
+/// One word for each place of a graph, shared by threads through a `&`.
+#[derive(Drop)]
+pub struct Marks {
+    pub(crate) table: Table<(), View, Plan, Ruled, Global>,
+    flags: List<bool>,
+    awake: List<bool>,
+    order: Room<u32>,
+    ghost sized: { table.shared.table_id.words ≡ word_count (graph_of table.shared.key) },
+    ghost no_slots: { table.shared.table_id.slots ≡ 0 },
+    ghost some_seat: { 0 < table.shared.key.seats },
+    ghost flag_for_each: { length flags ≡ node_count (graph_of table.shared.key) },
+    ghost awake_for_each: { length awake ≡ sleeper_count (graph_of table.shared.key) },
+    ghost empty: { order.items ≡ [] },
+    ghost room: { node_count (graph_of table.shared.key) ≤ order.spare },
+    ghost small: { node_count (graph_of table.shared.key) < 4294967296 },
+}
+
+/// What one thread claims with and looks with. It has no bytes.
+#[derive(Drop)]
+pub struct MarkSeat {
+    pub(crate) seat: Seat<(), View>,
+    ghost live: { 0 < seat.me.0.parts },
+    ghost no_slot: { seat.me.1 ≡ [] },
+}
+
+impl Marks {
+    ghost use Rattle.golf_theory.specs.Membership.{In, Every};
+    ghost use Rattle.golf_theory.specs.Counting.{times};
+    ghost use Rattle.golf_model.specs.Graph.{Least};
+    ghost use Rattle.golf_marks.specs.Flags.{HasMarked};
+    ghost use Rattle.golf_marks.specs.Places.{IsJustified};
+    ghost use Rattle.golf_marks.specs.Seats.{graph_in, seat_count, claimed, known, parts, claim_count, part_count, IsSeatOf, IsSameSeat, IsNewSeatOf};
+
+    /// Words for a graph, none of them set, with as many seats.
+    pub fn new(alloc: Global, graph: &Graph, seats: u32) -> Result<(Marks, List<MarkSeat>), Memory>
+        requires { 0 < seats }
+        ensures graph { IfOk result (λ r. graph_in r.0 ≡ graph.now) }
+        ensures seat_count { IfOk result (λ r. seat_count r.0 ≡ seats) }
+        ensures count { IfOk result (λ r. length r.1 ≡ seats) }
+        ensures seats { IfOk result (λ r. Every (IsNewSeatOf r.0) r.1) }
+    {
+        let nodes = graph.nodes() as usize;
+        let sleepers = graph.sleepers() as usize;
+        let mut flags = List::new(alloc);
+        flags.extend_with(nodes, false)?;
+        let mut awake = List::new(alloc);
+        awake.extend_with(sleepers, false)?;
+        let mut order = Room::new(alloc);
+        order.reserve(nodes)?;
+        let words = Vec::from_elem(alloc, 0u64, (nodes + sleepers).max(1))?;
+        let plan = Plan {
+            graph: Snapshot::of(graph),
+            seats,
+        };
+        let (table, first) = Table::of_words(alloc, words.as_slice(), &plan)?;
+        let marks = Marks {
+            table,
+            flags,
+            awake,
+            order,
+        };
+        let list = deal(alloc, &marks, first, seats)?;
+        Ok((marks, list))
+    }
+
+    /// Marks a place that is a root, or that a known place justifies: true exactly where this step
+    /// set the bit. It is false only where the bit was set before.
+    pub fn claim(&self, seat: &mut MarkSeat, place: u32) -> bool
+        requires seat { IsSeatOf self.now seat.old }
+        requires place { place < place_count (graph_in self.now) }
+        requires justified { IsJustified (graph_in self.now) (known seat.old) place }
+        ensures same { IsSameSeat seat.old seat.new }
+        ensures claimed { claimed seat.new ≡ (if result then claimed seat.old ++ place ∷ [] else claimed seat.old) }
+        ensures known { known seat.new ≡ known seat.old ++ place ∷ [] }
+        ensures once { IsTrue result → times place (claimed seat.old) ≡ 0 }
+        ensures bounded { length (claimed seat.new) ≤ word_count (graph_in self.now) }
+    {
+        let found = self
+            .table
+            .shared
+            .fetch_or::<Claim>(&mut seat.seat, place as usize, 1);
+        found == 0
+    }
+
+    /// Whether a place is marked. It is never false for a place that the seat knows or claimed.
+    pub fn is_marked(&self, seat: &mut MarkSeat, place: u32) -> bool
+        requires seat { IsSeatOf self.now seat.old }
+        requires place { place < place_count (graph_in self.now) }
+        ensures same { IsSameSeat seat.old seat.new }
+        ensures claimed { claimed seat.new ≡ claimed seat.old }
+        ensures known { known seat.new ≡ (if result then known seat.old ++ place ∷ [] else known seat.old) }
+        ensures knew { In place (known seat.old) → IsTrue result }
+        ensures unclaimed { result ≡ false → times place (claimed seat.old) ≡ 0 }
+        ensures bounded { length (claimed seat.old) ≤ word_count (graph_in self.now) }
+    {
+        let found = self
+            .table
+            .shared
+            .load::<Look>(&mut seat.seat, place as usize);
+        found == 1
+    }
+
+    /// Takes in what another seat claimed and knows, and what it stands for.
+    pub fn join(&self, seat: &mut MarkSeat, other: MarkSeat)
+        requires seat { IsSeatOf self.now seat.old }
+        requires other { IsSeatOf self.now other }
+        ensures seat { IsSeatOf self.now seat.new }
+        ensures parts { parts seat.new ≡ parts seat.old + parts other }
+        ensures claimed { claimed seat.new ≡ claimed seat.old ++ claimed other }
+        ensures known { known seat.new ≡ known seat.old ++ known other }
+    {
+        let MarkSeat { seat: theirs } = other;
+        self.table.shared.join_seat::<Deal>(&mut seat.seat, theirs);
+    }
+
+    // One seat that has taken in all these.
+    fn gather(&self, mut seats: List<MarkSeat>) -> MarkSeat
+        requires seats { Every (IsSeatOf self.now) seats }
+        requires some { 0 < part_count seats }
+        ensures seat { IsSeatOf self.now result }
+        ensures parts { parts result ≡ part_count seats }
+        ensures claimed { (p : ℕ) → times p (claimed result) ≡ claim_count p seats }
+        ensures known { (p : ℕ) → Every (λ s. In p (known s) → In p (known result)) seats }
+    {
+        let Some(mut seat) = seats.pop() else {
+            unreachable!()
+        };
+        while let Some(other) = seats.pop() {
+            self.join(&mut seat, other);
+        }
+        seat
+    }
+
+    /// The places that these seats claimed, which are all seats or stand for all.
+    pub fn close(self, seats: List<MarkSeat>) -> Marked
+        requires seats { Every (IsSeatOf self) seats }
+        requires all { part_count seats ≡ seat_count self }
+        ensures marked { HasMarked (node_count (graph_in self)) (sleeper_count (graph_in self)) (λ p. 0 < claim_count p seats) result }
+        ensures once { (p : ℕ) → claim_count p seats ≤ 1 }
+        ensures known { (p : ℕ) → Every (λ s. In p (known s) → 0 < claim_count p seats) seats }
+        ensures sound { (p : ℕ) → 0 < claim_count p seats → Least (graph_in self) p }
+    {
+        let MarkSeat { seat } = self.gather(seats);
+        let Marks {
+            table,
+            flags,
+            awake,
+            order,
+        } = self;
+        let nodes = flags.len();
+        let closed = table.close_with(seat);
+        let flags = fill(&closed, 0, flags);
+        let awake = fill(&closed, nodes, awake);
+        closed.free();
+        let order = numbers_of(flags.as_slice(), order);
+        Marked {
+            flags,
+            order,
+            awake,
+        }
+    }
+}

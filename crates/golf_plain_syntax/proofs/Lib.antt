@@ -1,0 +1,11 @@
+pub mod Rows
+pub mod PlainRows
+pub mod PlainPieces
+pub mod PlainSound
+pub mod Shapes
+pub mod Trees
+pub mod Separators
+pub mod Prints
+pub mod Costs
+pub mod Whole
+pub mod Examples

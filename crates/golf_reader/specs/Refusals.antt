@@ -1,0 +1,51 @@
+-- Why a file is not run, and what its reading answers (profile).
+use Rattle.std.specs.Prelude.{◌≡◌, ℕ, List, Result, Ok, Err}
+use Rattle.golf_data.specs.declared.code.Code.{Code}
+use Rattle.golf_tokens.specs.declared.token.Token.{Token}
+use Rattle.golf_tokens.specs.Lexes.{Lexes, IsFault, line_at}
+use Rattle.golf_plain.specs.declared.plain.Plain.{Plain}
+use Rattle.golf_plain.specs.Plain.{Reads}
+use Rattle.golf_plain.specs.CodeOf.{code_of}
+use Rattle.golf_reader.specs.declared.refusal.Refusal.{Refusal}
+use Rattle.golf_reader.specs.declared.refusal.Refusal.TheVariants as refusals
+
+-- no plain tree reads the bytes
+abbrev pub IsNotPlain : List ℕ → Type 0
+IsNotPlain bytes = (p : Plain) → Reads bytes p → ⊥
+
+-- the bytes do not lex: the fault is at this byte, on this line
+pub record IsUnlexed (bytes : List ℕ) (line byte : ℕ) : Type 0 where
+  pub fault : IsFault bytes byte
+  pub on : line ≡ line_at bytes byte
+  pub none : IsNotPlain bytes
+
+-- they lex, and are no plain file
+pub record IsUnbuilt (bytes : List ℕ) : Type 0 where
+  pub tokens : List Token
+  pub lexes : Lexes bytes tokens
+  pub none : IsNotPlain bytes
+
+-- the file has this code
+pub record HasCode (bytes : List ℕ) (code : Code) : Type 0 where
+  pub plain : Plain
+  pub reads : Reads bytes plain
+  pub is : code ≡ code_of plain
+  pub only : (p : Plain) → Reads bytes p → code ≡ code_of p
+
+-- the bytes are refused so; want of memory tells nothing
+abbrev pub IsRefusedBy : List ℕ → Refusal → Type 0
+IsRefusedBy bytes (refusals.Lexical line byte) = IsUnlexed bytes line byte
+IsRefusedBy bytes refusals.NotBuilt = IsUnbuilt bytes
+IsRefusedBy bytes refusals.Memory = Unit {0}
+
+-- the code of the file, or why it has none
+abbrev pub WasRead : List ℕ → Result Code Refusal → Type 0
+WasRead bytes (Ok code) = HasCode bytes code
+WasRead bytes (Err refusal) = IsRefusedBy bytes refusal
+
+-- the tokens of the file, or the fault
+abbrev pub WasLexed : List ℕ → Result (List Token) Refusal → Type 0
+WasLexed bytes (Ok tokens) = Lexes bytes tokens
+WasLexed bytes (Err (refusals.Lexical line byte)) = IsUnlexed bytes line byte
+WasLexed bytes (Err refusals.NotBuilt) = ⊥
+WasLexed bytes (Err refusals.Memory) = Unit {0}

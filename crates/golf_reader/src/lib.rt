@@ -1,0 +1,11 @@
+//! From the bytes of a file to its code, or to why it has none.
+//!
+//! - `read`: the code of a file.
+//! - `Refusal`: why a file is not run.
+#![tactic(auto)]
+
+mod reading;
+mod refusal;
+
+pub use reading::read;
+pub use refusal::Refusal;

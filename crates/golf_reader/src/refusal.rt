@@ -1,0 +1,27 @@
+//! Why a file is not run.
+
+ghost use Rattle.std.specs.Prelude.{◌≡◌};
+
+use golf_base::Memory;
+
+/// Why a file is not run. Lines count from 1, bytes from 0.
+#[derive(Clone, Copy, Debug, PartialEq, Eq)]
+pub enum Refusal {
+    /// The bytes do not lex. No text that lexes begins with the bytes up to and including this one, and it
+    /// is the first such; where there is none, `byte` is the length.
+    Lexical { line: u32, byte: u32 },
+    /// The bytes lex, but are no plain file.
+    NotBuilt,
+    /// Memory was wanting.
+    Memory,
+}
+
+impl From<Memory> for Refusal {
+    ghost use Rattle.golf_reader.specs.declared.refusal.Refusal.TheVariants as refusals;
+
+    ghost from_gives = { λ _ refusal. refusal ≡ refusals.Memory };
+
+    fn from(_: Memory) -> Self {
+        Refusal::Memory
+    }
+}

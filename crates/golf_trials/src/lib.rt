@@ -1,0 +1,15 @@
+//! Graphs and gates for tests and measurements. Graphs are made a place at a time, of a shape, or such
+//! that they look random; gates see how markers run.
+#![tactic(auto)]
+
+mod gates;
+mod making;
+mod numbers;
+mod random;
+mod shapes;
+
+pub use gates::{CountingGate, MeetingGate, StealingGate};
+pub use making::{GraphFault, GraphMaker};
+pub use numbers::Numbers;
+pub use random::random_graph;
+pub use shapes::{Shape, shaped};

@@ -1,0 +1,23 @@
+//! Numbers that look random.
+
+/// Numbers from a seed, by a linear congruential generator: the same seed gives the same numbers.
+#[derive(Debug, Drop)]
+pub struct Numbers {
+    state: u64,
+}
+
+impl Numbers {
+    pub fn new(seed: u64) -> Numbers {
+        Numbers { state: seed }
+    }
+
+    /// The next number, below the bound, or 0 where the bound is 0.
+    pub fn below(&mut self, bound: u32) -> u32 {
+        self.state = self
+            .state
+            .wrapping_mul(6364136223846793005)
+            .wrapping_add(1442695040888963407);
+        let high = (self.state >> 33) as u32;
+        if bound == 0 { 0 } else { high % bound }
+    }
+}

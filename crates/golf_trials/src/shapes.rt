@@ -1,0 +1,127 @@
+//! Graphs of a shape, whose one root leads to all nodes.
+
+use crate::making::{GraphFault, GraphMaker};
+use crate::numbers::Numbers;
+use golf_base::List;
+use golf_model::Graph;
+use std::alloc::Global;
+
+/// How the nodes of a graph hang together.
+#[derive(Clone, Copy, Debug, PartialEq, Eq)]
+pub enum Shape {
+    /// Each node has the one of the next number as its child.
+    List,
+    /// A list through all nodes in an order that looks random.
+    Shuffled,
+    /// A binary tree, level by level.
+    Tree,
+}
+
+/// A graph of this shape with so many nodes.
+pub fn shaped(alloc: Global, shape: Shape, nodes: u32) -> Result<Graph, GraphFault> {
+    match shape {
+        Shape::List => list(alloc, nodes),
+        Shape::Shuffled => shuffled(alloc, nodes),
+        Shape::Tree => tree(alloc, nodes),
+    }
+}
+
+// A root of the graph, where it has a node.
+fn rooted(maker: GraphMaker, nodes: u32, root: u32) -> Result<Graph, GraphFault> {
+    if nodes == 0 {
+        return maker.finish();
+    }
+    maker.root(root)?.finish()
+}
+
+fn list(alloc: Global, nodes: u32) -> Result<Graph, GraphFault> {
+    let mut maker = GraphMaker::new(alloc, nodes);
+    for node in 1..nodes {
+        maker = maker.node(alloc, &[node])?;
+    }
+    if nodes > 0 {
+        maker = maker.node(alloc, &[])?;
+    }
+    rooted(maker, nodes, 0)
+}
+
+// The children of a node in a binary tree of so many nodes.
+fn with_branches(
+    maker: GraphMaker,
+    alloc: Global,
+    node: u32,
+    nodes: u32,
+) -> Result<GraphMaker, GraphFault> {
+    let left = node.saturating_mul(2).saturating_add(1);
+    let right = left.saturating_add(1);
+    if right < nodes {
+        return maker.node(alloc, &[left, right]);
+    }
+    if left < nodes {
+        return maker.node(alloc, &[left]);
+    }
+    maker.node(alloc, &[])
+}
+
+fn tree(alloc: Global, nodes: u32) -> Result<Graph, GraphFault> {
+    let mut maker = GraphMaker::new(alloc, nodes);
+    for node in 0..nodes {
+        maker = with_branches(maker, alloc, node, nodes)?;
+    }
+    rooted(maker, nodes, 0)
+}
+
+fn swap(order: &mut List<u32>, i: usize, j: usize) {
+    if i < order.len() && j < order.len() {
+        let first = order.as_slice()[i];
+        let second = order.as_slice()[j];
+        order.set(i, second);
+        order.set(j, first);
+    }
+}
+
+// All nodes, in an order that looks random.
+fn shuffled_nodes(alloc: Global, nodes: u32) -> Result<List<u32>, GraphFault> {
+    let mut order = List::new(alloc);
+    for node in 0..nodes {
+        order.push(node)?;
+    }
+    let mut numbers = Numbers::new(7);
+    for node in 1..nodes {
+        let other = numbers.below(node + 1);
+        swap(&mut order, node as usize, other as usize);
+    }
+    Ok(order)
+}
+
+fn link(next: &mut List<Option<u32>>, from: u32, to: u32) {
+    if (from as usize) < next.len() {
+        next.set(from as usize, Some(to));
+    }
+}
+
+// For each node the one behind it in this order.
+fn next_nodes(alloc: Global, order: &[u32]) -> Result<List<Option<u32>>, GraphFault> {
+    let mut next = List::new(alloc);
+    next.extend_with(order.len(), None)?;
+    for i in 1..order.len() {
+        link(&mut next, order[i - 1], order[i]);
+    }
+    Ok(next)
+}
+
+fn shuffled(alloc: Global, nodes: u32) -> Result<Graph, GraphFault> {
+    let order = shuffled_nodes(alloc, nodes)?;
+    let next = next_nodes(alloc, order.as_slice())?;
+    let mut maker = GraphMaker::new(alloc, nodes);
+    for node in next.as_slice() {
+        maker = match node {
+            Some(child) => maker.node(alloc, &[*child])?,
+            None => maker.node(alloc, &[])?,
+        };
+    }
+    match order.as_slice().first() {
+        Some(root) => rooted(maker, nodes, *root),
+        None => maker.finish(),
+    }
+}
