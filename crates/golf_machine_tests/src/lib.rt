@@ -1,0 +1,14 @@
+//! Tests of the machine on small codes. The values that are expected are those of the Go
+//! specification.
+#![tactic(auto)]
+
+#[cfg(test)]
+mod codes;
+#[cfg(test)]
+mod ready;
+#[cfg(test)]
+mod runs;
+#[cfg(test)]
+mod states;
+#[cfg(test)]
+mod turns;

@@ -1,0 +1,75 @@
+//! A state that is changed by hand, and frames with a deferred call.
+
+use golf_base::{GoroutineId, List, Memory, Room};
+use golf_data::{Deferred, Frame, Leaving};
+use golf_state::{State, begin_return, enter_deferred, return_frame};
+use std::alloc::Global;
+use std::test::Fail;
+
+// A frame with these deferred calls.
+fn frame(alloc: Global, deferred: List<Deferred>) -> Frame {
+    Frame {
+        function: 0,
+        at: 1,
+        slots: List::new(alloc),
+        operands: Room::new(alloc),
+        deferred,
+        leaving: Leaving::No,
+        discards: true,
+    }
+}
+
+// How many frames there are while the deferred call of a returning frame runs, and behind it.
+fn deferred_call(alloc: Global) -> Result<(usize, usize), Memory> {
+    let mut deferred = List::new(alloc);
+    deferred.push(Deferred {
+        function: 1,
+        arguments: List::new(alloc),
+    })?;
+    let mut frames = List::new(alloc);
+    frames.push(frame(alloc, deferred))?;
+    begin_return(&mut frames, 2);
+    enter_deferred(&mut frames, frame(alloc, List::new(alloc)))?;
+    let inside = frames.len();
+    return_frame(&mut frames, None)?;
+    Ok((inside, frames.len()))
+}
+
+// The number of a goroutine that is started once goroutine 2 has ended, and how many there are.
+fn started_anew(alloc: Global) -> Result<(GoroutineId, usize), Memory> {
+    let mut state = State::new(alloc, List::new(alloc), List::new(alloc), 1)?;
+    let second = state.spawn(List::new(alloc), 3)?;
+    state.leave(second);
+    let third = state.spawn(List::new(alloc), 4)?;
+    Ok((third, state.goroutines().len()))
+}
+
+// How many bytes are printed, and how many are left once they are cleared.
+fn cleared(alloc: Global) -> Result<(usize, usize), Memory> {
+    let mut state = State::new(alloc, List::new(alloc), List::new(alloc), 1)?;
+    state.add_output(b"7\n")?;
+    let printed = state.output().len();
+    state.clear_output();
+    Ok((printed, state.output().len()))
+}
+
+#[test]
+fn a_deferred_call_runs_before_its_frame_is_gone(rt: HostRuntime) -> Result<(), Fail> {
+    let frames = deferred_call(rt.alloc())?;
+    assert_eq!(rt; frames, (2, 1));
+    Ok(())
+}
+
+#[test]
+fn no_goroutine_gets_a_number_again(rt: HostRuntime) -> Result<(), Fail> {
+    let started = started_anew(rt.alloc())?;
+    assert_eq!(rt; started, (GoroutineId(3), 3));
+    Ok(())
+}
+
+#[test]
+fn what_was_written_is_cleared(rt: HostRuntime) -> Result<(), Fail> {
+    let lengths = cleared(rt.alloc())?;
+    assert_eq!(rt; lengths, (2, 0));
+    Ok(())
+}
