@@ -22,6 +22,19 @@ fn two_hands(alloc: Global) -> Result<(GreyPool, GreyHand, GreyHand), Memory>
     Ok((pool, second, first))
 }
 
+fn push_three(pool: &GreyPool, hand: &mut GreyHand)
+    requires hand { IsHandOf pool.now hand.old }
+    requires capacity { capacity_of pool.now ≡ 8 }
+    requires none { pushed hand.old ≡ [] }
+    ensures hand { IsHandOf pool.now hand.new }
+    ensures number { hand.new.number ≡ hand.old.number }
+    ensures pushed { length (pushed hand.new) ≡ 3 }
+{
+    pool.push(hand, 4);
+    pool.push(hand, 5);
+    pool.push(hand, 6);
+}
+
 fn push_four(pool: &GreyPool, hand: &mut GreyHand)
     requires hand { IsHandOf pool.now hand.old }
     requires capacity { capacity_of pool.now ≡ 8 }
@@ -29,9 +42,7 @@ fn push_four(pool: &GreyPool, hand: &mut GreyHand)
     ensures hand { IsHandOf pool.now hand.new }
     ensures number { hand.new.number ≡ hand.old.number }
 {
-    pool.push(hand, 4);
-    pool.push(hand, 5);
-    pool.push(hand, 6);
+    push_three(pool, hand);
     pool.push(hand, 7);
 }
 
@@ -53,6 +64,18 @@ fn both(alloc: Global, second: GreyHand, first: GreyHand) -> Result<List<GreyHan
     hands.push(second)?;
     hands.push(first)?;
     Ok(hands)
+}
+
+#[test]
+fn a_hand_steals_all_that_another_one_pushed_and_then_nothing(rt: HostRuntime) -> Result<(), Fail> {
+    let alloc = rt.alloc();
+    let (pool, mut second, mut first) = two_hands(alloc)?;
+    push_three(&pool, &mut first);
+    let stolen = take_three(&pool, &mut second);
+    let none = pool.take(&mut second);
+    assert!(rt; stolen == [Some(4), Some(5), Some(6)]);
+    assert!(rt; none == None);
+    Ok(())
 }
 
 #[test]

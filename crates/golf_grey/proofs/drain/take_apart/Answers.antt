@@ -1,7 +1,7 @@
-use Rattle.std.proofs.Common.{◌≡◌, ◌+◌, ◌<◌, ◌≤◌, ◌++◌, ◌∷◌, [], ℕ, List, length, refl, ap, ◌∙◌, sym, subst, arith}
+use Rattle.std.proofs.Common.{◌≡◌, ◌++◌, ◌∷◌, [], List, length, refl, ap, ◌∙◌, arith}
 use Rattle.std.specs.Global.{Vec}
 use Rattle.std.proofs.lemmas.List.{length_push}
-use Rattle.golf_grey.specs.Hands.{GreyPass, Owner, IsTaking}
+use Rattle.golf_grey.specs.Hands.{GreyPass, Owner}
 use Rattle.golf_grey.proofs.Stages.{at_end}
 use Rattle.golf_grey.proofs.Taking.{taking, taking_none, taken_all}
 use Rattle.golf_grey.proofs.drain.take_apart.Goals as goal

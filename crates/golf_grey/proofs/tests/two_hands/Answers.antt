@@ -1,6 +1,4 @@
-use Rattle.std.proofs.Common.{◌≡◌}
-use Rattle.golf_grey.specs.Hands.{IsHandIn, capacity_of}
-use Rattle.golf_grey.specs.declared.hand.GreyHand.{GreyHand}
+use Rattle.golf_grey.specs.Hands.{capacity_of}
 use Rattle.golf_grey.proofs.Pair.{pair}
 use Rattle.golf_grey.proofs.tests.two_hands.Goals as goal
 

@@ -1,0 +1,45 @@
+//! Measures the marking.
+//!
+//! With the words SHAPE NODES MARKERS it makes a graph of that shape (`list`, `shuffled` or `tree`)
+//! with so many nodes, marks it by so many markers, 0 for the plain marking in one thread, and
+//! prints what that took. With no word it marks a small graph of each shape, and prints how many
+//! nodes are marked.
+#![tactic(auto)]
+
+mod measure;
+mod order;
+
+use golf_trials::{Shape, shaped};
+use measure::{BenchFault, count_marked, measure};
+use order::{Order, read_order};
+use std::env;
+
+/// How many nodes the small graphs have.
+const SMALL: u32 = 1000;
+
+fn main(rt: HostRuntime) -> Result<(), BenchFault> {
+    let words = env::args(&rt)?.skip(1).collect::<Vec<String>>(rt.alloc())?;
+    if words.is_empty() {
+        for shape in [Shape::List, Shape::Shuffled, Shape::Tree] {
+            let graph = shaped(rt.alloc(), shape, SMALL)?;
+            let marked = count_marked(&rt, rt.alloc(), &graph)?;
+            println!(rt; "{shape:?}: {marked} of {SMALL} nodes are marked")?;
+        }
+        return Ok(());
+    }
+    let Some(
+        Order {
+            shape,
+            nodes,
+            markers,
+        },
+    ) = read_order(words.as_slice())
+    else {
+        eprintln!(rt; "usage: golf_bench [list|shuffled|tree NODES MARKERS]")?;
+        return Ok(());
+    };
+    let graph = shaped(rt.alloc(), shape, nodes)?;
+    let took = measure(&rt, rt.alloc(), &graph, markers)?;
+    println!(rt; "{shape:?}, {nodes} nodes, {markers} markers: {took}")?;
+    Ok(())
+}

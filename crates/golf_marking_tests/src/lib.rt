@@ -1,0 +1,12 @@
+//! Tests of the marking: what is the same whatever the count of markers, what its gate sees, and
+//! that markers really share the work.
+#![tactic(auto)]
+
+#[cfg(test)]
+mod alone;
+#[cfg(test)]
+mod examples;
+#[cfg(test)]
+mod markers;
+#[cfg(test)]
+mod same;
