@@ -15,6 +15,7 @@ fn two_hands(alloc: Global) -> Result<(GreyPool, GreyHand, GreyHand), Memory>
     ensures one { IfOk result (λ r. r.1.number ≡ 1) }
     ensures zero { IfOk result (λ r. r.2.number ≡ 0) }
     ensures none { IfOk result (λ r. pushed r.2 ≡ []) }
+    ensures idle { IfOk result (λ r. pushed r.1 ≡ []) }
 {
     let (pool, mut hands) = GreyPool::new(alloc, 2, 8)?;
     let first = hands.remove(1);
@@ -75,6 +76,17 @@ fn a_hand_steals_all_that_another_one_pushed_and_then_nothing(rt: HostRuntime) -
     let none = pool.take(&mut second);
     assert!(rt; stolen == [Some(4), Some(5), Some(6)]);
     assert!(rt; none == None);
+    Ok(())
+}
+
+#[test]
+fn a_hand_takes_its_own_place_before_it_steals(rt: HostRuntime) -> Result<(), Fail> {
+    let alloc = rt.alloc();
+    let (pool, mut second, mut first) = two_hands(alloc)?;
+    push_three(&pool, &mut second);
+    pool.push(&mut first, 7);
+    let taken = take_three(&pool, &mut first);
+    assert!(rt; taken == [Some(7), Some(4), Some(5)]);
     Ok(())
 }
 
