@@ -12,17 +12,16 @@ use Rattle.golf_data.specs.declared.code.Code.{Code}
 use Rattle.golf_plain.specs.Plain.{Reads}
 use Rattle.golf_plain.specs.CodeOf.{code_of}
 use Rattle.golf_texts.specs.Meaning.{out_of, err_of, status_by, status_of, last_of, reports_of, anyone_reported, events}
-use Rattle.golf_model.specs.Collecting.{sets}
 use Rattle.golf_laws.proofs.MainLaws as Law
-use Rattle.golf_run.specs.HasRun.{Sinks, sinks, GotFronts, GotWhole as GotBoth}
+use Rattle.golf_run.specs.HasRun.{sinks, GotFronts, GotWhole as GotBoth}
 use Rattle.golf_data.specs.declared.goroutine.Ending.{Ending}
 use Rattle.golf_model.specs.State.{ending}
-use Rattle.golf_texts.specs.Texts.{lexical_line}
+use Rattle.golf_texts.specs.Texts.{lexical_line, syntax_line}
 use Rattle.golf_reader.specs.declared.refusal.Refusal.{Refusal}
 use Rattle.golf_reader.specs.declared.refusal.Refusal.TheVariants as refusals
-use Rattle.golf_reader.specs.Refusals.{HasCode, IsRefusedBy}
+use Rattle.golf_reader.specs.Refusals.{IsRefusedBy}
 use Rattle.golf.specs.Meaning.{IsRun, Accepts, AreTrue, RefusedBy, Meaning}
-use Rattle.golf.specs.Meaning.RefusedBy.{TooLong, Unlexed, Unbuilt}
+use Rattle.golf.specs.Meaning.RefusedBy.{TooLong, Unlexed, Unparsed, Unbuilt}
 use Rattle.golf.specs.Meaning.Meaning.{Misused, Refused, Runs}
 use Rattle.golf.specs.Means.{View, seen, Begins, GotFront, IsFront, RunsWhole, IsRefused, FileLine, Cut, HasFailed, HasWanted, FileMeans, UsageMeans, Causes, GotWhole, IsComplete}
 use Rattle.golf.specs.Means.FileLine.{WhenUnread, WhenRefused, WhenWanting}
@@ -342,6 +341,8 @@ module _ (bytes : List ℕ) (within : length bytes ≤ LIMIT) (out : Option (Lis
   pub refusal-means : (refusal : Refusal) (r : Status) → IsRefusedBy bytes refusal → Refuses r refusal err err' ef ef' → FileMeans r unrun unrun'
   refusal-means (refusals.Lexical line byte) r why (inl e) = refused (lexical_line line byte) r (Unlexed line byte within why) e
   refusal-means (refusals.Lexical line byte) r why (inr e) = wants r e
+  refusal-means (refusals.Syntax line) r why (inl e) = refused (syntax_line line) r (Unparsed line within why) e
+  refusal-means (refusals.Syntax line) r why (inr e) = wants r e
   refusal-means refusals.NotBuilt r why (inl e) = refused NOT_BUILT.now r (Unbuilt within why) e
   refusal-means refusals.NotBuilt r why (inr e) = wants r e
   refusal-means refusals.Memory r why (inl e) = wants r e
@@ -361,6 +362,8 @@ module _ (bytes : List ℕ) (within : length bytes ≤ LIMIT) (out : Option (Lis
   pub refusal-causes : (refusal : Refusal) (r : Status) → Refuses r refusal err err' ef ef' → Causes r unrun unrun'
   refusal-causes (refusals.Lexical line byte) r (inl e) = refused-causes (lexical_line line byte) r e
   refusal-causes (refusals.Lexical line byte) r (inr e) = wanted-causes r e
+  refusal-causes (refusals.Syntax line) r (inl e) = refused-causes (syntax_line line) r e
+  refusal-causes (refusals.Syntax line) r (inr e) = wanted-causes r e
   refusal-causes refusals.NotBuilt r (inl e) = refused-causes NOT_BUILT.now r e
   refusal-causes refusals.NotBuilt r (inr e) = wanted-causes r e
   refusal-causes refusals.Memory r (inl e) = wanted-causes r e

@@ -10,11 +10,11 @@ use Rattle.golf_laws.specs.Telling.{TellsOfEach}
 use Rattle.golf_plain.specs.declared.plain.Plain.{Plain}
 use Rattle.golf_plain.specs.Plain.{Reads}
 use Rattle.golf_plain.specs.CodeOf.{code_of}
-use Rattle.golf_reader.specs.Refusals.{IsUnlexed, IsUnbuilt}
+use Rattle.golf_reader.specs.Refusals.{IsUnlexed, IsUnparsed, IsUnbuilt}
 use Rattle.golf_texts.specs.declared.status.Status.{Status}
 use Rattle.golf_texts.specs.declared.status.Status.TheVariants as s
 use Rattle.golf_texts.specs.declared.status.TheConstants.{RUN, LIMIT, USAGE, TOO_LONG, NOT_BUILT}
-use Rattle.golf_texts.specs.Texts.{lexical_line}
+use Rattle.golf_texts.specs.Texts.{lexical_line, syntax_line}
 use Rattle.golf_texts.specs.Meaning.{events, out_of, err_of, reports_of, status_of}
 
 -- the words are a run line
@@ -35,6 +35,7 @@ pub record AreTrue (code : Code) : Type 0 where
 pub data RefusedBy (bytes : List ℕ) : List ℕ → Type 0 where
   TooLong : LIMIT < length bytes → RefusedBy bytes TOO_LONG.now
   Unlexed : (line byte : ℕ) → length bytes ≤ LIMIT → IsUnlexed bytes line byte → RefusedBy bytes (lexical_line line byte)
+  Unparsed : (line : ℕ) → length bytes ≤ LIMIT → IsUnparsed bytes line → RefusedBy bytes (syntax_line line)
   Unbuilt : length bytes ≤ LIMIT → IsUnbuilt bytes → RefusedBy bytes NOT_BUILT.now
 
 pub data Meaning (words : List (List ℕ)) (bytes : List ℕ) : Status → List ℕ → List ℕ → Type 0 where

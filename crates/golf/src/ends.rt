@@ -5,7 +5,7 @@ ghost use Rattle.golf.specs.Ends.{EndsWith, Refuses, refusal_line, refusal_statu
 
 use golf_base::{List, Memory, Sink, write_all};
 use golf_reader::Refusal;
-use golf_texts::{NO_MEMORY, NOT_BUILT, Status, lexical_line, list_of};
+use golf_texts::{NO_MEMORY, NOT_BUILT, Status, lexical_line, list_of, syntax_line};
 use std::alloc::Global;
 
 /// Writes a last line, and answers the status, or that the write failed.
@@ -24,6 +24,7 @@ fn refusal_text(alloc: Global, refusal: Refusal) -> Result<List<u8>, Memory>
 {
     match refusal {
         Refusal::Lexical { line, byte } => lexical_line(alloc, line, byte),
+        Refusal::Syntax { line } => syntax_line(alloc, line),
         Refusal::NotBuilt => list_of(alloc, NOT_BUILT),
         Refusal::Memory => list_of(alloc, NO_MEMORY),
     }
@@ -33,7 +34,7 @@ fn refusal_status(refusal: Refusal) -> Status
     ensures { result ≡ status_of_refusal refusal }
 {
     match refusal {
-        Refusal::Lexical { .. } | Refusal::NotBuilt => Status::Refused,
+        Refusal::Lexical { .. } | Refusal::Syntax { .. } | Refusal::NotBuilt => Status::Refused,
         Refusal::Memory => Status::Memory,
     }
 }

@@ -3,6 +3,8 @@ use Rattle.std.specs.Prelude.{◌≡◌, ℕ, List, Result, Ok, Err}
 use Rattle.golf_data.specs.declared.code.Code.{Code}
 use Rattle.golf_tokens.specs.declared.token.Token.{Token}
 use Rattle.golf_tokens.specs.Lexes.{Lexes, IsFault, line_at}
+use Rattle.golf_grammar.specs.declared.declarations.File.{File}
+use Rattle.golf_grammar.specs.Reads.{ReadsTokens, IsFaultOn}
 use Rattle.golf_plain.specs.declared.plain.Plain.{Plain}
 use Rattle.golf_plain.specs.Plain.{Reads}
 use Rattle.golf_plain.specs.CodeOf.{code_of}
@@ -19,10 +21,20 @@ pub record IsUnlexed (bytes : List ℕ) (line byte : ℕ) : Type 0 where
   pub on : line ≡ line_at bytes byte
   pub none : IsNotPlain bytes
 
--- they lex, and are no plain file
-pub record IsUnbuilt (bytes : List ℕ) : Type 0 where
+-- they lex, and no file reads the tokens: the fault is on this line
+pub record IsUnparsed (bytes : List ℕ) (line : ℕ) : Type 0 where
   pub tokens : List Token
   pub lexes : Lexes bytes tokens
+  pub refused : (file : File) → ReadsTokens tokens file → ⊥
+  pub fault : IsFaultOn tokens line
+  pub none : IsNotPlain bytes
+
+-- a file reads them, and it is no plain file
+pub record IsUnbuilt (bytes : List ℕ) : Type 0 where
+  pub tokens : List Token
+  pub file : File
+  pub lexes : Lexes bytes tokens
+  pub reads : ReadsTokens tokens file
   pub none : IsNotPlain bytes
 
 -- the file has this code
@@ -35,6 +47,7 @@ pub record HasCode (bytes : List ℕ) (code : Code) : Type 0 where
 -- the bytes are refused so; want of memory tells nothing
 abbrev pub IsRefusedBy : List ℕ → Refusal → Type 0
 IsRefusedBy bytes (refusals.Lexical line byte) = IsUnlexed bytes line byte
+IsRefusedBy bytes (refusals.Syntax line) = IsUnparsed bytes line
 IsRefusedBy bytes refusals.NotBuilt = IsUnbuilt bytes
 IsRefusedBy bytes refusals.Memory = Unit {0}
 
@@ -43,9 +56,26 @@ abbrev pub WasRead : List ℕ → Result Code Refusal → Type 0
 WasRead bytes (Ok code) = HasCode bytes code
 WasRead bytes (Err refusal) = IsRefusedBy bytes refusal
 
--- the tokens of the file, or the fault
-abbrev pub WasLexed : List ℕ → Result (List Token) Refusal → Type 0
-WasLexed bytes (Ok tokens) = Lexes bytes tokens
-WasLexed bytes (Err (refusals.Lexical line byte)) = IsUnlexed bytes line byte
-WasLexed bytes (Err refusals.NotBuilt) = ⊥
-WasLexed bytes (Err refusals.Memory) = Unit {0}
+-- ---- on the way there
+
+-- the tree that reads the tokens, or the line of the fault
+abbrev pub Parses : List Token → Result File Refusal → Type 0
+Parses tokens (Ok file) = ReadsTokens tokens file
+Parses tokens (Err (refusals.Lexical line byte)) = ⊥
+Parses tokens (Err (refusals.Syntax line)) = ((file : File) → ReadsTokens tokens file → ⊥) × IsFaultOn tokens line
+Parses tokens (Err refusals.NotBuilt) = ⊥
+Parses tokens (Err refusals.Memory) = Unit {0}
+
+-- a tree that reads the bytes
+pub record HasTree (bytes : List ℕ) (file : File) : Type 0 where
+  pub tokens : List Token
+  pub lexes : Lexes bytes tokens
+  pub reads : ReadsTokens tokens file
+
+-- it, or why there is none
+abbrev pub WasParsed : List ℕ → Result File Refusal → Type 0
+WasParsed bytes (Ok file) = HasTree bytes file
+WasParsed bytes (Err (refusals.Lexical line byte)) = IsUnlexed bytes line byte
+WasParsed bytes (Err (refusals.Syntax line)) = IsUnparsed bytes line
+WasParsed bytes (Err refusals.NotBuilt) = ⊥
+WasParsed bytes (Err refusals.Memory) = Unit {0}

@@ -1,25 +1,38 @@
-//! Reads a file: its tokens, and its code.
+//! Reads a file: its tokens, its tree, its code.
 
-ghost use Rattle.std.specs.Prelude.{◌≡◌, ◌<◌, ◌-◌, ◌^◌, length, IfOk};
+ghost use Rattle.std.specs.Prelude.{◌≡◌, ◌≤◌, ◌<◌, ◌-◌, ◌^◌, length, IfOk};
 ghost use Rattle.golf_data.specs.Places.{HasPlaces};
 ghost use Rattle.golf_data.specs.Built.{IsBuilt};
-ghost use Rattle.golf_reader.specs.Refusals.{WasLexed, WasRead};
+ghost use Rattle.golf_reader.specs.Refusals.{Parses, WasParsed, WasRead};
 
 use crate::refusal::Refusal;
 use golf_base::List;
 use golf_data::Code;
+use golf_grammar::File;
 use golf_lex::{LexFault, tokens};
 use golf_plain_reader::read_plain;
+use golf_syntax::{SyntaxFault, parse};
 use golf_tokens::Token;
 use std::alloc::Global;
 
-// The tokens of the file.
-fn lexed(alloc: Global, bytes: &[u8]) -> Result<List<Token>, Refusal>
+// The tree of the tokens.
+fn tree(alloc: Global, tokens: &[Token]) -> Result<File, Refusal>
+    ensures { Parses tokens.now result }
+{
+    match parse(alloc, tokens) {
+        Ok(file) => Ok(file),
+        Err(SyntaxFault::At { line }) => Err(Refusal::Syntax { line }),
+        Err(SyntaxFault::Memory) => Err(Refusal::Memory),
+    }
+}
+
+// The tree of the file.
+fn parsed(alloc: Global, bytes: &[u8]) -> Result<File, Refusal>
     requires { length bytes.now < 2 ^ 32 - 1 }
-    ensures { WasLexed bytes.now result }
+    ensures { WasParsed bytes.now result }
 {
     match tokens(alloc, bytes) {
-        Ok(tokens) => Ok(tokens),
+        Ok(tokens) => tree(alloc, tokens.as_slice()),
         Err(LexFault::At { line, byte }) => Err(Refusal::Lexical { line, byte }),
         Err(LexFault::Memory) => Err(Refusal::Memory),
     }
@@ -39,7 +52,7 @@ pub fn read(alloc: Global, bytes: &[u8]) -> Result<Code, Refusal>
     ensures places { IfOk result HasPlaces }
     ensures built { IfOk result IsBuilt }
 {
-    lexed(alloc, bytes)?;
+    parsed(alloc, bytes)?;
     match read_plain(alloc, bytes) {
         Ok(Some(code)) => Ok(code),
         Ok(None) => Err(Refusal::NotBuilt),

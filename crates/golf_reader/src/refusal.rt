@@ -10,7 +10,9 @@ pub enum Refusal {
     /// The bytes do not lex. No text that lexes begins with the bytes up to and including this one, and it
     /// is the first such; where there is none, `byte` is the length.
     Lexical { line: u32, byte: u32 },
-    /// The bytes lex, but are no plain file.
+    /// The tokens are those of no file: the line of the fault.
+    Syntax { line: u32 },
+    /// The file parses, but is no plain file.
     NotBuilt,
     /// Memory was wanting.
     Memory,

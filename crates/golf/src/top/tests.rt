@@ -121,13 +121,12 @@ fn a_variable_may_be_named_main_or_init(rt: HostRuntime) -> Result<(), Fail> {
 
 #[test]
 fn files_that_are_no_plain_files_are_refused(rt: HostRuntime) -> Result<(), Fail> {
-    let bodies: [&[u8]; 10] = [
+    let bodies: [&[u8]; 9] = [
         b"\tfmt.Println(y)\n",
         b"\tx := 1\n\tx := 2\n",
         b"\tint := 1\n",
         b"\tfmt := 1\n",
         b"\t_ := 1\n",
-        b"\tfor := 1\n",
         b"\tx := 9223372036854775808\n",
         b"\tx:=1\n",
         b"\tfmt.Println(1,2)\n",
@@ -164,6 +163,25 @@ fn bytes_that_do_not_lex_are_refused_at_their_place(rt: HostRuntime) -> Result<(
     assert!(rt; is_refused(&rt, zero.as_slice(), b"refused: line 3: byte 34\n")?);
     let escape = b"package main\nfunc main() {\n\tx := \"a\\q\"\n}\n";
     assert!(rt; is_refused(&rt, escape.as_slice(), b"refused: line 3: byte 36\n")?);
+    Ok(())
+}
+
+#[test]
+fn tokens_that_are_no_file_are_refused_on_a_line(rt: HostRuntime) -> Result<(), Fail> {
+    let literal = b"package main\nfunc main() {\n\tx := func() {\n\t}\n}\n";
+    assert!(rt; is_refused(&rt, literal.as_slice(), b"refused: line 2: syntax\n")?);
+    let keyword = b"package main\nimport \"fmt\"\nfunc main() {\n\tfor := 1\n}\n";
+    assert!(rt; is_refused(&rt, keyword.as_slice(), b"refused: line 3: syntax\n")?);
+    assert!(rt; is_refused(&rt, b"", b"refused: line 1: syntax\n")?);
+    Ok(())
+}
+
+#[test]
+fn files_of_the_language_that_are_not_plain_are_not_built(rt: HostRuntime) -> Result<(), Fail> {
+    assert!(rt; is_refused(&rt, b"package main", NOT_BUILT)?);
+    let method =
+        b"package main\n\ntype T struct {\n\tc chan int\n}\n\nfunc (t *T) f() {\n\tselect {\n\tcase <-t.c:\n\tdefault:\n\t}\n}\n\nfunc main() {\n}\n";
+    assert!(rt; is_refused(&rt, method.as_slice(), NOT_BUILT)?);
     Ok(())
 }
 

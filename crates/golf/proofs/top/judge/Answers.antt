@@ -1,4 +1,4 @@
-use Rattle.std.proofs.Common.{◌≡◌, ◌∙◌, ap, sym, refl, inl, inr}
+use Rattle.std.proofs.Common.{refl}
 use Rattle.golf.proofs.Views.{refusal-means, refusal-causes, stopped-means, ran-means, ran-causes, failed-means, one-rose}
 use Rattle.golf.proofs.top.judge.Goals as goal
 

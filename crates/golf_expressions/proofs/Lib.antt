@@ -1,0 +1,15 @@
+pub mod Plans
+pub mod Fronts
+pub mod TypeShapes
+pub mod TypeSteps
+pub mod TypeLaws
+pub mod ExprSteps
+pub mod Moves
+pub mod ExprShapes
+pub mod ExprFronts
+pub mod ExprComplete
+pub mod ExprSound
+pub mod Examples
+pub mod SimpleLaws
+pub mod SimpleLines
+pub mod Found

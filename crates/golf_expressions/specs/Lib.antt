@@ -1,0 +1,9 @@
+pub mod Plan
+pub mod Front
+pub mod TypeReading
+pub mod Operators
+pub mod Starts
+pub mod ExprReading
+pub mod Frames
+pub mod SimpleReading
+pub mod Laws

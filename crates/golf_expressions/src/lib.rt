@@ -1,0 +1,25 @@
+//! Readers of types, expressions and simple statements, each at the front of a list of tokens.
+//!
+//! Each call finds what the list begins with, and what follows it. `specs/` says what that is by the first tokens;
+//! `laws` says that it is what the grammar prints: what is found is well formed and printed there, and what is printed
+//! is found, where nothing behind it goes on with it.
+#![tactic(auto)]
+
+mod builds;
+mod expressions;
+mod frames;
+mod front;
+mod laws;
+mod operators;
+mod simple;
+mod starts;
+mod types;
+
+pub use expressions::{level_at, prefixed_at};
+pub use front::{after, after_keyword, copied, name_at};
+pub use laws::{
+    expressions_found, expressions_read, operands_found, operands_read, simples_found,
+    simples_read, types_found, types_read,
+};
+pub use simple::simple_at;
+pub use types::type_at;

@@ -1,0 +1,295 @@
+//! How operands begin, and what may stand behind them.
+
+ghost use Rattle.std.specs.Prelude.{◌≡◌, ◌<◌, ◌≤◌, length, IfOk, IfSome};
+ghost use Rattle.golf_expressions.specs.Front.{seen};
+ghost use Rattle.golf_expressions.specs.Starts.{make_start as make_start_of, new_start as new_start_of, named_start as named_start_of, empty_start as empty_start_of, slice_start as slice_start_of, sync_start as sync_start_of, literal_start as literal_start_of, mark_start as mark_start_of, start_from as start_from_of, start_at as start_at_of, suffix_at as suffix_at_of, call_at as call_at_of};
+
+use crate::front::{after, copied, name_at};
+use crate::types::type_at;
+use golf_base::{List, Memory};
+use golf_grammar::{Expr, Name, TypeExpr};
+use golf_tokens::{Keyword, Mark, Token, TokenKind};
+use std::alloc::Global;
+
+/// How an operand begins: it stands there whole, or what is inside its brackets follows.
+#[derive(Drop)]
+pub enum Start {
+    Whole(Expr),
+    /// `(`
+    Group,
+    /// `make(T,`
+    Sized(TypeExpr),
+    /// `[]T{`
+    Items(TypeExpr),
+    /// `&T{`
+    Elements(Name),
+}
+
+/// What stands behind an operand.
+#[derive(Drop)]
+pub enum Suffix {
+    /// `.f`
+    Field(Name),
+    /// `[`
+    Index,
+    /// `()`
+    NoArguments,
+    /// `(`
+    Arguments,
+}
+
+// `(T)` or `(T,` behind `make`.
+#[tactic(auto, unfolding(crate::specs::Starts::make_start))]
+fn make_start(alloc: Global, tokens: &[Token]) -> Result<Option<(Start, &[Token])>, Memory>
+    ensures value { IfOk result (λ o. seen o ≡ make_start_of tokens.now) }
+    ensures shorter { IfOk result (λ o. IfSome o (λ x. length x.1.now ≤ length tokens.now)) }
+{
+    let Some(inside) = after(tokens, Mark::OpenParen) else {
+        return Ok(None)
+    };
+    match type_at(alloc, inside)? {
+        None => Ok(None),
+        Some((made, behind)) => match after(behind, Mark::Comma) {
+            Some(next) => Ok(Some((Start::Sized(made), next))),
+            None => match after(behind, Mark::CloseParen) {
+                None => Ok(None),
+                Some(rest) => Ok(Some((Start::Whole(Expr::Make(made)), rest))),
+            },
+        },
+    }
+}
+
+// `(T)` or `(sync.T)` behind `new`.
+#[tactic(auto, unfolding(crate::specs::Starts::new_start))]
+fn new_start(alloc: Global, tokens: &[Token]) -> Result<Option<(Start, &[Token])>, Memory>
+    ensures value { IfOk result (λ o. seen o ≡ new_start_of tokens.now) }
+    ensures shorter { IfOk result (λ o. IfSome o (λ x. length x.1.now ≤ length tokens.now)) }
+{
+    let Some(inside) = after(tokens, Mark::OpenParen) else {
+        return Ok(None)
+    };
+    let Some((name, behind)) = name_at(inside) else {
+        return Ok(None)
+    };
+    match after(behind, Mark::Dot) {
+        None => match after(behind, Mark::CloseParen) {
+            None => Ok(None),
+            Some(rest) => Ok(Some((Start::Whole(Expr::New(copied(alloc, name)?)), rest))),
+        },
+        Some(dotted) => {
+            if name.as_slice() != b"sync".as_slice() {
+                return Ok(None);
+            }
+            let Some((inner, last)) = name_at(dotted) else {
+                return Ok(None)
+            };
+            match after(last, Mark::CloseParen) {
+                None => Ok(None),
+                Some(rest) => Ok(Some((Start::Whole(Expr::NewSync(copied(alloc, inner)?)), rest))),
+            }
+        }
+    }
+}
+
+// `{}{}` behind `struct`.
+#[tactic(auto, unfolding(crate::specs::Starts::empty_start))]
+fn empty_start(tokens: &[Token]) -> Option<(Start, &[Token])>
+    ensures value { seen result ≡ empty_start_of tokens.now }
+    ensures shorter { IfSome result (λ x. length x.1.now ≤ length tokens.now) }
+{
+    let a = after(tokens, Mark::OpenBrace)?;
+    let b = after(a, Mark::CloseBrace)?;
+    let c = after(b, Mark::OpenBrace)?;
+    let d = after(c, Mark::CloseBrace)?;
+    Some((Start::Whole(Expr::EmptyLiteral), d))
+}
+
+// `]T{` or `]T{}` behind `[`.
+#[tactic(auto, unfolding(crate::specs::Starts::slice_start))]
+fn slice_start(alloc: Global, tokens: &[Token]) -> Result<Option<(Start, &[Token])>, Memory>
+    ensures value { IfOk result (λ o. seen o ≡ slice_start_of tokens.now) }
+    ensures shorter { IfOk result (λ o. IfSome o (λ x. length x.1.now ≤ length tokens.now)) }
+{
+    let Some(inside) = after(tokens, Mark::CloseBracket) else {
+        return Ok(None)
+    };
+    match type_at(alloc, inside)? {
+        None => Ok(None),
+        Some((element, behind)) => match after(behind, Mark::OpenBrace) {
+            None => Ok(None),
+            Some(opened) => match after(opened, Mark::CloseBrace) {
+                Some(rest) => Ok(Some((
+                    Start::Whole(Expr::SliceLiteral(element, List::new(alloc))),
+                    rest,
+                ))),
+                None => Ok(Some((Start::Items(element), opened))),
+            },
+        },
+    }
+}
+
+// `T{}` behind `&sync.`.
+#[tactic(auto, unfolding(crate::specs::Starts::sync_start))]
+fn sync_start<'a>(
+    alloc: Global,
+    name: &List<u8>,
+    tokens: &'a [Token],
+) -> Result<Option<(Start, &'a [Token])>, Memory>
+    ensures value { IfOk result (λ o. seen o ≡ sync_start_of name.now tokens.now) }
+    ensures shorter { IfOk result (λ o. IfSome o (λ x. length x.1.now ≤ length tokens.now)) }
+{
+    if name.as_slice() != b"sync".as_slice() {
+        return Ok(None);
+    }
+    let Some((inner, behind)) = name_at(tokens) else {
+        return Ok(None)
+    };
+    let Some(inside) = after(behind, Mark::OpenBrace) else {
+        return Ok(None)
+    };
+    match after(inside, Mark::CloseBrace) {
+        None => Ok(None),
+        Some(rest) => Ok(Some((Start::Whole(Expr::SyncLiteral(copied(alloc, inner)?)), rest))),
+    }
+}
+
+// `T{`, `T{}` or `sync.T{}` behind `&`.
+#[tactic(auto, unfolding(crate::specs::Starts::literal_start))]
+fn literal_start(alloc: Global, tokens: &[Token]) -> Result<Option<(Start, &[Token])>, Memory>
+    ensures value { IfOk result (λ o. seen o ≡ literal_start_of tokens.now) }
+    ensures shorter { IfOk result (λ o. IfSome o (λ x. length x.1.now ≤ length tokens.now)) }
+{
+    let Some((name, behind)) = name_at(tokens) else {
+        return Ok(None)
+    };
+    if let Some(dotted) = after(behind, Mark::Dot) {
+        return sync_start(alloc, name, dotted);
+    }
+    match after(behind, Mark::OpenBrace) {
+        None => Ok(None),
+        Some(opened) => {
+            let copy = copied(alloc, name)?;
+            match after(opened, Mark::CloseBrace) {
+                Some(rest) => Ok(Some((
+                    Start::Whole(Expr::StructLiteral(copy, List::new(alloc))),
+                    rest,
+                ))),
+                None => Ok(Some((Start::Elements(copy), opened))),
+            }
+        }
+    }
+}
+
+#[tactic(auto, unfolding(crate::specs::Starts::mark_start))]
+fn mark_start(
+    alloc: Global,
+    header: bool,
+    mark: Mark,
+    rest: &[Token],
+) -> Result<Option<(Start, &[Token])>, Memory>
+    ensures value { IfOk result (λ o. seen o ≡ mark_start_of header mark rest.now) }
+    ensures shorter { IfOk result (λ o. IfSome o (λ x. length x.1.now ≤ length rest.now)) }
+{
+    match mark {
+        Mark::OpenParen => Ok(Some((Start::Group, rest))),
+        Mark::OpenBracket => slice_start(alloc, rest),
+        Mark::Ampersand => if header {
+            Ok(None)
+        } else {
+            literal_start(alloc, rest)
+        },
+        _ => Ok(None),
+    }
+}
+
+#[tactic(auto, unfolding(crate::specs::Starts::named_start))]
+fn named_start<'a>(
+    alloc: Global,
+    name: &List<u8>,
+    rest: &'a [Token],
+) -> Result<Option<(Start, &'a [Token])>, Memory>
+    ensures value { IfOk result (λ o. seen o ≡ named_start_of name.now rest.now) }
+    ensures shorter { IfOk result (λ o. IfSome o (λ x. length x.1.now ≤ length rest.now)) }
+{
+    if name.as_slice() == b"make".as_slice() {
+        return make_start(alloc, rest);
+    }
+    if name.as_slice() == b"new".as_slice() {
+        return new_start(alloc, rest);
+    }
+    Ok(Some((Start::Whole(Expr::Name(copied(alloc, name)?)), rest)))
+}
+
+#[tactic(auto, unfolding(crate::specs::Starts::start_from))]
+fn start_from<'a>(
+    alloc: Global,
+    header: bool,
+    kind: &TokenKind,
+    rest: &'a [Token],
+) -> Result<Option<(Start, &'a [Token])>, Memory>
+    ensures value { IfOk result (λ o. seen o ≡ start_from_of header kind.now rest.now) }
+    ensures shorter { IfOk result (λ o. IfSome o (λ x. length x.1.now ≤ length rest.now)) }
+{
+    match kind {
+        TokenKind::Integer(digits) => Ok(Some((
+            Start::Whole(Expr::Integer(copied(alloc, digits)?)),
+            rest,
+        ))),
+        TokenKind::Text(bytes) => Ok(Some((Start::Whole(Expr::Text(copied(alloc, bytes)?)), rest))),
+        TokenKind::Name(name) => named_start(alloc, name, rest),
+        TokenKind::Keyword(keyword) => match keyword {
+            Keyword::Struct => Ok(empty_start(rest)),
+            _ => Ok(None),
+        },
+        TokenKind::Mark(mark) => mark_start(alloc, header, *mark, rest),
+    }
+}
+
+/// How the operand at the front begins, and what follows that beginning. In a header none begins with `&`.
+#[tactic(auto, unfolding(crate::specs::Starts::start_at))]
+pub fn start_at(
+    alloc: Global,
+    header: bool,
+    tokens: &[Token],
+) -> Result<Option<(Start, &[Token])>, Memory>
+    ensures value { IfOk result (λ o. seen o ≡ start_at_of header tokens.now) }
+    ensures shorter { IfOk result (λ o. IfSome o (λ x. length x.1.now < length tokens.now)) }
+{
+    match tokens.split_first() {
+        None => Ok(None),
+        Some((first, rest)) => start_from(alloc, header, &first.kind, rest),
+    }
+}
+
+// `(` or `()`.
+#[tactic(auto, unfolding(crate::specs::Starts::call_at))]
+fn call_at(tokens: &[Token]) -> Option<(Suffix, &[Token])>
+    ensures value { seen result ≡ call_at_of tokens.now }
+    ensures shorter { IfSome result (λ x. length x.1.now < length tokens.now) }
+{
+    match after(tokens, Mark::OpenParen) {
+        None => None,
+        Some(opened) => match after(opened, Mark::CloseParen) {
+            Some(rest) => Some((Suffix::NoArguments, rest)),
+            None => Some((Suffix::Arguments, opened)),
+        },
+    }
+}
+
+/// What stands behind an operand.
+#[tactic(auto, unfolding(crate::specs::Starts::suffix_at))]
+pub fn suffix_at(alloc: Global, tokens: &[Token]) -> Result<Option<(Suffix, &[Token])>, Memory>
+    ensures value { IfOk result (λ o. seen o ≡ suffix_at_of tokens.now) }
+    ensures shorter { IfOk result (λ o. IfSome o (λ x. length x.1.now < length tokens.now)) }
+{
+    if let Some(dotted) = after(tokens, Mark::Dot) {
+        return match name_at(dotted) {
+            None => Ok(None),
+            Some((name, rest)) => Ok(Some((Suffix::Field(copied(alloc, name)?), rest))),
+        };
+    }
+    match after(tokens, Mark::OpenBracket) {
+        Some(opened) => Ok(Some((Suffix::Index, opened))),
+        None => Ok(call_at(tokens)),
+    }
+}

@@ -1,0 +1,11 @@
+//! Tests of the parser: trees and faults of texts, from types and expressions up to whole files.
+#![tactic(auto)]
+
+#[cfg(test)]
+mod expressions;
+#[cfg(test)]
+mod files;
+#[cfg(test)]
+mod statements;
+#[cfg(test)]
+mod words;

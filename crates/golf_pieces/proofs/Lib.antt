@@ -1,0 +1,9 @@
+pub mod CountSteps
+pub mod CostLaws
+pub mod Nested
+pub mod Trees
+pub mod Blocks
+pub mod Spelling
+pub mod Cutting
+pub mod Whole
+pub mod Examples

@@ -1,0 +1,109 @@
+-- Words whose brackets are in pairs.
+use Rattle.std.proofs.Common.{◌≡◌, ℕ, Bool, true, false, List, [], ◌∷◌, ◌++◌, map, refl, sym, subst, append_assoc}
+use Rattle.std.specs.Prelude.{Option, Some, None}
+use Rattle.golf_tokens.specs.declared.token.TokenKind.{TokenKind}
+use Rattle.golf_tokens.specs.declared.token.TokenKind.TheVariants as kinds
+use Rattle.golf_tokens.specs.declared.token.Mark.{Mark}
+use Rattle.golf_tokens.specs.declared.token.Mark.TheVariants as marks
+use Rattle.golf_grammar.specs.Words as words
+use Rattle.golf_grammar.specs.Words.{Word, on_line, behind, separated, closed}
+
+abbrev pub is_open : Mark → Bool
+is_open marks.OpenParen = true
+is_open marks.OpenBracket = true
+is_open marks.OpenBrace = true
+is_open _ = false
+
+abbrev pub is_close : Mark → Bool
+is_close marks.CloseParen = true
+is_close marks.CloseBracket = true
+is_close marks.CloseBrace = true
+is_close _ = false
+
+-- neither a bracket nor a semicolon
+abbrev pub is_plain_mark : Mark → Bool
+is_plain_mark marks.OpenParen = false
+is_plain_mark marks.OpenBracket = false
+is_plain_mark marks.OpenBrace = false
+is_plain_mark marks.CloseParen = false
+is_plain_mark marks.CloseBracket = false
+is_plain_mark marks.CloseBrace = false
+is_plain_mark marks.Semicolon = false
+is_plain_mark _ = true
+
+abbrev pub is_plain : TokenKind → Bool
+is_plain (kinds.Mark m) = is_plain_mark m
+is_plain _ = true
+
+-- the brackets are in pairs, and semicolons stand outside them only where they may
+pub data Nested : Bool → List Word → Type 0 where
+  none : (b : Bool) → Nested b []
+  plain : (b : Bool) (k : TokenKind) (l : Option ℕ) (ws : List Word) → is_plain k ≡ true → Nested b ws → Nested b (record { kind = k; line = l } ∷ ws)
+  semicolon : (l : Option ℕ) (ws : List Word) → Nested true ws → Nested true (record { kind = kinds.Mark marks.Semicolon; line = l } ∷ ws)
+  bracket : (b : Bool) (first last : Mark) (l : Option ℕ) (inner ws : List Word) → is_open first ≡ true → is_close last ≡ true → Nested true inner → Nested b ws →
+      Nested b (record { kind = kinds.Mark first; line = l } ∷ (inner ++ words.mark last ∷ ws))
+
+pub append : (b : Bool) (xs ys : List Word) → Nested b xs → Nested b ys → Nested b (xs ++ ys)
+append _ _ ys (none b) n = n
+append _ _ ys (plain b k l ws p m) n = plain b k l (ws ++ ys) p (append b ws ys m n)
+append _ _ ys (semicolon l ws m) n = semicolon l (ws ++ ys) (append true ws ys m n)
+append _ _ ys (bracket b first last l inner ws o c i m) n =
+    subst (λ vs. Nested b (record { kind = kinds.Mark first; line = l } ∷ vs)) (sym (append_assoc inner (words.mark last ∷ ws) ys)) (bracket b first last l inner (ws ++ ys) o c i (append b ws ys m n))
+
+pub weaken : (b : Bool) (ws : List Word) → Nested b ws → Nested true ws
+weaken _ _ (none b) = none true
+weaken _ _ (plain b k l vs p m) = plain true k l vs p (weaken b vs m)
+weaken _ _ (semicolon l vs m) = semicolon l vs m
+weaken _ _ (bracket b first last l inner vs o c i m) = bracket true first last l inner vs o c i (weaken b vs m)
+
+pub on-line : (b : Bool) (l : ℕ) (ws : List Word) → Nested b ws → Nested b (on_line l ws)
+on-line _ l _ (none b) = none b
+on-line _ l _ (plain b k old vs p m) = plain b k (Some l) vs p m
+on-line _ l _ (semicolon old vs m) = semicolon (Some l) vs m
+on-line _ l _ (bracket b first last old inner vs o c i m) = bracket b first last (Some l) inner vs o c i m
+
+-- a word in front
+pub one : (b : Bool) (k : TokenKind) (ws : List Word) → is_plain k ≡ true → Nested b ws → Nested b (words.word k ∷ ws)
+one b k ws p m = plain b k None ws p m
+
+pub parens : (b : Bool) (inner ws : List Word) → Nested true inner → Nested b ws → Nested b (words.mark marks.OpenParen ∷ (inner ++ words.mark marks.CloseParen ∷ ws))
+parens b inner ws i m = bracket b marks.OpenParen marks.CloseParen None inner ws refl refl i m
+
+pub braces : (b : Bool) (inner ws : List Word) → Nested true inner → Nested b ws → Nested b (words.mark marks.OpenBrace ∷ (inner ++ words.mark marks.CloseBrace ∷ ws))
+braces b inner ws i m = bracket b marks.OpenBrace marks.CloseBrace None inner ws refl refl i m
+
+pub brackets : (b : Bool) (inner ws : List Word) → Nested true inner → Nested b ws → Nested b (words.mark marks.OpenBracket ∷ (inner ++ words.mark marks.CloseBracket ∷ ws))
+brackets b inner ws i m = bracket b marks.OpenBracket marks.CloseBracket None inner ws refl refl i m
+
+-- each of these texts
+abbrev pub Each : List (List Word) → Type 0
+Each [] = Unit {0}
+Each (x ∷ xs) = Nested true x × Each xs
+
+pub each-print : (A : Type 0) (print : A → List Word) → ((x : A) → Nested true (print x)) → (xs : List A) → Each (map print xs)
+each-print A print f [] = tt
+each-print A print f (x ∷ xs) = (f x, each-print A print f xs)
+
+pub each-known : (A : Type 0) (b : Bool) (print : A → List Word) (xs : List ((x : A) × Nested b (print x))) → Each (map print (map (λ p. p.0) xs))
+each-known A b print [] = tt
+each-known A b print (x ∷ xs) = (weaken b (print x.0) x.1, each-known A b print xs)
+
+behind-commas : (xs : List (List Word)) → Each xs → Nested true (behind marks.Comma xs)
+behind-commas [] e = none true
+behind-commas (x ∷ xs) e = one true (kinds.Mark marks.Comma) _ refl (append true x _ e.0 (behind-commas xs e.1))
+
+pub commas : (xs : List (List Word)) → Each xs → Nested true (separated marks.Comma xs)
+commas [] e = none true
+commas (x ∷ xs) e = append true x _ e.0 (behind-commas xs e.1)
+
+behind-semicolons : (xs : List (List Word)) → Each xs → Nested true (behind marks.Semicolon xs)
+behind-semicolons [] e = none true
+behind-semicolons (x ∷ xs) e = semicolon None _ (append true x _ e.0 (behind-semicolons xs e.1))
+
+pub semicolons : (xs : List (List Word)) → Each xs → Nested true (separated marks.Semicolon xs)
+semicolons [] e = none true
+semicolons (x ∷ xs) e = append true x _ e.0 (behind-semicolons xs e.1)
+
+pub all-closed : (xs : List (List Word)) → Each xs → Nested true (closed xs)
+all-closed [] e = none true
+all-closed (x ∷ xs) e = append true x _ e.0 (semicolon None _ (all-closed xs e.1))

@@ -1,0 +1,160 @@
+-- Words whose brackets are in pairs are one piece with a semicolon behind them.
+use Rattle.std.proofs.Common.{◌≡◌, ℕ, zero, suc, Bool, true, false, List, [], ◌∷◌, ◌++◌, map, refl, ap, sym, subst, ◌∙◌, arith}
+use Rattle.std.specs.Prelude.{codes}
+use Rattle.golf_tokens.specs.declared.token.Token.{Token}
+use Rattle.golf_tokens.specs.declared.token.TokenKind.{TokenKind}
+use Rattle.golf_tokens.specs.declared.token.TokenKind.TheVariants as kinds
+use Rattle.golf_tokens.specs.declared.token.Mark.{Mark}
+use Rattle.golf_tokens.specs.declared.token.Mark.TheVariants as marks
+use Rattle.golf_tokens.specs.declared.token.Keyword.TheVariants as keywords
+use Rattle.golf_grammar.specs.declared.declarations.Import.{Import}
+use Rattle.golf_grammar.specs.declared.declarations.Decl.{Decl}
+use Rattle.golf_grammar.specs.Words as words
+use Rattle.golf_grammar.specs.Words.{Word, closed, Spells}
+use Rattle.golf_grammar.specs.Declarations.{package_words, print_import, print_decl}
+use Rattle.golf_grammar.specs.Pieces.{deeper, depth_behind, ends_piece, in_front, before_piece, pieces}
+use Rattle.golf_pieces.specs.Laws.{Ended, IsPiece, DeclPieces, ImportPieces, FilePieces, ImportsArePieces, DeclsArePieces, FilesArePieces}
+use Rattle.golf_pieces.proofs.Nested.{Nested, none, plain, semicolon, bracket, is_open, is_close, is_plain_mark, is_plain, one}
+use Rattle.golf_pieces.proofs.Spelling.{split, part, closing}
+use Rattle.golf_pieces.proofs.Blocks.{import-nested, decl-nested}
+
+-- the tokens that spell the words, put in front of the first piece
+abbrev chop : List Word → List Token → List (List Token) → List (List Token)
+chop [] ts ps = ps
+chop (w ∷ ws) [] ps = ps
+chop (w ∷ ws) (t ∷ ts) ps = in_front t (chop ws ts ps)
+
+chop-append : (xs ys : List Word) (ts mid : List Token) (ps : List (List Token)) → Spells xs ts mid → chop (xs ++ ys) ts ps ≡ chop xs ts (chop ys mid ps)
+chop-append [] ys ts mid ps h = ap (λ us. chop ys us ps) h
+chop-append (x ∷ xs) ys [] mid ps h = absurd h
+chop-append (x ∷ xs) ys (t ∷ ts) mid ps h = ap (in_front t) (chop-append xs ys ts mid ps h.1)
+
+chop-all : (ws : List Word) (ts mid : List Token) (ps : List (List Token)) → Spells ws ts mid → chop ws ts (mid ∷ ps) ≡ ts ∷ ps
+chop-all [] ts mid ps h = ap (λ us. us ∷ ps) (sym h)
+chop-all (w ∷ ws) [] mid ps h = absurd h
+chop-all (w ∷ ws) (t ∷ ts) mid ps h = ap (in_front t) (chop-all ws ts mid ps h.1)
+
+-- what a token does to the depth
+plain-mark-depth : (m : Mark) (depth : ℕ) → is_plain_mark m ≡ true → (ends_piece (kinds.Mark m) depth ≡ false) × (deeper m depth ≡ depth)
+plain-mark-depth marks.OpenParen depth h = cc
+plain-mark-depth marks.OpenBracket depth h = cc
+plain-mark-depth marks.OpenBrace depth h = cc
+plain-mark-depth marks.CloseParen depth h = cc
+plain-mark-depth marks.CloseBracket depth h = cc
+plain-mark-depth marks.CloseBrace depth h = cc
+plain-mark-depth marks.Semicolon depth h = cc
+plain-mark-depth _ depth h = (refl, refl)
+
+plain-depth : (k : TokenKind) (depth : ℕ) → is_plain k ≡ true → (ends_piece k depth ≡ false) × (depth_behind k depth ≡ depth)
+plain-depth (kinds.Mark m) depth h = plain-mark-depth m depth h
+plain-depth _ depth h = (refl, refl)
+
+open-depth : (m : Mark) (depth : ℕ) → is_open m ≡ true → (ends_piece (kinds.Mark m) depth ≡ false) × (deeper m depth ≡ suc depth)
+open-depth marks.OpenParen depth h = (refl, refl)
+open-depth marks.OpenBracket depth h = (refl, refl)
+open-depth marks.OpenBrace depth h = (refl, refl)
+open-depth _ depth h = cc
+
+close-depth : (m : Mark) (depth : ℕ) → is_close m ≡ true → (ends_piece (kinds.Mark m) (suc depth) ≡ false) × (deeper m (suc depth) ≡ depth)
+close-depth marks.CloseParen depth h = (refl, refl)
+close-depth marks.CloseBracket depth h = (refl, refl)
+close-depth marks.CloseBrace depth h = (refl, refl)
+close-depth _ depth h = cc
+
+-- one token on, inside a piece
+on : (k : TokenKind) (depth next : ℕ) (t : Token) (ts : List Token) → t.kind ≡ k → ends_piece k depth ≡ false → depth_behind k depth ≡ next → pieces depth (t ∷ ts) ≡ in_front t (pieces next ts)
+on k depth next t ts is ends behind =
+    ap (λ q. before_piece (ends_piece q depth) t (pieces (depth_behind q depth) ts)) is
+    ∙ ap (λ b. before_piece b t (pieces (depth_behind k depth) ts)) ends
+    ∙ ap (λ d. in_front t (pieces d ts)) behind
+
+-- the depth at which words may stand: inside brackets, where semicolons may
+abbrev Deep : Bool → ℕ → Type 0
+Deep true depth = (outer : ℕ) × (depth ≡ suc outer)
+Deep false depth = Unit {0}
+
+closed-bracket : (last : Mark) (ws : List Word) (depth : ℕ) (m mid us : List Token) (ps : List (List Token)) → is_close last ≡ true → Spells (words.mark last ∷ ws) m mid →
+    ((n : List Token) → Spells ws n mid → pieces depth (n ++ us) ≡ chop ws n ps) → pieces (suc depth) (m ++ us) ≡ chop (words.mark last ∷ ws) m ps
+closed-bracket last ws depth [] mid us ps c h k = absurd h
+closed-bracket last ws depth (t ∷ n) mid us ps c h k =
+    let d = close-depth last depth c in
+    on (kinds.Mark last) (suc depth) depth t (n ++ us) h.0.0 d.0 d.1 ∙ ap (in_front t) (k n h.1)
+
+semicolon-inside : (depth : ℕ) (t : Token) (ts : List Token) → Deep true depth → t.kind ≡ kinds.Mark marks.Semicolon → pieces depth (t ∷ ts) ≡ in_front t (pieces depth ts)
+semicolon-inside zero t ts d is = let e = d.1 in absurd (omega (arith, e))
+semicolon-inside (suc depth) t ts d is = on (kinds.Mark marks.Semicolon) (suc depth) (suc depth) t ts is refl refl
+
+-- no piece ends within
+cut : (b : Bool) (ws : List Word) → Nested b ws → (depth : ℕ) → Deep b depth → (ts mid us : List Token) → Spells ws ts mid → pieces depth (ts ++ us) ≡ chop ws ts (pieces depth (mid ++ us))
+cut _ _ (none b) depth f ts mid us h = ap (λ vs. pieces depth (vs ++ us)) h
+cut _ _ (plain b k l vs p n) depth f [] mid us h = absurd h
+cut _ _ (plain b k l vs p n) depth f (t ∷ ts) mid us h =
+    let d = plain-depth k depth p in
+    on k depth depth t (ts ++ us) h.0.0 d.0 d.1 ∙ ap (in_front t) (cut b vs n depth f ts mid us h.1)
+cut _ _ (semicolon l vs n) depth f [] mid us h = absurd h
+cut _ _ (semicolon l vs n) depth f (t ∷ ts) mid us h = semicolon-inside depth t (ts ++ us) f h.0.0 ∙ ap (in_front t) (cut true vs n depth f ts mid us h.1)
+cut _ _ (bracket b first last l inner vs o c i n) depth f [] mid us h = absurd h
+cut _ _ (bracket b first last l inner vs o c i n) depth f (t ∷ ts) mid us h =
+    let d = open-depth first depth o in
+    let k = split inner (words.mark last ∷ vs) ts mid h.1 in
+    on (kinds.Mark first) depth (suc depth) t (ts ++ us) h.0.0 d.0 d.1
+    ∙ ap (in_front t)
+    (cut true inner i (suc depth) (depth, refl) ts k.0 us k.1
+    ∙ ap (chop inner ts) (closed-bracket last vs depth k.0 mid us (pieces depth (mid ++ us)) c k.2 (λ m g. cut b vs n depth f m mid us g))
+    ∙ sym (chop-append inner (words.mark last ∷ vs) ts k.0 (pieces depth (mid ++ us)) k.1))
+
+end : (mid us : List Token) → Spells (words.mark marks.Semicolon ∷ []) mid [] → pieces 0 (mid ++ us) ≡ mid ∷ pieces 0 us
+end [] us h = absurd h
+end (t ∷ ts) us h =
+    ap (λ vs. pieces 0 (t ∷ (vs ++ us))) h.1
+    ∙ ap (λ k. before_piece (ends_piece k 0) t (pieces (depth_behind k 0) us)) h.0.0
+    ∙ ap (λ vs. (t ∷ vs) ∷ pieces 0 us) (sym h.1)
+
+pub nested-piece : (ws : List Word) → Nested false ws → IsPiece ws
+nested-piece ws n p rest h =
+    let k = split ws (words.mark marks.Semicolon ∷ []) p [] h in
+    cut false ws n 0 tt p k.0 rest k.1
+    ∙ ap (chop ws p) (end k.0 rest k.2)
+    ∙ chop-all ws p k.0 (pieces 0 rest) k.1
+
+pub imports-are : ImportsArePieces
+imports-are i = nested-piece (print_import i) (import-nested i)
+
+pub decls-are : DeclsArePieces
+decls-are d = nested-piece (print_decl d) (decl-nested d)
+
+-- the first piece, taken off
+abbrev pub Taken : List Word → List Token → List Token → Type 0
+Taken ws ts mid = (p : List Token) × (Ended ws p) × (pieces 0 ts ≡ p ∷ pieces 0 mid)
+
+pub taken : (ws : List Word) (ts mid : List Token) → IsPiece ws → Spells (ws ++ words.mark marks.Semicolon ∷ []) ts mid → Taken ws ts mid
+taken ws ts mid is h =
+    let k = part (ws ++ words.mark marks.Semicolon ∷ []) ts mid h in
+    (k.piece, k.words, ap (pieces 0) k.whole ∙ is k.piece mid k.words)
+
+decl-pieces : (ds : List Decl) (ts : List Token) → Spells (closed (map print_decl ds)) ts [] → DeclPieces ds (pieces 0 ts)
+decl-pieces [] ts h = ap (pieces 0) h
+decl-pieces (d ∷ ds) ts h =
+    let k = closing (print_decl d) (closed (map print_decl ds)) ts [] h in
+    let p = taken (print_decl d) ts k.0 (decls-are d) k.1 in
+    subst (DeclPieces (d ∷ ds)) (sym p.2) (p.1, decl-pieces ds k.0 k.2)
+
+import-pieces : (is : List Import) (ds : List Decl) (ts mid : List Token) → Spells (closed (map print_import is)) ts mid → DeclPieces ds (pieces 0 mid) → ImportPieces is ds (pieces 0 ts)
+import-pieces [] ds ts mid h rest = subst (λ us. DeclPieces ds (pieces 0 us)) (sym h) rest
+import-pieces (i ∷ is) ds ts mid h rest =
+    let k = closing (print_import i) (closed (map print_import is)) ts mid h in
+    let p = taken (print_import i) ts k.0 (imports-are i) k.1 in
+    subst (ImportPieces (i ∷ is) ds) (sym p.2) (p.1, import-pieces is ds k.0 mid k.2 rest)
+
+abbrev package_head : List Word
+package_head = words.keyword keywords.Package ∷ words.name (codes "main") ∷ []
+
+package-is : IsPiece package_head
+package-is = nested-piece package_head (one false _ _ refl (one false _ _ refl (none false)))
+
+pub files-are : FilesArePieces
+files-are f ts h =
+    let k = split package_words (closed (map print_import f.imports) ++ closed (map print_decl f.declarations)) ts [] h in
+    let m = split (closed (map print_import f.imports)) (closed (map print_decl f.declarations)) k.0 [] k.2 in
+    let p = taken package_head ts k.0 package-is k.1 in
+    subst (FilePieces f) (sym p.2) (p.1, import-pieces f.imports f.declarations k.0 m.0 m.1 (decl-pieces f.declarations m.0 m.2))

@@ -1,0 +1,112 @@
+//! What tokens cost: how much a reader must keep open at them.
+
+ghost use Rattle.std.specs.Prelude.{◌≡◌, ◌+◌, ◌≤◌, ◌∷◌, IfOk, reverse, sum};
+ghost use Rattle.golf_tokens.specs.Cost.{counted};
+ghost use Rattle.golf_grammar.specs.Reads.{first_costly as first_costly_of, no_counts};
+ghost use Rattle.golf_pieces.specs.Counts.{role_of};
+
+use golf_base::{List, Memory};
+use golf_tokens::{Mark, Token, TokenKind};
+use std::alloc::Global;
+
+/// What a token is to the brackets round it.
+#[derive(Clone, Copy)]
+pub enum Role {
+    Opens,
+    Closes,
+    Separates,
+    Plain,
+}
+
+// How many tokens stand in the innermost open bracket since the last `;` or `,` in it, in those around it, and in all.
+#[derive(Drop)]
+struct Counts {
+    inner: u32,
+    outer: List<u32>,
+    total: u32,
+}
+
+fn mark_role(mark: Mark) -> Role
+    ensures { result ≡ role_of (TokenKind.Mark mark) }
+{
+    match mark {
+        Mark::OpenParen | Mark::OpenBracket | Mark::OpenBrace => Role::Opens,
+        Mark::CloseParen | Mark::CloseBracket | Mark::CloseBrace => Role::Closes,
+        Mark::Semicolon | Mark::Comma => Role::Separates,
+        _ => Role::Plain,
+    }
+}
+
+fn kind_role(kind: &TokenKind) -> Role
+    ensures { result ≡ role_of kind.now }
+{
+    match kind {
+        TokenKind::Mark(mark) => mark_role(*mark),
+        _ => Role::Plain,
+    }
+}
+
+// The counts behind one more token.
+#[tactic(auto, using(crate::proofs::CountSteps::count_steps))]
+fn count(counts: Counts, kind: &TokenKind) -> Result<Counts, Memory>
+    requires small { counts.total ≤ 1000 }
+    requires adds_up { counts.total ≡ counts.inner + sum counts.outer }
+    ensures adds_up { IfOk result (λ c. c.total ≡ c.inner + sum c.outer) }
+    ensures value { IfOk result (λ c. c.inner ∷ reverse c.outer ≡ counted kind.now (counts.inner ∷ reverse counts.outer)) }
+{
+    let Counts {
+        inner,
+        mut outer,
+        total,
+    } = counts;
+    match kind_role(kind) {
+        Role::Opens => {
+            outer.push(inner + 1)?;
+            Ok(Counts {
+                inner: 0,
+                outer,
+                total: total + 1,
+            })
+        }
+        Role::Closes => match outer.pop() {
+            Some(count) => Ok(Counts {
+                inner: count + 1,
+                outer,
+                total: total - inner + 1,
+            }),
+            None => Ok(Counts {
+                inner: inner + 1,
+                outer,
+                total: total + 1,
+            }),
+        },
+        Role::Separates => Ok(Counts {
+            inner: 0,
+            outer,
+            total: total - inner,
+        }),
+        Role::Plain => Ok(Counts {
+            inner: inner + 1,
+            outer,
+            total: total + 1,
+        }),
+    }
+}
+
+/// The line of the first token that costs more than 1,000.
+pub fn first_costly(alloc: Global, tokens: &[Token]) -> Result<Option<u32>, Memory>
+    ensures { IfOk result (λ o. o ≡ first_costly_of no_counts tokens.now) }
+{
+    let mut counts = Counts {
+        inner: 0,
+        outer: List::new(alloc),
+        total: 0,
+    };
+    for token in tokens {
+        counts = count(counts, &token.kind)?;
+        if counts.total > 1000 {
+            return Ok(Some(token.line));
+        }
+    }
+    Ok(None)
+}

@@ -1,0 +1,15 @@
+//! What tokens cost, and the pieces that a list of tokens is cut into.
+//!
+//! A piece ends behind each semicolon outside all brackets. `laws` says that what an import or a declaration prints,
+//! with its semicolon, is one piece.
+#![tactic(auto)]
+
+mod cost;
+mod laws;
+mod pieces;
+#[cfg(test)]
+mod tests;
+
+pub use cost::first_costly;
+pub use laws::{declarations_are_pieces, files_are_pieces, imports_are_pieces};
+pub use pieces::front_piece;

@@ -1,0 +1,12 @@
+pub mod Channels
+pub mod Nothing
+pub mod VarLaws
+pub mod CommLaws
+pub mod HeaderLaws
+pub mod HeaderReads
+pub mod StmtShapes
+pub mod StmtSteps
+pub mod Moves
+pub mod StmtSound
+pub mod StmtComplete
+pub mod Found

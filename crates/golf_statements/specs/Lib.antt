@@ -1,0 +1,6 @@
+pub mod VarReading
+pub mod HeaderReading
+pub mod CommReading
+pub mod StmtReading
+pub mod Frames
+pub mod Laws

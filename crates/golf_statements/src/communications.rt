@@ -1,0 +1,145 @@
+//! Communications of `select`.
+
+ghost use Rattle.std.specs.Prelude.{◌≡◌, ◌<◌, ◌≤◌, length, IfOk, IfSome, Some};
+ghost use Rattle.golf_expressions.specs.Front.{seen};
+ghost use Rattle.golf_statements.specs.CommReading.{channel_of as channel_of_of, comm_of as comm_of_of, assigned_at as assigned_at_of, assigned_seen, comm_by, comm_at as comm_at_of};
+
+use golf_base::Memory;
+use golf_expressions::{after, copied, name_at, prefixed_at, simple_at};
+use golf_grammar::{Communication, Expr, Name, SimpleKind, UnaryOperator};
+use golf_tokens::{Mark, Token};
+use std::alloc::Global;
+
+// The channel that an expression receives from.
+#[tactic(auto, using(crate::proofs::Channels::channel_steps))]
+fn channel_of(e: Expr) -> Option<Expr>
+    ensures { result ≡ channel_of_of e }
+{
+    match e {
+        Expr::Unary(operator, inner) => match operator {
+            UnaryOperator::Receive => Some(inner.into_inner()),
+            UnaryOperator::Negate | UnaryOperator::Not => None,
+        },
+        Expr::Integer(_)
+        | Expr::Text(_)
+        | Expr::Name(_)
+        | Expr::Parens(_)
+        | Expr::StructLiteral(_, _)
+        | Expr::SyncLiteral(_)
+        | Expr::SliceLiteral(_, _)
+        | Expr::EmptyLiteral
+        | Expr::Make(_)
+        | Expr::MakeSized(_, _)
+        | Expr::New(_)
+        | Expr::NewSync(_)
+        | Expr::Selector(_, _)
+        | Expr::Index(_, _)
+        | Expr::Call(_, _)
+        | Expr::Binary(_, _, _) => None,
+    }
+}
+
+// A receive.
+fn receive(e: Expr) -> Option<Communication>
+    ensures { result ≡ comm_of_of (SimpleKind.Expression e) }
+{
+    match channel_of(e) {
+        None => None,
+        Some(channel) => Some(Communication::Receive(channel)),
+    }
+}
+
+// A receive into a new name.
+fn define(name: Name, e: Expr) -> Option<Communication>
+    ensures { result ≡ comm_of_of (SimpleKind.Define name e) }
+{
+    match channel_of(e) {
+        None => None,
+        Some(channel) => Some(Communication::Define(name, channel)),
+    }
+}
+
+// A send.
+fn send(channel: Expr, value: Expr) -> Option<Communication>
+    ensures { result ≡ comm_of_of (SimpleKind.Send channel value) }
+{
+    Some(Communication::Send(channel, value))
+}
+
+// A receive into two new names.
+fn define_received(name: Name, ok: Name, channel: Expr) -> Option<Communication>
+    ensures { result ≡ comm_of_of (SimpleKind.DefineReceived name ok channel) }
+{
+    Some(Communication::DefineReceived(name, ok, channel))
+}
+
+// The communication that a simple statement is that begins with names.
+#[tactic(auto, using(crate::proofs::Channels::kind_steps))]
+fn named(kind: SimpleKind) -> Option<Communication>
+    requires no_expression { (e : _) → kind ≡ SimpleKind.Expression e → ⊥ }
+    requires no_send { (c v : _) → kind ≡ SimpleKind.Send c v → ⊥ }
+    ensures { result ≡ comm_of_of kind }
+{
+    match kind {
+        SimpleKind::Define(name, e) => define(name, e),
+        SimpleKind::DefineReceived(name, ok, channel) => define_received(name, ok, channel),
+        _ => None,
+    }
+}
+
+// The communication that a simple statement is.
+fn comm_of(kind: SimpleKind) -> Option<Communication>
+    ensures { result ≡ comm_of_of kind }
+{
+    match kind {
+        SimpleKind::Expression(e) => receive(e),
+        SimpleKind::Send(channel, value) => send(channel, value),
+        other => named(other),
+    }
+}
+
+// A name and the `=` behind it.
+fn assigned_at(tokens: &[Token]) -> Option<(&Name, &[Token])>
+    ensures value { assigned_seen result ≡ assigned_at_of tokens.now }
+    ensures shorter { IfSome result (λ x. length x.1.now < length tokens.now) }
+{
+    let (name, behind) = name_at(tokens)?;
+    let rest = after(behind, Mark::Assign)?;
+    Some((name, rest))
+}
+
+// `<-channel` behind a name and `=`.
+fn received(
+    alloc: Global,
+    name: Name,
+    tokens: &[Token],
+) -> Result<Option<(Communication, &[Token])>, Memory>
+    ensures value { IfOk result (λ o. seen o ≡ comm_by tokens.now (Some (name, tokens.now))) }
+    ensures shorter { IfOk result (λ o. IfSome o (λ x. length x.1.now ≤ length tokens.now)) }
+{
+    let Some(arrow) = after(tokens, Mark::Arrow) else {
+        return Ok(None)
+    };
+    match prefixed_at(alloc, false, arrow)? {
+        None => Ok(None),
+        Some((channel, rest)) => Ok(Some((Communication::Assign(name, channel), rest))),
+    }
+}
+
+/// The communication at the front, and what follows it.
+#[tactic(auto, unfolding(crate::specs::CommReading::comm_at))]
+pub fn comm_at(alloc: Global, tokens: &[Token]) -> Result<Option<(Communication, &[Token])>, Memory>
+    ensures value { IfOk result (λ o. seen o ≡ comm_at_of tokens.now) }
+    ensures shorter { IfOk result (λ o. IfSome o (λ x. length x.1.now < length tokens.now)) }
+{
+    if let Some((name, behind)) = assigned_at(tokens) {
+        return received(alloc, copied(alloc, name)?, behind);
+    }
+    match simple_at(alloc, false, tokens)? {
+        None => Ok(None),
+        Some((simple, rest)) => match comm_of(simple.kind) {
+            None => Ok(None),
+            Some(communication) => Ok(Some((communication, rest))),
+        },
+    }
+}

@@ -1,0 +1,215 @@
+//! Headers of `if` and `for`.
+
+ghost use Rattle.std.specs.Prelude.{◌≡◌, ◌<◌, ◌≤◌, length, IfOk, IfSome};
+ghost use Rattle.golf_grammar.specs.Simple.{simple_form};
+ghost use Rattle.golf_expressions.specs.Front.{after as after_of, seen};
+ghost use Rattle.golf_statements.specs.HeaderReading.{expression_of as expression_of_of, test_by, test_at as test_at_of, two_names as two_names_of, names_at as names_at_of, post_at as post_at_of, steps_at as steps_at_of, first_by, plain_at as plain_at_of, header_at as header_at_of};
+
+use golf_base::{List, Memory};
+use golf_expressions::{after, after_keyword, copied, level_at, name_at, simple_at};
+use golf_grammar::{Expr, Header, Name, RangeNames, Simple, SimpleKind};
+use golf_tokens::{Keyword, Mark, Token};
+use std::alloc::Global;
+
+/// A condition, with the simple statement in front of it.
+type Test = (Option<Simple>, Expr);
+
+// The expression that a simple statement is.
+fn expression_of(kind: SimpleKind) -> Option<Expr>
+    ensures { result ≡ expression_of_of kind }
+{
+    match kind {
+        SimpleKind::Expression(e) => Some(e),
+        SimpleKind::Send(_, _)
+        | SimpleKind::Increment(_)
+        | SimpleKind::Decrement(_)
+        | SimpleKind::Assign(_, _)
+        | SimpleKind::Update(_, _, _)
+        | SimpleKind::Define(_, _)
+        | SimpleKind::DefineReceived(_, _, _)
+        | SimpleKind::AssignReceived(_, _, _) => None,
+    }
+}
+
+// Whether a simple statement has a `:=`.
+fn defines(kind: &SimpleKind) -> bool
+    ensures { result ≡ (simple_form kind.now).defines }
+{
+    match kind {
+        SimpleKind::Define(_, _) | SimpleKind::DefineReceived(_, _, _) => true,
+        SimpleKind::Expression(_)
+        | SimpleKind::Send(_, _)
+        | SimpleKind::Increment(_)
+        | SimpleKind::Decrement(_)
+        | SimpleKind::Assign(_, _)
+        | SimpleKind::Update(_, _, _)
+        | SimpleKind::AssignReceived(_, _, _) => false,
+    }
+}
+
+// The condition behind the first simple statement of an `if`, or that statement itself.
+fn test_behind(
+    alloc: Global,
+    first: Simple,
+    tokens: &[Token],
+) -> Result<Option<(Test, &[Token])>, Memory>
+    ensures value { IfOk result (λ o. seen o ≡ test_by first tokens.now (after_of Mark.Semicolon tokens.now)) }
+    ensures shorter { IfOk result (λ o. IfSome o (λ x. length x.1.now ≤ length tokens.now)) }
+{
+    let Some(behind) = after(tokens, Mark::Semicolon) else {
+        return match expression_of(first.kind) {
+            None => Ok(None),
+            Some(test) => Ok(Some(((None, test), tokens))),
+        };
+    };
+    match level_at(alloc, true, 1, behind)? {
+        None => Ok(None),
+        Some((test, rest)) => Ok(Some(((Some(first), test), rest))),
+    }
+}
+
+/// The header of an `if`: its condition, with the simple statement in front of it.
+#[tactic(auto, unfolding(crate::specs::HeaderReading::test_at))]
+pub fn test_at(alloc: Global, tokens: &[Token]) -> Result<Option<(Test, &[Token])>, Memory>
+    ensures value { IfOk result (λ o. seen o ≡ test_at_of tokens.now) }
+    ensures shorter { IfOk result (λ o. IfSome o (λ x. length x.1.now < length tokens.now)) }
+{
+    match simple_at(alloc, true, tokens)? {
+        None => Ok(None),
+        Some((first, behind)) => test_behind(alloc, first, behind),
+    }
+}
+
+// The second of two names in front of a `range`.
+fn two_names(
+    alloc: Global,
+    first: Name,
+    tokens: &[Token],
+) -> Result<Option<(RangeNames, &[Token])>, Memory>
+    ensures value { IfOk result (λ o. seen o ≡ two_names_of first tokens.now) }
+    ensures shorter { IfOk result (λ o. IfSome o (λ x. length x.1.now < length tokens.now)) }
+{
+    let Some((second, behind)) = name_at(tokens) else {
+        return Ok(None)
+    };
+    let Some(defined) = after(behind, Mark::Define) else {
+        return Ok(None)
+    };
+    let Some(rest) = after_keyword(defined, Keyword::Range) else {
+        return Ok(None)
+    };
+    Ok(Some((RangeNames::Two(first, copied(alloc, second)?), rest)))
+}
+
+// The names in front of a `range`, and what follows that word.
+#[tactic(auto, unfolding(crate::specs::HeaderReading::names_at))]
+fn names_at(alloc: Global, tokens: &[Token]) -> Result<Option<(RangeNames, &[Token])>, Memory>
+    ensures value { IfOk result (λ o. seen o ≡ names_at_of tokens.now) }
+    ensures shorter { IfOk result (λ o. IfSome o (λ x. length x.1.now < length tokens.now)) }
+{
+    if let Some(rest) = after_keyword(tokens, Keyword::Range) {
+        return Ok(Some((RangeNames::Neither, rest)));
+    }
+    let Some((name, behind)) = name_at(tokens) else {
+        return Ok(None)
+    };
+    if let Some(defined) = after(behind, Mark::Define) {
+        return match after_keyword(defined, Keyword::Range) {
+            None => Ok(None),
+            Some(rest) => Ok(Some((RangeNames::One(copied(alloc, name)?), rest))),
+        };
+    }
+    match after(behind, Mark::Comma) {
+        None => Ok(None),
+        Some(next) => two_names(alloc, copied(alloc, name)?, next),
+    }
+}
+
+// The last part of a three-part header, from its semicolon on.
+#[tactic(auto, unfolding(crate::specs::HeaderReading::post_at))]
+fn post_at(
+    alloc: Global,
+    first: Option<Simple>,
+    test: Option<Expr>,
+    tokens: &[Token],
+) -> Result<Option<(Header, &[Token])>, Memory>
+    ensures value { IfOk result (λ o. seen o ≡ post_at_of first test tokens.now) }
+    ensures shorter { IfOk result (λ o. IfSome o (λ x. length x.1.now < length tokens.now)) }
+{
+    let Some(behind) = after(tokens, Mark::Semicolon) else {
+        return Ok(None)
+    };
+    match simple_at(alloc, true, behind)? {
+        None => Ok(Some((Header::Steps(first, test, None), behind))),
+        Some((post, rest)) => {
+            if defines(&post.kind) {
+                return Ok(None);
+            }
+            Ok(Some((Header::Steps(first, test, Some(post)), rest)))
+        }
+    }
+}
+
+// A three-part header, behind its first semicolon.
+#[tactic(auto, unfolding(crate::specs::HeaderReading::steps_at))]
+fn steps_at(
+    alloc: Global,
+    first: Option<Simple>,
+    tokens: &[Token],
+) -> Result<Option<(Header, &[Token])>, Memory>
+    ensures value { IfOk result (λ o. seen o ≡ steps_at_of first tokens.now) }
+    ensures shorter { IfOk result (λ o. IfSome o (λ x. length x.1.now < length tokens.now)) }
+{
+    match level_at(alloc, true, 1, tokens)? {
+        None => post_at(alloc, first, None, tokens),
+        Some((test, behind)) => post_at(alloc, first, Some(test), behind),
+    }
+}
+
+// Behind the first simple statement of a header.
+fn first_behind(
+    alloc: Global,
+    first: Simple,
+    tokens: &[Token],
+) -> Result<Option<(Header, &[Token])>, Memory>
+    ensures value { IfOk result (λ o. seen o ≡ first_by first tokens.now (after_of Mark.Semicolon tokens.now)) }
+    ensures shorter { IfOk result (λ o. IfSome o (λ x. length x.1.now ≤ length tokens.now)) }
+{
+    if let Some(behind) = after(tokens, Mark::Semicolon) {
+        return steps_at(alloc, Some(first), behind);
+    }
+    match expression_of(first.kind) {
+        None => Ok(None),
+        Some(test) => Ok(Some((Header::While(test), tokens))),
+    }
+}
+
+// A header without `range`.
+#[tactic(auto, unfolding(crate::specs::HeaderReading::plain_at))]
+fn plain_at(alloc: Global, tokens: &[Token]) -> Result<Option<(Header, &[Token])>, Memory>
+    ensures value { IfOk result (λ o. seen o ≡ plain_at_of tokens.now) }
+    ensures shorter { IfOk result (λ o. IfSome o (λ x. length x.1.now ≤ length tokens.now)) }
+{
+    if let Some((first, behind)) = simple_at(alloc, true, tokens)? {
+        return first_behind(alloc, first, behind);
+    }
+    match after(tokens, Mark::Semicolon) {
+        None => Ok(Some((Header::Forever, tokens))),
+        Some(behind) => steps_at(alloc, None, behind),
+    }
+}
+
+/// The header of a `for`, up to its body.
+#[tactic(auto, unfolding(crate::specs::HeaderReading::header_at))]
+pub fn header_at(alloc: Global, tokens: &[Token]) -> Result<Option<(Header, &[Token])>, Memory>
+    ensures value { IfOk result (λ o. seen o ≡ header_at_of tokens.now) }
+    ensures shorter { IfOk result (λ o. IfSome o (λ x. length x.1.now ≤ length tokens.now)) }
+{
+    let Some((names, behind)) = names_at(alloc, tokens)? else {
+        return plain_at(alloc, tokens)
+    };
+    match level_at(alloc, true, 1, behind)? {
+        None => Ok(None),
+        Some((over, rest)) => Ok(Some((Header::Range(names, over), rest))),
+    }
+}

@@ -1,0 +1,375 @@
+//! Statements. Nothing recurs here: what waits for a statement stands in a list.
+
+ghost use Rattle.std.specs.Prelude.{◌∷◌, ◌++◌, ◌≡◌, ◌+◌, ◌*◌, ◌<◌, ◌≤◌, [], length, IfOk, IfSome};
+ghost use Rattle.golf_expressions.specs.Plan.{run};
+ghost use Rattle.golf_expressions.specs.Front.{seen, after as after_of, after_keyword as after_keyword_of};
+ghost use Rattle.golf_statements.specs.StmtReading.{stmt_at as stmt_at_of, block_at as block_at_of, OfStmt, body, block, is_branch as is_branch_of, else_plan, if_plan, for_plan, select_plan, keyword_plan, kind_plan};
+ghost use Rattle.golf_statements.specs.Frames.{owned, closed_at, body_at, case_at, statements_of as statements_of_of, frame_at, moved as moved_of, move_at, weight};
+
+use crate::clauses::{case_move, clauses_move, colon_move};
+use crate::frames::{Frame, Head, Move, Owner, Select};
+use crate::headers::{header_at, test_at};
+use crate::plain::{defer_at, go_at, return_at, simple_statement_at, variable_at};
+use golf_base::{Boxed, List, Memory};
+use golf_expressions::{after, after_keyword};
+use golf_grammar::{Expr, Header, Simple, Stmt};
+use golf_tokens::{Keyword, Mark, Token, TokenKind};
+use std::alloc::Global;
+
+// Whether a statement begins here that may stand behind `else`.
+fn is_branch(tokens: &[Token]) -> bool
+    ensures { result ≡ is_branch_of tokens.now }
+{
+    match tokens.split_first() {
+        None => false,
+        Some((first, _)) => match &first.kind {
+            TokenKind::Keyword(keyword) => *keyword == Keyword::If,
+            TokenKind::Mark(mark) => *mark == Mark::OpenBrace,
+            _ => false,
+        },
+    }
+}
+
+// Behind the body of an `if`: `else` and a branch, or the end.
+fn else_move(
+    line: u32,
+    first: Option<Simple>,
+    test: Expr,
+    done: List<Stmt>,
+    tokens: &[Token],
+) -> Option<(Move, &[Token])>
+    ensures value { moved_of result ≡ run stmt_at_of (else_plan line (first, test) done tokens.now (after_keyword_of Keyword.Else tokens.now)) }
+    ensures less { IfSome result (λ x. weight x.0 + 8 * length x.1.now ≤ 8 * length tokens.now) }
+{
+    let Some(behind) = after_keyword(tokens, Keyword::Else) else {
+        return Some((Move::Found(Stmt::If(line, first, test, done)), tokens))
+    };
+    if !is_branch(behind) {
+        return None;
+    }
+    Some((Move::Wait(Frame::Else(line, first, test, done)), behind))
+}
+
+// Behind the closing brace of statements.
+#[tactic(auto, unfolding(crate::specs::Frames::closed_at))]
+fn closed_move(owner: Owner, done: List<Stmt>, tokens: &[Token]) -> Option<(Move, &[Token])>
+    ensures value { moved_of result ≡ closed_at owner (done, tokens.now) }
+    ensures less { IfSome result (λ x. weight x.0 + 8 * length x.1.now ≤ 8 * length tokens.now) }
+{
+    match owner {
+        Owner::Block(line) => Some((Move::Found(Stmt::Block(line, done)), tokens)),
+        Owner::If(line, first, test) => else_move(line, first, test, done, tokens),
+        Owner::For(line, header) => Some((Move::Found(Stmt::For(line, header, done)), tokens)),
+    }
+}
+
+// Behind the opening brace of statements.
+#[tactic(auto, using(crate::proofs::Moves::body_steps), unfolding(crate::specs::Frames::closed_at))]
+fn opened_move(alloc: Global, owner: Owner, tokens: &[Token]) -> Option<(Move, &[Token])>
+    ensures value { moved_of result ≡ run stmt_at_of (body tokens.now (after_of Mark.CloseBrace tokens.now) (owned owner)) }
+    ensures less { IfSome result (λ x. weight x.0 + 8 * length x.1.now ≤ 8 * length tokens.now + 4) }
+{
+    match after(tokens, Mark::CloseBrace) {
+        None => Some((Move::Wait(Frame::Body(owner, List::new(alloc))), tokens)),
+        Some(rest) => closed_move(owner, List::new(alloc), rest),
+    }
+}
+
+// Statements in braces.
+fn block_move(alloc: Global, owner: Owner, tokens: &[Token]) -> Option<(Move, &[Token])>
+    ensures value { moved_of result ≡ run stmt_at_of (block tokens.now (owned owner)) }
+    ensures less { IfSome result (λ x. weight x.0 + 8 * length x.1.now < 8 * length tokens.now) }
+{
+    match after(tokens, Mark::OpenBrace) {
+        None => None,
+        Some(behind) => opened_move(alloc, owner, behind),
+    }
+}
+
+// Behind a statement in braces: a semicolon and more, or the closing brace.
+fn body_move(owner: Owner, done: List<Stmt>, tokens: &[Token]) -> Option<(Move, &[Token])>
+    ensures value { moved_of result ≡ body_at owner done tokens.now (after_of Mark.Semicolon tokens.now) }
+    ensures less { IfSome result (λ x. weight x.0 + 8 * length x.1.now < 8 * length tokens.now) }
+{
+    if let Some(next) = after(tokens, Mark::Semicolon) {
+        return Some((Move::Wait(Frame::Body(owner, done)), next));
+    }
+    match after(tokens, Mark::CloseBrace) {
+        None => None,
+        Some(rest) => closed_move(owner, done, rest),
+    }
+}
+
+// The `if` with this first statement and this test.
+fn if_owner(line: u32, tested: (Option<Simple>, Expr)) -> Owner
+    ensures { result ≡ Owner.If line tested.0 tested.1 }
+{
+    let (first, test) = tested;
+    Owner::If(line, first, test)
+}
+
+// Behind `if`.
+fn if_move(alloc: Global, line: u32, tokens: &[Token]) -> Result<Option<(Move, &[Token])>, Memory>
+    ensures value { IfOk result (λ o. moved_of o ≡ run stmt_at_of (if_plan line tokens.now)) }
+    ensures less { IfOk result (λ o. IfSome o (λ x. weight x.0 + 8 * length x.1.now ≤ 8 * length tokens.now)) }
+{
+    match test_at(alloc, tokens)? {
+        None => Ok(None),
+        Some((tested, behind)) => Ok(block_move(alloc, if_owner(line, tested), behind)),
+    }
+}
+
+// The `for` with this header.
+fn for_owner(line: u32, header: Header) -> Owner
+    ensures { result ≡ Owner.For line header }
+{
+    Owner::For(line, header)
+}
+
+// Behind `for`.
+fn for_move(alloc: Global, line: u32, tokens: &[Token]) -> Result<Option<(Move, &[Token])>, Memory>
+    ensures value { IfOk result (λ o. moved_of o ≡ run stmt_at_of (for_plan line tokens.now)) }
+    ensures less { IfOk result (λ o. IfSome o (λ x. weight x.0 + 8 * length x.1.now ≤ 8 * length tokens.now)) }
+{
+    match header_at(alloc, tokens)? {
+        None => Ok(None),
+        Some((header, behind)) => Ok(block_move(alloc, for_owner(line, header), behind)),
+    }
+}
+
+// Behind `select`.
+#[tactic(auto, unfolding(crate::specs::Frames::selected))]
+fn select_move(alloc: Global, line: u32, tokens: &[Token]) -> Option<(Move, &[Token])>
+    ensures value { moved_of result ≡ run stmt_at_of (select_plan line tokens.now) }
+    ensures less { IfSome result (λ x. weight x.0 + 8 * length x.1.now ≤ 8 * length tokens.now) }
+{
+    let behind = after(tokens, Mark::OpenBrace)?;
+    let select = Select {
+        line,
+        has_default: false,
+        clauses: List::new(alloc),
+    };
+    Some((Move::Clauses(select), behind))
+}
+
+// A statement by its first word, which stands on this line.
+fn keyword_move<'a>(
+    alloc: Global,
+    line: u32,
+    keyword: Keyword,
+    behind: &'a [Token],
+    tokens: &'a [Token],
+) -> Result<Option<(Move, &'a [Token])>, Memory>
+    requires shorter { length behind.now < length tokens.now }
+    ensures value { IfOk result (λ o. moved_of o ≡ run stmt_at_of (keyword_plan line keyword behind.now tokens.now)) }
+    ensures less { IfOk result (λ o. IfSome o (λ x. weight x.0 + 8 * length x.1.now < 8 * length tokens.now)) }
+{
+    match keyword {
+        Keyword::Var => variable_at(alloc, line, behind),
+        Keyword::Go => go_at(alloc, line, behind),
+        Keyword::Defer => defer_at(alloc, line, behind),
+        Keyword::Return => return_at(alloc, line, behind),
+        Keyword::Break => Ok(Some((Move::Found(Stmt::Break(line)), behind))),
+        Keyword::Continue => Ok(Some((Move::Found(Stmt::Continue(line)), behind))),
+        Keyword::If => if_move(alloc, line, behind),
+        Keyword::For => for_move(alloc, line, behind),
+        Keyword::Select => Ok(select_move(alloc, line, behind)),
+        _ => simple_statement_at(alloc, tokens),
+    }
+}
+
+// A statement by the kind of its first token, which stands on this line.
+fn kind_move<'a>(
+    alloc: Global,
+    line: u32,
+    kind: &TokenKind,
+    behind: &'a [Token],
+    tokens: &'a [Token],
+) -> Result<Option<(Move, &'a [Token])>, Memory>
+    requires shorter { length behind.now < length tokens.now }
+    ensures value { IfOk result (λ o. moved_of o ≡ run stmt_at_of (kind_plan line kind.now behind.now tokens.now)) }
+    ensures less { IfOk result (λ o. IfSome o (λ x. weight x.0 + 8 * length x.1.now < 8 * length tokens.now)) }
+{
+    match kind {
+        TokenKind::Keyword(keyword) => keyword_move(alloc, line, *keyword, behind, tokens),
+        TokenKind::Mark(mark) => match mark {
+            Mark::OpenBrace => Ok(opened_move(alloc, Owner::Block(line), behind)),
+            _ => simple_statement_at(alloc, tokens),
+        },
+        TokenKind::Name(_) | TokenKind::Integer(_) | TokenKind::Text(_) => {
+            simple_statement_at(alloc, tokens)
+        }
+    }
+}
+
+// The statement at the front.
+fn stmt_move(alloc: Global, tokens: &[Token]) -> Result<Option<(Move, &[Token])>, Memory>
+    ensures value { IfOk result (λ o. moved_of o ≡ stmt_at_of OfStmt tokens.now) }
+    ensures less { IfOk result (λ o. IfSome o (λ x. weight x.0 + 8 * length x.1.now < 8 * length tokens.now)) }
+{
+    match tokens.split_first() {
+        None => Ok(None),
+        Some((first, behind)) => kind_move(alloc, first.line, &first.kind, behind, tokens),
+    }
+}
+
+// The statement that an `if` with an `else` is.
+fn if_else(
+    alloc: Global,
+    line: u32,
+    first: Option<Simple>,
+    test: Expr,
+    done: List<Stmt>,
+    otherwise: Stmt,
+) -> Result<Stmt, Memory>
+    ensures { IfOk result (λ s. s ≡ Stmt.IfElse line first test done otherwise) }
+{
+    Ok(Stmt::IfElse(line, first, test, done, Boxed::new(alloc, otherwise)?))
+}
+
+// The statements with one more.
+fn with_statement(done: List<Stmt>, found: Stmt) -> Result<List<Stmt>, Memory>
+    ensures { IfOk result (λ all. all ≡ done ++ found ∷ []) }
+{
+    let mut all = done;
+    all.push(found)?;
+    Ok(all)
+}
+
+// Statements in braces, behind one more of them.
+fn body_frame(
+    owner: Owner,
+    done: List<Stmt>,
+    found: Stmt,
+    tokens: &[Token],
+) -> Result<Option<(Move, &[Token])>, Memory>
+    ensures value { IfOk result (λ o. moved_of o ≡ frame_at (Frame.Body owner done) (found, tokens.now)) }
+    ensures less { IfOk result (λ o. IfSome o (λ x. weight x.0 + 8 * length x.1.now < 8 * length tokens.now)) }
+{
+    Ok(body_move(owner, with_statement(done, found)?, tokens))
+}
+
+// An `if`, behind the statement that its `else` has.
+fn else_frame(
+    alloc: Global,
+    line: u32,
+    first: Option<Simple>,
+    test: Expr,
+    done: List<Stmt>,
+    found: Stmt,
+) -> Result<Move, Memory>
+    ensures { IfOk result (λ m. m ≡ Move.Found (Stmt.IfElse line first test done found)) }
+{
+    Ok(Move::Found(if_else(alloc, line, first, test, done, found)?))
+}
+
+// A clause of a `select`, behind one more statement.
+fn clause_frame(
+    select: Select,
+    head: Head,
+    done: List<Stmt>,
+    found: Stmt,
+    tokens: &[Token],
+) -> Result<Option<(Move, &[Token])>, Memory>
+    ensures value { IfOk result (λ o. moved_of o ≡ frame_at (Frame.Clause select head done) (found, tokens.now)) }
+    ensures less { IfOk result (λ o. IfSome o (λ x. weight x.0 + 8 * length x.1.now < 8 * length tokens.now + 3)) }
+{
+    case_move(select, head, with_statement(done, found)?, tokens)
+}
+
+// What waits goes on with the statement that it waited for.
+fn frame_move(
+    alloc: Global,
+    frame: Frame,
+    found: Stmt,
+    tokens: &[Token],
+) -> Result<Option<(Move, &[Token])>, Memory>
+    ensures value { IfOk result (λ o. moved_of o ≡ frame_at frame (found, tokens.now)) }
+    ensures less { IfOk result (λ o. IfSome o (λ x. weight x.0 + 8 * length x.1.now < 8 * length tokens.now + 3)) }
+{
+    match frame {
+        Frame::Body(owner, done) => body_frame(owner, done, found, tokens),
+        Frame::Else(line, first, test, done) => {
+            let whole = else_frame(alloc, line, first, test, done, found)?;
+            Ok(Some((whole, tokens)))
+        }
+        Frame::Clause(select, head, done) => clause_frame(select, head, done, found, tokens),
+    }
+}
+
+// All that is read from this on.
+fn read(alloc: Global, tokens: &[Token]) -> Result<Option<(Stmt, &[Token])>, Memory>
+    ensures value { IfOk result (λ o. seen o ≡ stmt_at_of OfStmt tokens.now) }
+{
+    let mut waiting: List<Frame> = List::new(alloc);
+    let mut now = Move::Ask;
+    let mut rest = tokens;
+    'moves: loop {
+        let next = match now {
+            Move::Found(found) => match waiting.pop() {
+                None => return Ok(Some((found, rest))),
+                Some(frame) => frame_move(alloc, frame, found, rest)?,
+            },
+            Move::Ask => stmt_move(alloc, rest)?,
+            Move::Wait(frame) => {
+                waiting.push(frame)?;
+                stmt_move(alloc, rest)?
+            }
+            Move::Clauses(select) => clauses_move(alloc, select, rest)?,
+            Move::Headed(select, head) => colon_move(alloc, select, head, rest)?,
+        };
+        let Some((moved, behind)) = next else {
+            return Ok(None)
+        };
+        now = moved;
+        rest = behind;
+    }
+}
+
+/// The statement at the front, and what follows it.
+#[tactic(auto, using(crate::proofs::Moves::shorter_steps))]
+pub fn stmt_at(alloc: Global, tokens: &[Token]) -> Result<Option<(Stmt, &[Token])>, Memory>
+    ensures value { IfOk result (λ o. seen o ≡ stmt_at_of OfStmt tokens.now) }
+    ensures shorter { IfOk result (λ o. IfSome o (λ x. length x.1.now < length tokens.now)) }
+{
+    read(alloc, tokens)
+}
+
+// The statements of a block.
+#[tactic(auto, using(crate::proofs::Moves::block_steps))]
+fn statements_of(statement: Stmt) -> Option<List<Stmt>>
+    ensures { result ≡ statements_of_of statement }
+{
+    match statement {
+        Stmt::Block(_, statements) => Some(statements),
+        Stmt::Var(_)
+        | Stmt::Simple(_)
+        | Stmt::Go(_, _, _)
+        | Stmt::Defer(_, _, _)
+        | Stmt::Return(_, _)
+        | Stmt::Break(_)
+        | Stmt::Continue(_)
+        | Stmt::If(_, _, _, _)
+        | Stmt::IfElse(_, _, _, _, _)
+        | Stmt::For(_, _, _)
+        | Stmt::Select(_, _) => None,
+    }
+}
+
+/// The statements in braces at the front, and what follows the closing brace.
+#[tactic(auto, using(crate::proofs::Moves::braces_steps))]
+pub fn block_at(alloc: Global, tokens: &[Token]) -> Result<Option<(List<Stmt>, &[Token])>, Memory>
+    ensures value { IfOk result (λ o. seen o ≡ block_at_of tokens.now) }
+    ensures shorter { IfOk result (λ o. IfSome o (λ x. length x.1.now < length tokens.now)) }
+{
+    if after(tokens, Mark::OpenBrace).is_none() {
+        return Ok(None);
+    }
+    match stmt_at(alloc, tokens)? {
+        None => Ok(None),
+        Some((statement, rest)) => match statements_of(statement) {
+            None => Ok(None),
+            Some(statements) => Ok(Some((statements, rest))),
+        },
+    }
+}

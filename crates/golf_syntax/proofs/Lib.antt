@@ -1,0 +1,8 @@
+pub mod Found
+pub mod ManyLaws
+pub mod DeclSound
+pub mod DeclComplete
+pub mod ManySteps
+pub mod PieceLaws
+pub mod FileLaws
+pub mod OneTree

@@ -1,0 +1,9 @@
+-- Bytes lex as one list of tokens, and one tree reads it.
+use Rattle.std.proofs.Common.{subst}
+use Rattle.golf_grammar.specs.Reads.{ReadsTokens}
+use Rattle.golf_lex.proofs.Scans.{lexes-once}
+use Rattle.golf_syntax.specs.Laws.{OneTree}
+use Rattle.golf_syntax.proofs.FileLaws.{one-reads}
+
+pub one-tree : OneTree
+one-tree bytes f g r s = one-reads r.tokens f g r.reads (subst (λ ts. ReadsTokens ts g) (lexes-once bytes s.tokens r.tokens s.lexes r.lexes) s.reads)

@@ -1,0 +1,43 @@
+-- What is read at the front of tokens is what is printed there: imports and declarations. A file is read in one way.
+use Rattle.std.specs.Prelude.{◌≡◌, ℕ, true, List, ◌∷◌, Some}
+use Rattle.golf_tokens.specs.declared.token.Token.{Token}
+use Rattle.golf_tokens.specs.declared.token.TokenKind.TheVariants as kinds
+use Rattle.golf_tokens.specs.declared.token.Mark.TheVariants as marks
+use Rattle.golf_tokens.specs.declared.token.Keyword.TheVariants as keywords
+use Rattle.golf_grammar.specs.Words.{Spells}
+use Rattle.golf_grammar.specs.declared.declarations.Import.{Import}
+use Rattle.golf_grammar.specs.declared.declarations.Decl.{Decl}
+use Rattle.golf_grammar.specs.Declarations.{print_import, print_decl, decl_good}
+use Rattle.golf_grammar.specs.declared.declarations.File.{File}
+use Rattle.golf_grammar.specs.Reads.{ReadsTokens, Reads}
+use Rattle.golf_expressions.specs.Front.{after}
+use Rattle.golf_syntax.specs.DeclReading.{import_at, decl_at}
+
+-- a well-formed import, and a well-formed declaration, on the line of its word
+pub record IsImportIn (ts : List Token) (x : Import × List Token) : Type 0 where
+  pub words : Spells (print_import x.0) ts x.1
+
+pub record IsDeclIn (ts : List Token) (x : Decl × List Token) : Type 0 where
+  pub words : Spells (print_decl x.0) ts x.1
+  pub good : decl_good x.0 ≡ true
+
+abbrev pub ImportsFound : Type 0
+ImportsFound = (word : Token) (ts : List Token) (x : Import × List Token) → word.kind ≡ kinds.Keyword keywords.Import → import_at word.line ts ≡ Some x → IsImportIn (word ∷ ts) x
+
+-- an import that is printed begins with its word
+abbrev pub ImportsRead : Type 0
+ImportsRead = (ts : List Token) (x : Import × List Token) → IsImportIn ts x → (word : Token) × (us : List Token) × (ts ≡ word ∷ us) × (word.kind ≡ kinds.Keyword keywords.Import) × (import_at word.line us ≡ Some x)
+
+abbrev pub DeclsFound : Type 0
+DeclsFound = (ts : List Token) (x : Decl × List Token) → decl_at ts ≡ Some x → IsDeclIn ts x
+
+abbrev pub DeclsRead : Type 0
+DeclsRead = (ts us : List Token) (x : Decl × List Token) → IsDeclIn ts x → after marks.Semicolon x.1 ≡ Some us → decl_at ts ≡ Some x
+
+-- at most one tree reads the tokens
+abbrev pub OneReads : Type 0
+OneReads = (tokens : List Token) (one other : File) → ReadsTokens tokens one → ReadsTokens tokens other → one ≡ other
+
+-- at most one tree reads the bytes
+abbrev pub OneTree : Type 0
+OneTree = (bytes : List ℕ) (one other : File) → Reads bytes one → Reads bytes other → one ≡ other

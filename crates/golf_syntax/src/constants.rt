@@ -1,0 +1,68 @@
+//! Values of constants.
+
+ghost use Rattle.std.specs.Prelude.{◌≡◌, ◌<◌, ◌≤◌, length, IfOk, IfSome};
+ghost use Rattle.golf_expressions.specs.Front.{seen};
+ghost use Rattle.golf_syntax.specs.DeclReading.{const_at as const_at_of, const_of as const_of_of, named_const as named_const_of, negative_at as negative_at_of};
+
+use golf_base::{List, Memory};
+use golf_expressions::copied;
+use golf_grammar::Const;
+use golf_tokens::{Mark, Token, TokenKind};
+use std::alloc::Global;
+
+// An integer behind a `-`.
+fn negative_at(alloc: Global, tokens: &[Token]) -> Result<Option<(Const, &[Token])>, Memory>
+    ensures value { IfOk result (λ o. seen o ≡ negative_at_of tokens.now) }
+    ensures shorter { IfOk result (λ o. IfSome o (λ x. length x.1.now ≤ length tokens.now)) }
+{
+    match tokens.split_first() {
+        None => Ok(None),
+        Some((first, rest)) => match &first.kind {
+            TokenKind::Integer(digits) => Ok(Some((Const::Negative(copied(alloc, digits)?), rest))),
+            _ => Ok(None),
+        },
+    }
+}
+
+// `true` or `false`.
+fn named_const<'a>(name: &List<u8>, rest: &'a [Token]) -> Option<(Const, &'a [Token])>
+    ensures value { seen result ≡ named_const_of name.now rest.now }
+    ensures shorter { IfSome result (λ x. length x.1.now ≤ length rest.now) }
+{
+    if name.as_slice() == b"true".as_slice() {
+        return Some((Const::True, rest));
+    }
+    if name.as_slice() == b"false".as_slice() {
+        return Some((Const::False, rest));
+    }
+    None
+}
+
+fn const_of<'a>(
+    alloc: Global,
+    kind: &TokenKind,
+    rest: &'a [Token],
+) -> Result<Option<(Const, &'a [Token])>, Memory>
+    ensures value { IfOk result (λ o. seen o ≡ const_of_of kind.now rest.now) }
+    ensures shorter { IfOk result (λ o. IfSome o (λ x. length x.1.now ≤ length rest.now)) }
+{
+    match kind {
+        TokenKind::Integer(digits) => Ok(Some((Const::Integer(copied(alloc, digits)?), rest))),
+        TokenKind::Text(bytes) => Ok(Some((Const::Text(copied(alloc, bytes)?), rest))),
+        TokenKind::Name(name) => Ok(named_const(name, rest)),
+        TokenKind::Mark(Mark::Minus) => negative_at(alloc, rest),
+        _ => Ok(None),
+    }
+}
+
+/// The value of a constant, and what follows it.
+#[tactic(auto, unfolding(crate::specs::DeclReading::const_at))]
+pub fn const_at(alloc: Global, tokens: &[Token]) -> Result<Option<(Const, &[Token])>, Memory>
+    ensures value { IfOk result (λ o. seen o ≡ const_at_of tokens.now) }
+    ensures shorter { IfOk result (λ o. IfSome o (λ x. length x.1.now < length tokens.now)) }
+{
+    match tokens.split_first() {
+        None => Ok(None),
+        Some((first, rest)) => const_of(alloc, &first.kind, rest),
+    }
+}

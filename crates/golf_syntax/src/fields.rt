@@ -1,0 +1,87 @@
+//! Fields of structs, and parameters.
+
+ghost use Rattle.std.specs.Prelude.{◌≡◌, ◌<◌, ◌≤◌, length, IfOk, IfSome};
+ghost use Rattle.golf_expressions.specs.Front.{seen};
+ghost use Rattle.golf_syntax.specs.Many.{list_at};
+ghost use Rattle.golf_syntax.specs.DeclReading.{field_at as field_at_of, names_at as names_at_of};
+
+use golf_base::{List, Memory};
+use golf_expressions::{after, copied, name_at, type_at};
+use golf_grammar::{Field, Name};
+use golf_tokens::{Mark, Token};
+use std::alloc::Global;
+
+// More names, each behind a comma.
+fn names_at(alloc: Global, tokens: &[Token]) -> Result<Option<(List<Name>, &[Token])>, Memory>
+    ensures value { IfOk result (λ o. seen o ≡ names_at_of tokens.now) }
+    ensures shorter { IfOk result (λ o. IfSome o (λ x. length x.1.now ≤ length tokens.now)) }
+{
+    let mut names = List::new(alloc);
+    let mut left = tokens;
+    'names: loop {
+        let Some(behind) = after(left, Mark::Comma) else {
+            return Ok(Some((names, left)))
+        };
+        let Some((name, rest)) = name_at(behind) else {
+            return Ok(None)
+        };
+        names.push(copied(alloc, name)?)?;
+        left = rest;
+    }
+}
+
+/// Names that share a type, and what follows them.
+#[tactic(auto, unfolding(crate::specs::DeclReading::field_at))]
+pub fn field_at(alloc: Global, tokens: &[Token]) -> Result<Option<(Field, &[Token])>, Memory>
+    ensures value { IfOk result (λ o. seen o ≡ field_at_of tokens.now) }
+    ensures shorter { IfOk result (λ o. IfSome o (λ x. length x.1.now < length tokens.now)) }
+{
+    let Some((first, behind)) = name_at(tokens) else {
+        return Ok(None)
+    };
+    let first = copied(alloc, first)?;
+    let Some((more, typed)) = names_at(alloc, behind)? else {
+        return Ok(None)
+    };
+    match type_at(alloc, typed)? {
+        None => Ok(None),
+        Some((of_type, rest)) => Ok(Some((
+            Field {
+                first,
+                more,
+                of_type,
+            },
+            rest,
+        ))),
+    }
+}
+
+/// Fields with this mark between, up to the one that closes them, and what follows that.
+pub fn fields_at(
+    alloc: Global,
+    separator: Mark,
+    close: Mark,
+    tokens: &[Token],
+) -> Result<Option<(List<Field>, &[Token])>, Memory>
+    ensures value { IfOk result (λ o. seen o ≡ list_at field_at_of separator close tokens.now) }
+    ensures shorter { IfOk result (λ o. IfSome o (λ x. length x.1.now < length tokens.now)) }
+{
+    let mut fields = List::new(alloc);
+    if let Some(rest) = after(tokens, close) {
+        return Ok(Some((fields, rest)));
+    }
+    let mut left = tokens;
+    'fields: loop {
+        let Some((field, behind)) = field_at(alloc, left)? else {
+            return Ok(None)
+        };
+        fields.push(field)?;
+        match after(behind, separator) {
+            Some(next) => left = next,
+            None => match after(behind, close) {
+                None => return Ok(None),
+                Some(rest) => return Ok(Some((fields, rest))),
+            },
+        }
+    }
+}

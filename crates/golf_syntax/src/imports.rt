@@ -1,0 +1,73 @@
+//! Imports.
+
+ghost use Rattle.std.specs.Prelude.{◌≡◌, ◌<◌, ◌≤◌, length, IfOk, IfSome};
+ghost use Rattle.golf_expressions.specs.Front.{after as after_of, seen};
+ghost use Rattle.golf_syntax.specs.Many.{list_at};
+ghost use Rattle.golf_syntax.specs.DeclReading.{import_at as import_at_of, text_at as text_at_of};
+
+use golf_base::{List, Memory};
+use golf_expressions::{after, copied};
+use golf_grammar::Import;
+use golf_tokens::{Mark, Token, TokenKind};
+use std::alloc::Global;
+
+// The path of an import.
+fn text_at(alloc: Global, tokens: &[Token]) -> Result<Option<(List<u8>, &[Token])>, Memory>
+    ensures value { IfOk result (λ o. seen o ≡ text_at_of tokens.now) }
+    ensures shorter { IfOk result (λ o. IfSome o (λ x. length x.1.now < length tokens.now)) }
+{
+    match tokens.split_first() {
+        None => Ok(None),
+        Some((first, rest)) => match &first.kind {
+            TokenKind::Text(path) => Ok(Some((copied(alloc, path)?, rest))),
+            _ => Ok(None),
+        },
+    }
+}
+
+// Paths with semicolons between, up to the parenthesis that closes them.
+fn texts_at(alloc: Global, tokens: &[Token]) -> Result<Option<(List<List<u8>>, &[Token])>, Memory>
+    ensures value { IfOk result (λ o. seen o ≡ list_at text_at_of Mark.Semicolon Mark.CloseParen tokens.now) }
+    ensures shorter { IfOk result (λ o. IfSome o (λ x. length x.1.now < length tokens.now)) }
+{
+    let mut paths = List::new(alloc);
+    if let Some(rest) = after(tokens, Mark::CloseParen) {
+        return Ok(Some((paths, rest)));
+    }
+    let mut left = tokens;
+    'paths: loop {
+        let Some((path, behind)) = text_at(alloc, left)? else {
+            return Ok(None)
+        };
+        paths.push(path)?;
+        match after(behind, Mark::Semicolon) {
+            Some(next) => left = next,
+            None => match after(behind, Mark::CloseParen) {
+                None => return Ok(None),
+                Some(rest) => return Ok(Some((paths, rest))),
+            },
+        }
+    }
+}
+
+/// The import behind its word, which stands on this line, and what follows it.
+#[tactic(auto, unfolding(crate::specs::DeclReading::import_at))]
+pub fn import_at(
+    alloc: Global,
+    line: u32,
+    tokens: &[Token],
+) -> Result<Option<(Import, &[Token])>, Memory>
+    ensures value { IfOk result (λ o. seen o ≡ import_at_of line tokens.now) }
+    ensures shorter { IfOk result (λ o. IfSome o (λ x. length x.1.now < length tokens.now)) }
+{
+    match after(tokens, Mark::OpenParen) {
+        None => match text_at(alloc, tokens)? {
+            None => Ok(None),
+            Some((path, rest)) => Ok(Some((Import::One(line, path), rest))),
+        },
+        Some(inside) => match texts_at(alloc, inside)? {
+            None => Ok(None),
+            Some((paths, rest)) => Ok(Some((Import::Group(line, paths), rest))),
+        },
+    }
+}

@@ -1,0 +1,187 @@
+//! Reads a file from its tokens, piece by piece.
+
+ghost use Rattle.std.specs.Prelude.{◌≡◌, List, IfOk};
+ghost use Rattle.golf_syntax.specs.PieceReading.{decl_of as decl_of_of, import_by_word, import_of as import_of_of, is_end as is_end_of, is_package as is_package_of};
+ghost use Rattle.golf_syntax.specs.Parses.{Accepts, Declared, FirstLine, Imported, Parsed, Refuses};
+
+use crate::declarations::decl_at;
+use crate::imports::import_at;
+use golf_base::{List, Memory};
+use golf_expressions::{after, after_keyword, name_at};
+use golf_grammar::{Decl, File, Import};
+use golf_pieces::{first_costly, front_piece};
+use golf_tokens::{Keyword, Mark, Token, TokenKind};
+use std::alloc::Global;
+
+/// Why tokens are no file.
+#[derive(Clone, Copy, Debug, PartialEq, Eq)]
+pub enum SyntaxFault {
+    /// The line of the first token that costs more than 1,000. Where there is none: 1 for no tokens, and else the line on
+    /// which the first broken piece begins.
+    At { line: u32 },
+    /// Memory was wanting.
+    Memory,
+}
+
+impl From<Memory> for SyntaxFault {
+    ghost use Rattle.golf_syntax.specs.declared.parser.SyntaxFault.TheVariants as faults;
+
+    ghost from_gives = { λ _ fault. fault ≡ faults.Memory };
+
+    fn from(_: Memory) -> Self {
+        SyntaxFault::Memory
+    }
+}
+
+// Whether a semicolon stands here, and nothing behind it.
+fn is_end(tokens: &[Token]) -> bool
+    ensures { result ≡ is_end_of tokens.now }
+{
+    match after(tokens, Mark::Semicolon) {
+        None => false,
+        Some(rest) => rest.is_empty(),
+    }
+}
+
+// Whether the piece names the package.
+fn is_package(piece: &[Token]) -> bool
+    ensures { result ≡ is_package_of piece.now }
+{
+    let Some(named) = after_keyword(piece, Keyword::Package) else {
+        return false
+    };
+    match name_at(named) {
+        None => false,
+        Some((name, rest)) => name.as_slice() == b"main".as_slice() && is_end(rest),
+    }
+}
+
+// The import behind its word, which stands on this line, where the piece ends behind it.
+fn import_behind(alloc: Global, line: u32, tokens: &[Token]) -> Result<Option<Import>, Memory>
+    ensures { IfOk result (λ o. o ≡ import_by_word line (TokenKind.Keyword Keyword.Import) tokens.now) }
+{
+    match import_at(alloc, line, tokens)? {
+        None => Ok(None),
+        Some((import, rest)) => if is_end(rest) {
+            Ok(Some(import))
+        } else {
+            Ok(None)
+        },
+    }
+}
+
+// The import that the piece is.
+fn import_of(alloc: Global, piece: &[Token]) -> Result<Option<Import>, Memory>
+    ensures { IfOk result (λ o. o ≡ import_of_of piece.now) }
+{
+    match piece.split_first() {
+        None => Ok(None),
+        Some((first, rest)) => match &first.kind {
+            TokenKind::Keyword(Keyword::Import) => import_behind(alloc, first.line, rest),
+            _ => Ok(None),
+        },
+    }
+}
+
+// The declaration that the piece is.
+fn decl_of(alloc: Global, piece: &[Token]) -> Result<Option<Decl>, Memory>
+    ensures { IfOk result (λ o. o ≡ decl_of_of piece.now) }
+{
+    match decl_at(alloc, piece)? {
+        None => Ok(None),
+        Some((declaration, rest)) => if is_end(rest) {
+            Ok(Some(declaration))
+        } else {
+            Ok(None)
+        },
+    }
+}
+
+// The line of the first token, or 1.
+fn first_line(tokens: &[Token]) -> u32
+    ensures { FirstLine tokens.now result }
+{
+    match tokens.split_first() {
+        None => 1,
+        Some((first, _)) => first.line,
+    }
+}
+
+// The imports in front, and the tokens behind them.
+fn imports_of(alloc: Global, tokens: &[Token]) -> Result<(List<Import>, &[Token]), Memory>
+    ensures { IfOk result (λ x. Imported tokens.now x.0 x.1.now) }
+{
+    let mut imports = List::new(alloc);
+    let mut left = tokens;
+    'pieces: loop {
+        let Some((piece, behind)) = front_piece(left) else {
+            return Ok((imports, left))
+        };
+        let Some(import) = import_of(alloc, piece)? else {
+            return Ok((imports, left))
+        };
+        imports.push(import)?;
+        left = behind;
+    }
+}
+
+// The declarations that all pieces are.
+fn declarations_of(alloc: Global, tokens: &[Token]) -> Result<List<Decl>, SyntaxFault>
+    ensures { Declared tokens.now result }
+{
+    let mut declarations = List::new(alloc);
+    let mut left = tokens;
+    'pieces: loop {
+        let Some((piece, rest)) = front_piece(left) else {
+            return Ok(declarations)
+        };
+        let Some(declaration) = decl_of(alloc, piece)? else {
+            return Err(SyntaxFault::At {
+                line: first_line(piece),
+            })
+        };
+        declarations.push(declaration)?;
+        left = rest;
+    }
+}
+
+// The file that the tokens are, piece by piece.
+fn file_of(alloc: Global, tokens: &[Token]) -> Result<File, SyntaxFault>
+    ensures { Parsed tokens.now result }
+{
+    if let Some(line) = first_costly(alloc, tokens)? {
+        return Err(SyntaxFault::At { line });
+    }
+    let Some((package, rest)) = front_piece(tokens) else {
+        return Err(SyntaxFault::At { line: 1 })
+    };
+    if !is_package(package) {
+        return Err(SyntaxFault::At {
+            line: first_line(package),
+        });
+    }
+    let (imports, left) = imports_of(alloc, rest)?;
+    match declarations_of(alloc, left) {
+        Err(fault) => Err(fault),
+        Ok(declarations) => Ok(File {
+            imports,
+            declarations,
+        }),
+    }
+}
+
+/// The file that the tokens are.
+///
+/// # Errors
+///
+/// `SyntaxFault::At` where no well-formed tree prints the tokens, and `SyntaxFault::Memory` where memory runs out, which
+/// no clause ties to a cause.
+pub fn parse(alloc: Global, tokens: &[Token]) -> Result<File, SyntaxFault>
+    ensures answer { Parsed tokens.now result }
+
+    // Where a tree reads the tokens, the answer is that tree, and where none does, the line of the fault.
+    ensures accepts { Accepts tokens.now result }
+    ensures refuses { Refuses tokens.now result }
+{
+    file_of(alloc, tokens)
+}
