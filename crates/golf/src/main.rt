@@ -1,18 +1,14 @@
 //! The program: runs the Go file on standard input.
 #![tactic(auto)]
 
-mod ends;
-mod top;
-
-use ends::end;
 use golf_base::{OpenGate, StdErrSink, StdSink, StdSource};
+use golf_command::{end, golf};
 use golf_texts::{NO_MEMORY, Status, USAGE};
 use std::env;
 use std::io::ErrorKind;
 use std::process::ExitCode;
-use top::golf;
 
-/// The words behind the program's name, or the status where they cannot be had: want of memory, or a word that is no
+/// The words after the program's name, or the status where they cannot be had: want of memory, or a word that is no
 /// UTF-8 and so no word of the grammar.
 fn arguments(rt: &HostRuntime) -> Result<Vec<String>, Status> {
     let args = match env::args(rt) {

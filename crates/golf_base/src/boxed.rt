@@ -45,17 +45,3 @@ impl<T: Drop> Boxed<T> {
         })
     }
 }
-
-#[cfg(test)]
-mod tests {
-    use super::Boxed;
-    use std::test::Fail;
-
-    #[test]
-    fn a_box_gives_its_value_back(rt: HostRuntime) -> Result<(), Fail> {
-        let boxed = Boxed::new(rt.alloc(), 7u32)?;
-        assert_eq!(rt; *boxed.get(), 7);
-        assert_eq!(rt; boxed.into_inner(), 7);
-        Ok(())
-    }
-}

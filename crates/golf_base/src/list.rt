@@ -148,31 +148,3 @@ impl<T: Copy> List<T> {
         Ok(())
     }
 }
-
-#[cfg(test)]
-mod tests {
-    use super::List;
-    use std::test::Fail;
-
-    #[test]
-    fn a_list_is_filled_changed_and_emptied(rt: HostRuntime) -> Result<(), Fail> {
-        let mut list = List::new(rt.alloc());
-        assert!(rt; list.is_empty());
-        list.push(3u32)?;
-        list.push(5)?;
-        list.extend_from_slice(&[8, 13])?;
-        list.set(0, 2);
-        list.as_mut_slice()[1] = 5;
-        *list.item_mut(1) = 4;
-        assert_eq!(rt; list.as_slice(), [2, 4, 8, 13].as_slice());
-        assert_eq!(rt; list.remove(1), 4);
-        assert_eq!(rt; list.pop(), Some(13));
-        list.truncate(1);
-        assert_eq!(rt; list.len(), 1);
-        list.clear();
-        assert_eq!(rt; list.pop(), None);
-        list.extend_with(2, 21)?;
-        assert_eq!(rt; list.as_slice(), [21, 21].as_slice());
-        Ok(())
-    }
-}

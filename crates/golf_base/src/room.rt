@@ -147,38 +147,3 @@ impl<T: Drop> Room<T> {
         Ok(())
     }
 }
-
-#[cfg(test)]
-mod tests {
-    use super::Room;
-    use std::test::Fail;
-
-    #[test]
-    fn a_room_is_filled_without_memory_and_given_away(rt: HostRuntime) -> Result<(), Fail> {
-        let mut room = Room::new(rt.alloc());
-        assert!(rt; room.is_empty());
-        room.reserve(2)?;
-        assert!(rt; room.spare() >= 2);
-        room.push_ready(3u32);
-        room.push_ready(5);
-        room.push(8)?;
-        room.as_mut_slice()[0] = 2;
-        assert_eq!(rt; room.as_slice(), [2, 5, 8].as_slice());
-        assert_eq!(rt; room.len(), 3);
-        assert_eq!(rt; room.remove(0), 2);
-        assert_eq!(rt; room.pop(), Some(8));
-        assert_eq!(rt; room.into_list().as_slice(), [5].as_slice());
-        Ok(())
-    }
-
-    #[test]
-    fn a_cleared_room_keeps_its_room(rt: HostRuntime) -> Result<(), Fail> {
-        let mut room = Room::new(rt.alloc());
-        room.push(3u32)?;
-        let before = room.spare();
-        room.clear();
-        assert_eq!(rt; room.pop(), None);
-        assert!(rt; room.spare() == before + 1);
-        Ok(())
-    }
-}

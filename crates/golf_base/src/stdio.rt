@@ -49,50 +49,27 @@ fn write_and_flush<W: Write>(output: &mut W, piece: &[u8]) -> Option<usize>
     Some(count)
 }
 
-/// Standard output. Its count of faults rises at each write or flush that fails, and at each write
-/// that takes nothing of a piece that is not empty.
+/// A stream that bytes go to. Its count of faults rises at each write or flush that fails, and at each
+/// write that takes nothing of a piece that is not empty.
 #[derive(Drop)]
-pub struct StdSink {
-    output: Stdout,
+pub struct StreamSink<W> {
+    output: W,
     failed: u64,
 }
 
-impl StdSink {
-    pub fn new(output: Stdout) -> StdSink {
-        StdSink { output, failed: 0 }
+/// Standard output.
+pub type StdSink = StreamSink<Stdout>;
+
+/// Standard error.
+pub type StdErrSink = StreamSink<Stderr>;
+
+impl<W> StreamSink<W> {
+    pub fn new(output: W) -> StreamSink<W> {
+        StreamSink { output, failed: 0 }
     }
 }
 
-impl Sink for StdSink {
-    ghost written = { λ _. None };
-
-    ghost faults = { λ s. s.failed };
-
-    fn write(&mut self, piece: &[u8]) -> Result<usize, Failed> {
-        match write_and_flush(&mut self.output, piece) {
-            Some(count) => Ok(count),
-            None => {
-                self.failed = one_more(self.failed);
-                Err(Failed)
-            }
-        }
-    }
-}
-
-/// Standard error, which counts its faults as `StdSink` does.
-#[derive(Drop)]
-pub struct StdErrSink {
-    output: Stderr,
-    failed: u64,
-}
-
-impl StdErrSink {
-    pub fn new(output: Stderr) -> StdErrSink {
-        StdErrSink { output, failed: 0 }
-    }
-}
-
-impl Sink for StdErrSink {
+impl<W: Write> Sink for StreamSink<W> {
     ghost written = { λ _. None };
 
     ghost faults = { λ s. s.failed };

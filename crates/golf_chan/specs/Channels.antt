@@ -1,5 +1,5 @@
 -- Channels among the objects, and their buffers.
-use Rattle.std.specs.Prelude.{◌≡◌, cond, List, [], ◌∷◌, ◌++◌, Option, Some, None}
+use Rattle.std.specs.Prelude.{◌≡◌, true, cond, List, [], ◌∷◌, ◌++◌, Option, Some, None}
 use Rattle.golf_data.specs.declared.value.Value.{Value}
 use Rattle.golf_data.specs.declared.value.Object.{Object}
 use Rattle.golf_data.specs.declared.value.Channel.{Channel}
@@ -49,3 +49,13 @@ HasFirst v (Some c) = (rest : List Value) × (c.buffer ≡ v ∷ rest)
 abbrev pub IsEmptyWith : Option Value → Option Channel → Type 0
 IsEmptyWith zero None = ⊥
 IsEmptyWith zero (Some c) = (c.buffer ≡ []) × (zero ≡ cond c.closed (Some c.zero) None)
+
+-- the channel, closed
+abbrev pub closed_in : Object → Object
+closed_in (Object.Struct fields) = Object.Struct fields
+closed_in (Object.Slice elements) = Object.Slice elements
+closed_in (Object.Chan c) = Object.Chan (record c { closed = true })
+closed_in (Object.Mutex locked) = Object.Mutex locked
+closed_in (Object.Group n) = Object.Group n
+closed_in (Object.Rw n) = Object.Rw n
+closed_in (Object.Cond x) = Object.Cond x

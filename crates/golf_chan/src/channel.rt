@@ -2,13 +2,11 @@
 
 ghost use Rattle.std.specs.Prelude.{◌≡◌, [], ◌∷◌, OnOk, OnErr, option_map, option_to_list};
 ghost use Rattle.golf_theory.specs.Maps.{find};
-ghost use Rattle.golf_model.specs.Waking.{received};
-ghost use Rattle.golf_state.specs.Looked.{values_of};
-ghost use Rattle.golf_chan.specs.Channels.{channel_of, buffered, shifted, unbuffered};
+ghost use Rattle.golf_chan.specs.Channels.{channel_of, buffered, shifted, unbuffered, closed_in};
 
 use golf_base::{List, Memory, ObjectId};
 use golf_data::{Channel, Object, Value};
-use golf_state::{Given, State};
+use golf_state::State;
 
 /// The channel of this number, where there is one.
 pub fn channel_at(state: &State, object: ObjectId) -> Option<&Channel>
@@ -65,13 +63,11 @@ pub fn take_first(object: &mut Object, more: Option<Value>)
     }
 }
 
-/// What a receive gives: the value, and whether it was sent where that is asked for.
-pub fn received(with_ok: bool, value: Value, sent: bool) -> Given
-    ensures { values_of result ≡ received with_ok value sent }
+/// The channel is closed.
+pub fn close_it(object: &mut Object)
+    ensures { object.new ≡ closed_in object.old }
 {
-    if with_ok {
-        Given::Two(value, sent)
-    } else {
-        Given::One(value)
+    if let Object::Chan(channel) = object {
+        channel.closed = true;
     }
 }

@@ -1,43 +1,56 @@
 //! A receive.
 
-ghost use Rattle.std.specs.Prelude.{◌≡◌, false, if◌then◌else◌, Some, None, OnOk, OnErr, IsSome, slice_get, drop};
+ghost use Rattle.std.specs.Prelude.{◌≡◌, [], if◌then◌else◌, Some, None, IfOk, OnErr};
 ghost use Rattle.golf_theory.specs.Maps.{find};
-ghost use Rattle.golf_model.specs.Acting.{next};
 ghost use Rattle.golf_model.specs.Channels.{receives, receives_on};
 ghost use Rattle.golf_state.specs.Doing.{does, Stands};
-ghost use Rattle.golf_state.specs.Operands.{operands_of};
+ghost use Rattle.golf_state.specs.Going.{went};
+ghost use Rattle.golf_state.specs.Outcomes.{Comes};
 ghost use Rattle.golf_chan.specs.Channels.{channel_of, HasFirst, IsEmptyWith};
 
 use crate::channel::{channel_at, take_first};
-use crate::sending::waits_on;
 use golf_base::{List, Memory, ObjectId};
 use golf_data::{Channel, Side, Value, Wait, WaitKind};
-use golf_state::{Acting, Given, State, exchange, last_operand};
+use golf_state::{
+    Acting, Given, Outcome, State, Wakening, block_at, last_operand, one_wait, proceed_with,
+    received,
+};
 use std::alloc::Global;
+
+/// What a receive does with the goroutine: where it goes on, without how many operands, and whether
+/// it also gets whether the value was sent.
+#[derive(Clone, Copy, Debug, PartialEq, Eq)]
+pub struct Receiving {
+    pub target: u32,
+    pub taken: usize,
+    pub with_ok: bool,
+}
 
 // A receive of the first buffered value, in whose place the first sender's value is buffered.
 fn receive_buffered(
     state: &mut State,
     acting: Acting,
+    receiving: Receiving,
     object: ObjectId,
     value: Value,
-) -> Result<(), Memory>
+) -> Result<Outcome, Memory>
     requires stands { Stands acting.goroutine.0 acting.after state.old }
-    requires operand { IsSome (slice_get (operands_of acting.goroutine.0 state.old) 0) }
     requires buffered { HasFirst value (channel_of (find object.0 state.old.objects)) }
-    ensures ok { OnOk result (state.new ≡ does (λ a. receives_on a (next a.frame (drop 1 a.frame.operands)) false state.old object.0) acting.goroutine.0 acting.line state.old) }
+    ensures ok { IfOk result (λ outcome. Comes outcome (λ a. receives_on a (went receiving.target receiving.taken [] a.frame) receiving.with_ok state.old object.0) acting.goroutine.0 acting.line state.old state.new) }
     ensures err { OnErr result (state.new ≡ state.old) }
 {
-    let g = acting.goroutine;
-    if let Some(waiting) = state.first_waiter(object, Side::Send) {
-        state.wake(waiting.goroutine, waiting.wait, Given::Nothing)?;
-        take_first(state.object_mut(object), Some(waiting.wait.value));
-        exchange(state.frames_mut(g), acting.after, value);
-        return Ok(());
+    let waiting = state.first_waiter(object, Side::Send);
+    let given = received(receiving.with_ok, value, true);
+    proceed_with(state, acting, receiving.target, receiving.taken, given)?;
+    match waiting {
+        Some(waiting) => {
+            take_first(state.object_mut(object), Some(waiting.wait.value));
+            let how = Wakening::Served(waiting.wait, Given::Nothing);
+            state.wake(waiting.goroutine, how);
+        }
+        None => take_first(state.object_mut(object), None),
     }
-    take_first(state.object_mut(object), None);
-    exchange(state.frames_mut(g), acting.after, value);
-    Ok(())
+    Ok(Outcome::Done)
 }
 
 // A receive from an empty channel: the first sender's value, else the zero value where it is
@@ -46,36 +59,44 @@ fn receive_unbuffered(
     alloc: Global,
     state: &mut State,
     acting: Acting,
+    receiving: Receiving,
     object: ObjectId,
     zero: Option<Value>,
-) -> Result<(), Memory>
+) -> Result<Outcome, Memory>
     requires stands { Stands acting.goroutine.0 acting.after state.old }
-    requires operand { IsSome (slice_get (operands_of acting.goroutine.0 state.old) 0) }
     requires empty { IsEmptyWith zero (channel_of (find object.0 state.old.objects)) }
-    ensures ok { OnOk result (state.new ≡ does (λ a. receives_on a (next a.frame (drop 1 a.frame.operands)) false state.old object.0) acting.goroutine.0 acting.line state.old) }
+    ensures ok { IfOk result (λ outcome. Comes outcome (λ a. receives_on a (went receiving.target receiving.taken [] a.frame) receiving.with_ok state.old object.0) acting.goroutine.0 acting.line state.old state.new) }
     ensures err { OnErr result (state.new ≡ state.old) }
 {
-    let g = acting.goroutine;
     if let Some(waiting) = state.first_waiter(object, Side::Send) {
-        state.wake(waiting.goroutine, waiting.wait, Given::Nothing)?;
-        exchange(state.frames_mut(g), acting.after, waiting.wait.value);
-        return Ok(());
+        let given = received(receiving.with_ok, waiting.wait.value, true);
+        proceed_with(state, acting, receiving.target, receiving.taken, given)?;
+        let how = Wakening::Served(waiting.wait, Given::Nothing);
+        state.wake(waiting.goroutine, how);
+        return Ok(Outcome::Done);
     }
     if let Some(zero) = zero {
-        exchange(state.frames_mut(g), acting.after, zero);
-        return Ok(());
+        let given = received(receiving.with_ok, zero, false);
+        proceed_with(state, acting, receiving.target, receiving.taken, given)?;
+        return Ok(Outcome::Done);
     }
-    let waits = waits_on(
-        alloc,
-        Wait {
-            object,
-            side: Side::Receive,
-            value: Value::Nil,
-            target: None,
-            with_ok: false,
-        },
+    let wait = Wait {
+        object,
+        side: Side::Receive,
+        value: Value::Nil,
+        target: None,
+        with_ok: receiving.with_ok,
+    };
+    let waits = one_wait(alloc, wait)?;
+    block_at(
+        state,
+        acting,
+        receiving.target,
+        receiving.taken,
+        WaitKind::Receive,
+        waits,
     )?;
-    state.block(g, WaitKind::Receive, acting.line, waits, acting.after, 1)
+    Ok(Outcome::Blocked)
 }
 
 // What a closed channel gives.
@@ -89,49 +110,62 @@ fn zero_of_closed(channel: &Channel) -> Option<Value>
     }
 }
 
-// A receive from a channel, which the goroutine has as its last operand.
-fn receive_on(
+/// A receive from a channel, behind which the goroutine goes on with what it gets.
+pub fn receive_on(
     alloc: Global,
     state: &mut State,
     acting: Acting,
+    receiving: Receiving,
     object: ObjectId,
-) -> Result<(), Memory>
-    requires stands { Stands acting.goroutine.0 acting.after state.old }
-    requires operand { IsSome (slice_get (operands_of acting.goroutine.0 state.old) 0) }
-    ensures ok { OnOk result (state.new ≡ does (λ a. receives_on a (next a.frame (drop 1 a.frame.operands)) false state.old object.0) acting.goroutine.0 acting.line state.old) }
+) -> Result<Outcome, Memory>
+    requires { Stands acting.goroutine.0 acting.after state.old }
+    ensures ok { IfOk result (λ outcome. Comes outcome (λ a. receives_on a (went receiving.target receiving.taken [] a.frame) receiving.with_ok state.old object.0) acting.goroutine.0 acting.line state.old state.new) }
     ensures err { OnErr result (state.new ≡ state.old) }
 {
     let Some(channel) = channel_at(state, object) else {
-        return Ok(());
+        return Ok(Outcome::Stuck);
     };
     let zero = zero_of_closed(channel);
     match channel.buffer.as_slice().first().copied() {
-        Some(value) => receive_buffered(state, acting, object, value),
-        None => receive_unbuffered(alloc, state, acting, object, zero),
+        Some(value) => receive_buffered(state, acting, receiving, object, value),
+        None => receive_unbuffered(alloc, state, acting, receiving, object, zero),
     }
 }
 
-/// The goroutine in its turn receives from the channel that is its last operand, and gets the value
-/// alone: the first buffered one, else that of the first sender, else the zero value where the
-/// channel is closed; else it blocks. On nil it blocks for ever.
-pub fn receive(alloc: Global, state: &mut State, acting: Acting) -> Result<(), Memory>
+/// The goroutine in its turn receives from the channel that is its last operand, and gets the value,
+/// and where that is asked for whether it was sent: the first buffered one, else that of the first
+/// sender, else the zero value where the channel is closed; else it blocks. On nil it blocks for
+/// ever.
+pub fn receive(
+    alloc: Global,
+    state: &mut State,
+    acting: Acting,
+    with_ok: bool,
+) -> Result<Outcome, Memory>
     requires { Stands acting.goroutine.0 acting.after state.old }
-    ensures ok { OnOk result (state.new ≡ does (λ a. receives false a state.old) acting.goroutine.0 acting.line state.old) }
+    ensures ok { IfOk result (λ outcome. Comes outcome (λ a. receives with_ok a state.old) acting.goroutine.0 acting.line state.old state.new) }
     ensures err { OnErr result (state.new ≡ state.old) }
 {
-    let g = acting.goroutine;
-    let Some(channel) = last_operand(state, g) else {
-        return Ok(());
+    let Some(channel) = last_operand(state, acting.goroutine) else {
+        return Ok(Outcome::Stuck);
     };
     match channel {
-        Value::Ref(object) => receive_on(alloc, state, acting, object),
+        Value::Ref(object) => {
+            let receiving = Receiving {
+                target: acting.after,
+                taken: 1,
+                with_ok,
+            };
+            receive_on(alloc, state, acting, receiving, object)
+        }
         Value::Nil => {
             let waits = List::new(alloc);
-            state.block(g, WaitKind::ReceiveNil, acting.line, waits, acting.after, 1)
+            block_at(state, acting, acting.after, 1, WaitKind::ReceiveNil, waits)?;
+            Ok(Outcome::Blocked)
         }
-        Value::Int(_) => Ok(()),
-        Value::Bool(_) => Ok(()),
-        Value::Text(_) => Ok(()),
-        Value::Unit => Ok(()),
+        Value::Int(_) => Ok(Outcome::Stuck),
+        Value::Bool(_) => Ok(Outcome::Stuck),
+        Value::Text(_) => Ok(Outcome::Stuck),
+        Value::Unit => Ok(Outcome::Stuck),
     }
 }

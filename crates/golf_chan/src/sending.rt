@@ -1,92 +1,85 @@
 //! A send.
 
-ghost use Rattle.std.specs.Prelude.{◌≡◌, [], ◌∷◌, IfOk, OnOk, OnErr, drop};
-ghost use Rattle.golf_model.specs.Acting.{next};
+ghost use Rattle.std.specs.Prelude.{◌≡◌, [], IfOk, OnErr};
 ghost use Rattle.golf_model.specs.Channels.{sends, sends_on};
 ghost use Rattle.golf_state.specs.Doing.{does, Stands};
+ghost use Rattle.golf_state.specs.Going.{went};
+ghost use Rattle.golf_state.specs.Outcomes.{Comes};
 
-use crate::channel::{buffer, channel_at, received};
+use crate::channel::{buffer, channel_at};
 use golf_base::{List, Memory, ObjectId};
-use golf_data::{Fault, PanicKind, Side, Value, Wait, WaitKind};
-use golf_state::{Acting, State, last_operands, pass, unwind};
+use golf_data::{PanicKind, Side, Value, Wait, WaitKind};
+use golf_state::{
+    Acting, Outcome, State, Wakening, block_at, last_operands, one_wait, proceed, received,
+};
 use std::alloc::Global;
 
-/// A list of one wait.
-pub fn waits_on(alloc: Global, wait: Wait) -> Result<List<Wait>, Memory>
-    ensures { IfOk result (λ waits. waits ≡ wait ∷ []) }
-{
-    let mut waits = List::new(alloc);
-    waits.push(wait)?;
-    Ok(waits)
-}
-
-// A send of this value on a channel, behind which the goroutine goes on without its two operands.
-fn send_on(
+/// A send of this value on a channel, behind which the goroutine goes on at a place without so many
+/// operands.
+pub fn send_on(
     alloc: Global,
     state: &mut State,
     acting: Acting,
+    target: u32,
+    taken: usize,
     object: ObjectId,
     value: Value,
-) -> Result<(), Memory>
+) -> Result<Outcome, Memory>
     requires { Stands acting.goroutine.0 acting.after state.old }
-    ensures ok { OnOk result (state.new ≡ does (λ a. sends_on a (next a.frame (drop 2 a.frame.operands)) value state.old object.0) acting.goroutine.0 acting.line state.old) }
+    ensures ok { IfOk result (λ outcome. Comes outcome (λ a. sends_on a (went target taken [] a.frame) value state.old object.0) acting.goroutine.0 acting.line state.old state.new) }
     ensures err { OnErr result (state.new ≡ state.old) }
 {
-    let g = acting.goroutine;
     let Some(channel) = channel_at(state, object) else {
-        return Ok(());
+        return Ok(Outcome::Stuck);
     };
     if channel.closed {
-        let (kind, line) = (PanicKind::SendClosed, acting.line);
-        unwind(state.frames_mut(g), Fault { kind, line });
-        return Ok(());
+        return Ok(Outcome::Panic(PanicKind::SendClosed));
     }
     let has_room = channel.buffer.len() < channel.capacity as usize;
     if let Some(waiting) = state.first_waiter(object, Side::Receive) {
         let given = received(waiting.wait.with_ok, value, true);
-        state.wake(waiting.goroutine, waiting.wait, given)?;
-        pass(state.frames_mut(g), acting.after, 2);
-        return Ok(());
+        proceed(state, acting, target, taken);
+        state.wake(waiting.goroutine, Wakening::Served(waiting.wait, given));
+        return Ok(Outcome::Done);
     }
     if has_room {
         buffer(state.object_mut(object), value)?;
-        pass(state.frames_mut(g), acting.after, 2);
-        return Ok(());
+        proceed(state, acting, target, taken);
+        return Ok(Outcome::Done);
     }
-    let waits = waits_on(
-        alloc,
-        Wait {
-            object,
-            side: Side::Send,
-            value,
-            target: None,
-            with_ok: false,
-        },
-    )?;
-    state.block(g, WaitKind::Send, acting.line, waits, acting.after, 2)
+    let wait = Wait {
+        object,
+        side: Side::Send,
+        value,
+        target: None,
+        with_ok: false,
+    };
+    let waits = one_wait(alloc, wait)?;
+    block_at(state, acting, target, taken, WaitKind::Send, waits)?;
+    Ok(Outcome::Blocked)
 }
 
 /// The goroutine in its turn sends its last operand on the channel before it: to the first
 /// receiver, else into the buffer where there is room; else it blocks. On nil it blocks for ever,
 /// and on a closed channel it panics.
-pub fn send(alloc: Global, state: &mut State, acting: Acting) -> Result<(), Memory>
+pub fn send(alloc: Global, state: &mut State, acting: Acting) -> Result<Outcome, Memory>
     requires { Stands acting.goroutine.0 acting.after state.old }
-    ensures ok { OnOk result (state.new ≡ does (λ a. sends a state.old) acting.goroutine.0 acting.line state.old) }
+    ensures ok { IfOk result (λ outcome. Comes outcome (λ a. sends a state.old) acting.goroutine.0 acting.line state.old state.new) }
     ensures err { OnErr result (state.new ≡ state.old) }
 {
-    let g = acting.goroutine;
-    let Some((channel, value)) = last_operands(state, g) else {
-        return Ok(());
+    let Some((channel, value)) = last_operands(state, acting.goroutine) else {
+        return Ok(Outcome::Stuck);
     };
     match channel {
-        Value::Ref(object) => send_on(alloc, state, acting, object, value),
+        Value::Ref(object) => send_on(alloc, state, acting, acting.after, 2, object, value),
         Value::Nil => {
             let waits = List::new(alloc);
-            state.block(g, WaitKind::SendNil, acting.line, waits, acting.after, 2)
+            block_at(state, acting, acting.after, 2, WaitKind::SendNil, waits)?;
+            Ok(Outcome::Blocked)
         }
-        Value::Int(_) => Ok(()),
-        Value::Bool(_) => Ok(()),
-        Value::Text(_) => Ok(()),
-        Value::Unit => Ok(()),
+        Value::Int(_) => Ok(Outcome::Stuck),
+        Value::Bool(_) => Ok(Outcome::Stuck),
+        Value::Text(_) => Ok(Outcome::Stuck),
+        Value::Unit => Ok(Outcome::Stuck),
     }
 }

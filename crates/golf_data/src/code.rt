@@ -1,4 +1,4 @@
-//! Flat code: what the compiler makes and the machine steps.
+//! Flat code, which the machine steps.
 
 use crate::value::Value;
 use golf_base::List;

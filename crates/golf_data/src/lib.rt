@@ -1,4 +1,4 @@
-//! Plain data of a running program: code, values and objects, goroutines, reports.
+//! Data of a running program: code, values and objects, goroutines, reports.
 #![tactic(auto)]
 
 mod code;

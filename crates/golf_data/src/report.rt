@@ -37,8 +37,11 @@ pub struct Report {
 /// What all collections so far have reported.
 #[derive(Debug, Drop)]
 pub struct Book {
+    /// How many collections there were.
     pub collections: u32,
+    /// The goroutines that were reported, in that order.
     pub reported: List<GoroutineId>,
+    /// The goroutines that were removed, in that order.
     pub reclaimed: List<GoroutineId>,
 }
 

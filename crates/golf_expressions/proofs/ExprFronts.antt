@@ -75,16 +75,16 @@ unfolding binary_at
 binary-first k h = let f = first h in (f.1, ap binary_at f.2 ∙ ap (λ q. binary_behind q f.1) f.3, f.5)
 
 pub quiet : {ws : List Word} {ts rest : List Token} (k : TokenKind) → ((us : List Token) → (after_kind marks.Dot k us ≡ None) × (after_kind marks.OpenBracket k us ≡ None) × (after_kind marks.OpenParen k us ≡ None) × (binary_behind k us ≡ None)) → Spelt (words.word k ∷ ws) ts rest → Quiet ts
-quiet {ws} {ts} {rest} k plain h =
+quiet {ws} {ts} {rest} k ordinary h =
     let b = binary-first k h in
     record {
-      suffix = no-suffix ts (not-after marks.Dot k (λ us. (plain us).0) h) (not-after marks.OpenBracket k (λ us. (plain us).1) h) (not-after marks.OpenParen k (λ us. (plain us).2) h);
-      operator = b.1 ∙ (plain b.0).3;
+      suffix = no-suffix ts (not-after marks.Dot k (λ us. (ordinary us).0) h) (not-after marks.OpenBracket k (λ us. (ordinary us).1) h) (not-after marks.OpenParen k (λ us. (ordinary us).2) h);
+      operator = b.1 ∙ (ordinary b.0).3;
     }
 
 -- a mark that goes on with no expression
 pub quiet-mark : (m : Mark) (ts us : List Token) → ((qs : List Token) → (after_kind marks.Dot (kinds.Mark m) qs ≡ None) × (after_kind marks.OpenBracket (kinds.Mark m) qs ≡ None) × (after_kind marks.OpenParen (kinds.Mark m) qs ≡ None) × (binary_behind (kinds.Mark m) qs ≡ None)) → after m ts ≡ Some us → Quiet ts
-quiet-mark m ts us plain e = quiet (kinds.Mark m) plain (mark-then m ts e nothing)
+quiet-mark m ts us ordinary e = quiet (kinds.Mark m) ordinary (mark-then m ts e nothing)
 
 -- a binary operator in front
 operator-is : (o : BinaryOperator) (us : List Token) → binary_behind (kinds.Mark (binary_mark o)) us ≡ Some (o, us)

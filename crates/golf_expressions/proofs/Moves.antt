@@ -13,14 +13,14 @@ use Rattle.golf_expressions.specs.declared.starts.Start.{Start}
 use Rattle.golf_expressions.specs.declared.starts.Start.TheVariants as starts
 use Rattle.golf_expressions.specs.declared.starts.Suffix.{Suffix}
 use Rattle.golf_expressions.specs.declared.starts.Suffix.TheVariants as suffixes
-use Rattle.golf_expressions.specs.declared.frames.Frame.{Frame}
-use Rattle.golf_expressions.specs.declared.frames.Frame.TheVariants as frames
+use Rattle.golf_expressions.specs.declared.pending.Pending.{Pending}
+use Rattle.golf_expressions.specs.declared.pending.Pending.TheVariants as pendings
 use Rattle.golf_expressions.specs.Plan.{◌>>=◌}
 use Rattle.golf_expressions.specs.Front.{after, name_at}
 use Rattle.golf_expressions.specs.Operators.{unary_at}
 use Rattle.golf_expressions.specs.Starts.{start_at, suffix_at}
 use Rattle.golf_expressions.specs.ExprReading.{Mode, Node, Finish, Extend, Suffixes, Prefixed, Level, Items, Elements, element, expr_at}
-use Rattle.golf_expressions.specs.Frames.{Found, suffixed, argument_at, item_at, element_at, frame_at, waited, field_at, started_at, extended_at}
+use Rattle.golf_expressions.specs.Moves.{Found, suffixed, argument_at, item_at, element_at, pending_at, waited, field_at, started_at, extended_at}
 use Rattle.golf_expressions.proofs.ExprSteps.{inside_by, begun_by, finish_by, extend_by, suffixes_by, prefixed_by, items_by, elements_by, gap, left, expr-Finish, expr-Extend, expr-Suffixes, expr-Prefixed, expr-Level, expr-Climb, expr-Items, expr-Elements, expr-leaves}
 
 bind-assoc : {A B C : Type 0} (o : Option A) (f : A → Option B) (g : B → Option C) → ((o >>= f) >>= g) ≡ (o >>= λ x. f x >>= g)
@@ -32,13 +32,13 @@ bind-same None f g k = refl
 bind-same (Some x) f g k = k x
 
 -- the last of those that wait goes on first
-pub waited-last : (fs : List Frame) (f : Frame) (o : Found) → waited (fs ++ f ∷ []) o ≡ waited fs (o >>= frame_at f)
+pub waited-last : (fs : List Pending) (f : Pending) (o : Found) → waited (fs ++ f ∷ []) o ≡ waited fs (o >>= pending_at f)
 waited-last [] f o = refl
-waited-last (g ∷ fs) f o = ap (λ q. q >>= frame_at g) (waited-last fs f o)
+waited-last (g ∷ fs) f o = ap (λ q. q >>= pending_at g) (waited-last fs f o)
 
-pub waited-none : (fs : List Frame) → waited fs None ≡ None
+pub waited-none : (fs : List Pending) → waited fs None ≡ None
 waited-none [] = refl
-waited-none (g ∷ fs) = ap (λ q. q >>= frame_at g) (waited-none fs)
+waited-none (g ∷ fs) = ap (λ q. q >>= pending_at g) (waited-none fs)
 
 -- an expression in brackets, with what stands behind
 inside-goes : (close : Mark) (wrap : Expr → Expr) (ts : List Token) → (inside_by close wrap ts >>= λ y. suffixed y.0 y.1) ≡ (expr_at (Level false 1) ts >>= λ x. after close x.1 >>= suffixed (wrap x.0))
@@ -47,7 +47,7 @@ inside-goes close wrap ts =
     ∙ bind-same (expr_at (Level false 1) ts) _ _ (λ x. bind-assoc (after close x.1) (λ us. Some (wrap x.0, us)) (λ y. suffixed y.0 y.1))
 
 -- the rest of an argument list
-pub arguments-go : (f : Expr) (done : List Expr) (ts : List Token) → (expr_at (Items marks.CloseParen done) ts >>= λ y. suffixed (ex.Call f y.0) y.1) ≡ (expr_at (Level false 1) ts >>= frame_at (frames.Argument f done))
+pub arguments-go : (f : Expr) (done : List Expr) (ts : List Token) → (expr_at (Items marks.CloseParen done) ts >>= λ y. suffixed (ex.Call f y.0) y.1) ≡ (expr_at (Level false 1) ts >>= pending_at (pendings.Argument f done))
 arguments-go f done ts =
     ap (λ o. o >>= λ y. suffixed (ex.Call f y.0) y.1) (expr-Items marks.CloseParen done ts)
     ∙ bind-assoc (expr_at (Level false 1) ts) (λ x. items_by marks.CloseParen (done ++ x.0 ∷ []) x.1 (after marks.Comma x.1)) (λ y. suffixed (ex.Call f y.0) y.1)
@@ -57,7 +57,7 @@ arguments-go f done ts =
     at xs us (Some vs) = refl
     at xs us None = bind-assoc (after marks.CloseParen us) (λ vs. Some (xs, vs)) (λ y. suffixed (ex.Call f y.0) y.1)
 
-pub items-go : (t : TypeExpr) (done : List Expr) (ts : List Token) → (expr_at (Items marks.CloseBrace done) ts >>= λ y. suffixed (ex.SliceLiteral t y.0) y.1) ≡ (expr_at (Level false 1) ts >>= frame_at (frames.Item t done))
+pub items-go : (t : TypeExpr) (done : List Expr) (ts : List Token) → (expr_at (Items marks.CloseBrace done) ts >>= λ y. suffixed (ex.SliceLiteral t y.0) y.1) ≡ (expr_at (Level false 1) ts >>= pending_at (pendings.Item t done))
 items-go t done ts =
     ap (λ o. o >>= λ y. suffixed (ex.SliceLiteral t y.0) y.1) (expr-Items marks.CloseBrace done ts)
     ∙ bind-assoc (expr_at (Level false 1) ts) (λ x. items_by marks.CloseBrace (done ++ x.0 ∷ []) x.1 (after marks.Comma x.1)) (λ y. suffixed (ex.SliceLiteral t y.0) y.1)
@@ -100,7 +100,7 @@ suffix-goes base s ts = ap (λ o. o >>= λ y. suffixed y.0 y.1) (expr-Extend bas
     at suffixes.Arguments = bind-assoc (expr_at (Items marks.CloseParen []) ts) (λ x. Some (ex.Call base x.0, x.1)) (λ y. suffixed y.0 y.1) ∙ arguments-go base [] ts
 
 -- an operand with its operators in front, by the first of them
-pub prefixed-some : (header : Bool) (ts us : List Token) (o : UnaryOperator) → unary_at ts ≡ Some (o, us) → expr_at (Prefixed header) ts ≡ (expr_at (Prefixed header) us >>= frame_at (frames.Prefix o))
+pub prefixed-some : (header : Bool) (ts us : List Token) (o : UnaryOperator) → unary_at ts ≡ Some (o, us) → expr_at (Prefixed header) ts ≡ (expr_at (Prefixed header) us >>= pending_at (pendings.Prefix o))
 prefixed-some header ts us o e = expr-Prefixed header ts ∙ ap (prefixed_by header ts) e
 
 pub prefixed-none : (header : Bool) (ts : List Token) → unary_at ts ≡ None → start_at header ts ≡ None → expr_at (Prefixed header) ts ≡ None

@@ -36,25 +36,25 @@ use Rattle.golf_expressions.proofs.ExprSound.{IsAtLevel, expr-sound, prefixed-is
 use Rattle.golf_expressions.proofs.ExprComplete.{Stands, expr-complete, prefixed-complete}
 
 -- where a name is in front, no `:=` and no comma is behind it
-abbrev pub PlainName : Option (List ℕ × List Token) → Type 0
-PlainName None = Unit {0}
-PlainName (Some n) = (after marks.Define n.1 ≡ None) × (after marks.Comma n.1 ≡ None)
+abbrev pub NameNotDefining : Option (List ℕ × List Token) → Type 0
+NameNotDefining None = Unit {0}
+NameNotDefining (Some n) = (after marks.Define n.1 ≡ None) × (after marks.Comma n.1 ≡ None)
 
-abbrev pub Plain : List Token → Type 0
-Plain ts = PlainName (name_at ts)
+abbrev pub NotDefining : List Token → Type 0
+NotDefining ts = NameNotDefining (name_at ts)
 
 -- an expression in front of neither of the two begins no definition
-abbrev pub BeginsPlain : Expr → Type 0
-BeginsPlain e = (ts rest : List Token) → Spelt (print_expr e) ts rest → after marks.Define rest ≡ None → after marks.Comma rest ≡ None → Plain ts
+abbrev pub BeginsNotDefining : Expr → Type 0
+BeginsNotDefining e = (ts rest : List Token) → Spelt (print_expr e) ts rest → after marks.Define rest ≡ None → after marks.Comma rest ≡ None → NotDefining ts
 
 -- another kind of token than a name
-other-first : {ws : List Word} {ts rest : List Token} (k : TokenKind) → ((us : List Token) → name_of k us ≡ None) → Spelt (words.word k ∷ ws) ts rest → Plain ts
-other-first k other h = let f = first h in subst PlainName (sym (ap name_at f.2 ∙ ap (λ q. name_of q f.1) f.3 ∙ other f.1)) tt
+other-first : {ws : List Word} {ts rest : List Token} (k : TokenKind) → ((us : List Token) → name_of k us ≡ None) → Spelt (words.word k ∷ ws) ts rest → NotDefining ts
+other-first k other h = let f = first h in subst NameNotDefining (sym (ap name_at f.2 ∙ ap (λ q. name_of q f.1) f.3 ∙ other f.1)) tt
 
-name-first : {ws : List Word} {ts rest : List Token} (n : List ℕ) → Spelt (words.name n ∷ ws) ts rest → ((us : List Token) → Spelt ws us rest → (after marks.Define us ≡ None) × (after marks.Comma us ≡ None)) → Plain ts
-name-first n h k = let f = behind-name n h in subst PlainName (sym f.1) (k f.0 f.2)
+name-first : {ws : List Word} {ts rest : List Token} (n : List ℕ) → Spelt (words.name n ∷ ws) ts rest → ((us : List Token) → Spelt ws us rest → (after marks.Define us ≡ None) × (after marks.Comma us ≡ None)) → NotDefining ts
+name-first n h k = let f = behind-name n h in subst NameNotDefining (sym f.1) (k f.0 f.2)
 
-begins-by : (e : Expr) (ws : List Word) → print_expr e ≡ ws → ((ts rest : List Token) → Spelt ws ts rest → after marks.Define rest ≡ None → after marks.Comma rest ≡ None → Plain ts) → BeginsPlain e
+begins-by : (e : Expr) (ws : List Word) → print_expr e ≡ ws → ((ts rest : List Token) → Spelt ws ts rest → after marks.Define rest ≡ None → after marks.Comma rest ≡ None → NotDefining ts) → BeginsNotDefining e
 begins-by e ws p k ts rest h d c = k ts rest (subst (λ vs. Spelt vs ts rest) p h) d c
 
 paren-behind : {ws : List Word} {ts rest : List Token} → Spelt (words.mark marks.OpenParen ∷ ws) ts rest → (after marks.Define ts ≡ None) × (after marks.Comma ts ≡ None)
@@ -68,8 +68,8 @@ no-name : (o : UnaryOperator) (us : List Token) → name_of (kinds.Mark (unary_m
 no-name unary.Negate us = refl
 no-name _ us = refl
 
-pub begins : (e : Expr) → BeginsPlain e
-begins = shape.each BeginsPlain (λ x. Unit {0})
+pub begins : (e : Expr) → BeginsNotDefining e
+begins = shape.each BeginsNotDefining (λ x. Unit {0})
     (λ d. begins-by (ex.Integer d) _ (shape.print-Integer d) (λ ts rest h p q. other-first (kinds.Integer d) (λ us. refl) h))
     (λ d. begins-by (ex.Text d) _ (shape.print-Text d) (λ ts rest h p q. other-first (kinds.Text d) (λ us. refl) h))
     (λ n. begins-by (ex.Name n) _ (shape.print-Name n) (λ ts rest h p q. name-first n h (λ us g. (ap (after marks.Define) (ends g) ∙ p, ap (after marks.Comma) (ends g) ∙ q))))
@@ -109,7 +109,7 @@ by-expression : (header : Bool) (e : Expr) (ts mid : List Token) → Stands head
 unfolding kind_at expression_at
 by-expression header e ts mid st q d c = at (name_at ts) (begins e ts mid st.spelt d c) ∙ then (λ x. behind_expr header x.0 x.1 (follow_at x.1)) (expr_at (Level header 1) ts) (e, mid) (expr-complete e header ts mid st q)
   where
-    at : (o : Option (List ℕ × List Token)) → PlainName o → kind_by header ts o ≡ expression_at header ts
+    at : (o : Option (List ℕ × List Token)) → NameNotDefining o → kind_by header ts o ≡ expression_at header ts
     at None p = refl
     at (Some n) p = ap (λ o. behind_name header n.0 ts o (after marks.Comma n.1)) p.0 ∙ ap (λ o. behind_name header n.0 ts None o) p.1
 

@@ -4,6 +4,7 @@ pub mod TypeReading
 pub mod Operators
 pub mod Starts
 pub mod ExprReading
-pub mod Frames
+pub mod Moves
 pub mod SimpleReading
 pub mod Laws
+pub mod Places

@@ -5,21 +5,22 @@
 //! is found, where nothing behind it goes on with it.
 #![tactic(auto)]
 
-mod builds;
 mod expressions;
-mod frames;
 mod front;
 mod laws;
 mod operators;
+mod pending;
+mod place;
 mod simple;
 mod starts;
 mod types;
 
-pub use expressions::{level_at, prefixed_at};
+pub use expressions::{expression_at, operand_at};
 pub use front::{after, after_keyword, copied, name_at};
 pub use laws::{
     expressions_found, expressions_read, operands_found, operands_read, simples_found,
     simples_read, types_found, types_read,
 };
+pub use place::Place;
 pub use simple::simple_at;
 pub use types::type_at;

@@ -2,12 +2,17 @@
 
 ghost use Rattle.std.specs.Prelude.{◌≡◌, ◌<◌, ◌≤◌, length, IfOk, IfSome};
 ghost use Rattle.golf_expressions.specs.Front.{seen};
-ghost use Rattle.golf_expressions.specs.SimpleReading.{follow_of, follow_at as follow_at_of, second, followed as followed_of, expression_at as expression_at_of, received, pair_at as pair_at_of, kind_at as kind_at_of, simple_at as simple_at_of};
+ghost use Rattle.golf_expressions.specs.Places as places_spec;
+ghost use Rattle.golf_expressions.specs.SimpleReading as simple_spec;
+ghost use Rattle.golf_expressions.specs.SimpleReading.{follow_of, second, received};
 
 use crate::expressions::{level_at, prefixed_at};
 use crate::front::{after, copied, name_at};
+use crate::place::{Place, in_header};
 use golf_base::Memory;
-use golf_grammar::{Expr, Name, Simple, SimpleKind, UpdateOperator};
+use golf_grammar::{
+    Name, OwnedExpr, OwnedSimple, OwnedSimpleKind, Simple, SimpleKind, UpdateOperator,
+};
 use golf_tokens::{Mark, Token, TokenKind};
 use std::alloc::Global;
 
@@ -40,7 +45,7 @@ fn mark_follow(mark: Mark) -> Option<Follow>
 
 #[tactic(auto, unfolding(crate::specs::SimpleReading::follow_at))]
 fn follow_at(tokens: &[Token]) -> Option<(Follow, &[Token])>
-    ensures value { seen result ≡ follow_at_of tokens.now }
+    ensures value { seen result ≡ simple_spec.follow_at tokens.now }
     ensures shorter { IfSome result (λ x. length x.1.now < length tokens.now) }
 {
     match tokens.split_first() {
@@ -59,15 +64,18 @@ fn follow_at(tokens: &[Token]) -> Option<(Follow, &[Token])>
 fn sent(
     alloc: Global,
     header: bool,
-    channel: Expr,
+    channel: OwnedExpr,
     tokens: &[Token],
-) -> Result<Option<(SimpleKind, &[Token])>, Memory>
+) -> Result<Option<(OwnedSimpleKind, &[Token])>, Memory>
     ensures value { IfOk result (λ o. seen o ≡ second header (SimpleKind.Send channel) tokens.now) }
     ensures shorter { IfOk result (λ o. IfSome o (λ x. length x.1.now ≤ length tokens.now)) }
 {
     match level_at(alloc, header, 1, tokens)? {
         None => Ok(None),
-        Some((value, rest)) => Ok(Some((SimpleKind::Send(channel, value), rest))),
+        Some((value, rest)) => Ok(Some((
+            OwnedSimpleKind::new(SimpleKind::Send(channel, value)),
+            rest,
+        ))),
     }
 }
 
@@ -75,15 +83,18 @@ fn sent(
 fn assigned(
     alloc: Global,
     header: bool,
-    place: Expr,
+    place: OwnedExpr,
     tokens: &[Token],
-) -> Result<Option<(SimpleKind, &[Token])>, Memory>
+) -> Result<Option<(OwnedSimpleKind, &[Token])>, Memory>
     ensures value { IfOk result (λ o. seen o ≡ second header (SimpleKind.Assign place) tokens.now) }
     ensures shorter { IfOk result (λ o. IfSome o (λ x. length x.1.now ≤ length tokens.now)) }
 {
     match level_at(alloc, header, 1, tokens)? {
         None => Ok(None),
-        Some((value, rest)) => Ok(Some((SimpleKind::Assign(place, value), rest))),
+        Some((value, rest)) => Ok(Some((
+            OwnedSimpleKind::new(SimpleKind::Assign(place, value)),
+            rest,
+        ))),
     }
 }
 
@@ -91,16 +102,19 @@ fn assigned(
 fn updated(
     alloc: Global,
     header: bool,
-    place: Expr,
+    place: OwnedExpr,
     operator: UpdateOperator,
     tokens: &[Token],
-) -> Result<Option<(SimpleKind, &[Token])>, Memory>
+) -> Result<Option<(OwnedSimpleKind, &[Token])>, Memory>
     ensures value { IfOk result (λ o. seen o ≡ second header (SimpleKind.Update place operator) tokens.now) }
     ensures shorter { IfOk result (λ o. IfSome o (λ x. length x.1.now ≤ length tokens.now)) }
 {
     match level_at(alloc, header, 1, tokens)? {
         None => Ok(None),
-        Some((value, rest)) => Ok(Some((SimpleKind::Update(place, operator, value), rest))),
+        Some((value, rest)) => Ok(Some((
+            OwnedSimpleKind::new(SimpleKind::Update(place, operator, value)),
+            rest,
+        ))),
     }
 }
 
@@ -108,16 +122,22 @@ fn updated(
 fn followed(
     alloc: Global,
     header: bool,
-    first: Expr,
+    first: OwnedExpr,
     follow: Follow,
     tokens: &[Token],
-) -> Result<Option<(SimpleKind, &[Token])>, Memory>
-    ensures value { IfOk result (λ o. seen o ≡ followed_of header first follow tokens.now) }
+) -> Result<Option<(OwnedSimpleKind, &[Token])>, Memory>
+    ensures value { IfOk result (λ o. seen o ≡ simple_spec.followed header first follow tokens.now) }
     ensures shorter { IfOk result (λ o. IfSome o (λ x. length x.1.now ≤ length tokens.now)) }
 {
     match follow {
-        Follow::Increments => Ok(Some((SimpleKind::Increment(first), tokens))),
-        Follow::Decrements => Ok(Some((SimpleKind::Decrement(first), tokens))),
+        Follow::Increments => Ok(Some((
+            OwnedSimpleKind::new(SimpleKind::Increment(first)),
+            tokens,
+        ))),
+        Follow::Decrements => Ok(Some((
+            OwnedSimpleKind::new(SimpleKind::Decrement(first)),
+            tokens,
+        ))),
         Follow::Sends => sent(alloc, header, first, tokens),
         Follow::Assigns => assigned(alloc, header, first, tokens),
         Follow::Updates(operator) => updated(alloc, header, first, operator, tokens),
@@ -130,14 +150,14 @@ fn expression_at(
     alloc: Global,
     header: bool,
     tokens: &[Token],
-) -> Result<Option<(SimpleKind, &[Token])>, Memory>
-    ensures value { IfOk result (λ o. seen o ≡ expression_at_of header tokens.now) }
+) -> Result<Option<(OwnedSimpleKind, &[Token])>, Memory>
+    ensures value { IfOk result (λ o. seen o ≡ simple_spec.expression_at header tokens.now) }
     ensures shorter { IfOk result (λ o. IfSome o (λ x. length x.1.now < length tokens.now)) }
 {
     match level_at(alloc, header, 1, tokens)? {
         None => Ok(None),
         Some((first, behind)) => match follow_at(behind) {
-            None => Ok(Some((SimpleKind::Expression(first), behind))),
+            None => Ok(Some((OwnedSimpleKind::new(SimpleKind::Expression(first)), behind))),
             Some((follow, rest)) => followed(alloc, header, first, follow, rest),
         },
     }
@@ -150,7 +170,7 @@ fn defined_pair(
     name: Name,
     ok: Name,
     tokens: &[Token],
-) -> Result<Option<(SimpleKind, &[Token])>, Memory>
+) -> Result<Option<(OwnedSimpleKind, &[Token])>, Memory>
     ensures value { IfOk result (λ o. seen o ≡ received header (SimpleKind.DefineReceived name ok) tokens.now) }
     ensures shorter { IfOk result (λ o. IfSome o (λ x. length x.1.now < length tokens.now)) }
 {
@@ -159,7 +179,10 @@ fn defined_pair(
     };
     match prefixed_at(alloc, header, arrow)? {
         None => Ok(None),
-        Some((channel, rest)) => Ok(Some((SimpleKind::DefineReceived(name, ok, channel), rest))),
+        Some((channel, rest)) => Ok(Some((
+            OwnedSimpleKind::new(SimpleKind::DefineReceived(name, ok, channel)),
+            rest,
+        ))),
     }
 }
 
@@ -170,7 +193,7 @@ fn assigned_pair(
     name: Name,
     ok: Name,
     tokens: &[Token],
-) -> Result<Option<(SimpleKind, &[Token])>, Memory>
+) -> Result<Option<(OwnedSimpleKind, &[Token])>, Memory>
     ensures value { IfOk result (λ o. seen o ≡ received header (SimpleKind.AssignReceived name ok) tokens.now) }
     ensures shorter { IfOk result (λ o. IfSome o (λ x. length x.1.now < length tokens.now)) }
 {
@@ -179,7 +202,10 @@ fn assigned_pair(
     };
     match prefixed_at(alloc, header, arrow)? {
         None => Ok(None),
-        Some((channel, rest)) => Ok(Some((SimpleKind::AssignReceived(name, ok, channel), rest))),
+        Some((channel, rest)) => Ok(Some((
+            OwnedSimpleKind::new(SimpleKind::AssignReceived(name, ok, channel)),
+            rest,
+        ))),
     }
 }
 
@@ -190,8 +216,8 @@ fn pair_at(
     header: bool,
     name: Name,
     tokens: &[Token],
-) -> Result<Option<(SimpleKind, &[Token])>, Memory>
-    ensures value { IfOk result (λ o. seen o ≡ pair_at_of header name tokens.now) }
+) -> Result<Option<(OwnedSimpleKind, &[Token])>, Memory>
+    ensures value { IfOk result (λ o. seen o ≡ simple_spec.pair_at header name tokens.now) }
     ensures shorter { IfOk result (λ o. IfSome o (λ x. length x.1.now < length tokens.now)) }
 {
     let Some((ok, behind)) = name_at(tokens) else {
@@ -213,13 +239,16 @@ fn defined(
     header: bool,
     name: Name,
     tokens: &[Token],
-) -> Result<Option<(SimpleKind, &[Token])>, Memory>
+) -> Result<Option<(OwnedSimpleKind, &[Token])>, Memory>
     ensures value { IfOk result (λ o. seen o ≡ second header (SimpleKind.Define name) tokens.now) }
     ensures shorter { IfOk result (λ o. IfSome o (λ x. length x.1.now ≤ length tokens.now)) }
 {
     match level_at(alloc, header, 1, tokens)? {
         None => Ok(None),
-        Some((value, rest)) => Ok(Some((SimpleKind::Define(name, value), rest))),
+        Some((value, rest)) => Ok(Some((
+            OwnedSimpleKind::new(SimpleKind::Define(name, value)),
+            rest,
+        ))),
     }
 }
 
@@ -229,8 +258,8 @@ fn kind_at(
     alloc: Global,
     header: bool,
     tokens: &[Token],
-) -> Result<Option<(SimpleKind, &[Token])>, Memory>
-    ensures value { IfOk result (λ o. seen o ≡ kind_at_of header tokens.now) }
+) -> Result<Option<(OwnedSimpleKind, &[Token])>, Memory>
+    ensures value { IfOk result (λ o. seen o ≡ simple_spec.kind_at header tokens.now) }
     ensures shorter { IfOk result (λ o. IfSome o (λ x. length x.1.now < length tokens.now)) }
 {
     let Some((name, behind)) = name_at(tokens) else {
@@ -249,21 +278,21 @@ fn kind_at(
 #[tactic(auto, unfolding(crate::specs::SimpleReading::simple_at))]
 pub fn simple_at(
     alloc: Global,
-    header: bool,
+    place: Place,
     tokens: &[Token],
-) -> Result<Option<(Simple, &[Token])>, Memory>
-    ensures value { IfOk result (λ o. seen o ≡ simple_at_of header tokens.now) }
+) -> Result<Option<(OwnedSimple, &[Token])>, Memory>
+    ensures value { IfOk result (λ o. seen o ≡ simple_spec.simple_at (places_spec.in_header place) tokens.now) }
     ensures shorter { IfOk result (λ o. IfSome o (λ x. length x.1.now < length tokens.now)) }
 {
     match tokens.split_first() {
         None => Ok(None),
-        Some((first, _)) => match kind_at(alloc, header, tokens)? {
+        Some((first, _)) => match kind_at(alloc, in_header(place), tokens)? {
             None => Ok(None),
             Some((kind, rest)) => Ok(Some((
-                Simple {
+                OwnedSimple::new(Simple {
                     line: first.line,
                     kind,
-                },
+                }),
                 rest,
             ))),
         },

@@ -2,25 +2,25 @@
 
 ghost use Rattle.std.specs.Prelude.{◌≡◌, ◌<◌, ◌≤◌, length, IfOk, IfSome};
 ghost use Rattle.golf_expressions.specs.Front.{seen};
-ghost use Rattle.golf_expressions.specs.Starts.{make_start as make_start_of, new_start as new_start_of, named_start as named_start_of, empty_start as empty_start_of, slice_start as slice_start_of, sync_start as sync_start_of, literal_start as literal_start_of, mark_start as mark_start_of, start_from as start_from_of, start_at as start_at_of, suffix_at as suffix_at_of, call_at as call_at_of};
+ghost use Rattle.golf_expressions.specs.Starts as starts_spec;
 
 use crate::front::{after, copied, name_at};
 use crate::types::type_at;
 use golf_base::{List, Memory};
-use golf_grammar::{Expr, Name, TypeExpr};
+use golf_grammar::{Name, OwnedElements, OwnedExpr, OwnedExprs, OwnedType};
 use golf_tokens::{Keyword, Mark, Token, TokenKind};
 use std::alloc::Global;
 
 /// How an operand begins: it stands there whole, or what is inside its brackets follows.
 #[derive(Drop)]
 pub enum Start {
-    Whole(Expr),
+    Whole(OwnedExpr),
     /// `(`
     Group,
     /// `make(T,`
-    Sized(TypeExpr),
+    Sized(OwnedType),
     /// `[]T{`
-    Items(TypeExpr),
+    Items(OwnedType),
     /// `&T{`
     Elements(Name),
 }
@@ -41,7 +41,7 @@ pub enum Suffix {
 // `(T)` or `(T,` behind `make`.
 #[tactic(auto, unfolding(crate::specs::Starts::make_start))]
 fn make_start(alloc: Global, tokens: &[Token]) -> Result<Option<(Start, &[Token])>, Memory>
-    ensures value { IfOk result (λ o. seen o ≡ make_start_of tokens.now) }
+    ensures value { IfOk result (λ o. seen o ≡ starts_spec.make_start tokens.now) }
     ensures shorter { IfOk result (λ o. IfSome o (λ x. length x.1.now ≤ length tokens.now)) }
 {
     let Some(inside) = after(tokens, Mark::OpenParen) else {
@@ -53,7 +53,7 @@ fn make_start(alloc: Global, tokens: &[Token]) -> Result<Option<(Start, &[Token]
             Some(next) => Ok(Some((Start::Sized(made), next))),
             None => match after(behind, Mark::CloseParen) {
                 None => Ok(None),
-                Some(rest) => Ok(Some((Start::Whole(Expr::Make(made)), rest))),
+                Some(rest) => Ok(Some((Start::Whole(OwnedExpr::make(made)), rest))),
             },
         },
     }
@@ -62,7 +62,7 @@ fn make_start(alloc: Global, tokens: &[Token]) -> Result<Option<(Start, &[Token]
 // `(T)` or `(sync.T)` behind `new`.
 #[tactic(auto, unfolding(crate::specs::Starts::new_start))]
 fn new_start(alloc: Global, tokens: &[Token]) -> Result<Option<(Start, &[Token])>, Memory>
-    ensures value { IfOk result (λ o. seen o ≡ new_start_of tokens.now) }
+    ensures value { IfOk result (λ o. seen o ≡ starts_spec.new_start tokens.now) }
     ensures shorter { IfOk result (λ o. IfSome o (λ x. length x.1.now ≤ length tokens.now)) }
 {
     let Some(inside) = after(tokens, Mark::OpenParen) else {
@@ -74,7 +74,7 @@ fn new_start(alloc: Global, tokens: &[Token]) -> Result<Option<(Start, &[Token])
     match after(behind, Mark::Dot) {
         None => match after(behind, Mark::CloseParen) {
             None => Ok(None),
-            Some(rest) => Ok(Some((Start::Whole(Expr::New(copied(alloc, name)?)), rest))),
+            Some(rest) => Ok(Some((Start::Whole(OwnedExpr::new_of(copied(alloc, name)?)), rest))),
         },
         Some(dotted) => {
             if name.as_slice() != b"sync".as_slice() {
@@ -85,7 +85,10 @@ fn new_start(alloc: Global, tokens: &[Token]) -> Result<Option<(Start, &[Token])
             };
             match after(last, Mark::CloseParen) {
                 None => Ok(None),
-                Some(rest) => Ok(Some((Start::Whole(Expr::NewSync(copied(alloc, inner)?)), rest))),
+                Some(rest) => Ok(Some((
+                    Start::Whole(OwnedExpr::new_sync(copied(alloc, inner)?)),
+                    rest,
+                ))),
             }
         }
     }
@@ -94,20 +97,20 @@ fn new_start(alloc: Global, tokens: &[Token]) -> Result<Option<(Start, &[Token])
 // `{}{}` behind `struct`.
 #[tactic(auto, unfolding(crate::specs::Starts::empty_start))]
 fn empty_start(tokens: &[Token]) -> Option<(Start, &[Token])>
-    ensures value { seen result ≡ empty_start_of tokens.now }
+    ensures value { seen result ≡ starts_spec.empty_start tokens.now }
     ensures shorter { IfSome result (λ x. length x.1.now ≤ length tokens.now) }
 {
     let a = after(tokens, Mark::OpenBrace)?;
     let b = after(a, Mark::CloseBrace)?;
     let c = after(b, Mark::OpenBrace)?;
     let d = after(c, Mark::CloseBrace)?;
-    Some((Start::Whole(Expr::EmptyLiteral), d))
+    Some((Start::Whole(OwnedExpr::empty_literal()), d))
 }
 
 // `]T{` or `]T{}` behind `[`.
 #[tactic(auto, unfolding(crate::specs::Starts::slice_start))]
 fn slice_start(alloc: Global, tokens: &[Token]) -> Result<Option<(Start, &[Token])>, Memory>
-    ensures value { IfOk result (λ o. seen o ≡ slice_start_of tokens.now) }
+    ensures value { IfOk result (λ o. seen o ≡ starts_spec.slice_start tokens.now) }
     ensures shorter { IfOk result (λ o. IfSome o (λ x. length x.1.now ≤ length tokens.now)) }
 {
     let Some(inside) = after(tokens, Mark::CloseBracket) else {
@@ -119,7 +122,7 @@ fn slice_start(alloc: Global, tokens: &[Token]) -> Result<Option<(Start, &[Token
             None => Ok(None),
             Some(opened) => match after(opened, Mark::CloseBrace) {
                 Some(rest) => Ok(Some((
-                    Start::Whole(Expr::SliceLiteral(element, List::new(alloc))),
+                    Start::Whole(OwnedExpr::slice_literal(element, OwnedExprs::empty(alloc))),
                     rest,
                 ))),
                 None => Ok(Some((Start::Items(element), opened))),
@@ -135,7 +138,7 @@ fn sync_start<'a>(
     name: &List<u8>,
     tokens: &'a [Token],
 ) -> Result<Option<(Start, &'a [Token])>, Memory>
-    ensures value { IfOk result (λ o. seen o ≡ sync_start_of name.now tokens.now) }
+    ensures value { IfOk result (λ o. seen o ≡ starts_spec.sync_start name.now tokens.now) }
     ensures shorter { IfOk result (λ o. IfSome o (λ x. length x.1.now ≤ length tokens.now)) }
 {
     if name.as_slice() != b"sync".as_slice() {
@@ -149,14 +152,17 @@ fn sync_start<'a>(
     };
     match after(inside, Mark::CloseBrace) {
         None => Ok(None),
-        Some(rest) => Ok(Some((Start::Whole(Expr::SyncLiteral(copied(alloc, inner)?)), rest))),
+        Some(rest) => Ok(Some((
+            Start::Whole(OwnedExpr::sync_literal(copied(alloc, inner)?)),
+            rest,
+        ))),
     }
 }
 
 // `T{`, `T{}` or `sync.T{}` behind `&`.
 #[tactic(auto, unfolding(crate::specs::Starts::literal_start))]
 fn literal_start(alloc: Global, tokens: &[Token]) -> Result<Option<(Start, &[Token])>, Memory>
-    ensures value { IfOk result (λ o. seen o ≡ literal_start_of tokens.now) }
+    ensures value { IfOk result (λ o. seen o ≡ starts_spec.literal_start tokens.now) }
     ensures shorter { IfOk result (λ o. IfSome o (λ x. length x.1.now ≤ length tokens.now)) }
 {
     let Some((name, behind)) = name_at(tokens) else {
@@ -171,7 +177,7 @@ fn literal_start(alloc: Global, tokens: &[Token]) -> Result<Option<(Start, &[Tok
             let copy = copied(alloc, name)?;
             match after(opened, Mark::CloseBrace) {
                 Some(rest) => Ok(Some((
-                    Start::Whole(Expr::StructLiteral(copy, List::new(alloc))),
+                    Start::Whole(OwnedExpr::struct_literal(copy, OwnedElements::empty(alloc))),
                     rest,
                 ))),
                 None => Ok(Some((Start::Elements(copy), opened))),
@@ -187,7 +193,7 @@ fn mark_start(
     mark: Mark,
     rest: &[Token],
 ) -> Result<Option<(Start, &[Token])>, Memory>
-    ensures value { IfOk result (λ o. seen o ≡ mark_start_of header mark rest.now) }
+    ensures value { IfOk result (λ o. seen o ≡ starts_spec.mark_start header mark rest.now) }
     ensures shorter { IfOk result (λ o. IfSome o (λ x. length x.1.now ≤ length rest.now)) }
 {
     match mark {
@@ -208,7 +214,7 @@ fn named_start<'a>(
     name: &List<u8>,
     rest: &'a [Token],
 ) -> Result<Option<(Start, &'a [Token])>, Memory>
-    ensures value { IfOk result (λ o. seen o ≡ named_start_of name.now rest.now) }
+    ensures value { IfOk result (λ o. seen o ≡ starts_spec.named_start name.now rest.now) }
     ensures shorter { IfOk result (λ o. IfSome o (λ x. length x.1.now ≤ length rest.now)) }
 {
     if name.as_slice() == b"make".as_slice() {
@@ -217,7 +223,7 @@ fn named_start<'a>(
     if name.as_slice() == b"new".as_slice() {
         return new_start(alloc, rest);
     }
-    Ok(Some((Start::Whole(Expr::Name(copied(alloc, name)?)), rest)))
+    Ok(Some((Start::Whole(OwnedExpr::name(copied(alloc, name)?)), rest)))
 }
 
 #[tactic(auto, unfolding(crate::specs::Starts::start_from))]
@@ -227,15 +233,18 @@ fn start_from<'a>(
     kind: &TokenKind,
     rest: &'a [Token],
 ) -> Result<Option<(Start, &'a [Token])>, Memory>
-    ensures value { IfOk result (λ o. seen o ≡ start_from_of header kind.now rest.now) }
+    ensures value { IfOk result (λ o. seen o ≡ starts_spec.start_from header kind.now rest.now) }
     ensures shorter { IfOk result (λ o. IfSome o (λ x. length x.1.now ≤ length rest.now)) }
 {
     match kind {
         TokenKind::Integer(digits) => Ok(Some((
-            Start::Whole(Expr::Integer(copied(alloc, digits)?)),
+            Start::Whole(OwnedExpr::integer(copied(alloc, digits)?)),
             rest,
         ))),
-        TokenKind::Text(bytes) => Ok(Some((Start::Whole(Expr::Text(copied(alloc, bytes)?)), rest))),
+        TokenKind::Text(bytes) => Ok(Some((
+            Start::Whole(OwnedExpr::text(copied(alloc, bytes)?)),
+            rest,
+        ))),
         TokenKind::Name(name) => named_start(alloc, name, rest),
         TokenKind::Keyword(keyword) => match keyword {
             Keyword::Struct => Ok(empty_start(rest)),
@@ -252,7 +261,7 @@ pub fn start_at(
     header: bool,
     tokens: &[Token],
 ) -> Result<Option<(Start, &[Token])>, Memory>
-    ensures value { IfOk result (λ o. seen o ≡ start_at_of header tokens.now) }
+    ensures value { IfOk result (λ o. seen o ≡ starts_spec.start_at header tokens.now) }
     ensures shorter { IfOk result (λ o. IfSome o (λ x. length x.1.now < length tokens.now)) }
 {
     match tokens.split_first() {
@@ -264,7 +273,7 @@ pub fn start_at(
 // `(` or `()`.
 #[tactic(auto, unfolding(crate::specs::Starts::call_at))]
 fn call_at(tokens: &[Token]) -> Option<(Suffix, &[Token])>
-    ensures value { seen result ≡ call_at_of tokens.now }
+    ensures value { seen result ≡ starts_spec.call_at tokens.now }
     ensures shorter { IfSome result (λ x. length x.1.now < length tokens.now) }
 {
     match after(tokens, Mark::OpenParen) {
@@ -279,7 +288,7 @@ fn call_at(tokens: &[Token]) -> Option<(Suffix, &[Token])>
 /// What stands behind an operand.
 #[tactic(auto, unfolding(crate::specs::Starts::suffix_at))]
 pub fn suffix_at(alloc: Global, tokens: &[Token]) -> Result<Option<(Suffix, &[Token])>, Memory>
-    ensures value { IfOk result (λ o. seen o ≡ suffix_at_of tokens.now) }
+    ensures value { IfOk result (λ o. seen o ≡ starts_spec.suffix_at tokens.now) }
     ensures shorter { IfOk result (λ o. IfSome o (λ x. length x.1.now < length tokens.now)) }
 {
     if let Some(dotted) = after(tokens, Mark::Dot) {

@@ -3,17 +3,18 @@
 ghost use Rattle.std.specs.Prelude.{◌≡◌, ◌<◌, ◌≤◌, length, IfOk, IfSome};
 ghost use Rattle.golf_expressions.specs.Plan.{run};
 ghost use Rattle.golf_expressions.specs.Front.{seen};
-ghost use Rattle.golf_expressions.specs.TypeReading.{type_at as type_at_of, type_from as type_from_of, type_from_mark as type_from_mark_of, type_from_keyword as type_from_keyword_of, pointer as pointer_of, empty_struct as empty_struct_of, OfType};
+ghost use Rattle.golf_expressions.specs.TypeReading as type_spec;
+ghost use Rattle.golf_expressions.specs.TypeReading.{OfType};
 
 use crate::front::{after, after_keyword, copied, name_at};
-use golf_base::{Boxed, List, Memory};
-use golf_grammar::TypeExpr;
+use golf_base::Memory;
+use golf_grammar::OwnedType;
 use golf_tokens::{Keyword, Mark, Token, TokenKind};
 use std::alloc::Global;
 
 // `n` or `sync.m`, behind a star.
-fn pointer(alloc: Global, tokens: &[Token]) -> Result<Option<(TypeExpr, &[Token])>, Memory>
-    ensures value { IfOk result (λ o. seen o ≡ pointer_of tokens.now) }
+fn pointer(alloc: Global, tokens: &[Token]) -> Result<Option<(OwnedType, &[Token])>, Memory>
+    ensures value { IfOk result (λ o. seen o ≡ type_spec.pointer tokens.now) }
     ensures shorter { IfOk result (λ o. IfSome o (λ x. length x.1.now < length tokens.now)) }
 {
     match name_at(tokens) {
@@ -21,14 +22,14 @@ fn pointer(alloc: Global, tokens: &[Token]) -> Result<Option<(TypeExpr, &[Token]
         Some((name, rest)) => {
             let copy = copied(alloc, name)?;
             if name.as_slice() != b"sync".as_slice() {
-                return Ok(Some((TypeExpr::Pointer(copy), rest)));
+                return Ok(Some((OwnedType::pointer(copy), rest)));
             }
             match after(rest, Mark::Dot) {
-                None => Ok(Some((TypeExpr::Pointer(copy), rest))),
+                None => Ok(Some((OwnedType::pointer(copy), rest))),
                 Some(behind) => match name_at(behind) {
                     None => Ok(None),
                     Some((inner, last)) => Ok(Some((
-                        TypeExpr::SyncPointer(copied(alloc, inner)?),
+                        OwnedType::sync_pointer(copied(alloc, inner)?),
                         last,
                     ))),
                 },
@@ -38,13 +39,13 @@ fn pointer(alloc: Global, tokens: &[Token]) -> Result<Option<(TypeExpr, &[Token]
 }
 
 // `{}` behind `struct`.
-fn empty_struct(tokens: &[Token]) -> Option<(TypeExpr, &[Token])>
-    ensures value { seen result ≡ empty_struct_of tokens.now }
+fn empty_struct(tokens: &[Token]) -> Option<(OwnedType, &[Token])>
+    ensures value { seen result ≡ type_spec.empty_struct tokens.now }
     ensures shorter { IfSome result (λ x. length x.1.now < length tokens.now) }
 {
     let rest = after(tokens, Mark::OpenBrace)?;
     let last = after(rest, Mark::CloseBrace)?;
-    Some((TypeExpr::EmptyStruct, last))
+    Some((OwnedType::empty_struct(), last))
 }
 
 #[cycle(types)]
@@ -52,8 +53,8 @@ fn type_from_keyword(
     alloc: Global,
     keyword: Keyword,
     rest: &[Token],
-) -> Result<Option<(TypeExpr, &[Token])>, Memory>
-    ensures value { IfOk result (λ o. seen o ≡ run type_at_of (type_from_keyword_of keyword rest.now)) }
+) -> Result<Option<(OwnedType, &[Token])>, Memory>
+    ensures value { IfOk result (λ o. seen o ≡ run type_spec.type_at (type_spec.type_from_keyword keyword rest.now)) }
     ensures shorter { IfOk result (λ o. IfSome o (λ x. length x.1.now ≤ length rest.now)) }
 {
     match keyword {
@@ -61,14 +62,11 @@ fn type_from_keyword(
         Keyword::Chan => match after(rest, Mark::Arrow) {
             None => match type_at(alloc, rest)? {
                 None => Ok(None),
-                Some((inner, last)) => Ok(Some((TypeExpr::Chan(Boxed::new(alloc, inner)?), last))),
+                Some((inner, last)) => Ok(Some((OwnedType::chan(alloc, inner)?, last))),
             },
             Some(behind) => match type_at(alloc, behind)? {
                 None => Ok(None),
-                Some((inner, last)) => Ok(Some((
-                    TypeExpr::SendChan(Boxed::new(alloc, inner)?),
-                    last,
-                ))),
+                Some((inner, last)) => Ok(Some((OwnedType::send_chan(alloc, inner)?, last))),
             },
         },
         _ => Ok(None),
@@ -80,8 +78,8 @@ fn type_from_mark(
     alloc: Global,
     mark: Mark,
     rest: &[Token],
-) -> Result<Option<(TypeExpr, &[Token])>, Memory>
-    ensures value { IfOk result (λ o. seen o ≡ run type_at_of (type_from_mark_of mark rest.now)) }
+) -> Result<Option<(OwnedType, &[Token])>, Memory>
+    ensures value { IfOk result (λ o. seen o ≡ run type_spec.type_at (type_spec.type_from_mark mark rest.now)) }
     ensures shorter { IfOk result (λ o. IfSome o (λ x. length x.1.now ≤ length rest.now)) }
 {
     match mark {
@@ -90,17 +88,14 @@ fn type_from_mark(
             None => Ok(None),
             Some(behind) => match type_at(alloc, behind)? {
                 None => Ok(None),
-                Some((inner, last)) => Ok(Some((TypeExpr::Slice(Boxed::new(alloc, inner)?), last))),
+                Some((inner, last)) => Ok(Some((OwnedType::slice(alloc, inner)?, last))),
             },
         },
         Mark::Arrow => match after_keyword(rest, Keyword::Chan) {
             None => Ok(None),
             Some(behind) => match type_at(alloc, behind)? {
                 None => Ok(None),
-                Some((inner, last)) => Ok(Some((
-                    TypeExpr::ReceiveChan(Boxed::new(alloc, inner)?),
-                    last,
-                ))),
+                Some((inner, last)) => Ok(Some((OwnedType::receive_chan(alloc, inner)?, last))),
             },
         },
         _ => Ok(None),
@@ -112,12 +107,12 @@ fn type_from<'a>(
     alloc: Global,
     kind: &TokenKind,
     rest: &'a [Token],
-) -> Result<Option<(TypeExpr, &'a [Token])>, Memory>
-    ensures value { IfOk result (λ o. seen o ≡ run type_at_of (type_from_of kind.now rest.now)) }
+) -> Result<Option<(OwnedType, &'a [Token])>, Memory>
+    ensures value { IfOk result (λ o. seen o ≡ run type_spec.type_at (type_spec.type_from kind.now rest.now)) }
     ensures shorter { IfOk result (λ o. IfSome o (λ x. length x.1.now ≤ length rest.now)) }
 {
     match kind {
-        TokenKind::Name(name) => Ok(Some((TypeExpr::Named(copied(alloc, name)?), rest))),
+        TokenKind::Name(name) => Ok(Some((OwnedType::named(copied(alloc, name)?), rest))),
         TokenKind::Keyword(keyword) => type_from_keyword(alloc, *keyword, rest),
         TokenKind::Mark(mark) => type_from_mark(alloc, *mark, rest),
         _ => Ok(None),
@@ -127,8 +122,8 @@ fn type_from<'a>(
 /// The type at the front of the tokens, and what follows it.
 #[cycle(types)]
 #[tactic(auto, using(crate::proofs::TypeSteps::type_steps))]
-pub fn type_at(alloc: Global, tokens: &[Token]) -> Result<Option<(TypeExpr, &[Token])>, Memory>
-    ensures value { IfOk result (λ o. seen o ≡ type_at_of OfType tokens.now) }
+pub fn type_at(alloc: Global, tokens: &[Token]) -> Result<Option<(OwnedType, &[Token])>, Memory>
+    ensures value { IfOk result (λ o. seen o ≡ type_spec.type_at OfType tokens.now) }
     ensures shorter { IfOk result (λ o. IfSome o (λ x. length x.1.now < length tokens.now)) }
 {
     match tokens.split_first() {

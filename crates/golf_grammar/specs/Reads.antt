@@ -24,9 +24,9 @@ is_affordable counts [] = true
 is_affordable counts (k ∷ ks) = cond (nat_lt most (sum (counted k counts))) false (is_affordable (counted k counts) ks)
 
 -- the line of the first token that costs more
-abbrev pub first_costly : List ℕ → List Token → Option ℕ
-first_costly counts [] = None
-first_costly counts (t ∷ ts) = cond (nat_lt most (sum (counted t.kind counts))) (Some t.line) (first_costly (counted t.kind counts) ts)
+abbrev pub first_too_complex : List ℕ → List Token → Option ℕ
+first_too_complex counts [] = None
+first_too_complex counts (t ∷ ts) = cond (nat_lt most (sum (counted t.kind counts))) (Some t.line) (first_too_complex (counted t.kind counts) ts)
 
 -- the tree prints the tokens; each statement, declaration and clause has the line of the token at which its print begins
 abbrev pub Prints : File → List Token → Type 0
@@ -58,4 +58,4 @@ FaultOn (Some first) tokens line = line ≡ first
 FaultOn None tokens line = BrokenOn tokens line
 
 abbrev pub IsFaultOn : List Token → ℕ → Type 0
-IsFaultOn tokens line = FaultOn (first_costly no_counts tokens) tokens line
+IsFaultOn tokens line = FaultOn (first_too_complex no_counts tokens) tokens line

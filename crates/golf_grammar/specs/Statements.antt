@@ -76,27 +76,27 @@ abbrev pub defaults : List ClauseForm → ℕ
 defaults [] = 0
 defaults (c ∷ cs) = cond c.default 1 0 + defaults cs
 
-abbrev pub plain : Bool → StmtForm
-plain good = record { branch = false; good = good }
+abbrev pub no_branch : Bool → StmtForm
+no_branch good = record { branch = false; good = good }
 
 abbrev pub branch : Bool → StmtForm
 branch good = record { branch = true; good = good }
 
 -- A `select` has at most one `default`.
 abbrev pub stmt_form_step : Stmt-F ClauseForm StmtForm → StmtForm
-stmt_form_step (Var v) = plain (content_good v.content)
-stmt_form_step (Simple x) = plain (simple_form x.kind).good
-stmt_form_step (Go l f arguments) = plain (call_good f arguments)
-stmt_form_step (Defer l f arguments) = plain (call_good f arguments)
-stmt_form_step (Return l value) = plain (all_of (λ e. (form e).good) value)
-stmt_form_step (Break l) = plain true
-stmt_form_step (Continue l) = plain true
+stmt_form_step (Var v) = no_branch (content_good v.content)
+stmt_form_step (Simple x) = no_branch (simple_form x.kind).good
+stmt_form_step (Go l f arguments) = no_branch (call_good f arguments)
+stmt_form_step (Defer l f arguments) = no_branch (call_good f arguments)
+stmt_form_step (Return l value) = no_branch (all_of (λ e. (form e).good) value)
+stmt_form_step (Break l) = no_branch true
+stmt_form_step (Continue l) = no_branch true
 stmt_form_step (Block l body) = branch (stmts_good body)
 stmt_form_step (If l first test body) = branch (all_of header_simple first && (header_expr test && stmts_good body))
 stmt_form_step (IfElse l first test body otherwise) =
     branch (all_of header_simple first && (header_expr test && (stmts_good body && (otherwise.good && otherwise.branch))))
-stmt_form_step (For l header body) = plain (header_good header && stmts_good body)
-stmt_form_step (Select l cs) = plain (list_all (λ c. c.good) cs && nat_le (defaults cs) 1)
+stmt_form_step (For l header body) = no_branch (header_good header && stmts_good body)
+stmt_form_step (Select l cs) = no_branch (list_all (λ c. c.good) cs && nat_le (defaults cs) 1)
 
 abbrev pub clause_form_step : Clause-F ClauseForm StmtForm → ClauseForm
 clause_form_step (Case l c body) = record { default = false; good = comm_good c && stmts_good body }

@@ -1,19 +1,19 @@
 //! Files and their declarations. Each has the line of its first token.
 
-use crate::expressions::Expr;
-use crate::statements::{Stmt, Var};
-use crate::types::{Name, TypeExpr};
+use crate::owned::{OwnedType, OwnedVar};
+use crate::statements::Stmt;
+use crate::types::Name;
 use golf_base::List;
 
 /// A whole file of package `main`.
-#[derive(Debug, Drop)]
+#[derive(Drop)]
 pub struct File {
     pub imports: List<Import>,
     pub declarations: List<Decl>,
 }
 
 /// An import declaration.
-#[derive(Debug, Drop)]
+#[derive(Drop)]
 pub enum Import {
     /// `import "path"`
     One(u32, List<u8>),
@@ -22,44 +22,44 @@ pub enum Import {
 }
 
 /// A top-level declaration.
-#[derive(Debug, Drop)]
+#[derive(Drop)]
 pub enum Decl {
     /// `const name = value`
     Const(u32, Name, Const),
-    Var(Var),
+    Var(OwnedVar),
     /// `type name struct { fields }`
     Struct(u32, Name, List<Field>),
     Func(Func),
 }
 
 /// `func (receiver) name(parameters) result { body }`
-#[derive(Debug, Drop)]
+#[derive(Drop)]
 pub struct Func {
     pub line: u32,
     pub receiver: Option<Receiver>,
     pub name: Name,
     pub parameters: List<Field>,
-    pub result: Option<TypeExpr>,
+    pub result: Option<OwnedType>,
     pub body: List<Stmt>,
 }
 
 /// `(name *type_name)`
-#[derive(Debug, Drop)]
+#[derive(Drop)]
 pub struct Receiver {
     pub name: Name,
     pub type_name: Name,
 }
 
 /// Names that share a type: `first, more.. T`.
-#[derive(Debug, Drop)]
+#[derive(Drop)]
 pub struct Field {
     pub first: Name,
     pub more: List<Name>,
-    pub of_type: TypeExpr,
+    pub of_type: OwnedType,
 }
 
 /// The value of a constant.
-#[derive(Debug, Drop)]
+#[derive(Drop)]
 pub enum Const {
     /// The digits of an integer.
     Integer(List<u8>),

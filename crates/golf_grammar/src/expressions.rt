@@ -1,5 +1,6 @@
 //! Expressions. Parentheses are nodes of their own.
 
+use crate::owned::OwnedType;
 use crate::types::{Name, TypeExpr};
 use golf_base::{Boxed, List};
 
@@ -30,7 +31,7 @@ pub enum BinaryOperator {
 }
 
 /// An expression.
-#[derive(Debug, Drop)]
+#[derive(Drop)]
 #[cycle(expression)]
 pub enum Expr {
     /// The digits of an integer literal, also of one that is too large.
@@ -45,13 +46,13 @@ pub enum Expr {
     /// `&sync.T{}`
     SyncLiteral(Name),
     /// `[]T{e, ..}`
-    SliceLiteral(TypeExpr, List<Expr>),
+    SliceLiteral(OwnedType, List<Expr>),
     /// `struct{}{}`
     EmptyLiteral,
     /// `make(T)`
-    Make(TypeExpr),
+    Make(OwnedType),
     /// `make(T, e)`
-    MakeSized(TypeExpr, Boxed<Expr>),
+    MakeSized(OwnedType, Boxed<Expr>),
     /// `new(T)`
     New(Name),
     /// `new(sync.T)`
@@ -67,7 +68,7 @@ pub enum Expr {
 }
 
 /// `f: e` in a struct literal.
-#[derive(Debug, Drop)]
+#[derive(Drop)]
 #[cycle(expression)]
 pub struct Element {
     pub field: Name,

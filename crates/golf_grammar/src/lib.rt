@@ -1,13 +1,21 @@
 //! Trees of the accepted language, and which of them reads a list of tokens.
 #![tactic(auto)]
 
+mod builders;
 mod declarations;
 mod expressions;
+mod owned;
+mod owned_lists;
 mod statements;
 mod types;
 
 pub use declarations::{Const, Decl, Field, File, Func, Import, Receiver};
 pub use expressions::{BinaryOperator, Element, Expr, UnaryOperator};
+pub use owned::{
+    OwnedCommunication, OwnedDecl, OwnedExpr, OwnedHeader, OwnedSimple, OwnedSimpleKind, OwnedStmt,
+    OwnedType, OwnedVar, OwnedVarContent,
+};
+pub use owned_lists::{OwnedClauses, OwnedDecls, OwnedElements, OwnedExprs, OwnedStmts};
 pub use statements::{
     Clause, Communication, Header, RangeNames, Simple, SimpleKind, Stmt, UpdateOperator, Var,
     VarContent,

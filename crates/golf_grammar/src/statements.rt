@@ -1,6 +1,10 @@
 //! Statements. Each has the line of its first token.
 
 use crate::expressions::Expr;
+use crate::owned::{
+    OwnedCommunication, OwnedExpr, OwnedHeader, OwnedSimple, OwnedSimpleKind, OwnedType, OwnedVar,
+    OwnedVarContent,
+};
 use crate::types::{Name, TypeExpr};
 use golf_base::{Boxed, List};
 
@@ -15,63 +19,63 @@ pub enum UpdateOperator {
 }
 
 /// A simple statement.
-#[derive(Debug, Drop)]
+#[derive(Drop)]
 pub struct Simple {
     pub line: u32,
-    pub kind: SimpleKind,
+    pub kind: OwnedSimpleKind,
 }
 
 /// What a simple statement is.
-#[derive(Debug, Drop)]
+#[derive(Drop)]
 pub enum SimpleKind {
-    Expression(Expr),
+    Expression(OwnedExpr),
     /// `channel <- value`
-    Send(Expr, Expr),
+    Send(OwnedExpr, OwnedExpr),
     /// `place++`
-    Increment(Expr),
+    Increment(OwnedExpr),
     /// `place--`
-    Decrement(Expr),
+    Decrement(OwnedExpr),
     /// `place = value`
-    Assign(Expr, Expr),
+    Assign(OwnedExpr, OwnedExpr),
     /// `place += value`
-    Update(Expr, UpdateOperator, Expr),
+    Update(OwnedExpr, UpdateOperator, OwnedExpr),
     /// `name := value`
-    Define(Name, Expr),
+    Define(Name, OwnedExpr),
     /// `value, ok := <-channel`
-    DefineReceived(Name, Name, Expr),
+    DefineReceived(Name, Name, OwnedExpr),
     /// `value, ok = <-channel`
-    AssignReceived(Name, Name, Expr),
+    AssignReceived(Name, Name, OwnedExpr),
 }
 
 /// `var name T`, `var name T = value` or `var name = value`.
-#[derive(Debug, Drop)]
+#[derive(Drop)]
 pub struct Var {
     pub line: u32,
     pub name: Name,
-    pub content: VarContent,
+    pub content: OwnedVarContent,
 }
 
 /// What a variable begins with.
-#[derive(Debug, Drop)]
+#[derive(Drop)]
 pub enum VarContent {
-    Zero(TypeExpr),
-    Typed(TypeExpr, Expr),
-    Untyped(Expr),
+    Zero(OwnedType),
+    Typed(OwnedType, OwnedExpr),
+    Untyped(OwnedExpr),
 }
 
 /// The part of a `for` between the word and the body.
-#[derive(Debug, Drop)]
+#[derive(Drop)]
 pub enum Header {
     Forever,
-    While(Expr),
+    While(OwnedExpr),
     /// `init; condition; post`
-    Steps(Option<Simple>, Option<Expr>, Option<Simple>),
+    Steps(Option<OwnedSimple>, Option<OwnedExpr>, Option<OwnedSimple>),
     /// `names := range over`
-    Range(RangeNames, Expr),
+    Range(RangeNames, OwnedExpr),
 }
 
 /// The names in front of `:= range`.
-#[derive(Debug, Drop)]
+#[derive(Drop)]
 pub enum RangeNames {
     Neither,
     One(Name),
@@ -79,46 +83,46 @@ pub enum RangeNames {
 }
 
 /// The communication of a clause of `select`.
-#[derive(Debug, Drop)]
+#[derive(Drop)]
 pub enum Communication {
     /// `channel <- value`
-    Send(Expr, Expr),
+    Send(OwnedExpr, OwnedExpr),
     /// `<-channel`
-    Receive(Expr),
+    Receive(OwnedExpr),
     /// `name := <-channel`
-    Define(Name, Expr),
+    Define(Name, OwnedExpr),
     /// `name = <-channel`
-    Assign(Name, Expr),
+    Assign(Name, OwnedExpr),
     /// `value, ok := <-channel`
-    DefineReceived(Name, Name, Expr),
+    DefineReceived(Name, Name, OwnedExpr),
 }
 
 /// A statement.
-#[derive(Debug, Drop)]
+#[derive(Drop)]
 #[cycle(statement)]
 pub enum Stmt {
-    Var(Var),
-    Simple(Simple),
+    Var(OwnedVar),
+    Simple(OwnedSimple),
     /// `go callee(arguments)`
-    Go(u32, Expr, List<Expr>),
+    Go(u32, OwnedExpr, List<Expr>),
     /// `defer callee(arguments)`
-    Defer(u32, Expr, List<Expr>),
-    Return(u32, Option<Expr>),
+    Defer(u32, OwnedExpr, List<Expr>),
+    Return(u32, Option<OwnedExpr>),
     Break(u32),
     Continue(u32),
     Block(u32, List<Stmt>),
     /// `if init; condition body`
-    If(u32, Option<Simple>, Expr, List<Stmt>),
+    If(u32, Option<OwnedSimple>, OwnedExpr, List<Stmt>),
     /// `if init; condition body else otherwise`: the last is an `If`, an `IfElse` or a `Block`.
-    IfElse(u32, Option<Simple>, Expr, List<Stmt>, Boxed<Stmt>),
-    For(u32, Header, List<Stmt>),
+    IfElse(u32, Option<OwnedSimple>, OwnedExpr, List<Stmt>, Boxed<Stmt>),
+    For(u32, OwnedHeader, List<Stmt>),
     Select(u32, List<Clause>),
 }
 
 /// A clause of `select`, on the line of its word.
-#[derive(Debug, Drop)]
+#[derive(Drop)]
 #[cycle(statement)]
 pub enum Clause {
-    Case(u32, Communication, List<Stmt>),
+    Case(u32, OwnedCommunication, List<Stmt>),
     Default(u32, List<Stmt>),
 }

@@ -12,8 +12,6 @@ mod opening;
 mod pool;
 mod rule;
 mod steal;
-#[cfg(test)]
-mod tests;
 
 pub use hand::GreyHand;
 pub use pool::{GreyPool, Left};

@@ -9,7 +9,7 @@ use Rattle.slab.specs.Slab.{get}
 use Rattle.golf_data.specs.declared.value.Object.{Object}
 use Rattle.golf_theory.specs.Maps.{find, Rises}
 use Rattle.golf_heap.specs.declared.places.Place.{Place}
-use Rattle.golf_heap.specs.Numbered.{rank}
+use Rattle.golf_heap.specs.Objects.{rank}
 use Rattle.golf_heap.specs.Kept.{keyed, gathered, object_in, Holds}
 use Rattle.golf_heap.proofs.Ranks.{at_key, find-rank}
 use Rattle.golf_heap.proofs.Gathering.{Slots, full, find-gathered, held-at, Rises-keyed}

@@ -6,7 +6,7 @@ use Rattle.slab.specs.Slab.{get, Updates}
 use Rattle.golf_data.specs.declared.value.Object.{Object}
 use Rattle.golf_theory.specs.Maps.{Rises}
 use Rattle.golf_heap.specs.declared.places.Place.{Place}
-use Rattle.golf_heap.specs.Numbered.{kept}
+use Rattle.golf_heap.specs.Objects.{kept}
 use Rattle.golf_heap.specs.Kept.{keyed, gathered, object_in, IsOf, Holds}
 use Rattle.golf_heap.proofs.Gathering.{Slots}
 use Rattle.golf_heap.proofs.Order.{apart}

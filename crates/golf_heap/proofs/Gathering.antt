@@ -5,7 +5,7 @@ use Rattle.slab.specs.Slab.{Slab, get, Updates}
 use Rattle.golf_data.specs.declared.value.Object.{Object}
 use Rattle.golf_theory.specs.Maps.{find, Rises}
 use Rattle.golf_heap.specs.declared.places.Place.{Place}
-use Rattle.golf_heap.specs.Numbered.{rank}
+use Rattle.golf_heap.specs.Objects.{rank}
 use Rattle.golf_heap.specs.Kept.{keyed, gathered, object_in, IsOf, Holds}
 
 abbrev pub Slots : Type 0

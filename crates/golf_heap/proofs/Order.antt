@@ -7,7 +7,7 @@ use Rattle.golf_data.specs.declared.value.Object.{Object}
 use Rattle.golf_theory.specs.Maps.{Rises, keys}
 use Rattle.golf_heap.specs.declared.places.Place.{Place}
 use Rattle.golf_heap.specs.Kept.{keyed, gathered, IsOf, Holds}
-use Rattle.golf_heap.specs.Numbered.{rank}
+use Rattle.golf_heap.specs.Objects.{rank}
 use Rattle.golf_heap.proofs.Ranks.{sorted, rank-is}
 use Rattle.golf_heap.proofs.Gathering.{Slots, length-keyed}
 

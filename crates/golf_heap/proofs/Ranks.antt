@@ -5,7 +5,7 @@ use Rattle.std.proofs.lemmas.Bool.{ne_eqb, lt-ltb, le-ltb, ltb-true, ltb-false}
 use Rattle.golf_theory.specs.Maps.{find, Rises, AllBelow}
 use Rattle.golf_theory.proofs.MapFinds.{find_below}
 use Rattle.golf_theory.proofs.MapOrder.{Rises-less}
-use Rattle.golf_heap.specs.Numbered.{rank, kept}
+use Rattle.golf_heap.specs.Objects.{rank, kept}
 
 -- an entry, where it has the key
 abbrev pub at_key : {X : Type 0} → ℕ → Option (ℕ × X) → Option X

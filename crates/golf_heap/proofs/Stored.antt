@@ -3,7 +3,7 @@ use Rattle.std.proofs.Common.{◌≡◌, ℕ, ◌+◌, List, [], ◌∷◌, ◌+
 use Rattle.slab.specs.Slab.{get, Updates, slab_len}
 use Rattle.golf_data.specs.declared.value.Object.{Object}
 use Rattle.golf_heap.specs.declared.places.Place.{Place}
-use Rattle.golf_heap.specs.Numbered.{IsNumbered, made}
+use Rattle.golf_heap.specs.Objects.{IsNumbered, made}
 use Rattle.golf_heap.specs.Kept.{gathered, Holds, IsStored}
 use Rattle.golf_heap.proofs.Gathering.{Slots, gathered-same, Holds-same, gathered-added, Holds-added}
 use Rattle.golf_heap.proofs.Numbers.{IsNumbered-made}

@@ -8,7 +8,7 @@ use Rattle.golf_data.specs.declared.value.Object.{Object}
 use Rattle.golf_theory.specs.Maps.{put, Rises}
 use Rattle.golf_theory.proofs.Placing.{put_below}
 use Rattle.golf_heap.specs.declared.places.Place.{Place}
-use Rattle.golf_heap.specs.Numbered.{IsNumbered}
+use Rattle.golf_heap.specs.Objects.{IsNumbered}
 use Rattle.golf_heap.specs.Kept.{keyed, gathered, object_in, IsOf, Holds, IsStored}
 use Rattle.golf_heap.proofs.Numbers.{IsNumbered-replaced}
 use Rattle.golf_heap.proofs.Gathering.{Slots, Rises-keyed, Rises-gathered}

@@ -3,7 +3,7 @@ use Rattle.std.specs.Prelude.{◌≡◌, ℕ, false, List, [], ◌∷◌, length
 use Rattle.slab.specs.Slab.{Slab, get, slab_len}
 use Rattle.golf_data.specs.declared.value.Object.{Object}
 use Rattle.golf_heap.specs.declared.places.Place.{Place}
-use Rattle.golf_heap.specs.Numbered.{IsNumbered}
+use Rattle.golf_heap.specs.Objects.{IsNumbered}
 
 -- the keys by number
 abbrev pub keyed : List Place → List (ℕ × ℕ)

@@ -1,3 +1,3 @@
-pub mod Numbered
+pub mod Objects
 pub mod Kept
 pub mod Lending

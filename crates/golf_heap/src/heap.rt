@@ -3,7 +3,7 @@
 ghost use Rattle.std.specs.Prelude.{◌≡◌, ◌+◌, ◌<◌, [], length, is_some, IsSome, option_map, slice_get, Some, IfOk, OnOk, OnErr};
 ghost use Rattle.std.specs.Borrow.{sem};
 ghost use Rattle.golf_theory.specs.Maps.{find, keys};
-ghost use Rattle.golf_heap.specs.Numbered.{IsNumbered, made, replaced, kept, rank};
+ghost use Rattle.golf_heap.specs.Objects.{IsNumbered, made, replaced, kept, rank};
 ghost use Rattle.golf_heap.specs.Lending.{LendsObject};
 
 use crate::places::{Place, close_up, free, key_of, rank_of};
@@ -26,10 +26,10 @@ pub struct Heap {
 }
 
 impl Model for Heap {
-    ghost use Rattle.golf_heap.specs.Numbered.{Numbered};
+    ghost use Rattle.golf_heap.specs.Objects.{NumberedObjects};
     ghost use Rattle.golf_heap.specs.Kept.{gathered, IsStored};
 
-    ghost Value = { Numbered };
+    ghost Value = { NumberedObjects };
 
     ghost view = { λ h. record { objects = gathered h.slots h.places.items; last = h.last } };
 
@@ -142,39 +142,5 @@ impl Heap {
         ensures { slice_get (keys self.now.objects) rank ≡ Some result.0 }
     {
         ObjectId(self.places.as_slice()[rank as usize].number)
-    }
-}
-
-#[cfg(test)]
-mod tests {
-    use super::*;
-    use std::test::Fail;
-
-    #[test]
-    fn numbers_are_never_used_again(rt: HostRuntime) -> Result<(), Fail> {
-        let mut heap = Heap::new(rt.alloc());
-        assert_eq!(rt; heap.make(Object::Mutex(false))?, ObjectId(1));
-        assert!(rt; heap.holds(ObjectId(1)));
-        assert_eq!(rt; heap.count(), 1);
-        heap.retain(&[false]);
-        assert_eq!(rt; heap.make(Object::Mutex(true))?, ObjectId(2));
-        assert!(rt; !heap.holds(ObjectId(1)));
-        assert_eq!(rt; heap.count(), 1);
-        assert_eq!(rt; heap.last(), 2);
-        assert_eq!(rt; heap.rank(ObjectId(2)), 0);
-        assert_eq!(rt; heap.count(), 1);
-        assert_eq!(rt; heap.at(0), ObjectId(2));
-        Ok(())
-    }
-
-    #[test]
-    fn an_object_is_replaced(rt: HostRuntime) -> Result<(), Fail> {
-        let mut heap = Heap::new(rt.alloc());
-        let first = heap.make(Object::Mutex(false))?;
-        heap.put(first, Object::Mutex(true));
-        assert!(rt; matches!(heap.get(first), Some(Object::Mutex(true))));
-        heap.put(ObjectId(7), Object::Mutex(true));
-        assert!(rt; heap.get(ObjectId(7)).is_none());
-        Ok(())
     }
 }

@@ -3,7 +3,7 @@
 ghost use Rattle.std.specs.Prelude.{◌≡◌, ◌+◌, length, None};
 ghost use Rattle.slab.specs.Slab.{slab_len, ContainsKey, Updates};
 ghost use Rattle.golf_theory.specs.Maps.{find, Rises};
-ghost use Rattle.golf_heap.specs.Numbered.{kept, rank};
+ghost use Rattle.golf_heap.specs.Objects.{kept, rank};
 ghost use Rattle.golf_heap.specs.Kept.{Holds, gathered, keyed};
 
 use golf_data::Object;

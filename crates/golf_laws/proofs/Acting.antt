@@ -11,7 +11,7 @@ use Rattle.golf_data.specs.declared.goroutine.PanicKind.{PanicKind}
 use Rattle.golf_data.specs.declared.goroutine.Side.{Side}
 use Rattle.golf_data.specs.declared.goroutine.Wait.{Wait}
 use Rattle.golf_data.specs.declared.goroutine.WaitKind.{WaitKind}
-use Rattle.golf_model.specs.Plain.{PlainFrame, PlainGoroutine}
+use Rattle.golf_model.specs.Views.{FrameView, GoroutineView}
 use Rattle.golf_model.specs.Values.{value_refs, refs}
 use Rattle.golf_model.specs.State.{State}
 use Rattle.golf_model.specs.Waiting.{Waiter, waits_of, first}
@@ -29,8 +29,8 @@ pub record Ground (s : State) (O G : ℕ → Type 0) : Type 0 where
   pub globals : Every O (refs s.globals)
   pub queue : Every O (queue_refs s.queue)
   pub objects : (p : ℕ) (x : Object) → O p → Entry s.objects p x → Every O (object_refs x)
-  pub goroutines : (g : ℕ) (r : PlainGoroutine) → G g → Entry s.goroutines g r → Every O (goroutine_refs r)
-  pub awake : (g : ℕ) (r : PlainGoroutine) (o : ℕ) → Entry s.goroutines g r → In o (waited (waits_of r.mode)) → O o → G g
+  pub goroutines : (g : ℕ) (r : GoroutineView) → G g → Entry s.goroutines g r → Every O (goroutine_refs r)
+  pub awake : (g : ℕ) (r : GoroutineView) (o : ℕ) → Entry s.goroutines g r → In o (waited (waits_of r.mode)) → O o → G g
 
 -- where each outcome has a property, a choice of them has it
 module _ (P : List Change → Type 0) (none : P []) where
@@ -175,7 +175,7 @@ module _ (O G : ℕ → Type 0) (s : State) (c : Ground s O G) where
 
 -- the acting goroutine goes on
 module _ (O G : ℕ → Type 0) (a : Actor) (i : ActorIn O G a) where
-  pub good-stands : (f : PlainFrame) → FrameIn O f → AllGood O G (stands a f)
+  pub good-stands : (f : FrameView) → FrameIn O f → AllGood O G (stands a f)
   good-stands f h = ((i.number, goroutine-both O (standing a f) (frames-cons O f a.callers h i.callers) tt), tt)
 
   pub next-in : (vs : List Value) → Vals O vs → FrameIn O (next a.frame vs)
@@ -197,7 +197,7 @@ module _ (O G : ℕ → Type 0) (a : Actor) (i : ActorIn O G a) where
   pub good-dies : (kind : PanicKind) → AllGood O G (dies a kind)
   good-dies kind = (tt, tt)
 
-  pub good-blocks : (f : PlainFrame) (kind : WaitKind) (waits : List Wait) → FrameIn O f → Every O (wait_refs waits) → AllGood O G (blocks a f kind waits)
+  pub good-blocks : (f : FrameView) (kind : WaitKind) (waits : List Wait) → FrameIn O f → Every O (wait_refs waits) → AllGood O G (blocks a f kind waits)
   good-blocks f kind waits h k = ((i.number, frames-cons O f a.callers h i.callers, k), tt)
 
   pub good-at_reference : (act : ℕ → List Change) (v : Value) → Val O v → ((o : ℕ) → O o → AllGood O G (act o)) → AllGood O G (at_reference a act v)

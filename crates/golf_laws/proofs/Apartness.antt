@@ -9,7 +9,7 @@ use Rattle.golf_theory.proofs.MapEntries.{Entry-only, In-keys, Entry-keys}
 use Rattle.golf_theory.proofs.MapFinds.{find-Entry}
 use Rattle.golf_theory.proofs.Derivations.{Reached-least}
 use Rattle.golf_data.specs.declared.value.Object.{Object}
-use Rattle.golf_model.specs.Plain.{PlainGoroutine}
+use Rattle.golf_model.specs.Views.{GoroutineView}
 use Rattle.golf_model.specs.State.{State}
 use Rattle.golf_model.specs.Refs.{object_refs, goroutine_refs, has_finaliser, refs_of_goroutine}
 use Rattle.golf_model.specs.Reaching.{RefersTo, reach, sources}
@@ -32,23 +32,23 @@ module _ (s : State) (n : Numbered s) (gone : List ℕ) (ok : GoneOk s true gone
   abbrev pub Lost : ℕ → Type 0
   Lost o = (g : ℕ) × Gone g × In o (reach s (refs_of_goroutine (find g s.goroutines)))
 
-  refs-of : (g : ℕ) (r : PlainGoroutine) → Entry s.goroutines g r → refs_of_goroutine (find g s.goroutines) ≡ goroutine_refs r
+  refs-of : (g : ℕ) (r : GoroutineView) → Entry s.goroutines g r → refs_of_goroutine (find g s.goroutines) ≡ goroutine_refs r
   refs-of g r e = ap refs_of_goroutine (find-Entry s.goroutines g r n.goroutines_rise e)
 
-  pub lost-refs : (g o : ℕ) (r : PlainGoroutine) → Gone g → Entry s.goroutines g r → In o (goroutine_refs r) → Lost o
+  pub lost-refs : (g o : ℕ) (r : GoroutineView) → Gone g → Entry s.goroutines g r → In o (goroutine_refs r) → Lost o
   lost-refs g o r h e i = (g, h, reach-from s (refs_of_goroutine (find g s.goroutines)) o (subst (λ (xs : List ℕ). In o xs) (sym (refs-of g r e)) i))
 
   pub lost-step : (p o : ℕ) (x : Object) → Lost p → Entry s.objects p x → In o (object_refs x) → Lost o
   lost-step p o x l e i = (l.0, l.1, reach-step s (refs_of_goroutine (find l.0 s.goroutines)) p o x l.2 e i)
 
-  lost-bars : (o : ℕ) → Lost o → (has_finaliser s o ≡ false) × (has_object (live_list s) o ≡ false)
-  lost-bars o l = or_parts (has_finaliser s o) (has_object (live_list s) o) (ok.barred l.0 o l.1 l.2)
+  lost-prevents_removal : (o : ℕ) → Lost o → (has_finaliser s o ≡ false) × (has_object (live_list s) o ≡ false)
+  lost-prevents_removal o l = or_parts (has_finaliser s o) (has_object (live_list s) o) (ok.barred l.0 o l.1 l.2)
 
   pub lost-finalised : (o : ℕ) → Lost o → In o (keys s.finalisers) → ⊥
-  lost-finalised o l h = both_ways (has_finaliser s o) (lost-bars o l).0 (is_in-from o (keys s.finalisers) h)
+  lost-finalised o l h = both_ways (has_finaliser s o) (lost-prevents_removal o l).0 (is_in-from o (keys s.finalisers) h)
 
   lost-live : (o : ℕ) → Lost o → Live s (Node.AnObject o) → ⊥
-  lost-live o l h = both_ways (has_object (live_list s) o) (lost-bars o l).1 (has_object-complete (live_list s) o (live_list-complete s (Node.AnObject o) h))
+  lost-live o l h = both_ways (has_object (live_list s) o) (lost-prevents_removal o l).1 (has_object-complete (live_list s) o (live_list-complete s (Node.AnObject o) h))
 
   lost-given : (o : ℕ) → Lost o → o ≤ s.last_object
   lost-given o l =
@@ -69,7 +69,7 @@ module _ (s : State) (n : Numbered s) (gone : List ℕ) (ok : GoneOk s true gone
     pub outside : (o : ℕ) → Lost o → O o → ⊥
     pub unfinalised : (o f : ℕ) → Lost o → Entry t.finalisers o f → ⊥
     pub objects : (p : ℕ) (x : Object) → Lost p → Entry t.objects p x → Entry s.objects p x
-    pub goroutines : (g : ℕ) (r : PlainGoroutine) → Gone g → Entry t.goroutines g r → Entry s.goroutines g r
+    pub goroutines : (g : ℕ) (r : GoroutineView) → Gone g → Entry t.goroutines g r → Entry s.goroutines g r
 
   pub apart-start : Apart (LiveObject s) s
   apart-start = record {

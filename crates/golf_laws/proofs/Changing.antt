@@ -25,7 +25,7 @@ module _ (O G : ℕ → Type 0) where
   after-in n (Change.WakeAll p how) i o a = a
   after-in n (Change.PassOn h m) i o a = a
 
--- wider sets stay wider behind a change
+-- wider sets stay wider after a change
 module _ (O O' G F F' : ℕ → Type 0) (w : (o : ℕ) → O o → O' o) (u : (o : ℕ) → F o → F' o) (n : ℕ) where
   objects-wider : (c : Change) (o : ℕ) → objects_after c O n o → objects_after c O' n o
   objects-wider (Change.Make x) o a = elim a [ inl b ↦ inl (w o b) | inr b ↦ inr b ]

@@ -11,7 +11,7 @@ use Rattle.golf_data.specs.declared.goroutine.Ending.{Ending}
 use Rattle.golf_data.specs.declared.goroutine.Mode.{Mode}
 use Rattle.golf_data.specs.declared.goroutine.Queued.{Queued}
 use Rattle.golf_data.specs.declared.goroutine.Wait.{Wait}
-use Rattle.golf_model.specs.Plain.{PlainGoroutine}
+use Rattle.golf_model.specs.Views.{GoroutineView}
 use Rattle.golf_model.specs.Values.{value_refs, refs}
 use Rattle.golf_model.specs.State.{State}
 use Rattle.golf_model.specs.Waiting.{waits_of}
@@ -56,7 +56,7 @@ module _ (O G : ℕ → Type 0) (s : State) (c : Closed s O G) where
   }
 
   -- goroutines that change are members, and refer to members alone
-  closed-goroutines : (gs : List (ℕ × PlainGoroutine)) (n ticket : ℕ) → s.next_goroutine ≤ n → ((g : ℕ) (r : PlainGoroutine) → Entry gs g r → (G g × Every O (goroutine_refs r)) ⊎ Entry s.goroutines g r) → Closed (record s { goroutines = gs; next_goroutine = n; next_ticket = ticket }) O G
+  closed-goroutines : (gs : List (ℕ × GoroutineView)) (n ticket : ℕ) → s.next_goroutine ≤ n → ((g : ℕ) (r : GoroutineView) → Entry gs g r → (G g × Every O (goroutine_refs r)) ⊎ Entry s.goroutines g r) → Closed (record s { goroutines = gs; next_goroutine = n; next_ticket = ticket }) O G
   closed-goroutines gs n ticket l h = record {
     globals = c.globals;
     queue = c.queue;
@@ -101,7 +101,7 @@ module _ (O G : ℕ → Type 0) (s : State) (c : Closed s O G) where
   }
 
   -- one goroutine is replaced
-  closed-put : (g : ℕ) (r : PlainGoroutine) (ticket : ℕ) → G g → Every O (goroutine_refs r) → Closed (record s { goroutines = put g r s.goroutines; next_ticket = ticket }) O G
+  closed-put : (g : ℕ) (r : GoroutineView) (ticket : ℕ) → G g → Every O (goroutine_refs r) → Closed (record s { goroutines = put g r s.goroutines; next_ticket = ticket }) O G
   closed-put g r ticket i a = closed-goroutines (put g r s.goroutines) s.next_goroutine ticket (omega arith)
       (λ h q e. elim (Entry-put g r s.goroutines h q e) [ inl b ↦ inl (subst G (sym b.0) i, subst (λ z. Every O (goroutine_refs z)) (sym b.1) a) | inr b ↦ inr b ])
 
@@ -112,24 +112,24 @@ module _ (O G : ℕ → Type 0) (s : State) (c : Closed s O G) where
   closed-wake_all : (o : ℕ) (how : Waking) → O o → GoodWaking O how → Closed (record s { goroutines = map_values (λ g. woken_by how o) s.goroutines }) O G
   closed-wake_all o how i a = closed-goroutines (map_values (λ g. woken_by how o) s.goroutines) s.next_goroutine s.next_ticket (omega arith) each
     where
-      case : (g : ℕ) (r : PlainGoroutine) → Entry s.goroutines g r → Woken o r (woken_by how o r) → (G g × Every O (goroutine_refs (woken_by how o r))) ⊎ Entry s.goroutines g (woken_by how o r)
+      case : (g : ℕ) (r : GoroutineView) → Entry s.goroutines g r → Woken o r (woken_by how o r) → (G g × Every O (goroutine_refs (woken_by how o r))) ⊎ Entry s.goroutines g (woken_by how o r)
       case g r e (inl same) = inr (subst (λ z. Entry s.goroutines g z) (sym same) e)
       case g r e (inr w) = let m = c.awake g r o e w.0 i in inl (m, woken-in O how o r a (c.goroutines g r m e))
 
-      each : (g : ℕ) (q : PlainGoroutine) → Entry (map_values (λ g. woken_by how o) s.goroutines) g q → (G g × Every O (goroutine_refs q)) ⊎ Entry s.goroutines g q
+      each : (g : ℕ) (q : GoroutineView) → Entry (map_values (λ g. woken_by how o) s.goroutines) g q → (G g × Every O (goroutine_refs q)) ⊎ Entry s.goroutines g q
       each g q e =
           let r = Entry-map_values_back (λ g. woken_by how o) s.goroutines g q e in
           subst (λ z. (G g × Every O (goroutine_refs z)) ⊎ Entry s.goroutines g z) (sym r.2) (case g r.0 r.1 (woken-cases how o r.0))
 
 -- passing on
 module _ (O G : ℕ → Type 0) (s : State) (c : Closed s O G) (g m : ℕ) (i : G g) (j : O m) where
-  closed-pass_on_by : (locked : Bool) (r : PlainGoroutine) → Every O (goroutine_refs r) → Closed (pass_on_by locked g m r s) O G
+  closed-pass_on_by : (locked : Bool) (r : GoroutineView) → Every O (goroutine_refs r) → Closed (pass_on_by locked g m r s) O G
   closed-pass_on_by false r a = closed-replace O G (become g (released r) s) (closed-put O G s c g (released r) s.next_ticket i (released-in O r a)) m (Object.Mutex true) tt
   closed-pass_on_by true r a =
-      let q : PlainGoroutine = record r { mode = moved m s.next_ticket r.mode } in
+      let q : GoroutineView = record r { mode = moved m s.next_ticket r.mode } in
       closed-put O G s c g q (s.next_ticket + 1) i (goroutine-both O q (goroutine-frames O r a) (moved-in O m s.next_ticket r.mode j (goroutine-waits O r a)))
 
-  closed-pass_on_at : (x : Object) (r : PlainGoroutine) → Every O (goroutine_refs r) → Closed (pass_on_at x g m r s) O G
+  closed-pass_on_at : (x : Object) (r : GoroutineView) → Every O (goroutine_refs r) → Closed (pass_on_at x g m r s) O G
   closed-pass_on_at (Object.Struct fields) r a = c
   closed-pass_on_at (Object.Slice elements) r a = c
   closed-pass_on_at (Object.Chan d) r a = c
@@ -138,7 +138,7 @@ module _ (O G : ℕ → Type 0) (s : State) (c : Closed s O G) (g m : ℕ) (i : 
   closed-pass_on_at (Object.Rw n) r a = c
   closed-pass_on_at (Object.Cond v) r a = c
 
-  closed-pass_on : (r : Option PlainGoroutine) (x : Option Object) → ((q : PlainGoroutine) → r ≡ Some q → Every O (goroutine_refs q)) → Closed (pass_on g m r x s) O G
+  closed-pass_on : (r : Option GoroutineView) (x : Option Object) → ((q : GoroutineView) → r ≡ Some q → Every O (goroutine_refs q)) → Closed (pass_on g m r x s) O G
   closed-pass_on None x h = c
   closed-pass_on (Some r) None h = c
   closed-pass_on (Some r) (Some x) h = closed-pass_on_at x r (h r refl)
@@ -151,7 +151,7 @@ closed_change O G F s (Change.Replace p x) h a = closed-replace O G s h p x a.1
 closed_change O G F s (Change.SetGlobal i v) h a = closed-rest O G s h (slice_set s.globals i v) s.queue s.output s.recorded (vals-set O s.globals i v a h.globals) h.queue
 closed_change O G F s (Change.Become g r) h a = closed-put O G s h g r s.next_ticket a.0 a.1
 closed_change O G F s (Change.Block g kind line waits r) h a =
-    let q : PlainGoroutine = record r { mode = Mode.Blocked kind line waits s.next_ticket } in
+    let q : GoroutineView = record r { mode = Mode.Blocked kind line waits s.next_ticket } in
     closed-put O G s h g q (s.next_ticket + 1) a.0 (goroutine-both O q a.1 a.2)
 closed_change O G F s (Change.Spawn r) h a = closed-goroutines O G s h (add s.next_goroutine r s.goroutines) (s.next_goroutine + 1) s.next_ticket (omega arith)
     (λ g q e. elim (Entry-add s.next_goroutine r s.goroutines g q e) [ inl b ↦ inl (subst G (sym b.0) (h.new_goroutines s.next_goroutine (omega arith)), subst (λ z. Every O (goroutine_refs z)) (sym b.1) a) | inr b ↦ inr b ])

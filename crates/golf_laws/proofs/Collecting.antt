@@ -11,7 +11,7 @@ use Rattle.golf_theory.proofs.LeastLaws.{least_closed}
 use Rattle.golf_data.specs.declared.value.Object.{Object}
 use Rattle.golf_data.specs.declared.goroutine.Queued.{Queued}
 use Rattle.golf_data.specs.declared.goroutine.Wait.{Wait}
-use Rattle.golf_model.specs.Plain.{PlainGoroutine}
+use Rattle.golf_model.specs.Views.{GoroutineView}
 use Rattle.golf_model.specs.Values.{value_refs, refs}
 use Rattle.golf_model.specs.State.{State}
 use Rattle.golf_model.specs.Waiting.{waits_of}
@@ -25,7 +25,7 @@ In-refs_if true o xs t h = h
 In-refs_if false o xs t h = cc
 
 -- the references of an entry that passes are among those of all that pass
-pub In-goroutine_refs_where : (test : ℕ → Bool) (es : List (ℕ × PlainGoroutine)) (g o : ℕ) (r : PlainGoroutine) → Entry es g r → test g ≡ true → In o (goroutine_refs r) → In o (goroutine_refs_where test es)
+pub In-goroutine_refs_where : (test : ℕ → Bool) (es : List (ℕ × GoroutineView)) (g o : ℕ) (r : GoroutineView) → Entry es g r → test g ≡ true → In o (goroutine_refs r) → In o (goroutine_refs_where test es)
 In-goroutine_refs_where test [] g o r h t i = absurd h
 In-goroutine_refs_where test (e ∷ es) g o r (inl h) t i =
     In-left o (refs_if (test e.0) (goroutine_refs e.1)) _ (In-refs_if (test e.0) o (goroutine_refs e.1) (ap test (sym h.0) ∙ t) (subst (λ z. In o (goroutine_refs z)) h.1 i))
@@ -48,7 +48,7 @@ unfolding reach
 reach-from s xs o h = least_closed (is_near s xs) (xs ++ refs_where (λ p. true) s.objects) o (In-left o xs _ h) (or_left (is_in o xs) _ (is_in-from o xs h))
 
 -- what a goroutine waits on is reached
-pub waited-reached : (s : State) (g : ℕ) (r : PlainGoroutine) (o : ℕ) → Entry s.goroutines g r → In o (waited (waits_of r.mode)) → In o (reach s (sources s []))
+pub waited-reached : (s : State) (g : ℕ) (r : GoroutineView) (o : ℕ) → Entry s.goroutines g r → In o (waited (waits_of r.mode)) → In o (reach s (sources s []))
 waited-reached s g r o e w =
     reach-from s (sources s []) o (In-right o (refs s.globals) _ (In-right o (queue_refs s.queue) _
     (In-left o (goroutine_refs_where (λ h. not (is_in h [])) s.goroutines) _

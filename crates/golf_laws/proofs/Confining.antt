@@ -4,7 +4,7 @@ use Rattle.std.proofs.lemmas.Bool.{eqb-true, not-false}
 use Rattle.golf_theory.specs.Maps.{find}
 use Rattle.golf_theory.proofs.Agreements.{agree-same, agree-then, agree-put, agree-add, agree-insert, agree-only, agree-map_values}
 use Rattle.golf_data.specs.declared.value.Object.{Object}
-use Rattle.golf_model.specs.Plain.{PlainGoroutine}
+use Rattle.golf_model.specs.Views.{GoroutineView}
 use Rattle.golf_model.specs.State.{State}
 use Rattle.golf_model.specs.Waking.{woken_by}
 use Rattle.golf_model.specs.Changes.{Change, apply, pass_on, pass_on_at, pass_on_by}
@@ -26,11 +26,11 @@ module _ (O G : ℕ → Type 0) where
   but_one : (P : ℕ → Type 0) (g : ℕ) → P g → (k : ℕ) → not (k == g) ≡ false → P k
   but_one P g p k f = subst P (sym (eqb-true k g (not-false (k == g) f))) p
 
-  confined-pass_on_by : (s : State) (g m : ℕ) (locked : Bool) (r : PlainGoroutine) → G g → O m → Confined O G s (pass_on_by locked g m r s)
+  confined-pass_on_by : (s : State) (g m : ℕ) (locked : Bool) (r : GoroutineView) → G g → O m → Confined O G s (pass_on_by locked g m r s)
   confined-pass_on_by s g m false r i j = record { objects = agree-put O m (Object.Mutex true) s.objects j; finalisers = agree-same O s.finalisers; goroutines = agree-put G g _ s.goroutines i }
   confined-pass_on_by s g m true r i j = record { objects = agree-same O s.objects; finalisers = agree-same O s.finalisers; goroutines = agree-put G g _ s.goroutines i }
 
-  confined-pass_on_at : (s : State) (g m : ℕ) (x : Object) (r : PlainGoroutine) → G g → O m → Confined O G s (pass_on_at x g m r s)
+  confined-pass_on_at : (s : State) (g m : ℕ) (x : Object) (r : GoroutineView) → G g → O m → Confined O G s (pass_on_at x g m r s)
   confined-pass_on_at s g m (Object.Struct fields) r i j = confined-same s
   confined-pass_on_at s g m (Object.Slice elements) r i j = confined-same s
   confined-pass_on_at s g m (Object.Chan d) r i j = confined-same s
@@ -39,7 +39,7 @@ module _ (O G : ℕ → Type 0) where
   confined-pass_on_at s g m (Object.Rw n) r i j = confined-same s
   confined-pass_on_at s g m (Object.Cond v) r i j = confined-same s
 
-  confined-pass_on : (s : State) (g m : ℕ) (r : Option PlainGoroutine) (x : Option Object) → G g → O m → Confined O G s (pass_on g m r x s)
+  confined-pass_on : (s : State) (g m : ℕ) (r : Option GoroutineView) (x : Option Object) → G g → O m → Confined O G s (pass_on g m r x s)
   confined-pass_on s g m None x i j = confined-same s
   confined-pass_on s g m (Some r) None i j = confined-same s
   confined-pass_on s g m (Some r) (Some x) i j = confined-pass_on_at s g m x r i j

@@ -10,7 +10,7 @@ use Rattle.golf_theory.proofs.MapCuts.{only-same}
 use Rattle.golf_theory.proofs.Derivations.{Reached-root, Reached-step, Reached-least, Reached-over}
 use Rattle.golf_data.specs.declared.value.Object.{Object}
 use Rattle.golf_data.specs.declared.goroutine.Queued.{Queued}
-use Rattle.golf_model.specs.Plain.{PlainGoroutine}
+use Rattle.golf_model.specs.Views.{GoroutineView}
 use Rattle.golf_model.specs.Values.{refs}
 use Rattle.golf_model.specs.State.{State}
 use Rattle.golf_model.specs.Refs.{object_refs, goroutine_refs, queue_refs, goroutine_refs_where, has_finaliser}
@@ -67,7 +67,7 @@ module _ (stays kept : ℕ → Bool) (t : State) where
   cut-queue : (o : ℕ) → In o (queue_refs t.queue) → In o (sources (cut stays kept t) [])
   cut-queue o h = In-right o (refs t.globals) _ (In-left o (queue_refs t.queue) _ h)
 
-  cut-goroutine : (o g : ℕ) (r : PlainGoroutine) → Entry t.goroutines g r → stays g ≡ true → In o (goroutine_refs r) → In o (sources (cut stays kept t) [])
+  cut-goroutine : (o g : ℕ) (r : GoroutineView) → Entry t.goroutines g r → stays g ≡ true → In o (goroutine_refs r) → In o (sources (cut stays kept t) [])
   cut-goroutine o g r e s i = In-right o (refs t.globals) _ (In-right o (queue_refs t.queue) _
       (In-left o (goroutine_refs_where (λ h. not (is_in h [])) (only stays t.goroutines)) _
       (In-goroutine_refs_where (λ h. not (is_in h [])) (only stays t.goroutines) g o r (Entry-only_old stays t.goroutines g r s e) refl i)))
@@ -87,7 +87,7 @@ module _ (s : State) (n : Numbered s) (gone : List ℕ) (ok : GoneOk s true gone
   root : (o : ℕ) → In o (sources (cut (stays_by gone) kept t) []) → kept o ≡ true → There o
   root o h k = inl (Reached-root (λ p. In p (sources (cut (stays_by gone) kept t) [])) (RefersTo (cut (stays_by gone) kept t)) o h, k)
 
-  there-goroutine : (o g : ℕ) (r : PlainGoroutine) → Entry t.goroutines g r → In o (goroutine_refs r) → There o
+  there-goroutine : (o g : ℕ) (r : GoroutineView) → Entry t.goroutines g r → In o (goroutine_refs r) → There o
   there-goroutine o g r e i = elim (cases_Bool (stays_by gone g)) [
     | inl m ↦ root o (cut-goroutine (stays_by gone) kept t o g r e m i) (Every-at (λ p. kept p ≡ true) (goroutine_refs r) o (f.goroutines g r m e) i)
     | inr m ↦ let h : Gone s n gone ok g = In-from g gone (not-false (is_in g gone) m) in inr (lost-refs s n gone ok g o r h (a.goroutines g r h e) i)

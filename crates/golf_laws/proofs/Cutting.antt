@@ -6,7 +6,7 @@ use Rattle.golf_theory.proofs.MapFinds.{find-only}
 use Rattle.golf_laws.specs.Cutting.{KeepsFresh}
 use Rattle.golf_data.specs.declared.value.Object.{Object}
 use Rattle.golf_data.specs.declared.goroutine.Mode.{Mode}
-use Rattle.golf_model.specs.Plain.{PlainGoroutine}
+use Rattle.golf_model.specs.Views.{GoroutineView}
 use Rattle.golf_model.specs.State.{State}
 use Rattle.golf_model.specs.Waking.{woken_by, released}
 use Rattle.golf_model.specs.Changes.{Change, apply, apply_all, make, spawn, moved, pass_on, pass_on_at, pass_on_by}
@@ -15,7 +15,7 @@ use Rattle.golf_laws.specs.Invariant.{Good, Sound, last_after, finalisable_after
 use Rattle.golf_laws.proofs.Changing.{fresh-after, rest-sound}
 
 -- two states that differ in objects and goroutines alone
-pub parts : (t : State) (os ps : List (ℕ × Object)) (gs hs : List (ℕ × PlainGoroutine)) → os ≡ ps → gs ≡ hs
+pub parts : (t : State) (os ps : List (ℕ × Object)) (gs hs : List (ℕ × GoroutineView)) → os ≡ ps → gs ≡ hs
     → ◌≡◌ {A = State} (record t { objects = os; goroutines = gs }) (record t { objects = ps; goroutines = hs })
 parts t os ps gs hs a b = λ i. record t { objects = a i; goroutines = b i }
 
@@ -26,13 +26,13 @@ module _ (stays kept : ℕ → Bool) where
   abbrev pub Stays : ℕ → Type 0
   Stays g = stays g ≡ true
 
-  cut-pass_on_by : (s : State) (g m : ℕ) (locked : Bool) (r : PlainGoroutine) → pass_on_by locked g m r (cut stays kept s) ≡ cut stays kept (pass_on_by locked g m r s)
+  cut-pass_on_by : (s : State) (g m : ℕ) (locked : Bool) (r : GoroutineView) → pass_on_by locked g m r (cut stays kept s) ≡ cut stays kept (pass_on_by locked g m r s)
   cut-pass_on_by s g m false r = parts s _ _ _ _ (sym (only-put kept m (Object.Mutex true) s.objects)) (sym (only-put stays g (released r) s.goroutines))
   cut-pass_on_by s g m true r =
-      let q : PlainGoroutine = record r { mode = moved m s.next_ticket r.mode } in
+      let q : GoroutineView = record r { mode = moved m s.next_ticket r.mode } in
       parts (record s { next_ticket = s.next_ticket + 1 }) _ _ _ _ refl (sym (only-put stays g q s.goroutines))
 
-  cut-pass_on_at : (s : State) (g m : ℕ) (x : Object) (r : PlainGoroutine) → pass_on_at x g m r (cut stays kept s) ≡ cut stays kept (pass_on_at x g m r s)
+  cut-pass_on_at : (s : State) (g m : ℕ) (x : Object) (r : GoroutineView) → pass_on_at x g m r (cut stays kept s) ≡ cut stays kept (pass_on_at x g m r s)
   cut-pass_on_at s g m (Object.Struct fields) r = refl
   cut-pass_on_at s g m (Object.Slice elements) r = refl
   cut-pass_on_at s g m (Object.Chan d) r = refl
@@ -41,7 +41,7 @@ module _ (stays kept : ℕ → Bool) where
   cut-pass_on_at s g m (Object.Rw n) r = refl
   cut-pass_on_at s g m (Object.Cond v) r = refl
 
-  cut-pass_on : (s : State) (g m : ℕ) (r : Option PlainGoroutine) (x : Option Object) → pass_on g m r x (cut stays kept s) ≡ cut stays kept (pass_on g m r x s)
+  cut-pass_on : (s : State) (g m : ℕ) (r : Option GoroutineView) (x : Option Object) → pass_on g m r x (cut stays kept s) ≡ cut stays kept (pass_on g m r x s)
   cut-pass_on s g m None x = refl
   cut-pass_on s g m (Some r) None = refl
   cut-pass_on s g m (Some r) (Some x) = cut-pass_on_at s g m x r
@@ -53,7 +53,7 @@ module _ (stays kept : ℕ → Bool) where
   cut_change F s (Change.SetGlobal i v) f a = refl
   cut_change F s (Change.Become g r) f a = parts s _ _ _ _ refl (sym (only-put stays g r s.goroutines))
   cut_change F s (Change.Block g kind line waits r) f a =
-      let q : PlainGoroutine = record r { mode = Mode.Blocked kind line waits s.next_ticket } in
+      let q : GoroutineView = record r { mode = Mode.Blocked kind line waits s.next_ticket } in
       parts (record s { next_ticket = s.next_ticket + 1 }) _ _ _ _ refl (sym (only-put stays g q s.goroutines))
   cut_change F s (Change.Spawn r) f a = parts (spawn r s) _ _ _ _ refl (sym (only-add stays s.next_goroutine r s.goroutines (f.goroutines s.next_goroutine (omega arith))))
   cut_change F s (Change.Leave g) f a = parts s _ _ _ _ refl (only-swap (λ h. not (h == g)) stays s.goroutines)
@@ -64,16 +64,16 @@ module _ (stays kept : ℕ → Bool) where
   cut_change F s (Change.Output bytes) f a = refl
   cut_change F s (Change.WakeAll o how) f a = parts s _ _ _ _ refl (sym (only-map_values (λ g. woken_by how o) stays s.goroutines))
   cut_change F s (Change.PassOn g m) f a =
-      ap (λ (r : Option PlainGoroutine). pass_on g m r (find m (only kept s.objects)) (cut stays kept s)) (find-only stays s.goroutines g a.0)
+      ap (λ (r : Option GoroutineView). pass_on g m r (find m (only kept s.objects)) (cut stays kept s)) (find-only stays s.goroutines g a.0)
       ∙ ap (λ (x : Option Object). pass_on g m (find g s.goroutines) x (cut stays kept s)) (find-only kept s.objects m a.1)
       ∙ cut-pass_on s g m (find g s.goroutines) (find m s.objects)
 
 -- numbers are given in rising order
-grows-by : (s : State) (g m : ℕ) (locked : Bool) (r : PlainGoroutine) → (s.last_object ≤ (pass_on_by locked g m r s).last_object) × (s.next_goroutine ≤ (pass_on_by locked g m r s).next_goroutine)
+grows-by : (s : State) (g m : ℕ) (locked : Bool) (r : GoroutineView) → (s.last_object ≤ (pass_on_by locked g m r s).last_object) × (s.next_goroutine ≤ (pass_on_by locked g m r s).next_goroutine)
 grows-by s g m true r = (omega arith, omega arith)
 grows-by s g m false r = (omega arith, omega arith)
 
-grows-at : (s : State) (g m : ℕ) (x : Object) (r : PlainGoroutine) → (s.last_object ≤ (pass_on_at x g m r s).last_object) × (s.next_goroutine ≤ (pass_on_at x g m r s).next_goroutine)
+grows-at : (s : State) (g m : ℕ) (x : Object) (r : GoroutineView) → (s.last_object ≤ (pass_on_at x g m r s).last_object) × (s.next_goroutine ≤ (pass_on_at x g m r s).next_goroutine)
 grows-at s g m (Object.Struct fields) r = (omega arith, omega arith)
 grows-at s g m (Object.Slice elements) r = (omega arith, omega arith)
 grows-at s g m (Object.Chan d) r = (omega arith, omega arith)
@@ -82,7 +82,7 @@ grows-at s g m (Object.Group k) r = (omega arith, omega arith)
 grows-at s g m (Object.Rw k) r = (omega arith, omega arith)
 grows-at s g m (Object.Cond v) r = (omega arith, omega arith)
 
-grows-pass_on : (s : State) (g m : ℕ) (r : Option PlainGoroutine) (x : Option Object) → (s.last_object ≤ (pass_on g m r x s).last_object) × (s.next_goroutine ≤ (pass_on g m r x s).next_goroutine)
+grows-pass_on : (s : State) (g m : ℕ) (r : Option GoroutineView) (x : Option Object) → (s.last_object ≤ (pass_on g m r x s).last_object) × (s.next_goroutine ≤ (pass_on g m r x s).next_goroutine)
 grows-pass_on s g m None x = (omega arith, omega arith)
 grows-pass_on s g m (Some r) None = (omega arith, omega arith)
 grows-pass_on s g m (Some r) (Some x) = grows-at s g m x r

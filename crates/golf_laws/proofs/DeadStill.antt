@@ -7,7 +7,7 @@ use Rattle.golf_theory.proofs.MapEntries.{Entry-Every, In-keys}
 use Rattle.golf_theory.proofs.MapFinds.{Entry-below}
 use Rattle.golf_theory.proofs.Derivations.{Reached-root, Reached-step}
 use Rattle.golf_data.specs.declared.value.Object.{Object}
-use Rattle.golf_model.specs.Plain.{PlainGoroutine}
+use Rattle.golf_model.specs.Views.{GoroutineView}
 use Rattle.golf_model.specs.Values.{refs}
 use Rattle.golf_model.specs.State.{State}
 use Rattle.golf_model.specs.Waiting.{waits_of}
@@ -39,10 +39,10 @@ module _ (s : State) (n : Numbered s) where
   object-given : (p : ℕ) (x : Object) → Entry s.objects p x → p < s.last_object + 1
   object-given p x e = Entry-below (s.last_object + 1) s.objects p x n.objects_below e
 
-  pub goroutine-given : (g : ℕ) (r : PlainGoroutine) → Entry s.goroutines g r → g < s.next_goroutine
+  pub goroutine-given : (g : ℕ) (r : GoroutineView) → Entry s.goroutines g r → g < s.next_goroutine
   goroutine-given g r e = Entry-below s.next_goroutine s.goroutines g r n.goroutines_below e
 
-  waited-given : (g : ℕ) (r : PlainGoroutine) (o : ℕ) → Entry s.goroutines g r → In o (waited (waits_of r.mode)) → o ≤ s.last_object
+  waited-given : (g : ℕ) (r : GoroutineView) (o : ℕ) → Entry s.goroutines g r → In o (waited (waits_of r.mode)) → o ≤ s.last_object
   waited-given g r o e w =
       let a : UpTo s.last_object (goroutine_refs r) = Entry-Every (λ h q. UpTo s.last_object (goroutine_refs q)) s.goroutines n.in_goroutines g r e in
       waits-object (λ p. p ≤ s.last_object) (waits_of r.mode) o (goroutine-waits (λ p. p ≤ s.last_object) r a) w

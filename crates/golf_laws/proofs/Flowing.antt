@@ -11,7 +11,7 @@ use Rattle.golf_data.specs.declared.value.Object.{Object}
 use Rattle.golf_data.specs.declared.goroutine.Ending.{Ending}
 use Rattle.golf_data.specs.declared.goroutine.Mode.{Mode}
 use Rattle.golf_data.specs.declared.goroutine.Queued.{Queued}
-use Rattle.golf_model.specs.Plain.{PlainGoroutine}
+use Rattle.golf_model.specs.Views.{GoroutineView}
 use Rattle.golf_model.specs.Values.{refs}
 use Rattle.golf_model.specs.State.{State}
 use Rattle.golf_model.specs.Waking.{woken_by, released}
@@ -32,7 +32,7 @@ pub record Flow (O G : ℕ → Type 0) (s : State) : Type 0 where
   pub queue : Every O (queue_refs s.queue)
   pub finalised : (p f : ℕ) → Entry s.finalisers p f → O p
   pub objects : (p : ℕ) (x : Object) → O p → Entry s.objects p x → Every O (object_refs x)
-  pub goroutines : (g : ℕ) (r : PlainGoroutine) → G g → Entry s.goroutines g r → Every O (goroutine_refs r)
+  pub goroutines : (g : ℕ) (r : GoroutineView) → G g → Entry s.goroutines g r → Every O (goroutine_refs r)
   pub new_objects : (o : ℕ) → s.last_object < o → O o
   pub new_goroutines : (g : ℕ) → s.next_goroutine ≤ g → G g
 
@@ -48,7 +48,7 @@ module _ (O G : ℕ → Type 0) (s : State) (c : Flow O G s) where
     new_goroutines = c.new_goroutines;
   }
 
-  flow-goroutines : (gs : List (ℕ × PlainGoroutine)) (n ticket : ℕ) → s.next_goroutine ≤ n → ((g : ℕ) (r : PlainGoroutine) → G g → Entry gs g r → Every O (goroutine_refs r) ⊎ Entry s.goroutines g r) → Flow O G (record s { goroutines = gs; next_goroutine = n; next_ticket = ticket })
+  flow-goroutines : (gs : List (ℕ × GoroutineView)) (n ticket : ℕ) → s.next_goroutine ≤ n → ((g : ℕ) (r : GoroutineView) → G g → Entry gs g r → Every O (goroutine_refs r) ⊎ Entry s.goroutines g r) → Flow O G (record s { goroutines = gs; next_goroutine = n; next_ticket = ticket })
   flow-goroutines gs n ticket l h = record {
     globals = c.globals;
     queue = c.queue;
@@ -81,7 +81,7 @@ module _ (O G : ℕ → Type 0) (s : State) (c : Flow O G s) where
     new_goroutines = c.new_goroutines;
   }
 
-  flow-put : (g : ℕ) (r : PlainGoroutine) (ticket : ℕ) → Every O (goroutine_refs r) → Flow O G (record s { goroutines = put g r s.goroutines; next_ticket = ticket })
+  flow-put : (g : ℕ) (r : GoroutineView) (ticket : ℕ) → Every O (goroutine_refs r) → Flow O G (record s { goroutines = put g r s.goroutines; next_ticket = ticket })
   flow-put g r ticket a = flow-goroutines (put g r s.goroutines) s.next_goroutine ticket (omega arith)
       (λ h q m e. elim (Entry-put g r s.goroutines h q e) [ inl b ↦ inl (subst (λ z. Every O (goroutine_refs z)) (sym b.1) a) | inr b ↦ inr b ])
 
@@ -90,13 +90,13 @@ module _ (O G : ℕ → Type 0) (s : State) (c : Flow O G s) where
       (λ q y e. elim (Entry-put p x s.objects q y e) [ inl b ↦ inl (subst (λ z. Every O (object_refs z)) (sym b.1) a) | inr b ↦ inr b ])
 
 module _ (O G : ℕ → Type 0) (s : State) (c : Flow O G s) (g m : ℕ) (i : G g) (j : O m) where
-  flow-pass_on_by : (locked : Bool) (r : PlainGoroutine) → Every O (goroutine_refs r) → Flow O G (pass_on_by locked g m r s)
+  flow-pass_on_by : (locked : Bool) (r : GoroutineView) → Every O (goroutine_refs r) → Flow O G (pass_on_by locked g m r s)
   flow-pass_on_by false r a = flow-replace O G (become g (released r) s) (flow-put O G s c g (released r) s.next_ticket (released-in O r a)) m (Object.Mutex true) tt
   flow-pass_on_by true r a =
-      let q : PlainGoroutine = record r { mode = moved m s.next_ticket r.mode } in
+      let q : GoroutineView = record r { mode = moved m s.next_ticket r.mode } in
       flow-put O G s c g q (s.next_ticket + 1) (goroutine-both O q (goroutine-frames O r a) (moved-in O m s.next_ticket r.mode j (goroutine-waits O r a)))
 
-  flow-pass_on_at : (x : Object) (r : PlainGoroutine) → Every O (goroutine_refs r) → Flow O G (pass_on_at x g m r s)
+  flow-pass_on_at : (x : Object) (r : GoroutineView) → Every O (goroutine_refs r) → Flow O G (pass_on_at x g m r s)
   flow-pass_on_at (Object.Struct fields) r a = c
   flow-pass_on_at (Object.Slice elements) r a = c
   flow-pass_on_at (Object.Chan d) r a = c
@@ -105,7 +105,7 @@ module _ (O G : ℕ → Type 0) (s : State) (c : Flow O G s) (g m : ℕ) (i : G 
   flow-pass_on_at (Object.Rw n) r a = c
   flow-pass_on_at (Object.Cond v) r a = c
 
-  flow-pass_on : (r : Option PlainGoroutine) (x : Option Object) → ((q : PlainGoroutine) → r ≡ Some q → Every O (goroutine_refs q)) → Flow O G (pass_on g m r x s)
+  flow-pass_on : (r : Option GoroutineView) (x : Option Object) → ((q : GoroutineView) → r ≡ Some q → Every O (goroutine_refs q)) → Flow O G (pass_on g m r x s)
   flow-pass_on None x h = c
   flow-pass_on (Some r) None h = c
   flow-pass_on (Some r) (Some x) h = flow-pass_on_at x r (h r refl)
@@ -118,7 +118,7 @@ flow_change O G F s (Change.Replace p x) h a = flow-replace O G s h p x a.1
 flow_change O G F s (Change.SetGlobal i v) h a = flow-rest O G s h (slice_set s.globals i v) s.queue s.output s.recorded (vals-set O s.globals i v a h.globals) h.queue
 flow_change O G F s (Change.Become g r) h a = flow-put O G s h g r s.next_ticket a.1
 flow_change O G F s (Change.Block g kind line waits r) h a =
-    let q : PlainGoroutine = record r { mode = Mode.Blocked kind line waits s.next_ticket } in
+    let q : GoroutineView = record r { mode = Mode.Blocked kind line waits s.next_ticket } in
     flow-put O G s h g q (s.next_ticket + 1) (goroutine-both O q a.1 a.2)
 flow_change O G F s (Change.Spawn r) h a = flow-goroutines O G s h (add s.next_goroutine r s.goroutines) (s.next_goroutine + 1) s.next_ticket (omega arith)
     (λ g q m e. elim (Entry-add s.next_goroutine r s.goroutines g q e) [ inl b ↦ inl (subst (λ z. Every O (goroutine_refs z)) (sym b.1) a) | inr b ↦ inr b ])

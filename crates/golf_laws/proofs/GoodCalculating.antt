@@ -3,7 +3,7 @@ use Rattle.std.proofs.Common.{ℕ, ◌+◌, Bool, not, List, ◌∷◌, slice_ge
 use Rattle.std.specs.Int.{w64, int_wrapping_neg}
 use Rattle.golf_data.specs.declared.value.Value.{Value}
 use Rattle.golf_data.specs.declared.goroutine.PanicKind.{PanicKind}
-use Rattle.golf_model.specs.Values.{int_of, bool_of, is_zero, same_value}
+use Rattle.golf_model.specs.Values.{int_of, bool_of, is_zero, equality}
 use Rattle.golf_model.specs.State.{State}
 use Rattle.golf_model.specs.Changes.{Change}
 use Rattle.golf_model.specs.Acting.{Actor}
@@ -64,7 +64,7 @@ module _ (O G : ℕ → Type 0) (s : State) (c : Ground s O G) (a : Actor) (i : 
   good-compares test = good-two_ints _ (λ m n rest r. good-goes O G a i (Value.Bool (test m n) ∷ rest) r)
 
   pub good-equates : AllGood O G (equates a)
-  good-equates = all-taking_two (AllGood O G) tt O _ a.frame.operands ops (λ x y rest p q r. good-goes O G a i (Value.Bool (same_value x y) ∷ rest) r)
+  good-equates = all-taking_two (AllGood O G) tt O _ a.frame.operands ops (λ x y rest p q r. all-on_some (AllGood O G) tt _ (equality x y) (λ b e. good-goes O G a i (Value.Bool b ∷ rest) r))
 
   pub good-jumps_unless : (target : ℕ) → AllGood O G (jumps_unless a target)
   good-jumps_unless target = all-taking_one (AllGood O G) tt O _ a.frame.operands ops

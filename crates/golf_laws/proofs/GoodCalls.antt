@@ -15,7 +15,7 @@ use Rattle.golf_data.specs.declared.goroutine.Leaving.{Leaving}
 use Rattle.golf_data.specs.declared.goroutine.Mode.{Mode}
 use Rattle.golf_data.specs.declared.goroutine.PanicKind.{PanicKind}
 use Rattle.golf_data.specs.declared.goroutine.Queued.{Queued}
-use Rattle.golf_model.specs.Plain.{PlainFrame, PlainGoroutine}
+use Rattle.golf_model.specs.Views.{FrameView, GoroutineView}
 use Rattle.golf_model.specs.Values.{refs}
 use Rattle.golf_model.specs.State.{State, call_frame, opened}
 use Rattle.golf_model.specs.Waking.{unwinding}
@@ -29,7 +29,7 @@ use Rattle.golf_laws.specs.Invariant.{AllGood, Nothing, Sound, ActorIn, FrameIn}
 use Rattle.golf_laws.proofs.RefLaws.{Val, Vals, vals-cons, vals-append, vals-replicate, frames-cons, frames-head, frames-tail, goroutine-both}
 use Rattle.golf_laws.proofs.Waking.{unwinding-in}
 use Rattle.golf_laws.proofs.Goodness.{all_good-append, good-sound}
-use Rattle.golf_laws.proofs.Acting.{Ground, all-on_some, all-choose, all-taking_one, all-taking, all-at_reference_or, good-stands, good-goes, good-dies, good-panics, next-in}
+use Rattle.golf_laws.proofs.Acting.{Ground, all-on_some, all-choose, all-taking_one, all-taking, all-at_reference_or, all-at_struct, found-in, good-stands, good-goes, good-dies, good-panics, next-in}
 
 -- the first frame of a call refers to its arguments alone
 module _ (O : ℕ → Type 0) where
@@ -41,11 +41,11 @@ module _ (O : ℕ → Type 0) where
     leaving = tt;
   }
 
-  called-in : (f : ℕ) (arguments : List Value) (discards : Bool) (m : Option Function) (x : PlainFrame) → Vals O arguments → option_map (opened f arguments discards) m ≡ Some x → FrameIn O x
+  called-in : (f : ℕ) (arguments : List Value) (discards : Bool) (m : Option Function) (x : FrameView) → Vals O arguments → option_map (opened f arguments discards) m ≡ Some x → FrameIn O x
   called-in f arguments discards None x h e = cc
   called-in f arguments discards (Some fn) x h e = let same : opened f arguments discards fn ≡ x = cc in subst (FrameIn O) same (opened-in f arguments discards fn h)
 
-  pub call_frame-in : (code : Code) (f : ℕ) (arguments : List Value) (discards : Bool) (x : PlainFrame) → Vals O arguments → call_frame code f arguments discards ≡ Some x → FrameIn O x
+  pub call_frame-in : (code : Code) (f : ℕ) (arguments : List Value) (discards : Bool) (x : FrameView) → Vals O arguments → call_frame code f arguments discards ≡ Some x → FrameIn O x
   call_frame-in code f arguments discards x h e = called-in f arguments discards (slice_get code.functions f) x h e
 
 module _ (O G : ℕ → Type 0) (s : State) (c : Ground s O G) (a : Actor) (i : ActorIn O G a) where
@@ -53,10 +53,10 @@ module _ (O G : ℕ → Type 0) (s : State) (c : Ground s O G) (a : Actor) (i : 
   ops = i.frame.operands
 
   -- the goroutine with these frames
-  good-with_frames : (fs : List PlainFrame) → Every O (frames_refs fs) → AllGood O G (Change.Become a.number (with_frames a fs) ∷ [])
+  good-with_frames : (fs : List FrameView) → Every O (frames_refs fs) → AllGood O G (Change.Become a.number (with_frames a fs) ∷ [])
   good-with_frames fs h = ((i.number, goroutine-both O (with_frames a fs) h tt), tt)
 
-  good-enters : (fs : List PlainFrame) (x : PlainFrame) → Every O (frames_refs fs) → FrameIn O x → AllGood O G (enters a fs x)
+  good-enters : (fs : List FrameView) (x : FrameView) → Every O (frames_refs fs) → FrameIn O x → AllGood O G (enters a fs x)
   good-enters fs x h k = all-choose (AllGood O G) tt (is_full fs) _ _ (good-dies O G a i PanicKind.StackOverflow) (good-with_frames (x ∷ fs) (frames-cons O x fs k h))
 
   pub good-calls : (code : Code) (f n : ℕ) → AllGood O G (calls code a f n)
@@ -85,17 +85,17 @@ module _ (O G : ℕ → Type 0) (s : State) (c : Ground s O G) (a : Actor) (i : 
   good-ends_returning = all_good-append O G (ends a) (choose (a.number == 1) (Change.Finish Ending.Returned ∷ []) []) good-ends
       (all-choose (AllGood O G) tt (a.number == 1) (Change.Finish Ending.Returned ∷ []) [] (tt, tt) tt)
 
-  handed_back-in : (discards : Bool) (v : Option Value) (f : PlainFrame) → Every O (option_refs v) → FrameIn O f → FrameIn O (handed_back discards v f)
+  handed_back-in : (discards : Bool) (v : Option Value) (f : FrameView) → Every O (option_refs v) → FrameIn O f → FrameIn O (handed_back discards v f)
   handed_back-in true v f h k = k
   handed_back-in false None f h k = k
   handed_back-in false (Some v) f h k = record { slots = k.slots; operands = vals-cons O v f.operands h k.operands; deferred = k.deferred; leaving = k.leaving }
 
-  good-returns_to : (v : Option Value) (fs : List PlainFrame) → Every O (option_refs v) → Every O (frames_refs fs) → AllGood O G (returns_to a v fs)
+  good-returns_to : (v : Option Value) (fs : List FrameView) → Every O (option_refs v) → Every O (frames_refs fs) → AllGood O G (returns_to a v fs)
   good-returns_to v [] h k = good-ends_returning
   good-returns_to v (f ∷ fs) h k =
       good-with_frames (handed_back a.frame.discards v f ∷ fs) (frames-cons O (handed_back a.frame.discards v f) fs (handed_back-in a.frame.discards v f h (frames-head O f fs k)) (frames-tail O f fs k))
 
-  good-unwinds_to : (x : Fault) (fs : List PlainFrame) → Every O (frames_refs fs) → AllGood O G (unwinds_to a x fs)
+  good-unwinds_to : (x : Fault) (fs : List FrameView) → Every O (frames_refs fs) → AllGood O G (unwinds_to a x fs)
   good-unwinds_to x [] k = all_good-append O G (ends a) _ good-ends (tt, tt)
   good-unwinds_to x (f ∷ fs) k = good-with_frames (unwinding x f ∷ fs) (frames-cons O (unwinding x f) fs (unwinding-in O x f (frames-head O f fs k)) (frames-tail O f fs k))
 
@@ -140,14 +140,16 @@ module _ (O G : ℕ → Type 0) (s : State) (c : Ground s O G) (a : Actor) (i : 
 
     pub sound-finalises : (f : ℕ) → Sound O G F s.last_object (finalises a f s)
     sound-finalises f = all-taking_one (Sound O G F s.last_object) tt O _ a.frame.operands ops
-        (λ p rest h r. sound-at_reference _ p h (λ o m. sound-finalises_by rest f o (find o s.finalisers) refl r m))
+        (λ p rest h r. sound-at_reference _ p h
+        (λ o m. all-at_struct (Sound O G F s.last_object) tt O _ (find o s.objects) (found-in O G s c o m) (λ fields k. sound-finalises_by rest f o (find o s.finalisers) refl r m)))
 
-  pub good-unfinalises : AllGood O G (unfinalises a)
+  pub good-unfinalises : AllGood O G (unfinalises a s)
   good-unfinalises = all-taking_one (AllGood O G) tt O _ a.frame.operands ops
-      (λ p rest h r. all-at_reference_or (AllGood O G) tt O _ _ p h (good-goes O G a i rest r) (λ o m. (m, good-goes O G a i rest r)))
+      (λ p rest h r. all-at_reference_or (AllGood O G) tt O _ _ p h (good-goes O G a i rest r)
+      (λ o m. all-at_struct (AllGood O G) tt O _ (find o s.objects) (found-in O G s c o m) (λ fields k. (m, good-goes O G a i rest r))))
 
 -- goroutine 0 begins with the first entry of its queue
-pub good-begins_queued : (O G : ℕ → Type 0) (code : Code) (r : PlainGoroutine) (queue : List Queued) → G 0 → Every O (goroutine_refs r) → Every O (queue_refs queue) → AllGood O G (begins_queued code r queue)
+pub good-begins_queued : (O G : ℕ → Type 0) (code : Code) (r : GoroutineView) (queue : List Queued) → G 0 → Every O (goroutine_refs r) → Every O (queue_refs queue) → AllGood O G (begins_queued code r queue)
 good-begins_queued O G code r [] z h q = tt
 good-begins_queued O G code r (x ∷ queue) z h q = all-on_some (AllGood O G) tt _ (call_frame code x.function (Value.Ref x.object ∷ []) true)
     (λ f e. (

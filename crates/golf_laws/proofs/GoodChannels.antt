@@ -10,7 +10,7 @@ use Rattle.golf_data.specs.declared.code.CaseKind.{CaseKind}
 use Rattle.golf_data.specs.declared.goroutine.PanicKind.{PanicKind}
 use Rattle.golf_data.specs.declared.goroutine.Side.{Side}
 use Rattle.golf_data.specs.declared.goroutine.WaitKind.{WaitKind}
-use Rattle.golf_model.specs.Plain.{PlainFrame}
+use Rattle.golf_model.specs.Views.{FrameView}
 use Rattle.golf_model.specs.Values.{value_refs, refs}
 use Rattle.golf_model.specs.State.{State}
 use Rattle.golf_model.specs.Waiting.{Waiter, first, send_wait, receive_wait}
@@ -18,7 +18,7 @@ use Rattle.golf_model.specs.Waking.{Waking, received}
 use Rattle.golf_model.specs.Changes.{Change}
 use Rattle.golf_model.specs.Acting.{Actor, next, stands, goes}
 use Rattle.golf_model.specs.Channels.{served, buffers, sends_to, sends_on, sends, given, sent_by, sender_served, receives_unbuffered, receives_from, receives_on, receives, closes_open, closes}
-use Rattle.golf_model.specs.Selecting.{Offer, Taken, take_receive, take_send, take_case, and_case, offers_of, is_ready, kept_if, ready, proceeds_by, proceeds, wait_of, case_waits, offered_waits, select_kind, selects_none, selects_one, chosen, selects_from, selects}
+use Rattle.golf_model.specs.Selecting.{Offer, Taken, take_receive, take_send, take_case, and_case, offers_of, all_on_channels, is_ready, kept_if, ready, proceeds_by, proceeds, wait_of, case_waits, offered_waits, select_kind, selects_none, selects_one, chosen, selects_from, selects}
 use Rattle.golf_model.specs.Refs.{wait_refs}
 use Rattle.golf_laws.specs.Invariant.{AllGood, Good, Nothing, ActorIn, FrameIn}
 use Rattle.golf_laws.proofs.RefLaws.{Val, Vals, vals-cons, vals-head, vals-tail, vals-append, waits-append}
@@ -39,18 +39,18 @@ module _ (O G : ℕ → Type 0) (s : State) (c : Ground s O G) (a : Actor) (i : 
   channel-in : (buffer : List Value) (zero : Value) → Vals O buffer → Val O zero → Every O (refs buffer ++ value_refs zero)
   channel-in buffer zero b z = Every-append O (refs buffer) (value_refs zero) b z
 
-  good-buffers : (after : PlainFrame) (o : ℕ) (v : Value) (d : Channel) → FrameIn O after → O o → Val O v → Vals O d.buffer → Val O d.zero → AllGood O G (buffers a after o v d)
+  good-buffers : (after : FrameView) (o : ℕ) (v : Value) (d : Channel) → FrameIn O after → O o → Val O v → Vals O d.buffer → Val O d.zero → AllGood O G (buffers a after o v d)
   good-buffers after o v d f m h b z = all-choose (AllGood O G) tt (nat_lt (length d.buffer) d.capacity) _ _
       ((m, channel-in (d.buffer ++ v ∷ []) d.zero (vals-append O d.buffer (v ∷ []) b (vals-cons O v [] h tt)) z), good-stands O G a i after f)
       (good-blocks O G a i after WaitKind.Send (send_wait o v None ∷ []) f (send_wait-in o v None m h))
 
-  good-sends_to : (after : PlainFrame) (o : ℕ) (v : Value) (d : Channel) (w : Option Waiter) → first o Side.Receive s.goroutines ≡ w → FrameIn O after → O o → Val O v → Vals O d.buffer → Val O d.zero → AllGood O G (sends_to a after o v d w)
+  good-sends_to : (after : FrameView) (o : ℕ) (v : Value) (d : Channel) (w : Option Waiter) → first o Side.Receive s.goroutines ≡ w → FrameIn O after → O o → Val O v → Vals O d.buffer → Val O d.zero → AllGood O G (sends_to a after o v d w)
   good-sends_to after o v d None e f m h b z = good-buffers after o v d f m h b z
   good-sends_to after o v d (Some w) e f m h b z =
       all_good-append O G (stands a after) (served w (received w.wait.with_ok v true) ∷ []) (good-stands O G a i after f)
       (good-served w (received w.wait.with_ok v true) (first-in O G s c o Side.Receive w m e) (received-in O w.wait.with_ok v true h), tt)
 
-  pub good-sends_on : (after : PlainFrame) (v : Value) (o : ℕ) → FrameIn O after → Val O v → O o → AllGood O G (sends_on a after v s o)
+  pub good-sends_on : (after : FrameView) (v : Value) (o : ℕ) → FrameIn O after → Val O v → O o → AllGood O G (sends_on a after v s o)
   good-sends_on after v o f h m = all-at_channel (AllGood O G) tt O _ (find o s.objects) (found-in O G s c o m)
       (λ d b z. all-choose (AllGood O G) tt d.closed _ _ (good-panics O G a i PanicKind.SendClosed) (good-sends_to after o v d (first o Side.Receive s.goroutines) refl f m h b z))
 
@@ -59,10 +59,10 @@ module _ (O G : ℕ → Type 0) (s : State) (c : Ground s O G) (a : Actor) (i : 
       (λ x v rest h k r. all-at_reference_or (AllGood O G) tt O _ _ x h (good-blocks O G a i (next a.frame rest) WaitKind.SendNil [] (next-in O G a i rest r) tt)
       (λ o m. good-sends_on (next a.frame rest) v o (next-in O G a i rest r) k m))
 
-  given-in : (after : PlainFrame) (vs : List Value) → FrameIn O after → Vals O vs → FrameIn O (given after vs)
+  given-in : (after : FrameView) (vs : List Value) → FrameIn O after → Vals O vs → FrameIn O (given after vs)
   given-in after vs f h = record { slots = f.slots; operands = vals-append O vs after.operands h f.operands; deferred = f.deferred; leaving = f.leaving }
 
-  good-receives_unbuffered : (after : PlainFrame) (with_ok : Bool) (o : ℕ) (d : Channel) (w : Option Waiter) → first o Side.Send s.goroutines ≡ w → FrameIn O after → O o → Val O d.zero → AllGood O G (receives_unbuffered a after with_ok o d w)
+  good-receives_unbuffered : (after : FrameView) (with_ok : Bool) (o : ℕ) (d : Channel) (w : Option Waiter) → first o Side.Send s.goroutines ≡ w → FrameIn O after → O o → Val O d.zero → AllGood O G (receives_unbuffered a after with_ok o d w)
   good-receives_unbuffered after with_ok o d None e f m z = all-choose (AllGood O G) tt d.closed _ _
       (good-stands O G a i (given after (received with_ok d.zero false)) (given-in after (received with_ok d.zero false) f (received-in O with_ok d.zero false z)))
       (good-blocks O G a i after WaitKind.Receive (receive_wait o None with_ok ∷ []) f (m, tt))
@@ -80,7 +80,7 @@ module _ (O G : ℕ → Type 0) (s : State) (c : Ground s O G) (a : Actor) (i : 
   sender_served-in o None e m = tt
   sender_served-in o (Some w) e m = (good-served w [] (first-in O G s c o Side.Send w m e) tt, tt)
 
-  good-receives_from : (after : PlainFrame) (with_ok : Bool) (o : ℕ) (d : Channel) (buffer : List Value) (w : Option Waiter) → first o Side.Send s.goroutines ≡ w → FrameIn O after → O o → Vals O buffer → Val O d.zero → AllGood O G (receives_from a after with_ok o d buffer w)
+  good-receives_from : (after : FrameView) (with_ok : Bool) (o : ℕ) (d : Channel) (buffer : List Value) (w : Option Waiter) → first o Side.Send s.goroutines ≡ w → FrameIn O after → O o → Vals O buffer → Val O d.zero → AllGood O G (receives_from a after with_ok o d buffer w)
   good-receives_from after with_ok o d [] w e f m b z = good-receives_unbuffered after with_ok o d w e f m z
   good-receives_from after with_ok o d (v ∷ vs) w e f m b z = (
     (m, channel-in (vs ++ sent_by w) d.zero (vals-append O vs (sent_by w) (vals-tail O v vs b) (sent_by-in o w e m)) z),
@@ -89,7 +89,7 @@ module _ (O G : ℕ → Type 0) (s : State) (c : Ground s O G) (a : Actor) (i : 
         (sender_served-in o w e m),
   )
 
-  pub good-receives_on : (after : PlainFrame) (with_ok : Bool) (o : ℕ) → FrameIn O after → O o → AllGood O G (receives_on a after with_ok s o)
+  pub good-receives_on : (after : FrameView) (with_ok : Bool) (o : ℕ) → FrameIn O after → O o → AllGood O G (receives_on a after with_ok s o)
   good-receives_on after with_ok o f m = all-at_channel (AllGood O G) tt O _ (find o s.objects) (found-in O G s c o m)
       (λ d b z. good-receives_from after with_ok o d d.buffer (first o Side.Send s.goroutines) refl f m b z)
 
@@ -150,7 +150,7 @@ module _ (O G : ℕ → Type 0) (s : State) (c : Ground s O G) (a : Actor) (i : 
   ready-in [] h = tt
   ready-in (x ∷ xs) h = kept_if-in (is_ready s x) x (ready s xs) h.0 (ready-in xs h.1)
 
-  good-proceeds_by : (after : PlainFrame) (kind : CaseKind) (v : Value) (o : ℕ) → FrameIn O after → Val O v → O o → AllGood O G (proceeds_by a after kind v s o)
+  good-proceeds_by : (after : FrameView) (kind : CaseKind) (v : Value) (o : ℕ) → FrameIn O after → Val O v → O o → AllGood O G (proceeds_by a after kind v s o)
   good-proceeds_by after CaseKind.Send v o f h m = good-sends_on after v o f h m
   good-proceeds_by after CaseKind.Take v o f h m = good-receives_on after false o f m
   good-proceeds_by after CaseKind.TakeOk v o f h m = good-receives_on after true o f m
@@ -186,9 +186,9 @@ module _ (O G : ℕ → Type 0) (s : State) (c : Ground s O G) (a : Actor) (i : 
 
   good-selects_from : (choice : ℕ) (otherwise : Option ℕ) (m : Option Taken) → MaybeTaken m → AllGood O G (selects_from a s choice otherwise m)
   good-selects_from choice otherwise None h = tt
-  good-selects_from choice otherwise (Some t) h =
-      good-selects_one t.1 t.0 otherwise (chosen choice (ready s t.0)) h.1 h.0
-      (λ x e. Every-slice_get OfferIn (ready s t.0) (choice % length (ready s t.0)) x (ready-in t.0 h.0) e)
+  good-selects_from choice otherwise (Some t) h = all-choose (AllGood O G) tt (all_on_channels s t.0) _ _
+      (good-selects_one t.1 t.0 otherwise (chosen choice (ready s t.0)) h.1 h.0
+      (λ x e. Every-slice_get OfferIn (ready s t.0) (choice % length (ready s t.0)) x (ready-in t.0 h.0) e)) tt
 
   pub good-selects : (choice : ℕ) (cases : List SelectCase) (otherwise : Option ℕ) → AllGood O G (selects a s choice cases otherwise)
   good-selects choice cases otherwise = good-selects_from choice otherwise (offers_of cases a.frame.operands) (offers-in cases a.frame.operands ops)

@@ -18,7 +18,7 @@ use Rattle.golf_model.specs.Refs.{object_refs}
 use Rattle.golf_laws.specs.Invariant.{AllGood, Sound, ActorIn}
 use Rattle.golf_laws.proofs.RefLaws.{Val, Vals, vals-cons, vals-set, vals-get, vals-replicate}
 use Rattle.golf_laws.proofs.Goodness.{good-sound}
-use Rattle.golf_laws.proofs.Acting.{Ground, found-in, all-on_some, all-choose, all-taking_one, all-taking_two, all-taking_three, all-at_reference_or, all-at_struct, all-at_slice, good-goes, good-leaves, good-panics, good-at_reference}
+use Rattle.golf_laws.proofs.Acting.{Ground, found-in, all-on_some, all-choose, all-taking_one, all-taking_two, all-taking_three, all-at_reference_or, all-at_struct, all-at_slice, all-at_mutex, good-goes, good-leaves, good-panics, good-at_reference}
 
 -- a zero value refers to nothing
 pub zero-in : (O : ℕ → Type 0) (v : Value) → Val O (zero_of v)
@@ -114,4 +114,6 @@ module _ (O G : ℕ → Type 0) (s : State) (c : Ground s O G) (a : Actor) (i : 
         (sound-makes (Object.Chan (new_channel (unsigned_abs n) zero)) rest (zero-in O zero) r)))
 
     pub sound-makes_condition : Sound O G F s.last_object (makes_condition a s)
-    sound-makes_condition = all-taking_one (Sound O G F s.last_object) tt O _ a.frame.operands ops (λ m rest h r. sound-makes (Object.Cond m) rest h r)
+    sound-makes_condition = all-taking_one (Sound O G F s.last_object) tt O _ a.frame.operands ops
+        (λ m rest h r. all-at_reference_or (Sound O G F s.last_object) tt O _ _ m h (sound-makes (Object.Cond m) rest h r)
+        (λ o k. all-at_mutex (Sound O G F s.last_object) tt _ (find o s.objects) (λ locked. sound-makes (Object.Cond m) rest h r)))

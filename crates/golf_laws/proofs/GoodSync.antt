@@ -9,7 +9,7 @@ use Rattle.golf_data.specs.declared.goroutine.Side.{Side}
 use Rattle.golf_data.specs.declared.goroutine.WaitKind.{WaitKind}
 use Rattle.golf_model.specs.Values.{int_of, is_zero, is_minus_one}
 use Rattle.golf_model.specs.State.{State}
-use Rattle.golf_model.specs.Waiting.{Waiter, waiter_ticket, first, waiters, plain_wait}
+use Rattle.golf_model.specs.Waiting.{Waiter, waiter_ticket, first, waiters, bare_wait}
 use Rattle.golf_model.specs.Waking.{Waking}
 use Rattle.golf_model.specs.Changes.{Change}
 use Rattle.golf_model.specs.Acting.{Actor, next, goes, choose}
@@ -32,7 +32,7 @@ module _ (O G : ℕ → Type 0) (s : State) (c : Ground s O G) (a : Actor) (i : 
   good-runs w k = (k.number, released-in O w.goroutine k.goroutine)
 
   good-blocks_on : (rest : List Value) (kind : WaitKind) (o : ℕ) (side : Side) → Vals O rest → O o → AllGood O G (blocks_on a rest kind o side)
-  good-blocks_on rest kind o side r m = good-blocks O G a i (next a.frame rest) kind (plain_wait o side ∷ []) (next-in O G a i rest r) (m, tt)
+  good-blocks_on rest kind o side r m = good-blocks O G a i (next a.frame rest) kind (bare_wait o side ∷ []) (next-in O G a i rest r) (m, tt)
 
   good-locks_by : (rest : List Value) (o : ℕ) (locked : Bool) → Vals O rest → O o → AllGood O G (locks_by a rest o locked)
   good-locks_by rest o false r m = ((m, tt), good-goes O G a i rest r)
@@ -136,9 +136,10 @@ module _ (O G : ℕ → Type 0) (s : State) (c : Ground s O G) (a : Actor) (i : 
   good-passes_on p [] m h = tt
   good-passes_on p (w ∷ ws) m h = ((h w (inl refl), m), good-passes_on p ws m (λ v j. h v (inr j)))
 
-  good-notifies : (rest : List Value) (ws : List Waiter) (v : Value) → Vals O rest → Val O v → ((w : Waiter) → In w ws → G w.number) → AllGood O G (notifies a rest ws v)
-  good-notifies rest ws v r k h = all-at_reference_or (AllGood O G) tt O _ _ v k (good-goes O G a i rest r)
-      (λ p m. all_good-append O G (goes a rest) (passes_on p ws) (good-goes O G a i rest r) (good-passes_on p ws m h))
+  good-notifies : (rest : List Value) (ws : List Waiter) (v : Value) → Vals O rest → Val O v → ((w : Waiter) → In w ws → G w.number) → AllGood O G (notifies a rest s ws v)
+  good-notifies rest [] v r k h = good-goes O G a i rest r
+  good-notifies rest (w ∷ ws) v r k h = all-at_reference_or (AllGood O G) tt O [] _ v k tt
+      (λ p m. all-at_mutex (AllGood O G) tt _ (find p s.objects) (λ locked. all_good-append O G (goes a rest) (passes_on p (w ∷ ws)) (good-goes O G a i rest r) (good-passes_on p (w ∷ ws) m h)))
 
   first_only-in : (o : ℕ) (m : Option Waiter) → first o Side.Cond s.goroutines ≡ m → O o → (w : Waiter) → In w (first_only m) → G w.number
   first_only-in o None e j w h = absurd h

@@ -12,7 +12,7 @@ use Rattle.golf_data.specs.declared.code.Instr.{Instr}
 use Rattle.golf_data.specs.declared.code.Line.{Line}
 use Rattle.golf_data.specs.declared.goroutine.Leaving.{Leaving}
 use Rattle.golf_data.specs.declared.goroutine.PanicKind.{PanicKind}
-use Rattle.golf_model.specs.Plain.{PlainFrame, PlainGoroutine}
+use Rattle.golf_model.specs.Views.{FrameView, GoroutineView}
 use Rattle.golf_model.specs.Values.{text_of, line_bytes}
 use Rattle.golf_model.specs.State.{State}
 use Rattle.golf_model.specs.Changes.{Change}
@@ -117,15 +117,15 @@ module _ (O G F : ℕ → Type 0) (code : Code) (s : State) (c : Ground s O G) w
   Allows = (f at : ℕ) (l : Line) → line_at code f at ≡ Some l → is_setting l.instr ≡ true → (o : ℕ) → Unfinalised s o → F o
 
   module _ (allows : Allows) where
-    module _ (g : ℕ) (j : G g) (r : PlainGoroutine) (e : Every O (goroutine_refs r)) where
-      acting-in : (f : PlainFrame) (fs : List PlainFrame) (line : ℕ) → Every O (frames_refs (f ∷ fs)) → ActorIn O G (acting g r f fs line)
+    module _ (g : ℕ) (j : G g) (r : GoroutineView) (e : Every O (goroutine_refs r)) where
+      acting-in : (f : FrameView) (fs : List FrameView) (line : ℕ) → Every O (frames_refs (f ∷ fs)) → ActorIn O G (acting g r f fs line)
       acting-in f fs line h = record { number = j; frame = frames-head O f fs h; callers = frames-tail O f fs h }
 
-      sound-performs : (f : PlainFrame) (fs : List PlainFrame) (choice : ℕ) (m : Option Line) → line_at code f.function f.at ≡ m → Every O (frames_refs (f ∷ fs)) → Sound O G F s.last_object (performs code g r f fs choice s m)
+      sound-performs : (f : FrameView) (fs : List FrameView) (choice : ℕ) (m : Option Line) → line_at code f.function f.at ≡ m → Every O (frames_refs (f ∷ fs)) → Sound O G F s.last_object (performs code g r f fs choice s m)
       sound-performs f fs choice None is h = tt
       sound-performs f fs choice (Some l) is h = sound_changes (acting g r f fs l.line) (acting-in f fs l.line h) l.instr choice (allows f.function f.at l is)
 
-      sound-frame : (f : PlainFrame) (fs : List PlainFrame) (choice : ℕ) (leaving : Leaving) → f.leaving ≡ leaving → Every O (frames_refs (f ∷ fs)) → Sound O G F s.last_object (frame_changes code g r f fs choice s leaving)
+      sound-frame : (f : FrameView) (fs : List FrameView) (choice : ℕ) (leaving : Leaving) → f.leaving ≡ leaving → Every O (frames_refs (f ∷ fs)) → Sound O G F s.last_object (frame_changes code g r f fs choice s leaving)
       sound-frame f fs choice Leaving.No is h = sound-performs f fs choice (line_at code f.function f.at) refl h
       sound-frame f fs choice (Leaving.Returning v) is h =
           let i = acting-in f fs (return_line code f) h in
@@ -135,14 +135,14 @@ module _ (O G F : ℕ → Type 0) (code : Code) (s : State) (c : Ground s O G) w
           let i = acting-in f fs x.line h in
           good-sound O G F s.last_object (leaves_unwinding code (acting g r f fs x.line) x f.deferred) (good-leaves_unwinding O G s c (acting g r f fs x.line) i code x f.deferred i.frame.deferred)
 
-      sound-goroutine : (choice : ℕ) (fs : List PlainFrame) → Every O (frames_refs fs) → Sound O G F s.last_object (goroutine_changes code g r choice s fs)
+      sound-goroutine : (choice : ℕ) (fs : List FrameView) → Every O (frames_refs fs) → Sound O G F s.last_object (goroutine_changes code g r choice s fs)
       sound-goroutine choice [] h = elim (g == 0) as (λ b. g == 0 ≡ b → Sound O G F s.last_object (cond b (begins_queued code r s.queue) [])) [
         | true ↦ λ t. good-sound O G F s.last_object (begins_queued code r s.queue) (good-begins_queued O G code r s.queue (subst G (eqb-true g 0 t) j) e c.queue)
         | false ↦ λ t. tt
       ] refl
       sound-goroutine choice (f ∷ fs) h = sound-frame f fs choice f.leaving refl h
 
-    sound-turn_of : (g choice : ℕ) → G g → (m : Option PlainGoroutine) → ((r : PlainGoroutine) → m ≡ Some r → Every O (goroutine_refs r)) → Sound O G F s.last_object (turn_of code g choice s m)
+    sound-turn_of : (g choice : ℕ) → G g → (m : Option GoroutineView) → ((r : GoroutineView) → m ≡ Some r → Every O (goroutine_refs r)) → Sound O G F s.last_object (turn_of code g choice s m)
     sound-turn_of g choice j None h = tt
     sound-turn_of g choice j (Some r) h = sound-goroutine g j r (h r refl) choice r.frames (goroutine-frames O r (h r refl))
 

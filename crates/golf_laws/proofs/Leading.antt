@@ -10,13 +10,13 @@ use Rattle.golf_theory.proofs.MapKeys.{keys-only}
 use Rattle.golf_theory.proofs.MapOrder.{Rises-only, AllBelow-only}
 use Rattle.golf_data.specs.declared.value.Object.{Object}
 use Rattle.golf_data.specs.declared.code.Code.{Code}
-use Rattle.golf_model.specs.Plain.{PlainFrame, PlainGoroutine}
+use Rattle.golf_model.specs.Views.{FrameView, GoroutineView}
 use Rattle.golf_model.specs.State.{State, start, call_frame, runnable}
 use Rattle.golf_model.specs.Changes.{Change, apply, apply_all, pass_on, pass_on_at, pass_on_by}
 use Rattle.golf_model.specs.Turn.{step, turn_changes, whose_turn}
 use Rattle.golf_model.specs.Refs.{frames_refs}
 use Rattle.golf_model.specs.Reaching.{reach, sources}
-use Rattle.golf_model.specs.Collecting.{queued, plain_collect, cut, sets, real_collect}
+use Rattle.golf_model.specs.Collecting.{queued, plain_collect, cut, sets_finalisers, real_collect}
 use Rattle.golf_model.specs.Futures.{Numbered, UpTo, Leads}
 use Rattle.golf_laws.specs.Invariant.{Sound, objects_after, last_after, finalisable_after, Unfinalised}
 use Rattle.golf_laws.proofs.RefLaws.{frames-cons}
@@ -33,11 +33,11 @@ module _ (s : State) (g m : ℕ) where
   abbrev Same : State → Type 0
   Same t = (t.last_object ≡ s.last_object) × (t.next_goroutine ≡ s.next_goroutine) × (t.finalisers ≡ s.finalisers)
 
-  same-by : (locked : Bool) (r : PlainGoroutine) → Same (pass_on_by locked g m r s)
+  same-by : (locked : Bool) (r : GoroutineView) → Same (pass_on_by locked g m r s)
   same-by true r = (refl, refl, refl)
   same-by false r = (refl, refl, refl)
 
-  same-at : (x : Object) (r : PlainGoroutine) → Same (pass_on_at x g m r s)
+  same-at : (x : Object) (r : GoroutineView) → Same (pass_on_at x g m r s)
   same-at (Object.Struct fields) r = (refl, refl, refl)
   same-at (Object.Slice elements) r = (refl, refl, refl)
   same-at (Object.Chan d) r = (refl, refl, refl)
@@ -46,7 +46,7 @@ module _ (s : State) (g m : ℕ) where
   same-at (Object.Rw k) r = (refl, refl, refl)
   same-at (Object.Cond v) r = (refl, refl, refl)
 
-  pub same-pass_on : (r : Option PlainGoroutine) (x : Option Object) → Same (pass_on g m r x s)
+  pub same-pass_on : (r : Option GoroutineView) (x : Option Object) → Same (pass_on g m r x s)
   same-pass_on None x = (refl, refl, refl)
   same-pass_on (Some r) None = (refl, refl, refl)
   same-pass_on (Some r) (Some x) = same-at x r
@@ -155,11 +155,11 @@ module _ (s : State) (n : Numbered s) where
       (only stays s.goroutines) s.next_goroutine s.next_ticket (Rises-only 0 stays s.goroutines n.goroutines_rise) (AllBelow-only s.next_goroutine stays s.goroutines n.goroutines_below)
       (λ g r e. goroutine-in s n g r (Entry-only stays s.goroutines g r e).1)
 
-pub numbered-real : (s : State) (recover sets : Bool) → Numbered s → Numbered (real_collect s recover sets)
-numbered-real s recover sets n = numbered-cut (plain_collect s) (numbered-collect s n) _ _
+pub numbered-real : (s : State) (recover sets_finalisers : Bool) → Numbered s → Numbered (real_collect s recover sets_finalisers)
+numbered-real s recover sets_finalisers n = numbered-cut (plain_collect s) (numbered-collect s n) _ _
 
 -- the opening state
-first_frames-in : (code : Code) (m : Option PlainFrame) → call_frame code 0 [] true ≡ m → UpTo 0 (frames_refs (option_to_list m))
+first_frames-in : (code : Code) (m : Option FrameView) → call_frame code 0 [] true ≡ m → UpTo 0 (frames_refs (option_to_list m))
 first_frames-in code None h = tt
 first_frames-in code (Some f) h = frames-cons (λ o. o ≤ 0) f [] (call_frame-in (λ o. o ≤ 0) code 0 [] true f tt h) tt
 
@@ -180,6 +180,6 @@ numbered-start code = record {
 pub leads-numbered : (code : Code) (s : State) → Leads code s → Numbered s
 leads-numbered code s Leads.Start = numbered-start code
 leads-numbered code s (Leads.Turn t k l e) = numbered-step code t k (leads-numbered code t l)
-leads-numbered code s (Leads.Collection t recover l e) = numbered-real t recover (sets code) (leads-numbered code t l)
+leads-numbered code s (Leads.Collection t recover l e) = numbered-real t recover (sets_finalisers code) (leads-numbered code t l)
 leads-numbered code s (Leads.Emptied t l) =
     let n = leads-numbered code t l in numbered-rest t n t.globals t.queue [] t.recorded n.globals n.queue

@@ -13,13 +13,13 @@ use Rattle.golf_data.specs.declared.code.Code.{Code}
 use Rattle.golf_data.specs.declared.code.Function.{Function}
 use Rattle.golf_data.specs.declared.code.Line.{Line}
 use Rattle.golf_model.specs.State.{State, runnable}
-use Rattle.golf_model.specs.Plain.{PlainGoroutine}
+use Rattle.golf_model.specs.Views.{GoroutineView}
 use Rattle.golf_model.specs.Refs.{goroutine_refs, refs_of_goroutine, has_finaliser}
 use Rattle.golf_model.specs.Living.{Node, Live, live_list, has_object}
 use Rattle.golf_model.specs.Changes.{Change, apply, apply_all}
 use Rattle.golf_model.specs.Turn.{line_at, step, turn_changes, whose_turn}
 use Rattle.golf_model.specs.Reaching.{RefersTo, reach, sources}
-use Rattle.golf_model.specs.Collecting.{plain_collect, is_setting, sets, bars}
+use Rattle.golf_model.specs.Collecting.{plain_collect, is_setting, sets_finalisers, prevents_removal}
 use Rattle.golf_model.specs.Futures.{Numbered, Leads}
 use Rattle.golf_model.proofs.Agreeing.{reach-sound, live_list-sound, has_object-sound}
 use Rattle.golf_laws.specs.Invariant.{Closed, Good, Sound, Nothing, Unfinalised, objects_after, last_after, finalisable_after}
@@ -46,14 +46,14 @@ no_setter-at at (Some fn) l h e = elim (is_setting l.instr) as (λ b. is_setting
   | false ↦ λ t. refl
 ] refl
 
-no_setter : (code : Code) → sets code ≡ false → (f at : ℕ) (l : Line) → line_at code f at ≡ Some l → is_setting l.instr ≡ false
+no_setter : (code : Code) → sets_finalisers code ≡ false → (f at : ℕ) (l : Line) → line_at code f at ≡ Some l → is_setting l.instr ≡ false
 no_setter code h f at l e = no_setter-at at (slice_get code.functions f) l
     (λ fn i. elim (any_of (λ k. is_setting k.instr) fn.body) as (λ b. any_of (λ k. is_setting k.instr) fn.body ≡ b → b ≡ false) [
-      | true ↦ λ t. absurd (both_ways (sets code) h (any_of-from (λ (g : Function). any_of (λ k. is_setting k.instr) g.body) code.functions fn (In-slice_get code.functions f fn i) t))
+      | true ↦ λ t. absurd (both_ways (sets_finalisers code) h (any_of-from (λ (g : Function). any_of (λ k. is_setting k.instr) g.body) code.functions fn (In-slice_get code.functions f fn i) t))
       | false ↦ λ t. refl
     ] refl) e
 
-allows-none : (O G : ℕ → Type 0) (code : Code) (s : State) (c : Ground s O G) → sets code ≡ false → Allows O G Nothing code s c
+allows-none : (O G : ℕ → Type 0) (code : Code) (s : State) (c : Ground s O G) → sets_finalisers code ≡ false → Allows O G Nothing code s c
 allows-none O G code s c h f at l is t o u = both_ways (is_setting l.instr) (no_setter code h f at l is) t
 
 -- where none is set, there is none
@@ -95,12 +95,12 @@ none-changes O G n (c ∷ cs) s h a =
     none-changes (objects_after c O n) G (last_after c n) cs (apply c s) (none_after O G s c h a.0)
     (sound-wider (objects_after c O n) (objects_after c O n) G G (finalisable_after c Nothing) Nothing (λ o i. i) (λ g i. i) (still_none c) (last_after c n) cs a.1)
 
-pub none-step : (O G : ℕ → Type 0) (code : Code) (s : State) (k : ℕ) (c : Ground s O G) → sets code ≡ false → ((g : ℕ) → whose_turn s k ≡ Some g → G g) → s.finalisers ≡ [] → (step code s k).finalisers ≡ []
+pub none-step : (O G : ℕ → Type 0) (code : Code) (s : State) (k : ℕ) (c : Ground s O G) → sets_finalisers code ≡ false → ((g : ℕ) → whose_turn s k ≡ Some g → G g) → s.finalisers ≡ [] → (step code s k).finalisers ≡ []
 none-step O G code s k c h w e =
     none-changes O G s.last_object (turn_changes code (k / length (runnable s)) s (whose_turn s k)) s e
     (sound_turn O G Nothing code s c (allows-none O G code s c h) (k / length (runnable s)) (whose_turn s k) w)
 
-pub none-leads : (code : Code) → sets code ≡ false → (s : State) → Leads code s → s.finalisers ≡ []
+pub none-leads : (code : Code) → sets_finalisers code ≡ false → (s : State) → Leads code s → s.finalisers ≡ []
 none-leads code h s Leads.Start = refl
 none-leads code h s (Leads.Turn t k l e) =
     let n = leads-numbered code t l in
@@ -113,13 +113,13 @@ live-member : (O G : ℕ → Type 0) (t : State) → Closed t O G → (o : ℕ) 
 live-member O G t c o l = live-in O G t c (Node.AnObject o) l
 
 -- what every run keeps of the sets that a collection leaves
-module _ (code : Code) (s : State) (n : Numbered s) (gone : List ℕ) (ok : GoneOk s (sets code) gone) where
+module _ (code : Code) (s : State) (n : Numbered s) (gone : List ℕ) (ok : GoneOk s (sets_finalisers code) gone) where
   abbrev Flowing : State → Type 0
   Flowing t = Flow (λ o. kept_by s gone o ≡ true) (λ g. stays_by gone g ≡ true) t
 
   -- those who were removed stand where they stood
   abbrev Present : State → Type 0
-  Present t = (g : ℕ) → In g gone → (r : PlainGoroutine) × Entry t.goroutines g r
+  Present t = (g : ℕ) → In g gone → (r : GoroutineView) × Entry t.goroutines g r
 
   flowing-start : Flowing s
   flowing-start = flow-kept s n gone ok.dead
@@ -143,11 +143,11 @@ module _ (code : Code) (s : State) (n : Numbered s) (gone : List ℕ) (ok : Gone
     turn-member g i = let r = turn-running t k g i in c.running g r.0 r.1 r.2
 
   -- a code that sets no finaliser: none is there
-  module _ (h : sets code ≡ false) where
+  module _ (h : sets_finalisers code ≡ false) where
     abbrev NoneMode : (ℕ → Type 0) → State → Type 0
     NoneMode O t = (t.finalisers ≡ []) × Flowing t × Present t
 
-    barred-none : (t : State) → t.finalisers ≡ [] → (o : ℕ) → bars t (sets code) o ≡ false
+    barred-none : (t : State) → t.finalisers ≡ [] → (o : ℕ) → prevents_removal t (sets_finalisers code) o ≡ false
     barred-none t e o = or_from (has_finaliser t o) _ (ap (λ (fs : List (ℕ × ℕ)). is_in o (keys fs)) e) (ap (λ b. b && has_object (live_list t) o) h)
 
     agreement-none : Agreement code gone (kept_by s gone) (LiveGoroutine s)
@@ -162,7 +162,7 @@ module _ (code : Code) (s : State) (n : Numbered s) (gone : List ℕ) (ok : Gone
     }
 
   -- a code that sets finalisers: what is removed is apart
-  module _ (h : sets code ≡ true) where
+  module _ (h : sets_finalisers code ≡ true) where
     ok' : GoneOk s true gone
     ok' = subst (λ b. GoneOk s b gone) h ok
 
@@ -179,10 +179,10 @@ module _ (code : Code) (s : State) (n : Numbered s) (gone : List ℕ) (ok : Gone
         (λ p m. lost-refs s n gone ok' g p e.0 i (a.0.goroutines g e.0 i e.1) (subst (λ (ys : List ℕ). In p ys) same m))
         (λ q p l m. lost-step s n gone ok' q p m.0 l (a.0.objects q m.0 l m.1) m.2) o (reach-sound t xs o j)
 
-    barred-apart : (O : ℕ → Type 0) (t : State) → Numbered t → Closed t O (LiveGoroutine s) → ApartMode O t → (g o : ℕ) → In g gone → In o (reach t (refs_of_goroutine (find g t.goroutines))) → bars t (sets code) o ≡ false
+    barred-apart : (O : ℕ → Type 0) (t : State) → Numbered t → Closed t O (LiveGoroutine s) → ApartMode O t → (g o : ℕ) → In g gone → In o (reach t (refs_of_goroutine (find g t.goroutines))) → prevents_removal t (sets_finalisers code) o ≡ false
     barred-apart O t nt c a g o i j =
         let l = reached-lost O t nt a g o i j in
-        ap (λ b. bars t b o) h
+        ap (λ b. prevents_removal t b o) h
         ∙ or_from (has_finaliser t o) (has_object (live_list t) o)
         (false_from_ne_true (has_finaliser t o) (λ u. let k = Entry-keys t.finalisers o (In-from o (keys t.finalisers) u) in a.0.unfinalised o k.0 l k.1))
         (false_from_ne_true (has_object (live_list t) o) (λ u. a.0.outside o l (live-member O (LiveGoroutine s) t c o (live_list-sound t (Node.AnObject o) (has_object-sound (live_list t) o u)))))
@@ -205,7 +205,7 @@ pub record Sim (code : Code) (gone : List ℕ) (kept : ℕ → Bool) (t : State)
   pub agreement : Agreement code gone kept G
   pub related : Related code gone kept G within agreement t
 
-module _ (code : Code) (s : State) (n : Numbered s) (gone : List ℕ) (ok : GoneOk s (sets code) gone) (f : sets code ≡ false → s.finalisers ≡ []) where
+module _ (code : Code) (s : State) (n : Numbered s) (gone : List ℕ) (ok : GoneOk s (sets_finalisers code) gone) (f : sets_finalisers code ≡ false → s.finalisers ≡ []) where
   sim-with : (m : Agreement code gone (kept_by s gone) (LiveGoroutine s)) → m.Mode (LiveObject s) s → Sim code gone (kept_by s gone) s
   sim-with m a = record {
     G = LiveGoroutine s;
@@ -220,13 +220,13 @@ module _ (code : Code) (s : State) (n : Numbered s) (gone : List ℕ) (ok : Gone
     };
   }
 
-  sim-by : (b : Bool) → sets code ≡ b → Sim code gone (kept_by s gone) s
+  sim-by : (b : Bool) → sets_finalisers code ≡ b → Sim code gone (kept_by s gone) s
   unfolding agreement-none agreement-apart ok'
   sim-by true h = sim-with (agreement-apart code s n gone ok h) (apart-start s n gone (subst (λ b. GoneOk s b gone) h ok), flow-kept s n gone ok.dead, λ g i. let d = ok.dead g i in (d.0, d.1))
   sim-by false h = sim-with (agreement-none code s n gone ok h) (f h, flow-kept s n gone ok.dead, λ g i. let d = ok.dead g i in (d.0, d.1))
 
   pub sim-start : Sim code gone (kept_by s gone) s
-  sim-start = sim-by (sets code) refl
+  sim-start = sim-by (sets_finalisers code) refl
 
 pub sim-step : (code : Code) (gone : List ℕ) (kept : ℕ → Bool) (t : State) (k : ℕ) → Sim code gone kept t → Sim code gone kept (step code t k)
 sim-step code gone kept t k z = record { G = z.G; within = z.within; agreement = z.agreement; related = related-step code gone kept z.G z.within z.agreement t k z.related }

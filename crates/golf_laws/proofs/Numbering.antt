@@ -11,7 +11,7 @@ use Rattle.golf_data.specs.declared.value.Object.{Object}
 use Rattle.golf_data.specs.declared.goroutine.Ending.{Ending}
 use Rattle.golf_data.specs.declared.goroutine.Mode.{Mode}
 use Rattle.golf_data.specs.declared.goroutine.Queued.{Queued}
-use Rattle.golf_model.specs.Plain.{PlainGoroutine}
+use Rattle.golf_model.specs.Views.{GoroutineView}
 use Rattle.golf_model.specs.Values.{refs}
 use Rattle.golf_model.specs.State.{State}
 use Rattle.golf_model.specs.Waking.{woken_by, released}
@@ -35,7 +35,7 @@ module _ (s : State) (n : Numbered s) where
   pub object-in : (p : ℕ) (x : Object) → Entry s.objects p x → UpTo s.last_object (object_refs x)
   object-in p x e = Entry-Every (λ k y. UpTo s.last_object (object_refs y)) s.objects n.in_objects p x e
 
-  pub goroutine-in : (g : ℕ) (r : PlainGoroutine) → Entry s.goroutines g r → UpTo s.last_object (goroutine_refs r)
+  pub goroutine-in : (g : ℕ) (r : GoroutineView) → Entry s.goroutines g r → UpTo s.last_object (goroutine_refs r)
   goroutine-in g r e = Entry-Every (λ k y. UpTo s.last_object (goroutine_refs y)) s.goroutines n.in_goroutines g r e
 
   pub numbered-ground : Ground s (Given s) (Started s)
@@ -64,7 +64,7 @@ module _ (s : State) (n : Numbered s) where
       wide : (os : List ℕ) → UpTo s.last_object os → UpTo m os
       wide os a = Every-weaker (λ o. o ≤ s.last_object) (λ o. o ≤ m) (λ o h. omega arith) os a
 
-  pub numbered-goroutines : (gs : List (ℕ × PlainGoroutine)) (m ticket : ℕ) → IsRising gs → AllBelow m gs → ((g : ℕ) (r : PlainGoroutine) → Entry gs g r → UpTo s.last_object (goroutine_refs r)) → Numbered (record s { goroutines = gs; next_goroutine = m; next_ticket = ticket })
+  pub numbered-goroutines : (gs : List (ℕ × GoroutineView)) (m ticket : ℕ) → IsRising gs → AllBelow m gs → ((g : ℕ) (r : GoroutineView) → Entry gs g r → UpTo s.last_object (goroutine_refs r)) → Numbered (record s { goroutines = gs; next_goroutine = m; next_ticket = ticket })
   numbered-goroutines gs m ticket rise below h = record {
     objects_rise = n.objects_rise;
     objects_below = n.objects_below;
@@ -110,18 +110,18 @@ module _ (s : State) (n : Numbered s) where
   numbered-replace p x a = numbered-objects (put p x s.objects) s.last_object (omega arith) (Rises-put 0 p x s.objects n.objects_rise) (AllBelow-put (s.last_object + 1) p x s.objects n.objects_below)
       (λ q y e. elim (Entry-put p x s.objects q y e) [ inl b ↦ subst (λ z. UpTo s.last_object (object_refs z)) (sym b.1) a | inr b ↦ object-in q y b ])
 
-  numbered-put : (g : ℕ) (r : PlainGoroutine) (ticket : ℕ) → UpTo s.last_object (goroutine_refs r) → Numbered (record s { goroutines = put g r s.goroutines; next_ticket = ticket })
+  numbered-put : (g : ℕ) (r : GoroutineView) (ticket : ℕ) → UpTo s.last_object (goroutine_refs r) → Numbered (record s { goroutines = put g r s.goroutines; next_ticket = ticket })
   numbered-put g r ticket a = numbered-goroutines (put g r s.goroutines) s.next_goroutine ticket (Rises-put 0 g r s.goroutines n.goroutines_rise) (AllBelow-put s.next_goroutine g r s.goroutines n.goroutines_below)
       (λ h q e. elim (Entry-put g r s.goroutines h q e) [ inl b ↦ subst (λ z. UpTo s.last_object (goroutine_refs z)) (sym b.1) a | inr b ↦ goroutine-in h q b ])
 
 module _ (s : State) (n : Numbered s) (g m : ℕ) (j : m ≤ s.last_object) where
-  numbered-pass_on_by : (locked : Bool) (r : PlainGoroutine) → UpTo s.last_object (goroutine_refs r) → Numbered (pass_on_by locked g m r s)
+  numbered-pass_on_by : (locked : Bool) (r : GoroutineView) → UpTo s.last_object (goroutine_refs r) → Numbered (pass_on_by locked g m r s)
   numbered-pass_on_by false r a = numbered-replace (become g (released r) s) (numbered-put s n g (released r) s.next_ticket (released-in (Given s) r a)) m (Object.Mutex true) tt
   numbered-pass_on_by true r a =
-      let q : PlainGoroutine = record r { mode = moved m s.next_ticket r.mode } in
+      let q : GoroutineView = record r { mode = moved m s.next_ticket r.mode } in
       numbered-put s n g q (s.next_ticket + 1) (goroutine-both (Given s) q (goroutine-frames (Given s) r a) (moved-in (Given s) m s.next_ticket r.mode j (goroutine-waits (Given s) r a)))
 
-  numbered-pass_on_at : (x : Object) (r : PlainGoroutine) → UpTo s.last_object (goroutine_refs r) → Numbered (pass_on_at x g m r s)
+  numbered-pass_on_at : (x : Object) (r : GoroutineView) → UpTo s.last_object (goroutine_refs r) → Numbered (pass_on_at x g m r s)
   numbered-pass_on_at (Object.Struct fields) r a = n
   numbered-pass_on_at (Object.Slice elements) r a = n
   numbered-pass_on_at (Object.Chan d) r a = n
@@ -130,7 +130,7 @@ module _ (s : State) (n : Numbered s) (g m : ℕ) (j : m ≤ s.last_object) wher
   numbered-pass_on_at (Object.Rw k) r a = n
   numbered-pass_on_at (Object.Cond v) r a = n
 
-  numbered-pass_on : (r : Option PlainGoroutine) (x : Option Object) → ((q : PlainGoroutine) → r ≡ Some q → UpTo s.last_object (goroutine_refs q)) → Numbered (pass_on g m r x s)
+  numbered-pass_on : (r : Option GoroutineView) (x : Option Object) → ((q : GoroutineView) → r ≡ Some q → UpTo s.last_object (goroutine_refs q)) → Numbered (pass_on g m r x s)
   numbered-pass_on None x h = n
   numbered-pass_on (Some r) None h = n
   numbered-pass_on (Some r) (Some x) h = numbered-pass_on_at x r (h r refl)
@@ -146,7 +146,7 @@ numbered_change s (Change.Replace p x) n a = numbered-replace s n p x a.1
 numbered_change s (Change.SetGlobal i v) n a = numbered-rest s n (slice_set s.globals i v) s.queue s.output s.recorded (vals-set (Given s) s.globals i v a n.globals) n.queue
 numbered_change s (Change.Become g r) n a = numbered-put s n g r s.next_ticket a.1
 numbered_change s (Change.Block g kind line waits r) n a =
-    let q : PlainGoroutine = record r { mode = Mode.Blocked kind line waits s.next_ticket } in
+    let q : GoroutineView = record r { mode = Mode.Blocked kind line waits s.next_ticket } in
     numbered-put s n g q (s.next_ticket + 1) (goroutine-both (Given s) q a.1 a.2)
 numbered_change s (Change.Spawn r) n a = numbered-goroutines s n (add s.next_goroutine r s.goroutines) (s.next_goroutine + 1) s.next_ticket
     (Rises-add 0 s.next_goroutine r s.goroutines (omega arith) n.goroutines_below n.goroutines_rise)

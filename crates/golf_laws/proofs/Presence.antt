@@ -3,14 +3,14 @@ use Rattle.std.proofs.Common.{◌≡◌, ℕ, ◌+◌, ◌<◌, ◌≤◌, ◌/�
 use Rattle.std.specs.Prelude.{option_to_list}
 use Rattle.std.proofs.lemmas.Bool.{cases_lt}
 use Rattle.golf_theory.specs.Membership.{In, Every}
-use Rattle.golf_theory.specs.Maps.{Entry, find, keys, put, add}
+use Rattle.golf_theory.specs.Maps.{find, keys}
 use Rattle.golf_theory.proofs.Lists.{In-left, In-cases, In-push, Every-append, Every-at, Every-from, Every-weaker}
 use Rattle.golf_theory.proofs.MapEntries.{In-keys, Entry-Every}
 use Rattle.golf_theory.proofs.MapFinds.{Entry-below}
 use Rattle.golf_theory.proofs.MapKeys.{keys-put, keys-add}
 use Rattle.golf_data.specs.declared.value.Object.{Object}
 use Rattle.golf_data.specs.declared.code.Code.{Code}
-use Rattle.golf_model.specs.Plain.{PlainFrame, PlainGoroutine}
+use Rattle.golf_model.specs.Views.{FrameView, GoroutineView}
 use Rattle.golf_model.specs.State.{State, start, call_frame, runnable}
 use Rattle.golf_model.specs.Changes.{Change, apply, apply_all, pass_on, pass_on_at, pass_on_by}
 use Rattle.golf_model.specs.Turn.{step, turn_changes, whose_turn}
@@ -77,11 +77,11 @@ module _ (s : State) (x : Object) where
 
 -- passing on makes nothing
 module _ (s : State) (g m : ℕ) where
-  passed-by : (locked : Bool) (r : PlainGoroutine) → SameHere s (pass_on_by locked g m r s)
+  passed-by : (locked : Bool) (r : GoroutineView) → SameHere s (pass_on_by locked g m r s)
   passed-by true r = here-same s (pass_on_by true g m r s) refl refl
   passed-by false r = here-same s (pass_on_by false g m r s) (keys-put m (Object.Mutex true) s.objects) refl
 
-  passed-at : (x : Object) (r : PlainGoroutine) → SameHere s (pass_on_at x g m r s)
+  passed-at : (x : Object) (r : GoroutineView) → SameHere s (pass_on_at x g m r s)
   passed-at (Object.Struct fields) r = here-same s s refl refl
   passed-at (Object.Slice elements) r = here-same s s refl refl
   passed-at (Object.Chan d) r = here-same s s refl refl
@@ -90,7 +90,7 @@ module _ (s : State) (g m : ℕ) where
   passed-at (Object.Rw k) r = here-same s s refl refl
   passed-at (Object.Cond v) r = here-same s s refl refl
 
-  passed-here : (r : Option PlainGoroutine) (x : Option Object) → SameHere s (pass_on g m r x s)
+  passed-here : (r : Option GoroutineView) (x : Option Object) → SameHere s (pass_on g m r x s)
   passed-here None x = here-same s s refl refl
   passed-here (Some r) None = here-same s s refl refl
   passed-here (Some r) (Some x) = passed-at x r
@@ -158,11 +158,11 @@ whole-step code s k n w =
     (flow_changes (Here s) All All s.last_object cs s (λ o m. inr m) f
     (sound_turn (Here s) All All code s (whole-ground s f) (λ g at l is t o h. tt) (k / length (runnable s)) (whose_turn s k) (λ g h. tt)))
 
-whole-collect : (s : State) → Numbered s → IsWhole s → IsWhole (plain_collect s)
+pub whole-collect : (s : State) → Numbered s → IsWhole s → IsWhole (plain_collect s)
 whole-collect s n w = flow-whole s (plain_collect s) (numbered-collect s n) (here-same s (plain_collect s) refl refl) (flow-collect (Here s) All s (whole-flows s w))
 
 -- the opening state
-first-frames : (P : ℕ → Type 0) (code : Code) (m : Option PlainFrame) → call_frame code 0 [] true ≡ m → Every P (frames_refs (option_to_list m))
+first-frames : (P : ℕ → Type 0) (code : Code) (m : Option FrameView) → call_frame code 0 [] true ≡ m → Every P (frames_refs (option_to_list m))
 first-frames P code None h = tt
 first-frames P code (Some f) h = frames-cons P f [] (call_frame-in P code 0 [] true f tt h) tt
 

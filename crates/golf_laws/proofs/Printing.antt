@@ -1,5 +1,5 @@
 -- What was printed before changes nothing: a state with more output goes the same way.
-use Rattle.std.proofs.Common.{◌≡◌, ℕ, ◌+◌, ◌/◌, map, filter, Bool, true, false, List, [], ◌∷◌, ◌++◌, length, Option, Some, None, refl, ap, ◌∙◌, sym, append_assoc}
+use Rattle.std.proofs.Common.{◌≡◌, ℕ, ◌+◌, ◌/◌, map, filter, Bool, true, false, ◌&&◌, List, [], ◌∷◌, ◌++◌, length, Option, Some, None, refl, ap, ◌∙◌, append_assoc}
 use Rattle.golf_theory.specs.Maps.{find, keys, keys_where}
 use Rattle.golf_theory.specs.Membership.{is_in}
 use Rattle.golf_data.specs.declared.value.Value.{Value}
@@ -8,14 +8,13 @@ use Rattle.golf_data.specs.declared.value.Object.{Object}
 use Rattle.golf_data.specs.declared.code.Code.{Code}
 use Rattle.golf_data.specs.declared.code.Instr.{Instr}
 use Rattle.golf_data.specs.declared.code.Line.{Line}
-use Rattle.golf_data.specs.declared.goroutine.Deferred.{Deferred}
 use Rattle.golf_data.specs.declared.goroutine.Leaving.{Leaving}
 use Rattle.golf_data.specs.declared.report.Book.{Book}
-use Rattle.golf_model.specs.Plain.{PlainFrame, PlainGoroutine}
-use Rattle.golf_model.specs.State.{State, runnable, ending}
+use Rattle.golf_model.specs.Views.{FrameView, GoroutineView}
+use Rattle.golf_model.specs.State.{State, runnable}
 use Rattle.golf_model.specs.Changes.{Change, apply, apply_all, pass_on, pass_on_at, pass_on_by}
-use Rattle.golf_model.specs.Acting.{Actor, at_reference_or}
-use Rattle.golf_model.specs.Selecting.{Offer, Taken, offers_of, is_ready_on, is_ready, kept_if, ready, proceeds_by, chosen, selects_one, selects_from}
+use Rattle.golf_model.specs.Acting.{Actor, choose, at_reference_or}
+use Rattle.golf_model.specs.Selecting.{Offer, Taken, offers_of, is_nil_or_channel, all_on_channels, is_ready_on, is_ready, kept_if, ready, proceeds_by, chosen, selects_one, selects_from}
 use Rattle.golf_model.specs.Turn.{changes, line_at, performs, frame_changes, goroutine_changes, turn_of, turn_changes, whose_turn, step}
 use Rattle.golf_model.specs.Reaching.{reach, sources}
 use Rattle.golf_model.specs.Living.{live_list, live_objects, has_object, dead, is_dead}
@@ -26,6 +25,18 @@ use Rattle.golf_model.specs.Reporting.{report, book_after, entries, entry_of, ne
 
 -- `select`
 module _ (w : List ℕ) (s : State) where
+  same-on_channel : (v : Value) → is_nil_or_channel (prefixed w s) v ≡ is_nil_or_channel s v
+  same-on_channel (Value.Int n) = refl
+  same-on_channel (Value.Bool b) = refl
+  same-on_channel (Value.Text k) = refl
+  same-on_channel Value.Unit = refl
+  same-on_channel Value.Nil = refl
+  same-on_channel (Value.Ref o) = refl
+
+  same-on_channels : (xs : List Offer) → all_on_channels (prefixed w s) xs ≡ all_on_channels s xs
+  same-on_channels [] = refl
+  same-on_channels (x ∷ xs) = ap (λ b. b && all_on_channels (prefixed w s) xs) (same-on_channel x.channel) ∙ ap (λ b. is_nil_or_channel s x.channel && b) (same-on_channels xs)
+
   same-ready_on : (kind : CaseKind) (v : Value) → is_ready_on kind (prefixed w s) v ≡ is_ready_on kind s v
   same-ready_on kind (Value.Int n) = refl
   same-ready_on kind (Value.Bool b) = refl
@@ -38,12 +49,12 @@ module _ (w : List ℕ) (s : State) where
   same-ready [] = refl
   same-ready (x ∷ xs) = ap (λ b. kept_if b x (ready (prefixed w s) xs)) (same-ready_on x.kind x.channel) ∙ ap (kept_if (is_ready s x) x) (same-ready xs)
 
-  same-proceeds_by : (a : Actor) (after : PlainFrame) (kind : CaseKind) (v : Value) (o : ℕ) → proceeds_by a after kind v (prefixed w s) o ≡ proceeds_by a after kind v s o
+  same-proceeds_by : (a : Actor) (after : FrameView) (kind : CaseKind) (v : Value) (o : ℕ) → proceeds_by a after kind v (prefixed w s) o ≡ proceeds_by a after kind v s o
   same-proceeds_by a after CaseKind.Send v o = refl
   same-proceeds_by a after CaseKind.Take v o = refl
   same-proceeds_by a after CaseKind.TakeOk v o = refl
 
-  same-proceeds_at : (a : Actor) (after : PlainFrame) (kind : CaseKind) (v c : Value) → at_reference_or [] (proceeds_by a after kind v (prefixed w s)) c ≡ at_reference_or [] (proceeds_by a after kind v s) c
+  same-proceeds_at : (a : Actor) (after : FrameView) (kind : CaseKind) (v c : Value) → at_reference_or [] (proceeds_by a after kind v (prefixed w s)) c ≡ at_reference_or [] (proceeds_by a after kind v s) c
   same-proceeds_at a after kind v (Value.Int n) = refl
   same-proceeds_at a after kind v (Value.Bool b) = refl
   same-proceeds_at a after kind v (Value.Text k) = refl
@@ -58,7 +69,9 @@ module _ (w : List ℕ) (s : State) where
   same-selects : (a : Actor) (choice : ℕ) (otherwise : Option ℕ) (m : Option Taken) → selects_from a (prefixed w s) choice otherwise m ≡ selects_from a s choice otherwise m
   same-selects a choice otherwise None = refl
   same-selects a choice otherwise (Some t) =
-      ap (λ xs. selects_one a t.1 (prefixed w s) t.0 otherwise (chosen choice xs)) (same-ready t.0) ∙ same-one a t.1 t.0 otherwise (chosen choice (ready s t.0))
+      ap (λ b. choose b (selects_one a t.1 (prefixed w s) t.0 otherwise (chosen choice (ready (prefixed w s) t.0))) []) (same-on_channels t.0)
+      ∙ ap (λ cs. choose (all_on_channels s t.0) cs [])
+      (ap (λ xs. selects_one a t.1 (prefixed w s) t.0 otherwise (chosen choice xs)) (same-ready t.0) ∙ same-one a t.1 t.0 otherwise (chosen choice (ready s t.0)))
 
 module _ (w : List ℕ) (code : Code) where
   same-changes : (i : Instr) (a : Actor) (choice : ℕ) (s : State) → changes code i a choice (prefixed w s) ≡ changes code i a choice s
@@ -126,20 +139,20 @@ module _ (w : List ℕ) (code : Code) where
   same-changes Instr.ClearFinalizer a choice s = refl
   same-changes Instr.Panic a choice s = refl
 
-  same-performs : (g : ℕ) (r : PlainGoroutine) (f : PlainFrame) (callers : List PlainFrame) (choice : ℕ) (s : State) (m : Option Line) → performs code g r f callers choice (prefixed w s) m ≡ performs code g r f callers choice s m
+  same-performs : (g : ℕ) (r : GoroutineView) (f : FrameView) (callers : List FrameView) (choice : ℕ) (s : State) (m : Option Line) → performs code g r f callers choice (prefixed w s) m ≡ performs code g r f callers choice s m
   same-performs g r f callers choice s None = refl
   same-performs g r f callers choice s (Some l) = same-changes l.instr _ choice s
 
-  same-frame : (g : ℕ) (r : PlainGoroutine) (f : PlainFrame) (callers : List PlainFrame) (choice : ℕ) (s : State) (m : Leaving) → frame_changes code g r f callers choice (prefixed w s) m ≡ frame_changes code g r f callers choice s m
+  same-frame : (g : ℕ) (r : GoroutineView) (f : FrameView) (callers : List FrameView) (choice : ℕ) (s : State) (m : Leaving) → frame_changes code g r f callers choice (prefixed w s) m ≡ frame_changes code g r f callers choice s m
   same-frame g r f callers choice s Leaving.No = same-performs g r f callers choice s (line_at code f.function f.at)
   same-frame g r f callers choice s (Leaving.Returning v) = refl
   same-frame g r f callers choice s (Leaving.Unwinding x) = refl
 
-  same-goroutine : (g : ℕ) (r : PlainGoroutine) (choice : ℕ) (s : State) (fs : List PlainFrame) → goroutine_changes code g r choice (prefixed w s) fs ≡ goroutine_changes code g r choice s fs
+  same-goroutine : (g : ℕ) (r : GoroutineView) (choice : ℕ) (s : State) (fs : List FrameView) → goroutine_changes code g r choice (prefixed w s) fs ≡ goroutine_changes code g r choice s fs
   same-goroutine g r choice s [] = refl
   same-goroutine g r choice s (f ∷ fs) = same-frame g r f fs choice s f.leaving
 
-  same-turn_of : (g choice : ℕ) (s : State) (m : Option PlainGoroutine) → turn_of code g choice (prefixed w s) m ≡ turn_of code g choice s m
+  same-turn_of : (g choice : ℕ) (s : State) (m : Option GoroutineView) → turn_of code g choice (prefixed w s) m ≡ turn_of code g choice s m
   same-turn_of g choice s None = refl
   same-turn_of g choice s (Some r) = same-goroutine g r choice s r.frames
 
@@ -148,11 +161,11 @@ module _ (w : List ℕ) (code : Code) where
   same-turn choice s (Some g) = same-turn_of g choice s (find g s.goroutines)
 
   -- passing on
-  passed-by : (locked : Bool) (g m : ℕ) (r : PlainGoroutine) (s : State) → pass_on_by locked g m r (prefixed w s) ≡ prefixed w (pass_on_by locked g m r s)
+  passed-by : (locked : Bool) (g m : ℕ) (r : GoroutineView) (s : State) → pass_on_by locked g m r (prefixed w s) ≡ prefixed w (pass_on_by locked g m r s)
   passed-by true g m r s = refl
   passed-by false g m r s = refl
 
-  passed-at : (x : Object) (g m : ℕ) (r : PlainGoroutine) (s : State) → pass_on_at x g m r (prefixed w s) ≡ prefixed w (pass_on_at x g m r s)
+  passed-at : (x : Object) (g m : ℕ) (r : GoroutineView) (s : State) → pass_on_at x g m r (prefixed w s) ≡ prefixed w (pass_on_at x g m r s)
   passed-at (Object.Struct fields) g m r s = refl
   passed-at (Object.Slice elements) g m r s = refl
   passed-at (Object.Chan d) g m r s = refl
@@ -161,7 +174,7 @@ module _ (w : List ℕ) (code : Code) where
   passed-at (Object.Rw k) g m r s = refl
   passed-at (Object.Cond v) g m r s = refl
 
-  passed : (g m : ℕ) (r : Option PlainGoroutine) (x : Option Object) (s : State) → pass_on g m r x (prefixed w s) ≡ prefixed w (pass_on g m r x s)
+  passed : (g m : ℕ) (r : Option GoroutineView) (x : Option Object) (s : State) → pass_on g m r x (prefixed w s) ≡ prefixed w (pass_on g m r x s)
   passed g m None x s = refl
   passed g m (Some r) None s = refl
   passed g m (Some r) (Some x) s = passed-at x g m r s
@@ -213,11 +226,11 @@ module _ (w : List ℕ) (book : Book) (s : State) where
   same-new : new_dead book (prefixed w s) ≡ new_dead book s
   same-new = ap (λ gs. without gs (numbers book.reported)) (same-dead w s)
 
-  pub book-prefixed : (may_set : Bool) → book_after false may_set book (prefixed w s) ≡ book_after false may_set book s
-  book-prefixed may_set = ap (λ gs. record { collections = book.collections + 1; reported = book.reported ++ map goroutine_id gs; reclaimed = book.reclaimed ++ [] }) same-new
+  pub book-prefixed : (sets_finalisers : Bool) → book_after false sets_finalisers book (prefixed w s) ≡ book_after false sets_finalisers book s
+  book-prefixed sets_finalisers = ap (λ gs. record { collections = book.collections + 1; reported = book.reported ++ map goroutine_id gs; reclaimed = book.reclaimed ++ [] }) same-new
 
-  pub report-prefixed : (may_set : Bool) → report false may_set book (prefixed w s) ≡ report false may_set book s
-  report-prefixed may_set =
+  pub report-prefixed : (sets_finalisers : Bool) → report false sets_finalisers book (prefixed w s) ≡ report false sets_finalisers book s
+  report-prefixed sets_finalisers =
       let gone : List ℕ = numbers book.reclaimed ++ [] in
       ap (λ xs. record { number = book.collections + 1; marked = length (filter (has_object xs) (keys s.objects)); reported = entries (prefixed w s) (new_dead book (prefixed w s)); kept = length (without (dead (prefixed w s)) gone); reclaimed = 0; objects = length (retained_objects (prefixed w s) gone) }) (same-live w s)
       ∙ ap (λ es. record { number = book.collections + 1; marked = length (live_objects s); reported = es; kept = length (without (dead (prefixed w s)) gone); reclaimed = 0; objects = length (retained_objects (prefixed w s) gone) }) (same-entries w s (new_dead book (prefixed w s)) ∙ ap (entries s) same-new)

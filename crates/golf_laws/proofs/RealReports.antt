@@ -11,7 +11,7 @@ use Rattle.golf_data.specs.declared.code.Code.{Code}
 use Rattle.golf_data.specs.declared.report.Book.{Book}
 use Rattle.golf_model.specs.State.{State}
 use Rattle.golf_model.specs.Living.{dead}
-use Rattle.golf_model.specs.Collecting.{unkept, removed, retained, cut, sets}
+use Rattle.golf_model.specs.Collecting.{unkept, removed, retained, cut, sets_finalisers}
 use Rattle.golf_model.specs.Reporting.{goroutine_id, numbers, entries, without, new_dead, new_gone, all_gone, retained_objects, book_after, report}
 use Rattle.golf_model.specs.Futures.{Numbered}
 use Rattle.golf_laws.proofs.Removing.{stays_by}
@@ -52,24 +52,24 @@ module _ (code : Code) (gone : List ℕ) (kept : ℕ → Bool) (t : State) (n : 
       (Every-from (λ g. stays_by gone g ≡ true) (new_dead book t) (λ g i. without-stays (numbers book.reported) k.reported g (In-filter (λ h. not (is_in h (numbers book.reported))) g (dead t) i).1))
 
   -- in the whole state, those that are removed now
-  fresh-gone : (b : Bool) → removed (cut (stays_by gone) kept t) b (sets code) ≡ new_gone b (sets code) book t
-  fresh-gone true = cut-unkept code gone kept t n z (sets code) ∙ ap (without (unkept t (sets code))) (sym k.reclaimed)
+  fresh-gone : (b : Bool) → removed (cut (stays_by gone) kept t) b (sets_finalisers code) ≡ new_gone b (sets_finalisers code) book t
+  fresh-gone true = cut-unkept code gone kept t n z (sets_finalisers code) ∙ ap (without (unkept t (sets_finalisers code))) (sym k.reclaimed)
   fresh-gone false = refl
 
-  same-new_gone : (b : Bool) → new_gone b (sets code) book (cut (stays_by gone) kept t) ≡ new_gone b (sets code) book t
+  same-new_gone : (b : Bool) → new_gone b (sets_finalisers code) book (cut (stays_by gone) kept t) ≡ new_gone b (sets_finalisers code) book t
   same-new_gone true =
-      ap (λ (gs : List ℕ). without gs (numbers book.reclaimed)) (cut-unkept code gone kept t n z (sets code) ∙ ap (without (unkept t (sets code))) (sym k.reclaimed))
-      ∙ filter-within (λ g. not (is_in g (numbers book.reclaimed))) (λ g. not (is_in g (numbers book.reclaimed))) (unkept t (sets code)) (λ g h. h)
+      ap (λ (gs : List ℕ). without gs (numbers book.reclaimed)) (cut-unkept code gone kept t n z (sets_finalisers code) ∙ ap (without (unkept t (sets_finalisers code))) (sym k.reclaimed))
+      ∙ filter-within (λ g. not (is_in g (numbers book.reclaimed))) (λ g. not (is_in g (numbers book.reclaimed))) (unkept t (sets_finalisers code)) (λ g h. h)
   same-new_gone false = refl
 
-  same-all_gone : all_gone recover (sets code) book (cut (stays_by gone) kept t) ≡ all_gone recover (sets code) book t
+  same-all_gone : all_gone recover (sets_finalisers code) book (cut (stays_by gone) kept t) ≡ all_gone recover (sets_finalisers code) book t
   same-all_gone = ap (λ (gs : List ℕ). numbers book.reclaimed ++ gs) (same-new_gone recover)
 
-  gone-all : (g : ℕ) → In g gone → In g (all_gone recover (sets code) book t)
+  gone-all : (g : ℕ) → In g gone → In g (all_gone recover (sets_finalisers code) book t)
   gone-all g i = In-left g (numbers book.reclaimed) _ (subst (λ (gs : List ℕ). In g gs) (sym k.reclaimed) i)
 
-  same-still_kept : without (dead (cut (stays_by gone) kept t)) (all_gone recover (sets code) book (cut (stays_by gone) kept t)) ≡ without (dead t) (all_gone recover (sets code) book t)
-  same-still_kept = ap (without (dead (cut (stays_by gone) kept t))) same-all_gone ∙ without-dead (all_gone recover (sets code) book t) gone-all
+  same-still_kept : without (dead (cut (stays_by gone) kept t)) (all_gone recover (sets_finalisers code) book (cut (stays_by gone) kept t)) ≡ without (dead t) (all_gone recover (sets_finalisers code) book t)
+  same-still_kept = ap (without (dead (cut (stays_by gone) kept t))) same-all_gone ∙ without-dead (all_gone recover (sets_finalisers code) book t) gone-all
 
   same-retained : (gs : List ℕ) → ((g : ℕ) → In g gone → In g gs) → retained_objects (cut (stays_by gone) kept t) gs ≡ retained_objects t gs
   same-retained gs h =
@@ -83,11 +83,11 @@ module _ (code : Code) (gone : List ℕ) (kept : ℕ → Bool) (t : State) (n : 
       ∙ filter-within (λ o. is_in o (retained t gs)) kept (keys t.objects)
       (λ o s. (retained-into (stays_by gone) kept t (flow code gone kept t n z) gs gs into back o (In-from o (retained t gs) s)).1)
 
-  same-objects : retained_objects (cut (stays_by gone) kept t) (all_gone recover (sets code) book (cut (stays_by gone) kept t)) ≡ retained_objects t (all_gone recover (sets code) book t)
-  same-objects = ap (retained_objects (cut (stays_by gone) kept t)) same-all_gone ∙ same-retained (all_gone recover (sets code) book t) gone-all
+  same-objects : retained_objects (cut (stays_by gone) kept t) (all_gone recover (sets_finalisers code) book (cut (stays_by gone) kept t)) ≡ retained_objects t (all_gone recover (sets_finalisers code) book t)
+  same-objects = ap (retained_objects (cut (stays_by gone) kept t)) same-all_gone ∙ same-retained (all_gone recover (sets_finalisers code) book t) gone-all
 
-  -- the report, and the book behind it
-  pub same-report : report recover (sets code) book (cut (stays_by gone) kept t) ≡ report recover (sets code) book t
+  -- the report, and the book after it
+  pub same-report : report recover (sets_finalisers code) book (cut (stays_by gone) kept t) ≡ report recover (sets_finalisers code) book t
   same-report =
       let a = same-live_objects (stays_by gone) kept z.related.O z.G t z.related.closed z.related.within z.within (flow code gone kept t n z).finalised in
       let b = same-entries in
@@ -96,15 +96,15 @@ module _ (code : Code) (gone : List ℕ) (kept : ℕ → Bool) (t : State) (n : 
       let e = same-objects in
       λ i. record { number = book.collections + 1; marked = length (a i); reported = b i; kept = length (c i); reclaimed = length (d i); objects = length (e i) }
 
-  pub same-book : book_after recover (sets code) book (cut (stays_by gone) kept t) ≡ book_after recover (sets code) book t
+  pub same-book : book_after recover (sets_finalisers code) book (cut (stays_by gone) kept t) ≡ book_after recover (sets_finalisers code) book t
   same-book =
       let a = same-new_dead in
       let b = same-new_gone recover in
       λ i. record { collections = book.collections + 1; reported = book.reported ++ map goroutine_id (a i); reclaimed = book.reclaimed ++ map goroutine_id (b i) }
 
   -- who is removed now is dead, and is reported by now
-  new-dead : (b : Bool) (g : ℕ) → In g (new_gone b (sets code) book t) → In g (dead t)
-  new-dead true g h = (In-filter _ g (dead t) (In-filter _ g (unkept t (sets code)) h).0).0
+  new-dead : (b : Bool) (g : ℕ) → In g (new_gone b (sets_finalisers code) book t) → In g (dead t)
+  new-dead true g h = (In-filter _ g (dead t) (In-filter _ g (unkept t (sets_finalisers code)) h).0).0
   new-dead false g h = absurd h
 
   told : (g : ℕ) → In g (dead t) → In g (numbers book.reported ++ new_dead book t)
@@ -113,10 +113,10 @@ module _ (code : Code) (gone : List ℕ) (kept : ℕ → Bool) (t : State) (n : 
     | inr f ↦ In-right g (numbers book.reported) _ (In-filter_old (λ h. not (is_in h (numbers book.reported))) g (dead t) (not_from_false (is_in g (numbers book.reported)) (is_in-out g (numbers book.reported) f)) d)
   ]
 
-  pub book-next : BookOf (gone ++ removed (cut (stays_by gone) kept t) recover (sets code)) (book_after recover (sets code) book t)
+  pub book-next : BookOf (gone ++ removed (cut (stays_by gone) kept t) recover (sets_finalisers code)) (book_after recover (sets_finalisers code) book t)
   book-next = record {
-    reclaimed = numbers-append book.reclaimed (new_gone recover (sets code) book t)
-        ∙ ap (λ (gs : List ℕ). gs ++ new_gone recover (sets code) book t) k.reclaimed
+    reclaimed = numbers-append book.reclaimed (new_gone recover (sets_finalisers code) book t)
+        ∙ ap (λ (gs : List ℕ). gs ++ new_gone recover (sets_finalisers code) book t) k.reclaimed
         ∙ ap (λ (gs : List ℕ). gone ++ gs) (sym (fresh-gone recover));
     reported = λ g h. subst (λ (gs : List ℕ). In g gs) (sym (numbers-append book.reported (new_dead book t))) (elim (In-cases g gone _ h) [
       | inl i ↦ In-left g (numbers book.reported) _ (k.reported g i)

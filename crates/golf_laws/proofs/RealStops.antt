@@ -11,20 +11,20 @@ use Rattle.golf_theory.proofs.MapCuts.{only-only, only-same}
 use Rattle.golf_theory.proofs.Derivations.{Reached-root, Reached-step, Reached-least, Reached-over}
 use Rattle.golf_data.specs.declared.code.Code.{Code}
 use Rattle.golf_data.specs.declared.value.Object.{Object}
-use Rattle.golf_model.specs.Plain.{PlainGoroutine}
+use Rattle.golf_model.specs.Views.{GoroutineView}
 use Rattle.golf_model.specs.Values.{refs}
 use Rattle.golf_model.specs.State.{State}
 use Rattle.golf_model.specs.Refs.{object_refs, goroutine_refs, queue_refs, refs_where, goroutine_refs_where, has_finaliser, refs_of_goroutine}
 use Rattle.golf_model.specs.Reaching.{RefersTo, Reach, reach, sources}
 use Rattle.golf_model.specs.Living.{Node, Live, dead}
-use Rattle.golf_model.specs.Collecting.{plain_collect, bars, keeps, unkept, removed, retained, cut, sets, real_collect}
+use Rattle.golf_model.specs.Collecting.{plain_collect, prevents_removal, keeps, unkept, removed, retained, cut, sets_finalisers, real_collect}
 use Rattle.golf_model.specs.Reporting.{without}
 use Rattle.golf_model.specs.Futures.{Numbered}
 use Rattle.golf_model.proofs.Agreeing.{reach-sound, reach-complete, refs_where-sound, goroutine_refs_where-sound}
 use Rattle.golf_laws.proofs.Collecting.{In-goroutine_refs_where, In-refs_where}
 use Rattle.golf_laws.proofs.Cutting.{parts}
 use Rattle.golf_laws.proofs.Flowing.{Flow}
-use Rattle.golf_laws.proofs.Removing.{GoneOk, stays_by, kept_by, gone-dead, gone-bars}
+use Rattle.golf_laws.proofs.Removing.{GoneOk, stays_by, kept_by, gone-dead, gone-prevents_removal}
 use Rattle.golf_laws.proofs.SameSight.{live-in, live-cut, same-live_object, same-dead}
 use Rattle.golf_laws.proofs.Modes.{Sim}
 
@@ -120,10 +120,10 @@ module _ (code : Code) (gone : List ℕ) (kept : ℕ → Bool) (t : State) (n : 
   pub flow : Flow (λ o. kept o ≡ true) (λ g. stays_by gone g ≡ true) t
   flow = z.agreement.flow z.related.O t z.related.mode
 
-  same-bars : (b : Bool) (o : ℕ) → bars (cut (stays_by gone) kept t) b o ≡ bars t b o
-  same-bars b o = ap (λ x. has_finaliser t o || (b && x)) (same-live_object (stays_by gone) kept z.related.O z.G t z.related.closed z.related.within z.within flow.finalised o)
+  same-prevents_removal : (b : Bool) (o : ℕ) → prevents_removal (cut (stays_by gone) kept t) b o ≡ prevents_removal t b o
+  same-prevents_removal b o = ap (λ x. has_finaliser t o || (b && x)) (same-live_object (stays_by gone) kept z.related.O z.G t z.related.closed z.related.within z.within flow.finalised o)
 
-  refs-kept : (g : ℕ) (m : Option PlainGoroutine) → find g t.goroutines ≡ m → stays_by gone g ≡ true → Every (λ o. kept o ≡ true) (refs_of_goroutine m)
+  refs-kept : (g : ℕ) (m : Option GoroutineView) → find g t.goroutines ≡ m → stays_by gone g ≡ true → Every (λ o. kept o ≡ true) (refs_of_goroutine m)
   refs-kept g None e s = tt
   refs-kept g (Some r) e s = flow.goroutines g r s (Entry-find g t.goroutines r e)
 
@@ -132,19 +132,19 @@ module _ (code : Code) (gone : List ℕ) (kept : ℕ → Bool) (t : State) (n : 
   same-reached g o s i =
       let xs : List ℕ = refs_of_goroutine (find g t.goroutines) in
       let a = refs-kept g (find g t.goroutines) refl s in
-      subst (λ (m : Option PlainGoroutine). In o (reach (cut (stays_by gone) kept t) (refs_of_goroutine m))) (sym (find-only (stays_by gone) t.goroutines g s))
+      subst (λ (m : Option GoroutineView). In o (reach (cut (stays_by gone) kept t) (refs_of_goroutine m))) (sym (find-only (stays_by gone) t.goroutines g s))
       (reach-into (stays_by gone) kept t flow xs xs (λ p j. (j, Every-at (λ k. kept k ≡ true) xs p a j)) o i).0
 
   pub same-reached_back : (g o : ℕ) → stays_by gone g ≡ true → In o (reach (cut (stays_by gone) kept t) (refs_of_goroutine (find g (only (stays_by gone) t.goroutines)))) → In o (reach t (refs_of_goroutine (find g t.goroutines)))
   same-reached_back g o s i =
       let xs : List ℕ = refs_of_goroutine (find g t.goroutines) in
       reach-back (stays_by gone) kept t flow xs xs (λ p j. j) o
-      (subst (λ (m : Option PlainGoroutine). In o (reach (cut (stays_by gone) kept t) (refs_of_goroutine m))) (find-only (stays_by gone) t.goroutines g s) i)
+      (subst (λ (m : Option GoroutineView). In o (reach (cut (stays_by gone) kept t) (refs_of_goroutine m))) (find-only (stays_by gone) t.goroutines g s) i)
 
   same-keeps : (b : Bool) (g : ℕ) → stays_by gone g ≡ true → keeps (cut (stays_by gone) kept t) b g ≡ keeps t b g
   same-keeps b g s = same_test _ _
-      (λ h. let r = from_any_of (bars (cut (stays_by gone) kept t) b) _ h in any_of-from (bars t b) (reach t (refs_of_goroutine (find g t.goroutines))) r.0 (same-reached_back g r.0 s r.1) (sym (same-bars b r.0) ∙ r.2))
-      (λ h. let r = from_any_of (bars t b) _ h in any_of-from (bars (cut (stays_by gone) kept t) b) (reach (cut (stays_by gone) kept t) (refs_of_goroutine (find g (only (stays_by gone) t.goroutines)))) r.0 (same-reached g r.0 s r.1) (same-bars b r.0 ∙ r.2))
+      (λ h. let r = from_any_of (prevents_removal (cut (stays_by gone) kept t) b) _ h in any_of-from (prevents_removal t b) (reach t (refs_of_goroutine (find g t.goroutines))) r.0 (same-reached_back g r.0 s r.1) (sym (same-prevents_removal b r.0) ∙ r.2))
+      (λ h. let r = from_any_of (prevents_removal t b) _ h in any_of-from (prevents_removal (cut (stays_by gone) kept t) b) (reach (cut (stays_by gone) kept t) (refs_of_goroutine (find g (only (stays_by gone) t.goroutines)))) r.0 (same-reached g r.0 s r.1) (same-prevents_removal b r.0 ∙ r.2))
 
   pub cut-dead : dead (cut (stays_by gone) kept t) ≡ filter (stays_by gone) (dead t)
   cut-dead = same-dead (stays_by gone) kept z.related.O z.G t z.related.closed z.related.within z.within flow.finalised
@@ -159,16 +159,16 @@ module _ (code : Code) (gone : List ℕ) (kept : ℕ → Bool) (t : State) (n : 
   module _ (recover : Bool) where
     -- those that the real collection removes
     abbrev pub New : List ℕ
-    New = removed (cut (stays_by gone) kept t) recover (sets code)
+    New = removed (cut (stays_by gone) kept t) recover (sets_finalisers code)
 
-    new-entry : (g : ℕ) → In g New → (r : PlainGoroutine) × (stays_by gone g ≡ true) × Entry t.goroutines g r × (Live t (Node.AGoroutine g) → ⊥)
+    new-entry : (g : ℕ) → In g New → (r : GoroutineView) × (stays_by gone g ≡ true) × Entry t.goroutines g r × (Live t (Node.AGoroutine g) → ⊥)
     new-entry g h =
-        let d = gone-dead (cut (stays_by gone) kept t) recover (sets code) g h in
+        let d = gone-dead (cut (stays_by gone) kept t) recover (sets_finalisers code) g h in
         let e = Entry-only (stays_by gone) t.goroutines g d.0 d.1 in
         (d.0, e.0, e.1, λ l. d.2 (live-cut (stays_by gone) kept z.related.O z.G t z.related.closed z.related.within z.within flow.finalised (Node.AGoroutine g) l).0)
 
     -- all that were removed by then are as if removed at once
-    pub all-ok : GoneOk t (sets code) (gone ++ New)
+    pub all-ok : GoneOk t (sets_finalisers code) (gone ++ New)
     all-ok = record {
       dead = λ g h. elim (In-cases g gone New h) [
         | inl i ↦ let e = z.agreement.present z.related.O t z.related.mode g i in
@@ -177,7 +177,7 @@ module _ (code : Code) (gone : List ℕ) (kept : ℕ → Bool) (t : State) (n : 
       ];
       barred = λ g o h j. elim (In-cases g gone New h) [
         | inl i ↦ z.agreement.barred z.related.O t n z.related.closed z.related.mode g o i j
-        | inr i ↦ sym (same-bars (sets code) o) ∙ gone-bars (cut (stays_by gone) kept t) recover (sets code) g o i (same-reached g o (new-entry g i).1 j)
+        | inr i ↦ sym (same-prevents_removal (sets_finalisers code) o) ∙ gone-prevents_removal (cut (stays_by gone) kept t) recover (sets_finalisers code) g o i (same-reached g o (new-entry g i).1 j)
       ];
     }
 
@@ -195,7 +195,7 @@ module _ (code : Code) (gone : List ℕ) (kept : ℕ → Bool) (t : State) (n : 
           | inr a ↦ let l = ltb-true t.last_object p a in let b = Entry-below (t.last_object + 1) t.objects p x n.objects_below e in absurd (omega arith)
         ])
 
-    pub real-cut : real_collect (cut (stays_by gone) kept t) recover (sets code) ≡ cut (stays_by (gone ++ New)) (kept_by t (gone ++ New)) (plain_collect t)
+    pub real-cut : real_collect (cut (stays_by gone) kept t) recover (sets_finalisers code) ≡ cut (stays_by (gone ++ New)) (kept_by t (gone ++ New)) (plain_collect t)
     real-cut =
         ap (cut (stays_by New) (λ o. is_in o (retained (cut (stays_by gone) kept t) New))) (z.agreement.agrees z.related.O t z.related.mode)
         ∙ parts (plain_collect t) _ _ _ _

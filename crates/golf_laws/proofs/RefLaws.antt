@@ -5,7 +5,7 @@ use Rattle.golf_theory.specs.Membership.{In, Every}
 use Rattle.golf_theory.proofs.Lists.{Every-append, Every-left, Every-right}
 use Rattle.golf_data.specs.declared.value.Value.{Value}
 use Rattle.golf_data.specs.declared.goroutine.Wait.{Wait}
-use Rattle.golf_model.specs.Plain.{PlainFrame, PlainGoroutine}
+use Rattle.golf_model.specs.Views.{FrameView, GoroutineView}
 use Rattle.golf_model.specs.Values.{value_refs, refs}
 use Rattle.golf_model.specs.Waiting.{waits_of}
 use Rattle.golf_laws.specs.Invariant.{FrameIn}
@@ -46,31 +46,31 @@ module _ (O : ℕ → Type 0) where
   vals-replicate zero v a = tt
   vals-replicate (suc n) v a = vals-cons v (replicate n v) a (vals-replicate n v a)
 
-  pub frame-in : (f : PlainFrame) → Every O (frame_refs f) → FrameIn O f
+  pub frame-in : (f : FrameView) → Every O (frame_refs f) → FrameIn O f
   frame-in f a =
       let b = Every-right O (refs f.slots) _ a in
       let c = Every-right O (refs f.operands) _ b in
       record { slots = Every-left O (refs f.slots) _ a; operands = Every-left O (refs f.operands) _ b; deferred = Every-left O (deferred_refs f.deferred) _ c; leaving = Every-right O (deferred_refs f.deferred) _ c }
 
-  pub frame-refs : (f : PlainFrame) → FrameIn O f → Every O (frame_refs f)
+  pub frame-refs : (f : FrameView) → FrameIn O f → Every O (frame_refs f)
   frame-refs f a = Every-append O (refs f.slots) _ a.slots (Every-append O (refs f.operands) _ a.operands (Every-append O (deferred_refs f.deferred) _ a.deferred a.leaving))
 
-  pub frames-cons : (f : PlainFrame) (fs : List PlainFrame) → FrameIn O f → Every O (frames_refs fs) → Every O (frames_refs (f ∷ fs))
+  pub frames-cons : (f : FrameView) (fs : List FrameView) → FrameIn O f → Every O (frames_refs fs) → Every O (frames_refs (f ∷ fs))
   frames-cons f fs a b = Every-append O (frame_refs f) (frames_refs fs) (frame-refs f a) b
 
-  pub frames-head : (f : PlainFrame) (fs : List PlainFrame) → Every O (frames_refs (f ∷ fs)) → FrameIn O f
+  pub frames-head : (f : FrameView) (fs : List FrameView) → Every O (frames_refs (f ∷ fs)) → FrameIn O f
   frames-head f fs a = frame-in f (Every-left O (frame_refs f) (frames_refs fs) a)
 
-  pub frames-tail : (f : PlainFrame) (fs : List PlainFrame) → Every O (frames_refs (f ∷ fs)) → Every O (frames_refs fs)
+  pub frames-tail : (f : FrameView) (fs : List FrameView) → Every O (frames_refs (f ∷ fs)) → Every O (frames_refs fs)
   frames-tail f fs a = Every-right O (frame_refs f) (frames_refs fs) a
 
-  pub goroutine-frames : (r : PlainGoroutine) → Every O (goroutine_refs r) → Every O (frames_refs r.frames)
+  pub goroutine-frames : (r : GoroutineView) → Every O (goroutine_refs r) → Every O (frames_refs r.frames)
   goroutine-frames r a = Every-left O (frames_refs r.frames) (wait_refs (waits_of r.mode)) a
 
-  pub goroutine-waits : (r : PlainGoroutine) → Every O (goroutine_refs r) → Every O (wait_refs (waits_of r.mode))
+  pub goroutine-waits : (r : GoroutineView) → Every O (goroutine_refs r) → Every O (wait_refs (waits_of r.mode))
   goroutine-waits r a = Every-right O (frames_refs r.frames) (wait_refs (waits_of r.mode)) a
 
-  pub goroutine-both : (r : PlainGoroutine) → Every O (frames_refs r.frames) → Every O (wait_refs (waits_of r.mode)) → Every O (goroutine_refs r)
+  pub goroutine-both : (r : GoroutineView) → Every O (frames_refs r.frames) → Every O (wait_refs (waits_of r.mode)) → Every O (goroutine_refs r)
   goroutine-both r a b = Every-append O (frames_refs r.frames) (wait_refs (waits_of r.mode)) a b
 
   pub waits-append : (ws us : List Wait) → Every O (wait_refs ws) → Every O (wait_refs us) → Every O (wait_refs (ws ++ us))

@@ -10,13 +10,13 @@ use Rattle.golf_theory.proofs.MapFinds.{Entry-below}
 use Rattle.golf_theory.proofs.MapCuts.{only-same}
 use Rattle.golf_theory.proofs.Derivations.{Reached-root, Reached-step, Reached-least}
 use Rattle.golf_data.specs.declared.value.Object.{Object}
-use Rattle.golf_model.specs.Plain.{PlainGoroutine}
+use Rattle.golf_model.specs.Views.{GoroutineView}
 use Rattle.golf_model.specs.Values.{refs}
 use Rattle.golf_model.specs.State.{State}
 use Rattle.golf_model.specs.Refs.{object_refs, goroutine_refs, queue_refs, goroutine_refs_where, has_finaliser, refs_of_goroutine}
 use Rattle.golf_model.specs.Reaching.{RefersTo, reach, sources}
 use Rattle.golf_model.specs.Living.{Node, Live, LiveRoot, LiveStep, dead}
-use Rattle.golf_model.specs.Collecting.{plain_collect, bars, keeps, removed, retained, cut}
+use Rattle.golf_model.specs.Collecting.{plain_collect, prevents_removal, keeps, removed, retained, cut}
 use Rattle.golf_model.specs.Futures.{Numbered}
 use Rattle.golf_model.proofs.Agreeing.{reach-sound, reach-complete, dead-sound}
 use Rattle.golf_laws.specs.Cutting.{KeepsFresh}
@@ -36,31 +36,31 @@ stays_by gone g = not (is_in g gone)
 abbrev pub kept_by : State → List ℕ → ℕ → Bool
 kept_by s gone o = is_in o (retained s gone) || nat_lt s.last_object o
 
-module _ (s : State) (recover sets : Bool) where
-  gone-unkept : (b : Bool) (g : ℕ) → In g (removed s b sets) → In g (dead s) × (keeps s sets g ≡ false)
-  gone-unkept true g h = let r = In-filter (λ k. not (keeps s sets k)) g (dead s) h in (r.0, not-true (keeps s sets g) r.1)
+module _ (s : State) (recover sets_finalisers : Bool) where
+  gone-unkept : (b : Bool) (g : ℕ) → In g (removed s b sets_finalisers) → In g (dead s) × (keeps s sets_finalisers g ≡ false)
+  gone-unkept true g h = let r = In-filter (λ k. not (keeps s sets_finalisers k)) g (dead s) h in (r.0, not-true (keeps s sets_finalisers g) r.1)
   gone-unkept false g h = absurd h
 
   -- a removed goroutine is there, and is not live
-  pub gone-dead : (g : ℕ) → In g (removed s recover sets) → (r : PlainGoroutine) × Entry s.goroutines g r × (Live s (Node.AGoroutine g) → ⊥)
+  pub gone-dead : (g : ℕ) → In g (removed s recover sets_finalisers) → (r : GoroutineView) × Entry s.goroutines g r × (Live s (Node.AGoroutine g) → ⊥)
   gone-dead g h = let d = dead-sound s g (gone-unkept recover g h).0 in (d.0, d.1, d.3)
 
   -- nothing that it reaches is finalised, and nothing is live where the code sets finalisers
-  pub gone-bars : (g o : ℕ) → In g (removed s recover sets) → In o (reach s (refs_of_goroutine (find g s.goroutines))) → bars s sets o ≡ false
-  gone-bars g o h i = elim (cases_Bool (bars s sets o)) [
-    | inl t ↦ absurd (both_ways (keeps s sets g) (gone-unkept recover g h).1 (any_of-from (bars s sets) (reach s (refs_of_goroutine (find g s.goroutines))) o i t))
+  pub gone-prevents_removal : (g o : ℕ) → In g (removed s recover sets_finalisers) → In o (reach s (refs_of_goroutine (find g s.goroutines))) → prevents_removal s sets_finalisers o ≡ false
+  gone-prevents_removal g o h i = elim (cases_Bool (prevents_removal s sets_finalisers o)) [
+    | inl t ↦ absurd (both_ways (keeps s sets_finalisers g) (gone-unkept recover g h).1 (any_of-from (prevents_removal s sets_finalisers) (reach s (refs_of_goroutine (find g s.goroutines))) o i t))
     | inr f ↦ f
   ]
 
 -- these goroutines are there and not live; nothing that they reach is finalised, and nothing is live where the code sets finalisers
-pub record GoneOk (s : State) (sets : Bool) (gone : List ℕ) : Type 0 where
-  pub dead : (g : ℕ) → In g gone → (r : PlainGoroutine) × Entry s.goroutines g r × (Live s (Node.AGoroutine g) → ⊥)
-  pub barred : (g o : ℕ) → In g gone → In o (reach s (refs_of_goroutine (find g s.goroutines))) → bars s sets o ≡ false
+pub record GoneOk (s : State) (sets_finalisers : Bool) (gone : List ℕ) : Type 0 where
+  pub dead : (g : ℕ) → In g gone → (r : GoroutineView) × Entry s.goroutines g r × (Live s (Node.AGoroutine g) → ⊥)
+  pub barred : (g o : ℕ) → In g gone → In o (reach s (refs_of_goroutine (find g s.goroutines))) → prevents_removal s sets_finalisers o ≡ false
 
-pub removed-ok : (s : State) (recover sets : Bool) → GoneOk s sets (removed s recover sets)
-removed-ok s recover sets = record { dead = gone-dead s recover sets; barred = gone-bars s recover sets }
+pub removed-ok : (s : State) (recover sets_finalisers : Bool) → GoneOk s sets_finalisers (removed s recover sets_finalisers)
+removed-ok s recover sets_finalisers = record { dead = gone-dead s recover sets_finalisers; barred = gone-prevents_removal s recover sets_finalisers }
 
-module _ (s : State) (n : Numbered s) (gone : List ℕ) (dead_all : (g : ℕ) → In g gone → (r : PlainGoroutine) × Entry s.goroutines g r × (Live s (Node.AGoroutine g) → ⊥)) where
+module _ (s : State) (n : Numbered s) (gone : List ℕ) (dead_all : (g : ℕ) → In g gone → (r : GoroutineView) × Entry s.goroutines g r × (Live s (Node.AGoroutine g) → ⊥)) where
   pub stays-live : (g : ℕ) → Live s (Node.AGoroutine g) → stays_by gone g ≡ true
   stays-live g l = not_from_false (is_in g gone) (is_in-out g gone (λ h. (dead_all g h).2 l))
 
@@ -87,7 +87,7 @@ module _ (s : State) (n : Numbered s) (gone : List ℕ) (dead_all : (g : ℕ) �
   source-queue : (o : ℕ) → In o (queue_refs s.queue) → In o (sources s gone)
   source-queue o h = In-right o (refs s.globals) _ (In-left o (queue_refs s.queue) _ h)
 
-  source-goroutine : (o g : ℕ) (r : PlainGoroutine) → Entry s.goroutines g r → stays_by gone g ≡ true → In o (goroutine_refs r) → In o (sources s gone)
+  source-goroutine : (o g : ℕ) (r : GoroutineView) → Entry s.goroutines g r → stays_by gone g ≡ true → In o (goroutine_refs r) → In o (sources s gone)
   source-goroutine o g r e t h = In-right o (refs s.globals) _ (In-right o (queue_refs s.queue) _
       (In-left o (goroutine_refs_where (stays_by gone) s.goroutines) _ (In-goroutine_refs_where (stays_by gone) s.goroutines g o r e t h)))
 
@@ -124,7 +124,7 @@ module _ (s : State) (n : Numbered s) (gone : List ℕ) (dead_all : (g : ℕ) �
   finalised-retained : (o : ℕ) → In o (keys s.finalisers) → In o (retained s gone)
   finalised-retained o h = In-right o (reach s (sources s gone)) _ h
 
-  -- the closed sets of the state behind the collection are within what it leaves
+  -- the closed sets of the state after the collection are within what it leaves
   pub live-kept : (o : ℕ) → Joined s (LiveObject s) o → kept_by s gone o ≡ true
   live-kept o (inl (inl l)) = kept-retained o (live-retained o l)
   live-kept o (inl (inr f)) = kept-fresh o f

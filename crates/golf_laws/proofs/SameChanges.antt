@@ -1,5 +1,5 @@
 -- Each instruction has the same changes in a state that lacks what is cut.
-use Rattle.std.proofs.Common.{◌≡◌, ℕ, ◌%◌, Bool, true, false, ◌||◌, List, [], ◌∷◌, ◌++◌, length, Option, Some, None, refl, ap, ◌∙◌, slice_get, nat_lt, ℤ}
+use Rattle.std.proofs.Common.{◌≡◌, ℕ, ◌%◌, Bool, true, false, ◌&&◌, ◌||◌, List, [], ◌∷◌, ◌++◌, length, Option, Some, None, refl, ap, ◌∙◌, slice_get, nat_lt, ℤ}
 use Rattle.std.specs.Prelude.{pos, ◌+ℤ◌, ◌-ℤ◌, is_some, int_lt, int_le}
 use Rattle.golf_theory.specs.Membership.{Every}
 use Rattle.golf_theory.specs.Maps.{find, only}
@@ -15,7 +15,7 @@ use Rattle.golf_data.specs.declared.code.CaseKind.{CaseKind}
 use Rattle.golf_data.specs.declared.goroutine.PanicKind.{PanicKind}
 use Rattle.golf_data.specs.declared.goroutine.Side.{Side}
 use Rattle.golf_data.specs.declared.goroutine.WaitKind.{WaitKind}
-use Rattle.golf_model.specs.Plain.{PlainFrame}
+use Rattle.golf_model.specs.Views.{FrameView}
 use Rattle.golf_model.specs.Values.{int_of, is_zero, is_minus_one}
 use Rattle.golf_model.specs.State.{State, not_empty}
 use Rattle.golf_model.specs.Waiting.{Waiter, waiter_ticket, first, waiters}
@@ -23,12 +23,13 @@ use Rattle.golf_model.specs.Waking.{Waking}
 use Rattle.golf_model.specs.Changes.{Change}
 use Rattle.golf_model.specs.Acting.{Actor, next, goes, leaves, panics, dies, on_some, choose, at_reference, at_struct, at_slice, at_channel, at_mutex, at_group, at_rw, at_condition}
 use Rattle.golf_model.specs.Calculating.{sum}
-use Rattle.golf_model.specs.Structures.{gets_field, sets_field, field_set, within, element, gets_element, element_set, sets_element, length_of, measures}
+use Rattle.golf_model.specs.Structures.{makes, gets_field, sets_field, field_set, within, element, gets_element, element_set, sets_element, length_of, measures}
 use Rattle.golf_model.specs.Channels.{sends_to, sends_on, sends, receives_from, receives_on, receives, closes_open, closes}
-use Rattle.golf_model.specs.Selecting.{Offer, Taken, offers_of, can_proceed, is_ready_at, is_ready_on, is_ready, kept_if, ready, proceeds_by, selects_one, chosen, selects_from, selects}
+use Rattle.golf_model.specs.Selecting.{Offer, Taken, offers_of, is_channel, is_nil_or_channel, all_on_channels, can_proceed, is_ready_at, is_ready_on, is_ready, kept_if, ready, proceeds_by, selects_one, chosen, selects_from, selects}
 use Rattle.golf_model.specs.Mutexes.{blocks_on, locks_by, locks, hands_over, unlocks_by, unlocks, counts, adds, waits_by, waits}
 use Rattle.golf_model.specs.ReadersWriters.{counted, to_readers, serves_first, serves, most_readers, write_locks_by, write_locks, write_unlocks_by, write_unlocks, read_locks_by, read_locks, read_leaves, read_unlocks_by, read_unlocks}
-use Rattle.golf_model.specs.Conditions.{gets_mutex, awaits_by, awaits, first_only, notifies, signals, broadcasts}
+use Rattle.golf_model.specs.Conditions.{makes_condition, gets_mutex, awaits_by, awaits, passes_on, first_only, notifies, signals, broadcasts}
+use Rattle.golf_model.specs.Finalising.{finalises_by, finalises, unfinalises}
 use Rattle.golf_model.specs.Collecting.{cut}
 use Rattle.golf_model.specs.Turn.{changes}
 use Rattle.golf_laws.proofs.RefLaws.{Val, Vals}
@@ -69,7 +70,7 @@ module _ (stays kept : ℕ → Bool) (O G : ℕ → Type 0) (s : State) (c : Gro
   same-measures = same-taking_one O _ _ a.frame.operands ops
       (λ x rest h r. same-at_reference_or O _ _ _ x h (λ o m. at_object o m (on_some (λ y. on_some (λ n. goes a (Value.Int (pos n) ∷ rest)) (length_of y)))))
 
-  same-sends_on : (after : PlainFrame) (v : Value) (o : ℕ) → O o → sends_on a after v (cut stays kept s) o ≡ sends_on a after v s o
+  same-sends_on : (after : FrameView) (v : Value) (o : ℕ) → O o → sends_on a after v (cut stays kept s) o ≡ sends_on a after v s o
   same-sends_on after v o m =
       at_object o m (at_channel (λ d. choose d.closed (panics a PanicKind.SendClosed) (sends_to a after o v d (first o Side.Receive (only stays s.goroutines)))))
       ∙ at_first o Side.Receive m (λ w. at_channel (λ d. choose d.closed (panics a PanicKind.SendClosed) (sends_to a after o v d w)) (find o s.objects))
@@ -78,7 +79,7 @@ module _ (stays kept : ℕ → Bool) (O G : ℕ → Type 0) (s : State) (c : Gro
   same-sends = same-taking_two O _ _ a.frame.operands ops
       (λ x v rest h k r. same-at_reference_or O _ _ _ x h (λ o m. same-sends_on (next a.frame rest) v o m))
 
-  same-receives_on : (after : PlainFrame) (with_ok : Bool) (o : ℕ) → O o → receives_on a after with_ok (cut stays kept s) o ≡ receives_on a after with_ok s o
+  same-receives_on : (after : FrameView) (with_ok : Bool) (o : ℕ) → O o → receives_on a after with_ok (cut stays kept s) o ≡ receives_on a after with_ok s o
   same-receives_on after with_ok o m =
       at_object o m (at_channel (λ d. receives_from a after with_ok o d d.buffer (first o Side.Send (only stays s.goroutines))))
       ∙ at_first o Side.Send m (λ w. at_channel (λ d. receives_from a after with_ok o d d.buffer w) (find o s.objects))
@@ -92,6 +93,20 @@ module _ (stays kept : ℕ → Bool) (O G : ℕ → Type 0) (s : State) (c : Gro
       (λ x rest h r. same-at_reference_or O _ _ _ x h (λ o m. at_object o m (at_channel (closes_open a rest o))))
 
   -- the cases of a `select`
+  same-is_nil_or_channel : (v : Value) → Val O v → is_nil_or_channel (cut stays kept s) v ≡ is_nil_or_channel s v
+  same-is_nil_or_channel (Value.Int n) h = refl
+  same-is_nil_or_channel (Value.Bool b) h = refl
+  same-is_nil_or_channel (Value.Text k) h = refl
+  same-is_nil_or_channel Value.Unit h = refl
+  same-is_nil_or_channel Value.Nil h = refl
+  same-is_nil_or_channel (Value.Ref o) h = ap is_channel (same-find stays kept O G s c sub_o sub_g o.0 h.0)
+
+  same-all_on_channels : (xs : List Offer) → Every (OfferIn O G s c a i) xs → all_on_channels (cut stays kept s) xs ≡ all_on_channels s xs
+  same-all_on_channels [] h = refl
+  same-all_on_channels (x ∷ xs) h =
+      ap (λ b. b && all_on_channels (cut stays kept s) xs) (same-is_nil_or_channel x.channel h.0.0)
+      ∙ ap (λ b. is_nil_or_channel s x.channel && b) (same-all_on_channels xs h.1)
+
   same-can_proceed : (kind : CaseKind) (o : ℕ) (d : Channel) → O o → can_proceed kind o (only stays s.goroutines) d ≡ can_proceed kind o s.goroutines d
   same-can_proceed CaseKind.Send o d m = ap (λ (w : Option Waiter). d.closed || (is_some w || nat_lt (length d.buffer) d.capacity)) (same-first stays kept O G s c sub_o sub_g o Side.Receive m)
   same-can_proceed CaseKind.Take o d m = ap (λ (w : Option Waiter). not_empty d.buffer || (is_some w || d.closed)) (same-first stays kept O G s c sub_o sub_g o Side.Send m)
@@ -123,7 +138,7 @@ module _ (stays kept : ℕ → Bool) (O G : ℕ → Type 0) (s : State) (c : Gro
       ap (λ b. kept_if b x (ready (cut stays kept s) xs)) (same-is_ready_on x.kind x.channel h.0.0)
       ∙ ap (kept_if (is_ready s x) x) (same-ready xs h.1)
 
-  same-proceeds_by : (after : PlainFrame) (kind : CaseKind) (v : Value) (o : ℕ) → O o → proceeds_by a after kind v (cut stays kept s) o ≡ proceeds_by a after kind v s o
+  same-proceeds_by : (after : FrameView) (kind : CaseKind) (v : Value) (o : ℕ) → O o → proceeds_by a after kind v (cut stays kept s) o ≡ proceeds_by a after kind v s o
   same-proceeds_by after CaseKind.Send v o m = same-sends_on after v o m
   same-proceeds_by after CaseKind.Take v o m = same-receives_on after false o m
   same-proceeds_by after CaseKind.TakeOk v o m = same-receives_on after true o m
@@ -135,9 +150,11 @@ module _ (stays kept : ℕ → Bool) (O G : ℕ → Type 0) (s : State) (c : Gro
   same-selects_from : (choice : ℕ) (otherwise : Option ℕ) (m : Option Taken) → MaybeTaken O G s c a i m → selects_from a (cut stays kept s) choice otherwise m ≡ selects_from a s choice otherwise m
   same-selects_from choice otherwise None h = refl
   same-selects_from choice otherwise (Some t) h =
-      ap (λ (xs : List Offer). selects_one a t.1 (cut stays kept s) t.0 otherwise (chosen choice xs)) (same-ready t.0 h.0)
+      ap (λ b. choose b (selects_one a t.1 (cut stays kept s) t.0 otherwise (chosen choice (ready (cut stays kept s) t.0))) []) (same-all_on_channels t.0 h.0)
+      ∙ ap (λ (cs : List Change). choose (all_on_channels s t.0) cs [])
+      (ap (λ (xs : List Offer). selects_one a t.1 (cut stays kept s) t.0 otherwise (chosen choice xs)) (same-ready t.0 h.0)
       ∙ same-selects_one t.1 t.0 otherwise (chosen choice (ready s t.0))
-      (λ x e. Every-slice_get (OfferIn O G s c a i) (ready s t.0) (choice % length (ready s t.0)) x (ready-in O G s c a i t.0 h.0) e)
+      (λ x e. Every-slice_get (OfferIn O G s c a i) (ready s t.0) (choice % length (ready s t.0)) x (ready-in O G s c a i t.0 h.0) e))
 
   same-selects : (choice : ℕ) (cases : List SelectCase) (otherwise : Option ℕ) → selects a (cut stays kept s) choice cases otherwise ≡ selects a s choice cases otherwise
   same-selects choice cases otherwise = same-selects_from choice otherwise (offers_of cases a.frame.operands) (offers-in O G s c a i cases a.frame.operands ops)
@@ -227,6 +244,10 @@ module _ (stays kept : ℕ → Bool) (O G : ℕ → Type 0) (s : State) (c : Gro
       ∙ same-at_rw _ _ (find o s.objects) (λ n. same-choose (int_lt (pos 0) n) _ _ _ _ (ap (λ (cs : List Change). goes a rest ++ cs) (same-read_leaves o (n -ℤ pos 1) m)) refl)))
 
   -- conditions
+  same-makes_condition : makes_condition a (cut stays kept s) ≡ makes_condition a s
+  same-makes_condition = same-taking_one O _ _ a.frame.operands ops
+      (λ m rest h r. same-at_reference_or O _ _ _ m h (λ o k. at_object o k (at_mutex (λ locked. makes a (Object.Cond m) rest s))))
+
   same-gets_mutex : gets_mutex a (cut stays kept s) ≡ gets_mutex a s
   same-gets_mutex = same-taking_one O _ _ a.frame.operands ops
       (λ x rest h r. same-at_reference O a _ _ x h (λ o m. at_object o m (at_condition (λ v. goes a (v ∷ rest)))))
@@ -243,17 +264,32 @@ module _ (stays kept : ℕ → Bool) (O G : ℕ → Type 0) (s : State) (c : Gro
       (λ v k. same-at_reference O a _ _ v k
       (λ p n. at_object p n (at_mutex (awaits_by a rest (cut stays kept s) o p)) ∙ same-at_mutex _ _ (find p s.objects) (same-awaits_by rest o p n)))))
 
+  same-notifies : (rest : List Value) (ws : List Waiter) (v : Value) → Val O v → notifies a rest (cut stays kept s) ws v ≡ notifies a rest s ws v
+  same-notifies rest [] v h = refl
+  same-notifies rest (w ∷ ws) v h = same-at_reference_or O [] _ _ v h (λ p m. at_object p m (at_mutex (λ locked. goes a rest ++ passes_on p (w ∷ ws))))
+
   same-signals : signals a (cut stays kept s) ≡ signals a s
   same-signals = same-taking_one O _ _ a.frame.operands ops
       (λ x rest h r. same-at_reference O a _ _ x h
-      (λ o m. at_object o m (at_condition (notifies a rest (first_only (first o Side.Cond (only stays s.goroutines)))))
-      ∙ at_first o Side.Cond m (λ w. at_condition (notifies a rest (first_only w)) (find o s.objects))))
+      (λ o m. at_object o m (at_condition (notifies a rest (cut stays kept s) (first_only (first o Side.Cond (only stays s.goroutines)))))
+      ∙ at_first o Side.Cond m (λ w. at_condition (notifies a rest (cut stays kept s) (first_only w)) (find o s.objects))
+      ∙ same-at_condition O _ _ (find o s.objects) (found-in O G s c o m) (same-notifies rest (first_only (first o Side.Cond s.goroutines)))))
 
   same-broadcasts : broadcasts a (cut stays kept s) ≡ broadcasts a s
   same-broadcasts = same-taking_one O _ _ a.frame.operands ops
       (λ x rest h r. same-at_reference O a _ _ x h
-      (λ o m. at_object o m (at_condition (notifies a rest (waiters o Side.Cond (only stays s.goroutines))))
-      ∙ ap (λ (ws : List Waiter). at_condition (notifies a rest ws) (find o s.objects)) (same-waiters stays kept O G s c sub_o sub_g o Side.Cond m)))
+      (λ o m. at_object o m (at_condition (notifies a rest (cut stays kept s) (waiters o Side.Cond (only stays s.goroutines))))
+      ∙ ap (λ (ws : List Waiter). at_condition (notifies a rest (cut stays kept s) ws) (find o s.objects)) (same-waiters stays kept O G s c sub_o sub_g o Side.Cond m)
+      ∙ same-at_condition O _ _ (find o s.objects) (found-in O G s c o m) (same-notifies rest (waiters o Side.Cond s.goroutines))))
+
+  -- finalisers
+  same-finalises : (f : ℕ) → finalises a f (cut stays kept s) ≡ finalises a f s
+  same-finalises f = same-taking_one O _ _ a.frame.operands ops
+      (λ p rest h r. same-at_reference O a _ _ p h (λ o m. at_object o m (at_struct (λ fields. finalises_by a rest f o (find o s.finalisers)))))
+
+  same-unfinalises : unfinalises a (cut stays kept s) ≡ unfinalises a s
+  same-unfinalises = same-taking_one O _ _ a.frame.operands ops
+      (λ p rest h r. same-at_reference_or O _ _ _ p h (λ o m. at_object o m (at_struct (λ fields. Change.ClearFinaliser o ∷ goes a rest))))
 
   -- one line for each instruction
   pub same_changes : (code : Code) (k : Instr) (choice : ℕ) → changes code k a choice (cut stays kept s) ≡ changes code k a choice s
@@ -285,7 +321,7 @@ module _ (stays kept : ℕ → Bool) (O G : ℕ → Type 0) (s : State) (c : Gro
   same_changes code Instr.NewMutex choice = refl
   same_changes code Instr.NewGroup choice = refl
   same_changes code Instr.NewRw choice = refl
-  same_changes code Instr.NewCond choice = refl
+  same_changes code Instr.NewCond choice = same-makes_condition
   same_changes code (Instr.Field k) choice = same-gets_field k
   same_changes code (Instr.SetField k) choice = same-sets_field k
   same_changes code (Instr.NewSlice zero) choice = refl
@@ -317,6 +353,6 @@ module _ (stays kept : ℕ → Bool) (O G : ℕ → Type 0) (s : State) (c : Gro
   same_changes code Instr.ReturnValue choice = refl
   same_changes code (Instr.Print k) choice = refl
   same_changes code Instr.Collect choice = refl
-  same_changes code (Instr.SetFinalizer f) choice = refl
-  same_changes code Instr.ClearFinalizer choice = refl
+  same_changes code (Instr.SetFinalizer f) choice = same-finalises f
+  same_changes code Instr.ClearFinalizer choice = same-unfinalises
   same_changes code Instr.Panic choice = refl

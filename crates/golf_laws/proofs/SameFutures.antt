@@ -10,10 +10,10 @@ use Rattle.golf_data.specs.declared.goroutine.Queued.{Queued}
 use Rattle.golf_model.specs.State.{State, ending, runnable}
 use Rattle.golf_model.specs.Changes.{Change, apply, apply_all}
 use Rattle.golf_model.specs.Turn.{step, turn_changes, whose_turn}
-use Rattle.golf_model.specs.Plain.{PlainGoroutine}
+use Rattle.golf_model.specs.Views.{GoroutineView}
 use Rattle.golf_model.specs.Refs.{refs_of_goroutine}
 use Rattle.golf_model.specs.Reaching.{reach}
-use Rattle.golf_model.specs.Collecting.{plain_collect, bars, sets, cut}
+use Rattle.golf_model.specs.Collecting.{plain_collect, prevents_removal, sets_finalisers, cut}
 use Rattle.golf_model.specs.Running.{Event, has_ended, wants_collection, collected_if, happens_in, happens, run, stop_if, stop_in, stops_by, is_taking, first_if, call_in, calls_by}
 use Rattle.golf_model.specs.Futures.{Numbered, Sight, sight, futures}
 use Rattle.golf_laws.specs.Invariant.{Closed}
@@ -41,8 +41,8 @@ pub record Agreement (code : Code) (gone : List ℕ) (kept : ℕ → Bool) (G : 
   pub collects : (O : ℕ → Type 0) (t : State) → Mode O t → Mode (Joined t O) (plain_collect t)
   pub flow : (O : ℕ → Type 0) (t : State) → Mode O t → Flow (λ o. kept o ≡ true) (λ g. stays_by gone g ≡ true) t
   -- a removed goroutine is still there without it, and what it reaches is barred
-  pub present : (O : ℕ → Type 0) (t : State) → Mode O t → (g : ℕ) → In g gone → (r : PlainGoroutine) × Entry t.goroutines g r
-  pub barred : (O : ℕ → Type 0) (t : State) → Numbered t → Closed t O G → Mode O t → (g o : ℕ) → In g gone → In o (reach t (refs_of_goroutine (find g t.goroutines))) → bars t (sets code) o ≡ false
+  pub present : (O : ℕ → Type 0) (t : State) → Mode O t → (g : ℕ) → In g gone → (r : GoroutineView) × Entry t.goroutines g r
+  pub barred : (O : ℕ → Type 0) (t : State) → Numbered t → Closed t O G → Mode O t → (g o : ℕ) → In g gone → In o (reach t (refs_of_goroutine (find g t.goroutines))) → prevents_removal t (sets_finalisers code) o ≡ false
   pub agrees : (O : ℕ → Type 0) (t : State) → Mode O t → plain_collect (cut (stays_by gone) kept t) ≡ cut (stays_by gone) kept (plain_collect t)
 
 module _ (code : Code) (gone : List ℕ) (kept : ℕ → Bool) (G : ℕ → Type 0) (sub_g : (g : ℕ) → G g → stays_by gone g ≡ true) (m : Agreement code gone kept G) where

@@ -7,7 +7,7 @@ use Rattle.golf_data.specs.declared.value.Value.{Value}
 use Rattle.golf_data.specs.declared.value.Object.{Object}
 use Rattle.golf_data.specs.declared.goroutine.Side.{Side}
 use Rattle.golf_data.specs.declared.goroutine.Wait.{Wait}
-use Rattle.golf_model.specs.Plain.{PlainGoroutine}
+use Rattle.golf_model.specs.Views.{GoroutineView}
 use Rattle.golf_model.specs.State.{State}
 use Rattle.golf_model.specs.Waiting.{Waiter, waits_of, waiter_of, earlier, first, enter, waiters}
 use Rattle.golf_model.specs.Waking.{reads_next}
@@ -22,14 +22,14 @@ use Rattle.golf_laws.proofs.Acting.{Ground}
 
 -- the waiters on an object are the same where all of them stay
 module _ (stays : ℕ → Bool) (o : ℕ) where
-  abbrev pub AllStay : List (ℕ × PlainGoroutine) → Type 0
-  AllStay es = (g : ℕ) (r : PlainGoroutine) → Entry es g r → In o (waited (waits_of r.mode)) → stays g ≡ true
+  abbrev pub AllStay : List (ℕ × GoroutineView) → Type 0
+  AllStay es = (g : ℕ) (r : GoroutineView) → Entry es g r → In o (waited (waits_of r.mode)) → stays g ≡ true
 
-  all_stay-rest : (e : ℕ × PlainGoroutine) (es : List (ℕ × PlainGoroutine)) → AllStay (e ∷ es) → AllStay es
+  all_stay-rest : (e : ℕ × GoroutineView) (es : List (ℕ × GoroutineView)) → AllStay (e ∷ es) → AllStay es
   all_stay-rest e es h g r i w = h g r (inr i) w
 
   -- who does not stay is no waiter
-  no_waiter : (side : Side) (e : ℕ × PlainGoroutine) (es : List (ℕ × PlainGoroutine)) → AllStay (e ∷ es) → stays e.0 ≡ false → (m : Option Waiter) → waiter_of o side e ≡ m → m ≡ None
+  no_waiter : (side : Side) (e : ℕ × GoroutineView) (es : List (ℕ × GoroutineView)) → AllStay (e ∷ es) → stays e.0 ≡ false → (m : Option Waiter) → waiter_of o side e ≡ m → m ≡ None
   no_waiter side e es h f None i = refl
   no_waiter side e es h f (Some w) i =
       let k : IsWaiter o side (e ∷ []) w = waiter_of-is o side e [] w i in
@@ -38,7 +38,7 @@ module _ (stays : ℕ → Bool) (o : ℕ) where
         | inr a ↦ absurd a
       ]
 
-  pub first-only : (side : Side) (es : List (ℕ × PlainGoroutine)) → AllStay es → first o side (only stays es) ≡ first o side es
+  pub first-only : (side : Side) (es : List (ℕ × GoroutineView)) → AllStay es → first o side (only stays es) ≡ first o side es
   first-only side [] h = refl
   first-only side (e ∷ es) h =
       let rest = first-only side es (all_stay-rest e es h) in
@@ -47,7 +47,7 @@ module _ (stays : ℕ → Bool) (o : ℕ) where
         | false ↦ λ t. rest ∙ ap (λ (m : Option Waiter). earlier m (first o side es)) (sym (no_waiter side e es h t (waiter_of o side e) refl))
       ] refl
 
-  pub waiters-only : (side : Side) (es : List (ℕ × PlainGoroutine)) → AllStay es → waiters o side (only stays es) ≡ waiters o side es
+  pub waiters-only : (side : Side) (es : List (ℕ × GoroutineView)) → AllStay es → waiters o side (only stays es) ≡ waiters o side es
   waiters-only side [] h = refl
   waiters-only side (e ∷ es) h =
       let rest = waiters-only side es (all_stay-rest e es h) in
@@ -56,11 +56,11 @@ module _ (stays : ℕ → Bool) (o : ℕ) where
         | false ↦ λ t. rest ∙ ap (λ (m : Option Waiter). enter m (waiters o side es)) (sym (no_waiter side e es h t (waiter_of o side e) refl))
       ] refl
 
-  no_reader : (below : Option ℕ) (e : ℕ × PlainGoroutine) (es : List (ℕ × PlainGoroutine)) → AllStay (e ∷ es) → stays e.0 ≡ false → (m : Option Wait) → reads_next below o e.1 ≡ m → m ≡ None
+  no_reader : (below : Option ℕ) (e : ℕ × GoroutineView) (es : List (ℕ × GoroutineView)) → AllStay (e ∷ es) → stays e.0 ≡ false → (m : Option Wait) → reads_next below o e.1 ≡ m → m ≡ None
   no_reader below e es h f None i = refl
   no_reader below e es h f (Some w) i = cc (h e.0 e.1 (inl (refl, refl)) (reads_next-waited below o e.1 w i))
 
-  pub readers_next-only : (below : Option ℕ) (es : List (ℕ × PlainGoroutine)) → AllStay es → readers_next below o (only stays es) ≡ readers_next below o es
+  pub readers_next-only : (below : Option ℕ) (es : List (ℕ × GoroutineView)) → AllStay es → readers_next below o (only stays es) ≡ readers_next below o es
   readers_next-only below [] h = refl
   readers_next-only below (e ∷ es) h =
       let rest = readers_next-only below es (all_stay-rest e es h) in

@@ -9,7 +9,7 @@ use Rattle.golf_theory.proofs.MapFinds.{find-only}
 use Rattle.golf_theory.proofs.MapKeys.{keys-only, keys_where-only, keys_where-same}
 use Rattle.golf_theory.proofs.Derivations.{Reached-root, Reached-step, Reached-least, Reached-over}
 use Rattle.golf_data.specs.declared.report.Entry.{Entry as Reported}
-use Rattle.golf_model.specs.Plain.{PlainGoroutine}
+use Rattle.golf_model.specs.Views.{GoroutineView}
 use Rattle.golf_model.specs.Values.{refs}
 use Rattle.golf_model.specs.State.{State, is_running}
 use Rattle.golf_model.specs.Refs.{object_refs, goroutine_refs, queue_refs}
@@ -116,7 +116,7 @@ module _ (stays kept : ℕ → Bool) (O G : ℕ → Type 0) (t : State) (c : Clo
 pub entries-cut : (stays kept : ℕ → Bool) (t : State) (gs : List ℕ) → Every (λ g. stays g ≡ true) gs → entries (cut stays kept t) gs ≡ entries t gs
 entries-cut stays kept t [] h = refl
 entries-cut stays kept t (g ∷ gs) h =
-    ap (λ (m : Option PlainGoroutine). entry_of g m ++ entries (cut stays kept t) gs) (find-only stays t.goroutines g h.0)
+    ap (λ (m : Option GoroutineView). entry_of g m ++ entries (cut stays kept t) gs) (find-only stays t.goroutines g h.0)
     ∙ ap (λ (es : List Reported). entry_of g (find g t.goroutines) ++ es) (entries-cut stays kept t gs h.1)
 
 -- what is seen right before a collection

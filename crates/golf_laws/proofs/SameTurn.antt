@@ -11,7 +11,7 @@ use Rattle.golf_laws.specs.Cutting.{KeepsFresh}
 use Rattle.golf_data.specs.declared.code.Code.{Code}
 use Rattle.golf_data.specs.declared.code.Line.{Line}
 use Rattle.golf_data.specs.declared.goroutine.Leaving.{Leaving}
-use Rattle.golf_model.specs.Plain.{PlainFrame, PlainGoroutine}
+use Rattle.golf_model.specs.Views.{FrameView, GoroutineView}
 use Rattle.golf_model.specs.State.{State, can_run, runnable, ending, ending_of, not_empty, is_running}
 use Rattle.golf_model.specs.Changes.{Change, apply_all}
 use Rattle.golf_model.specs.Turn.{line_at, acting, performs, frame_changes, goroutine_changes, turn_of, turn_changes, whose_turn, step}
@@ -38,21 +38,21 @@ module _ (stays kept : ℕ → Bool) (O G : ℕ → Type 0) (s : State) (c : Clo
   same-ending = ap (λ (gs : List ℕ). ending_of s.recorded (not_empty gs)) same-runnable
 
   module _ (code : Code) where
-    same-performs : (g : ℕ) (r : PlainGoroutine) (f : PlainFrame) (fs : List PlainFrame) (choice : ℕ) (m : Option Line) → G g → Every O (frames_refs (f ∷ fs)) → performs code g r f fs choice (cut stays kept s) m ≡ performs code g r f fs choice s m
+    same-performs : (g : ℕ) (r : GoroutineView) (f : FrameView) (fs : List FrameView) (choice : ℕ) (m : Option Line) → G g → Every O (frames_refs (f ∷ fs)) → performs code g r f fs choice (cut stays kept s) m ≡ performs code g r f fs choice s m
     same-performs g r f fs choice None j h = refl
     same-performs g r f fs choice (Some l) j h =
         same_changes stays kept O G s (closed-ground O G s c) sub_o sub_g (acting g r f fs l.line) (record { number = j; frame = frames-head O f fs h; callers = frames-tail O f fs h }) code l.instr choice
 
-    same-frame : (g : ℕ) (r : PlainGoroutine) (f : PlainFrame) (fs : List PlainFrame) (choice : ℕ) (leaving : Leaving) → G g → Every O (frames_refs (f ∷ fs)) → frame_changes code g r f fs choice (cut stays kept s) leaving ≡ frame_changes code g r f fs choice s leaving
+    same-frame : (g : ℕ) (r : GoroutineView) (f : FrameView) (fs : List FrameView) (choice : ℕ) (leaving : Leaving) → G g → Every O (frames_refs (f ∷ fs)) → frame_changes code g r f fs choice (cut stays kept s) leaving ≡ frame_changes code g r f fs choice s leaving
     same-frame g r f fs choice Leaving.No j h = same-performs g r f fs choice (line_at code f.function f.at) j h
     same-frame g r f fs choice (Leaving.Returning v) j h = refl
     same-frame g r f fs choice (Leaving.Unwinding x) j h = refl
 
-    same-goroutine : (g : ℕ) (r : PlainGoroutine) (choice : ℕ) (fs : List PlainFrame) → G g → Every O (frames_refs fs) → goroutine_changes code g r choice (cut stays kept s) fs ≡ goroutine_changes code g r choice s fs
+    same-goroutine : (g : ℕ) (r : GoroutineView) (choice : ℕ) (fs : List FrameView) → G g → Every O (frames_refs fs) → goroutine_changes code g r choice (cut stays kept s) fs ≡ goroutine_changes code g r choice s fs
     same-goroutine g r choice [] j h = refl
     same-goroutine g r choice (f ∷ fs) j h = same-frame g r f fs choice f.leaving j h
 
-    same-turn_of : (g choice : ℕ) (m : Option PlainGoroutine) → G g → ((r : PlainGoroutine) → m ≡ Some r → Every O (goroutine_refs r)) → turn_of code g choice (cut stays kept s) m ≡ turn_of code g choice s m
+    same-turn_of : (g choice : ℕ) (m : Option GoroutineView) → G g → ((r : GoroutineView) → m ≡ Some r → Every O (goroutine_refs r)) → turn_of code g choice (cut stays kept s) m ≡ turn_of code g choice s m
     same-turn_of g choice None j h = refl
     same-turn_of g choice (Some r) j h = same-goroutine g r choice r.frames j (goroutine-frames O r (h r refl))
 

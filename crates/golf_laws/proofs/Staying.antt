@@ -8,7 +8,7 @@ use Rattle.golf_theory.proofs.Lists.{In-slice_get}
 use Rattle.golf_theory.proofs.MapEntries.{Entry-keys_where}
 use Rattle.golf_theory.proofs.Agreements.{agree-same, agree-then, agree-wider}
 use Rattle.golf_data.specs.declared.code.Code.{Code}
-use Rattle.golf_model.specs.Plain.{PlainGoroutine}
+use Rattle.golf_model.specs.Views.{GoroutineView}
 use Rattle.golf_model.specs.State.{State, is_running, can_run, runnable}
 use Rattle.golf_model.specs.Turn.{step, turn_changes, whose_turn}
 use Rattle.golf_model.specs.Collecting.{plain_collect}
@@ -44,7 +44,7 @@ module _ (O G : ℕ → Type 0) where
   after-collect s c = record { wide = Joined s O; wider = λ o h. inl h; closed = closed-collect O G s c; objects = agree-same (Joined s O) s.objects; goroutines = agree-same G s.goroutines }
 
 -- whose turn it is runs
-pub turn-running : (s : State) (c g : ℕ) → whose_turn s c ≡ Some g → (r : PlainGoroutine) × Entry s.goroutines g r × (is_running r.mode ≡ true)
+pub turn-running : (s : State) (c g : ℕ) → whose_turn s c ≡ Some g → (r : GoroutineView) × Entry s.goroutines g r × (is_running r.mode ≡ true)
 turn-running s c g h =
     let i : In g (runnable s) = In-slice_get (runnable s) (c % length (runnable s)) g h in
     let r = Entry-keys_where (can_run s.queue) s.goroutines g i in

@@ -1,5 +1,5 @@
 -- Code of the instructions that are built sets no finaliser, so its collections change nothing.
-use Rattle.std.proofs.Common.{◌≡◌, ℕ, suc, Bool, true, false, not, List, [], ◌∷◌, ◌++◌, Option, Some, None, refl, ap, ◌∙◌, sym, append-nil, slice_get}
+use Rattle.std.proofs.Common.{◌≡◌, ℕ, suc, true, false, not, List, [], ◌∷◌, ◌++◌, refl, ap, ◌∙◌, sym, append-nil, slice_get}
 use Rattle.golf_theory.specs.Maps.{only}
 use Rattle.golf_theory.specs.Membership.{Every, is_in, any_of}
 use Rattle.golf_theory.proofs.MapFinds.{Entry-below}
@@ -13,7 +13,7 @@ use Rattle.golf_data.specs.Built.{is_built, IsBuiltLine, IsBuiltFunction, IsBuil
 use Rattle.golf_model.specs.State.{State, start}
 use Rattle.golf_model.specs.Turn.{step}
 use Rattle.golf_model.specs.Reaching.{reach, sources}
-use Rattle.golf_model.specs.Collecting.{plain_collect, queued, is_setting, sets}
+use Rattle.golf_model.specs.Collecting.{plain_collect, queued, is_setting, sets_finalisers}
 use Rattle.golf_model.specs.Running.{Event, run}
 use Rattle.golf_model.specs.Futures.{Numbered}
 use Rattle.golf_laws.proofs.Leading.{numbered-start, numbered-step, numbered-collect}
@@ -95,7 +95,7 @@ functions-set_none : (fs : List Function) → ((k : ℕ) → IsBuiltFunction (sl
 functions-set_none [] h = tt
 functions-set_none (f ∷ fs) h = (none_of-from (λ l. is_setting l.instr) f.body (lines-set_none f.body (h 0)), functions-set_none fs (λ k. h (suc k)))
 
-pub built-sets : (code : Code) → IsBuilt code → sets code ≡ false
+pub built-sets : (code : Code) → IsBuilt code → sets_finalisers code ≡ false
 built-sets code h = none_of-from (λ (f : Function). any_of (λ l. is_setting l.instr) f.body) code.functions (functions-set_none code.functions h)
 
 -- no object has a finaliser
@@ -103,7 +103,7 @@ record Bare (s : State) : Type 0 where
   pub numbered : Numbered s
   pub none : s.finalisers ≡ []
 
-bare-step : (code : Code) → sets code ≡ false → (s : State) (k : ℕ) → Bare s → Bare (step code s k)
+bare-step : (code : Code) → sets_finalisers code ≡ false → (s : State) (k : ℕ) → Bare s → Bare (step code s k)
 bare-step code h s k b = record {
   numbered = numbered-step code s k b.numbered;
   none = none-step (Given s) (Started s) code s k (numbered-ground s b.numbered) h (λ g w. let r = turn-running s k g w in Entry-below s.next_goroutine s.goroutines g r.0 b.numbered.goroutines_below r.1) b.none;
@@ -112,7 +112,7 @@ bare-step code h s k b = record {
 bare-collect : (s : State) → Bare s → Bare (plain_collect s)
 bare-collect s b = record { numbered = numbered-collect s b.numbered; none = ap (only (λ o. is_in o (reach s (sources s [])))) b.none }
 
-pub run-bare : (code : Code) → sets code ≡ false → (events : List Event) → (run code (start code) events).finalisers ≡ []
+pub run-bare : (code : Code) → sets_finalisers code ≡ false → (events : List Event) → (run code (start code) events).finalisers ≡ []
 run-bare code h events = (run-kept code Bare (bare-step code h) bare-collect events (start code) (record { numbered = numbered-start code; none = refl })).none
 
 -- with no finaliser a collection changes nothing
@@ -123,8 +123,8 @@ collect-bare s e =
     ∙ ap (λ (qs : List Queued). record s { finalisers = []; queue = qs }) (append-nil s.queue)
     ∙ ap (λ (fs : List (ℕ × ℕ)). record s { finalisers = fs }) (sym e)
 
--- the same behind a turn, where the collection comes
-pub step-bare : (code : Code) → sets code ≡ false → (events : List Event) (k : ℕ) → (step code (run code (start code) events) k).finalisers ≡ []
+-- the same after a turn, where the collection comes
+pub step-bare : (code : Code) → sets_finalisers code ≡ false → (events : List Event) (k : ℕ) → (step code (run code (start code) events) k).finalisers ≡ []
 step-bare code h events k =
     (bare-step code h (run code (start code) events) k
     (run-kept code Bare (bare-step code h) bare-collect events (start code) (record { numbered = numbered-start code; none = refl }))).none

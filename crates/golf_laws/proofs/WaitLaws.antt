@@ -5,7 +5,7 @@ use Rattle.golf_theory.specs.Membership.{In}
 use Rattle.golf_theory.specs.Maps.{Entry}
 use Rattle.golf_data.specs.declared.goroutine.Side.{Side}
 use Rattle.golf_data.specs.declared.goroutine.Wait.{Wait}
-use Rattle.golf_model.specs.Plain.{PlainGoroutine}
+use Rattle.golf_model.specs.Views.{GoroutineView}
 use Rattle.golf_model.specs.Waiting.{Waiter, waits_of, wait_for, wait_on, waiter_of, waiter_ticket, earlier, first, by_ticket, enter, waiters, same_side}
 use Rattle.golf_model.specs.Refs.{waited}
 
@@ -43,24 +43,24 @@ wait_on-waited o (v ∷ vs) w h =
     ] refl h
 
 -- a waiter stands among the goroutines and waits on the object with its wait
-pub record IsWaiter (o : ℕ) (side : Side) (gs : List (ℕ × PlainGoroutine)) (w : Waiter) : Type 0 where
+pub record IsWaiter (o : ℕ) (side : Side) (gs : List (ℕ × GoroutineView)) (w : Waiter) : Type 0 where
   pub entry : Entry gs w.number w.goroutine
   pub found : wait_for o side (waits_of w.goroutine.mode) ≡ Some w.wait
 
 module _ (o : ℕ) (side : Side) where
-  as_waiter : ℕ × PlainGoroutine → Wait → Waiter
+  as_waiter : ℕ × GoroutineView → Wait → Waiter
   as_waiter e u = record { number = e.0; goroutine = e.1; wait = u }
 
-  waiter_from : (e : ℕ × PlainGoroutine) (gs : List (ℕ × PlainGoroutine)) (w : Waiter) (m : Option Wait) → wait_for o side (waits_of e.1.mode) ≡ m → option_map (as_waiter e) m ≡ Some w → IsWaiter o side (e ∷ gs) w
+  waiter_from : (e : ℕ × GoroutineView) (gs : List (ℕ × GoroutineView)) (w : Waiter) (m : Option Wait) → wait_for o side (waits_of e.1.mode) ≡ m → option_map (as_waiter e) m ≡ Some w → IsWaiter o side (e ∷ gs) w
   unfolding as_waiter
   waiter_from e gs w None h i = cc
   waiter_from e gs w (Some v) h i = let same : as_waiter e v ≡ w = cc in subst (λ (z : Waiter). IsWaiter o side (e ∷ gs) z) same (record { entry = inl (refl, refl); found = h })
 
-  pub waiter_of-is : (e : ℕ × PlainGoroutine) (gs : List (ℕ × PlainGoroutine)) (w : Waiter) → waiter_of o side e ≡ Some w → IsWaiter o side (e ∷ gs) w
+  pub waiter_of-is : (e : ℕ × GoroutineView) (gs : List (ℕ × GoroutineView)) (w : Waiter) → waiter_of o side e ≡ Some w → IsWaiter o side (e ∷ gs) w
   unfolding as_waiter
   waiter_of-is e gs w h = waiter_from e gs w (wait_for o side (waits_of e.1.mode)) refl h
 
-  more : (e : ℕ × PlainGoroutine) (gs : List (ℕ × PlainGoroutine)) (w : Waiter) → IsWaiter o side gs w → IsWaiter o side (e ∷ gs) w
+  more : (e : ℕ × GoroutineView) (gs : List (ℕ × GoroutineView)) (w : Waiter) → IsWaiter o side gs w → IsWaiter o side (e ∷ gs) w
   more e gs w h = record { entry = inr h.entry; found = h.found }
 
   pub earlier-cases : (m n : Option Waiter) (w : Waiter) → earlier m n ≡ Some w → (m ≡ Some w) ⊎ (n ≡ Some w)
@@ -72,7 +72,7 @@ module _ (o : ℕ) (side : Side) where
         | false ↦ λ i. inl i
       ] h
 
-  pub first-is : (gs : List (ℕ × PlainGoroutine)) (w : Waiter) → first o side gs ≡ Some w → IsWaiter o side gs w
+  pub first-is : (gs : List (ℕ × GoroutineView)) (w : Waiter) → first o side gs ≡ Some w → IsWaiter o side gs w
   first-is [] w h = cc
   first-is (e ∷ gs) w h = elim (earlier-cases (waiter_of o side e) (first o side gs) w h) [
     | inl a ↦ waiter_of-is e gs w a
@@ -91,7 +91,7 @@ module _ (o : ℕ) (side : Side) where
   In-enter w None ws h = inr h
   In-enter w (Some v) ws h = elim (In-by_ticket w v ws h) [ inl a ↦ inl (ap Some (sym a)) | inr a ↦ inr a ]
 
-  pub waiters-are : (gs : List (ℕ × PlainGoroutine)) (w : Waiter) → In w (waiters o side gs) → IsWaiter o side gs w
+  pub waiters-are : (gs : List (ℕ × GoroutineView)) (w : Waiter) → In w (waiters o side gs) → IsWaiter o side gs w
   waiters-are [] w h = absurd h
   waiters-are (e ∷ gs) w h = elim (In-enter w (waiter_of o side e) (waiters o side gs) h) [
     | inl a ↦ waiter_of-is e gs w a

@@ -4,7 +4,7 @@ use Rattle.golf_theory.specs.Membership.{In, Every, is_in}
 use Rattle.golf_theory.specs.Maps.{Entry, find, keys}
 use Rattle.golf_theory.specs.Agreement.{AgreeOutside}
 use Rattle.golf_data.specs.declared.value.Object.{Object}
-use Rattle.golf_model.specs.Plain.{PlainFrame, PlainGoroutine}
+use Rattle.golf_model.specs.Views.{FrameView, GoroutineView}
 use Rattle.golf_model.specs.Values.{value_refs, refs}
 use Rattle.golf_model.specs.State.{State, is_running}
 use Rattle.golf_model.specs.Waiting.{waits_of}
@@ -21,9 +21,9 @@ pub record Closed (s : State) (O G : ℕ → Type 0) : Type 0 where
   pub queue : Every O (queue_refs s.queue)
   pub finalised : (p f : ℕ) (x : Object) → Entry s.finalisers p f → Entry s.objects p x → Every O (object_refs x)
   pub objects : (p : ℕ) (x : Object) → O p → Entry s.objects p x → Every O (object_refs x)
-  pub goroutines : (g : ℕ) (r : PlainGoroutine) → G g → Entry s.goroutines g r → Every O (goroutine_refs r)
-  pub running : (g : ℕ) (r : PlainGoroutine) → Entry s.goroutines g r → is_running r.mode ≡ true → G g
-  pub awake : (g : ℕ) (r : PlainGoroutine) (o : ℕ) → Entry s.goroutines g r → In o (waited (waits_of r.mode)) → O o → G g
+  pub goroutines : (g : ℕ) (r : GoroutineView) → G g → Entry s.goroutines g r → Every O (goroutine_refs r)
+  pub running : (g : ℕ) (r : GoroutineView) → Entry s.goroutines g r → is_running r.mode ≡ true → G g
+  pub awake : (g : ℕ) (r : GoroutineView) (o : ℕ) → Entry s.goroutines g r → In o (waited (waits_of r.mode)) → O o → G g
   pub zero_in : G 0
   pub new_objects : (o : ℕ) → s.last_object < o → O o
   pub new_goroutines : (g : ℕ) → s.next_goroutine ≤ g → G g
@@ -65,7 +65,7 @@ Nothing n = ⊥
 abbrev pub AllGood : (ℕ → Type 0) → (ℕ → Type 0) → List Change → Type 0
 AllGood O G cs = Every (Good O G Nothing) cs
 
--- the sets and the last object number behind a change: an object that was made joins its set, and no second finaliser is set
+-- the sets and the last object number after a change: an object that was made joins its set, and no second finaliser is set
 abbrev pub objects_after : Change → (ℕ → Type 0) → ℕ → ℕ → Type 0
 objects_after (Change.Make x) O n = λ o. O o ⊎ (o ≡ n + 1)
 objects_after _ O n = O
@@ -78,13 +78,13 @@ abbrev pub finalisable_after : Change → (ℕ → Type 0) → ℕ → Type 0
 finalisable_after (Change.SetFinaliser o f) F = Nothing
 finalisable_after _ F = F
 
--- each change is good for what holds behind those before it; n is the last object number
+-- each change is good for what holds after those before it; n is the last object number
 abbrev pub Sound : (ℕ → Type 0) → (ℕ → Type 0) → (ℕ → Type 0) → ℕ → List Change → Type 0
 Sound O G F n [] = Unit {0}
 Sound O G F n (c ∷ cs) = Good O G F c × Sound (objects_after c O n) G (finalisable_after c F) (last_after c n) cs
 
 -- the parts of a frame refer to members alone
-pub record FrameIn (O : ℕ → Type 0) (f : PlainFrame) : Type 0 where
+pub record FrameIn (O : ℕ → Type 0) (f : FrameView) : Type 0 where
   pub slots : Every O (refs f.slots)
   pub operands : Every O (refs f.operands)
   pub deferred : Every O (deferred_refs f.deferred)

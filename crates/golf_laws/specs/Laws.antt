@@ -7,10 +7,10 @@ use Rattle.golf_model.specs.State.{State, start, ending}
 use Rattle.golf_model.specs.Changes.{Change, apply}
 use Rattle.golf_model.specs.Acting.{Actor}
 use Rattle.golf_model.specs.Turn.{changes, step}
-use Rattle.golf_model.specs.Collecting.{plain_collect, cut, sets, removed, real_collect}
+use Rattle.golf_model.specs.Collecting.{plain_collect, cut, sets_finalisers, removed, real_collect}
 use Rattle.golf_model.specs.Living.{Node, Live, Dead, dead}
-use Rattle.golf_model.specs.Running.{Event, run, stops}
-use Rattle.golf_model.specs.Reporting.{real_run, real_reports, book_of}
+use Rattle.golf_model.specs.Running.{Event, run, stops, finaliser_calls}
+use Rattle.golf_model.specs.Reporting.{real_run, real_reports, real_calls, book_of}
 use Rattle.golf_model.specs.Futures.{Numbered, Still, Leads, futures}
 use Rattle.golf_laws.specs.Invariant.{Closed, Confined, Good, Nothing, Sound, Unfinalised, ActorIn, Queueing}
 use Rattle.golf_model.specs.Presence.{IsWhole}
@@ -59,25 +59,26 @@ abbrev pub TurnsCut : Type 0
 TurnsCut = (code : Code) (s : State) (k : ℕ) (kept stays : ℕ → Bool) → Closed s (Passes kept) (Passes stays) → KeepsFresh stays kept s
     → step code (cut stays kept s) k ≡ cut stays kept (step code s k)
 
--- recovery cannot be seen: behind a collection that removes goroutines and frees objects every continuation shows what it shows behind the plain one, but for the removed goroutines
+-- recovery cannot be seen: after a collection that removes goroutines and frees objects every continuation shows what it shows after the plain one, but for the removed goroutines
 abbrev pub RecoveryUnseen : Type 0
 RecoveryUnseen = (code : Code) (s : State) (recover : Bool) (events : List Event) → Leads code s
-    → futures code (real_collect s recover (sets code)) events (removed s recover (sets code)) ≡ futures code (plain_collect s) events (removed s recover (sets code))
+    → futures code (real_collect s recover (sets_finalisers code)) events (removed s recover (sets_finalisers code)) ≡ futures code (plain_collect s) events (removed s recover (sets_finalisers code))
 
 -- each goroutine that is dead right before a collection of a run takes no step in any continuation from there
 abbrev pub ReportedAreStill : Type 0
 ReportedAreStill = (code : Code) (events : List Event) (p : State) (g : ℕ) → In p (stops code events) → In g (dead p) → Still code p g
 
--- a run whose collections remove goroutines and free objects prints what the run prints in which they do neither, ends as it does, and its reports are those of that run's book
+-- a run whose collections remove goroutines and free objects prints what the run prints in which they do neither, ends as it does, calls the same finalisers on the same objects in the same order, and its reports are those of that run's book
 abbrev pub RealRunsAgree : Type 0
 RealRunsAgree = (code : Code) (events : List Event) (recover : Bool)
     → ((real_run code events recover).output ≡ (run code (start code) events).output)
     × (ending (real_run code events recover) ≡ ending (run code (start code) events))
-    × (real_reports code events recover ≡ book_of (stops code events) recover (sets code))
+    × (real_reports code events recover ≡ book_of (stops code events) recover (sets_finalisers code))
+    × (real_calls code events recover ≡ finaliser_calls code (start code) events)
 
 -- the book of a run reports each goroutine that a stop finds blocked outside the live set once, at the first such stop, and nobody else
 abbrev pub BookTellsOfEach : Type 0
-BookTellsOfEach = (code : Code) (events : List Event) (recover : Bool) → TellsOfEach [] (stops code events) (book_of (stops code events) recover (sets code))
+BookTellsOfEach = (code : Code) (events : List Event) (recover : Bool) → TellsOfEach [] (stops code events) (book_of (stops code events) recover (sets_finalisers code))
 
 -- in every state of a plain run, and right before each of its collections, each reference is one to an object that is there
 abbrev pub ReferencesPresent : Type 0

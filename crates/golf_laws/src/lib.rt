@@ -78,7 +78,8 @@ pub fn reported_are_still()
 {}
 
 /// With recovery or without, a run prints what the run prints in which nothing is freed and nobody is
-/// removed, it ends as that run does, and its reports are those of that run's book.
+/// removed, it ends as that run does, it calls the same finalisers on the same objects in the same
+/// order, and its reports are those of that run's book.
 pub fn real_runs_agree()
     ensures { RealRunsAgree }
 {}

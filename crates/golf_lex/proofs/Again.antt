@@ -1,4 +1,4 @@
--- What is a piece is read as one.
+-- What is a lexeme is read as one.
 use Rattle.std.proofs.Common.{◌≡◌, ℕ, Bool, true, false, cond, not, ◌&&◌, ◌||◌, List, [], ◌∷◌, ◌++◌, refl, sym, ap, ◌∙◌, append-nil, arith}
 use Rattle.std.proofs.lemmas.Bool.{eqb-true}
 use Rattle.std.proofs.lemmas.Bool.Decides.{nat_tests}
@@ -8,9 +8,9 @@ use Rattle.std.specs.List.{list_all}
 use Rattle.golf_tokens.specs.declared.token.TokenKind.TheVariants.{Name, Integer, Text, Keyword as KeywordToken, Mark as MarkToken}
 use Rattle.golf_tokens.specs.declared.token.Keyword.{Keyword}
 use Rattle.golf_tokens.specs.declared.token.Mark.{Mark}
-use Rattle.golf_tokens.specs.Bytes.{is_letter, is_digit, is_word_byte, is_blank, is_plain}
+use Rattle.golf_tokens.specs.Bytes.{is_letter, is_digit, is_word_byte, is_blank, is_ordinary}
 use Rattle.golf_tokens.specs.Spelling.{Part, Itself, Newline, Tab, Backslash, Quote, is_part, parts_text, parts_bytes, keyword_text, mark_text, is_integer, Names, Quotes}
-use Rattle.golf_tokens.specs.Pieces.{Class, Blank, LineComment, GeneralComment, Of, Forms, is_nonzero}
+use Rattle.golf_tokens.specs.Lexemes.{Class, Blank, LineComment, GeneralComment, Of, Forms, is_nonzero}
 use Rattle.golf_lex.specs.declared.automaton.State.{State}
 use Rattle.golf_lex.specs.declared.automaton.State.TheVariants as states
 use Rattle.golf_lex.specs.declared.automaton.Growth.TheVariants.{To, Over, Fault}
@@ -20,9 +20,9 @@ use Rattle.golf_lex.proofs.Growing.{to_only, grown, reached}
 use Rattle.golf_lex.proofs.Comments.{comments-again}
 use Rattle.golf_lex.proofs.Marks.{marks-again}
 use Rattle.golf_lex.proofs.Told.{keyword_of-again, keyword_of-no, keywords-again}
-use Rattle.golf_lex.proofs.Whole.{class_at, both, plain-other, content_from-parts}
+use Rattle.golf_lex.proofs.Whole.{class_at, both, ordinary-other, content_from-parts}
 
--- the automaton reads the bytes as a piece of this class
+-- the automaton reads the bytes as a lexeme of this class
 pub record IsRead (class : Class) (bytes : List ℕ) : Type 0 where
   pub first : ℕ
   pub rest : List ℕ
@@ -56,11 +56,11 @@ line-again (b ∷ bs) v = at (nat_eq b 0) (nat_eq b 10) v (λ w. line-again bs w
 parts-again : (ps : List Part) → list_all is_part ps ≡ true → grown states.Quoted (parts_text ps ++ 34 ∷ []) ≡ Some states.Text
 parts-again [] v = refl
 parts-again (Itself b ∷ ps) v =
-    let w = both (is_plain b) (list_all is_part ps) v in
-    let o = plain-other b w.0 in
+    let w = both (is_ordinary b) (list_all is_part ps) v in
+    let o = ordinary-other b w.0 in
     let rest = parts_text ps ++ 34 ∷ [] in
-    ap (λ t. to_only (cond t (To states.Text) (cond (nat_eq b 92) (To states.Escaped) (cond (is_plain b) (To states.Quoted) Fault))) (λ n. grown n rest)) o.0
-    ∙ ap (λ t. to_only (cond t (To states.Escaped) (cond (is_plain b) (To states.Quoted) Fault)) (λ n. grown n rest)) o.1
+    ap (λ t. to_only (cond t (To states.Text) (cond (nat_eq b 92) (To states.Escaped) (cond (is_ordinary b) (To states.Quoted) Fault))) (λ n. grown n rest)) o.0
+    ∙ ap (λ t. to_only (cond t (To states.Escaped) (cond (is_ordinary b) (To states.Quoted) Fault)) (λ n. grown n rest)) o.1
     ∙ ap (λ t. to_only (cond t (To states.Quoted) Fault) (λ n. grown n rest)) w.0
     ∙ parts-again ps w.1
 parts-again (Newline ∷ ps) v = parts-again ps v
@@ -78,7 +78,7 @@ blank-again b h = at (nat_eq b 32) (nat_eq b 9) (nat_eq b 13) (nat_eq b 10) refl
     at false false false true es et er en e = ap begun (eqb-true b 10 en)
     at false false false false es et er en e = absurd (cc)
 
--- how a byte begins a piece that is no digit, or no letter
+-- how a byte begins a lexeme that is no digit, or no letter
 abbrev behind_digit : ℕ → Option State
 behind_digit b = cond (is_blank b) (Some states.Blank) (cond (nat_eq b 34) (Some states.Quoted) (cond (nat_eq b 124) (Some states.Bar) (option_map states.Mark (begun_mark b))))
 

@@ -3,7 +3,7 @@ use Rattle.std.proofs.Common.{◌≡◌, ℕ, Bool, true, false, cond, not, ◌&
 use Rattle.std.proofs.lemmas.Bool.{eqb-true}
 use Rattle.std.specs.Prelude.{Some, nat_eq}
 use Rattle.std.specs.List.{list_all}
-use Rattle.golf_tokens.specs.Pieces.{is_nonzero, has_end}
+use Rattle.golf_tokens.specs.Lexemes.{is_nonzero, has_end}
 use Rattle.golf_lex.specs.declared.automaton.State.{State}
 use Rattle.golf_lex.specs.declared.automaton.State.TheVariants as states
 use Rattle.golf_lex.specs.declared.automaton.Growth.TheVariants.{To, Fault}
@@ -48,9 +48,9 @@ comments starred [] last e whole = absurd (unfinished starred last e whole)
 comments false (b ∷ bs) last e whole = at (nat_eq b 0) (nat_eq b 42) refl refl (λ f. comments true bs last f whole) (λ f. comments false bs last f whole) e
   where
     at : (z t : Bool) → nat_eq b 0 ≡ z → nat_eq b 42 ≡ t → (grown states.Star bs ≡ Some last → (last ≡ states.Closed) × Ends (42 ∷ []) bs) → (grown states.GeneralComment bs ≡ Some last → (last ≡ states.Closed) × Ends [] bs) → to_only (cond z Fault (cond t (To states.Star) (To states.GeneralComment))) (λ n. grown n bs) ≡ Some last → (last ≡ states.Closed) × Ends [] (b ∷ bs)
-    at true t ez et starred plain f = absurd (cc)
-    at false true ez et starred plain f = let r = starred f in (r.0, record { body = r.1.body; valid = r.1.valid; spelled = ap (λ x. x ∷ bs) (eqb-true b 42 et) ∙ r.1.spelled; first = r.1.first })
-    at false false ez et starred plain f = let r = plain f in (
+    at true t ez et starred other f = absurd (cc)
+    at false true ez et starred other f = let r = starred f in (r.0, record { body = r.1.body; valid = r.1.valid; spelled = ap (λ x. x ∷ bs) (eqb-true b 42 et) ∙ r.1.spelled; first = r.1.first })
+    at false false ez et starred other f = let r = other f in (
       r.0,
       record {
         body = b ∷ r.1.body;
@@ -62,11 +62,11 @@ comments false (b ∷ bs) last e whole = at (nat_eq b 0) (nat_eq b 42) refl refl
 comments true (b ∷ bs) last e whole = at (nat_eq b 47) (nat_eq b 0) (nat_eq b 42) refl refl refl (λ f. comments true bs last f whole) (λ f. comments false bs last f whole) e
   where
     at : (k z t : Bool) → nat_eq b 47 ≡ k → nat_eq b 0 ≡ z → nat_eq b 42 ≡ t → (grown states.Star bs ≡ Some last → (last ≡ states.Closed) × Ends (42 ∷ []) bs) → (grown states.GeneralComment bs ≡ Some last → (last ≡ states.Closed) × Ends [] bs) → to_only (cond k (To states.Closed) (cond z Fault (cond t (To states.Star) (To states.GeneralComment)))) (λ n. grown n bs) ≡ Some last → (last ≡ states.Closed) × Ends (42 ∷ []) (b ∷ bs)
-    at true z t ek ez et starred plain f =
+    at true z t ek ez et starred other f =
         let s = stays states.Closed (λ _. refl) bs last f in
         (s.1, record { body = []; valid = refl; spelled = ap (λ x. 42 ∷ x ∷ bs) (eqb-true b 47 ek) ∙ ap (λ xs. 42 ∷ 47 ∷ xs) s.0; first = refl })
-    at false true t ek ez et starred plain f = absurd (cc)
-    at false false true ek ez et starred plain f = let r = starred f in (
+    at false true t ek ez et starred other f = absurd (cc)
+    at false false true ek ez et starred other f = let r = starred f in (
       r.0,
       record {
         body = 42 ∷ r.1.body;
@@ -75,7 +75,7 @@ comments true (b ∷ bs) last e whole = at (nat_eq b 47) (nat_eq b 0) (nat_eq b 
         first = has_end-stars r.1.body bs r.1.spelled r.1.first;
       },
     )
-    at false false false ek ez et starred plain f = let r = plain f in (
+    at false false false ek ez et starred other f = let r = other f in (
       r.0,
       record {
         body = 42 ∷ b ∷ r.1.body;
@@ -100,15 +100,15 @@ comments-again false [] v h = refl
 comments-again false (b ∷ body) v h = at (nat_eq b 0) (nat_eq b 42) refl v (λ w k. comments-again true body w k) (λ w k. comments-again false body w k)
   where
     at : (z t : Bool) → nat_eq b 42 ≡ t → (not z && list_all is_nonzero body) ≡ true → (list_all is_nonzero body ≡ true → NoEnd true body → grown states.Star (body ++ 42 ∷ 47 ∷ []) ≡ Some states.Closed) → (list_all is_nonzero body ≡ true → NoEnd false body → grown states.GeneralComment (body ++ 42 ∷ 47 ∷ []) ≡ Some states.Closed) → to_only (cond z Fault (cond t (To states.Star) (To states.GeneralComment))) (λ n. grown n (body ++ 42 ∷ 47 ∷ [])) ≡ Some states.Closed
-    at true t et w starred plain = absurd (cc)
-    at false true et w starred plain = starred w (ap (λ x. has_end (x ∷ (body ++ 42 ∷ []))) (sym (eqb-true b 42 et)) ∙ h)
-    at false false et w starred plain = plain w (sym (has_end-other b (body ++ 42 ∷ []) et) ∙ h)
+    at true t et w starred other = absurd (cc)
+    at false true et w starred other = starred w (ap (λ x. has_end (x ∷ (body ++ 42 ∷ []))) (sym (eqb-true b 42 et)) ∙ h)
+    at false false et w starred other = other w (sym (has_end-other b (body ++ 42 ∷ []) et) ∙ h)
 comments-again true (b ∷ body) v h =
     let split = either-false (nat_eq b 47) (has_end (b ∷ (body ++ 42 ∷ []))) h in
     at (nat_eq b 47) (nat_eq b 0) (nat_eq b 42) split.0 refl v split.1 (λ w k. comments-again true body w k) (λ w k. comments-again false body w k)
   where
     at : (k z t : Bool) → k ≡ false → nat_eq b 42 ≡ t → (not z && list_all is_nonzero body) ≡ true → has_end (b ∷ (body ++ 42 ∷ [])) ≡ false → (list_all is_nonzero body ≡ true → NoEnd true body → grown states.Star (body ++ 42 ∷ 47 ∷ []) ≡ Some states.Closed) → (list_all is_nonzero body ≡ true → NoEnd false body → grown states.GeneralComment (body ++ 42 ∷ 47 ∷ []) ≡ Some states.Closed) → to_only (cond k (To states.Closed) (cond z Fault (cond t (To states.Star) (To states.GeneralComment)))) (λ n. grown n (body ++ 42 ∷ 47 ∷ [])) ≡ Some states.Closed
-    at true z t ek et w j starred plain = absurd (cc)
-    at false true t ek et w j starred plain = absurd (cc)
-    at false false true ek et w j starred plain = starred w (ap (λ x. has_end (x ∷ (body ++ 42 ∷ []))) (sym (eqb-true b 42 et)) ∙ j)
-    at false false false ek et w j starred plain = plain w (sym (has_end-other b (body ++ 42 ∷ []) et) ∙ j)
+    at true z t ek et w j starred other = absurd (cc)
+    at false true t ek et w j starred other = absurd (cc)
+    at false false true ek et w j starred other = starred w (ap (λ x. has_end (x ∷ (body ++ 42 ∷ []))) (sym (eqb-true b 42 et)) ∙ j)
+    at false false false ek et w j starred other = other w (sym (has_end-other b (body ++ 42 ∷ []) et) ∙ j)

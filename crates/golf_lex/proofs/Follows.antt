@@ -1,4 +1,4 @@
--- What may stand behind a piece is what ends it.
+-- What may stand behind a lexeme is what ends it.
 use Rattle.std.proofs.Common.{◌≡◌, ℕ, ◌<◌, Bool, true, false, cond, not, ◌||◌, List, [], ◌∷◌, ◌++◌, length, length-append, refl, sym, ap, ◌∙◌, append_assoc, arith}
 use Rattle.std.proofs.lemmas.Bool.{eqb-true}
 use Rattle.std.specs.Prelude.{Option, Some, None, option_and_then, nat_eq}
@@ -7,9 +7,9 @@ use Rattle.golf_tokens.specs.declared.token.TokenKind.TheVariants.{Integer, Mark
 use Rattle.golf_tokens.specs.declared.token.Keyword.{Keyword}
 use Rattle.golf_tokens.specs.declared.token.Mark.{Mark}
 use Rattle.golf_tokens.specs.declared.token.Mark.TheVariants as marks
-use Rattle.golf_tokens.specs.Bytes.{is_letter, is_digit, is_word_byte, is_plain}
+use Rattle.golf_tokens.specs.Bytes.{is_letter, is_digit, is_word_byte, is_ordinary}
 use Rattle.golf_tokens.specs.Spelling.{Spells}
-use Rattle.golf_tokens.specs.Pieces.{Class, Blank, LineComment, GeneralComment, Of, IsLongest, stands_clear, MayPrecede}
+use Rattle.golf_tokens.specs.Lexemes.{Class, Blank, LineComment, GeneralComment, Of, IsLongest, stands_clear, MayPrecede}
 use Rattle.golf_lex.specs.declared.automaton.State.{State}
 use Rattle.golf_lex.specs.declared.automaton.State.TheVariants as states
 use Rattle.golf_lex.specs.declared.automaton.Growth.{Growth}
@@ -53,7 +53,7 @@ clear-end (Integer digits) = refl
 clear-end (MarkToken marks.Slash) = refl
 clear-end _ = refl
 
--- a piece may stand at the end
+-- a lexeme may stand at the end
 pub follows-end : (class : Class) (bytes : List ℕ) → MayPrecede class bytes []
 follows-end Blank bytes = tt
 follows-end LineComment bytes = tt
@@ -90,7 +90,7 @@ line-clear c = at (nat_eq c 0) (nat_eq c 10) refl
     at false true en e = eqb-true c 10 en
     at false false en e = absurd (cc)
 
--- where a byte ends a piece, the piece may stand before it
+-- where a byte ends a lexeme, the lexeme may stand before it
 pub follows : (b : ℕ) (bs : List ℕ) (last : State) (c : ℕ) (rest : List ℕ) → reached (b ∷ bs) ≡ Some last → growth last c ≡ Over → MayPrecede (class_at last (b ∷ bs)) (b ∷ bs) (c ∷ rest)
 follows b bs states.Blank c rest r g = tt
 follows b bs states.Word c rest r g = (longest b bs states.Word c rest r g, word-clear (b ∷ bs) (keyword_of (b ∷ bs)) (c ∷ rest))
@@ -140,7 +140,7 @@ mark-over m b bs c rest r h clear = by (grows m c)
     by (line em ec) = let wrong : false ≡ true = ap (λ x. stands_clear (MarkToken marks.Slash) (x ∷ rest)) (sym ec) ∙ ap (λ x. stands_clear (MarkToken x) (c ∷ rest)) (sym em) ∙ clear in absurd (cc)
     by (general em ec) = let wrong : false ≡ true = ap (λ x. stands_clear (MarkToken marks.Slash) (x ∷ rest)) (sym ec) ∙ ap (λ x. stands_clear (MarkToken x) (c ∷ rest)) (sym em) ∙ clear in absurd (cc)
 
--- where a whole piece may stand before a byte, the byte ends it
+-- where a whole lexeme may stand before a byte, the byte ends it
 pub ends-there : (b : ℕ) (bs : List ℕ) (last : State) (c : ℕ) (rest : List ℕ) → reached (b ∷ bs) ≡ Some last → is_complete last ≡ true → MayPrecede (class_at last (b ∷ bs)) (b ∷ bs) (c ∷ rest) → growth last c ≡ Over
 ends-there b bs states.Blank c rest r whole m = refl
 ends-there b bs states.Word c rest r whole m = word-over b bs c rest r m.0
@@ -156,9 +156,9 @@ ends-there b bs states.Bar c rest r whole m = absurd (cc)
 ends-there b bs states.GeneralComment c rest r whole m = absurd (cc)
 ends-there b bs states.Star c rest r whole m = absurd (cc)
 
--- only a whole piece ends
+-- only a whole lexeme ends
 pub over-complete : (state : State) (c : ℕ) → growth state c ≡ Over → is_complete state ≡ true
-over-complete states.Quoted c = at (nat_eq c 34) (nat_eq c 92) (is_plain c)
+over-complete states.Quoted c = at (nat_eq c 34) (nat_eq c 92) (is_ordinary c)
   where
     at : (q s p : Bool) → cond q (To states.Text) (cond s (To states.Escaped) (cond p (To states.Quoted) Fault)) ≡ Over → false ≡ true
     at true s p e = absurd (cc)

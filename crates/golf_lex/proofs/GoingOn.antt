@@ -3,9 +3,9 @@ use Rattle.std.proofs.Common.{◌≡◌, ℕ, Bool, true, false, cond, not, ◌&
 use Rattle.std.proofs.lemmas.Bool.{eqb-true}
 use Rattle.std.specs.Prelude.{Some, nat_eq}
 use Rattle.std.specs.List.{list_all}
-use Rattle.golf_tokens.specs.Bytes.{is_letter, is_digit, is_word_byte, is_plain}
+use Rattle.golf_tokens.specs.Bytes.{is_letter, is_digit, is_word_byte, is_ordinary}
 use Rattle.golf_tokens.specs.Spelling.{Part, Itself, Newline, Tab, Backslash, Quote, is_part, part_text, parts_text}
-use Rattle.golf_tokens.specs.Pieces.{is_nonzero}
+use Rattle.golf_tokens.specs.Lexemes.{is_nonzero}
 use Rattle.golf_lex.specs.declared.automaton.State.{State}
 use Rattle.golf_lex.specs.declared.automaton.State.TheVariants as states
 use Rattle.golf_lex.specs.declared.automaton.Growth.TheVariants.{To, Over, Fault}
@@ -83,14 +83,14 @@ escape-part e h = at (nat_eq e 110) (nat_eq e 116) (nat_eq e 92) (nat_eq e 34) r
 -- a string that is whole went on to a closing quote
 pub strings : (bs : List ℕ) (last : State) → grown states.Quoted bs ≡ Some last → is_complete last ≡ true → (last ≡ states.Text) × Closes bs
 strings [] last e whole = absurd (let same : states.Quoted ≡ last = cc in let no : false ≡ true = ap is_complete same ∙ whole in cc)
-strings (b ∷ []) last e whole = first (nat_eq b 34) (nat_eq b 92) (is_plain b) refl e
+strings (b ∷ []) last e whole = first (nat_eq b 34) (nat_eq b 92) (is_ordinary b) refl e
   where
     first : (q s p : Bool) → nat_eq b 34 ≡ q → to_only (cond q (To states.Text) (cond s (To states.Escaped) (cond p (To states.Quoted) Fault))) (λ n. Some n) ≡ Some last → (last ≡ states.Text) × Closes (b ∷ [])
     first true s p eq f = let same : states.Text ≡ last = cc in (sym same, record { parts = []; valid = refl; spelled = ap (λ x. x ∷ []) (eqb-true b 34 eq) })
     first false true p eq f = absurd (let same : states.Escaped ≡ last = cc in let no : false ≡ true = ap is_complete same ∙ whole in cc)
     first false false true eq f = absurd (let same : states.Quoted ≡ last = cc in let no : false ≡ true = ap is_complete same ∙ whole in cc)
     first false false false eq f = absurd (cc)
-strings (b ∷ c ∷ bs) last e whole = first (nat_eq b 34) (nat_eq b 92) (is_plain b) refl refl refl (λ f. strings (c ∷ bs) last f whole) (λ f. strings bs last f whole) e
+strings (b ∷ c ∷ bs) last e whole = first (nat_eq b 34) (nat_eq b 92) (is_ordinary b) refl refl refl (λ f. strings (c ∷ bs) last f whole) (λ f. strings bs last f whole) e
   where
     Goes : List ℕ → Type 0
     Goes xs = (last ≡ states.Text) × Closes xs
@@ -102,7 +102,7 @@ strings (b ∷ c ∷ bs) last e whole = first (nat_eq b 34) (nat_eq b 92) (is_pl
         (r.0, closes-more p.0 (92 ∷ c ∷ []) bs (b ∷ c ∷ bs) p.2 (ap (λ x. x ∷ c ∷ bs) (eqb-true b 92 es)) (sym p.1) r.1)
     second false et es again f = absurd (cc)
 
-    first : (q s p : Bool) → nat_eq b 34 ≡ q → nat_eq b 92 ≡ s → is_plain b ≡ p → (grown states.Quoted (c ∷ bs) ≡ Some last → (last ≡ states.Text) × Closes (c ∷ bs)) → (grown states.Quoted bs ≡ Some last → (last ≡ states.Text) × Closes bs) → to_only (cond q (To states.Text) (cond s (To states.Escaped) (cond p (To states.Quoted) Fault))) (λ n. grown n (c ∷ bs)) ≡ Some last → (last ≡ states.Text) × Closes (b ∷ c ∷ bs)
+    first : (q s p : Bool) → nat_eq b 34 ≡ q → nat_eq b 92 ≡ s → is_ordinary b ≡ p → (grown states.Quoted (c ∷ bs) ≡ Some last → (last ≡ states.Text) × Closes (c ∷ bs)) → (grown states.Quoted bs ≡ Some last → (last ≡ states.Text) × Closes bs) → to_only (cond q (To states.Text) (cond s (To states.Escaped) (cond p (To states.Quoted) Fault))) (λ n. grown n (c ∷ bs)) ≡ Some last → (last ≡ states.Text) × Closes (b ∷ c ∷ bs)
     first true s p eq es ep one two f = absurd (cc)
     first false true p eq es ep one two f = second (is_escape c) refl es two f
     first false false true eq es ep one two f = let r = one f in (r.0, closes-more (Itself b) (b ∷ []) (c ∷ bs) (b ∷ c ∷ bs) ep refl refl r.1)

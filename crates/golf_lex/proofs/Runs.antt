@@ -5,7 +5,7 @@ use Rattle.std.specs.List.{list_all}
 use Rattle.std.proofs.Math.Seq.{take-suc, take-length}
 use Rattle.std.proofs.lemmas.List.{take-append-drop}
 use Rattle.golf_tokens.specs.declared.token.Token.{Token}
-use Rattle.golf_tokens.specs.Pieces.{Piece}
+use Rattle.golf_tokens.specs.Lexemes.{Lexeme}
 use Rattle.golf_tokens.specs.Semicolons.{tokens_of}
 use Rattle.golf_tokens.specs.Lexes.{Lexes, Begins, IsFault}
 use Rattle.golf_tokens.specs.declared.token.Mark.TheVariants as marks
@@ -25,24 +25,24 @@ run-append state (b ∷ xs) ys = at (step state b) (λ next. run-append next xs 
     at None again = refl
     at (Some next) again = again next
 
--- a run to a whole piece scans
-pub run-scans : (state : State) (bytes bs : List ℕ) (last : State) → run state bs ≡ Some last → is_complete last ≡ true → (ps : List Piece) × (scan state bytes bs ≡ Some ps)
+-- a run to a whole lexeme scans
+pub run-scans : (state : State) (bytes bs : List ℕ) (last : State) → run state bs ≡ Some last → is_complete last ≡ true → (ps : List Lexeme) × (scan state bytes bs ≡ Some ps)
 run-scans state bytes [] last e whole =
     let same : state ≡ last = cc in
     (ended state bytes, ap (λ t. cond t (Some (ended state bytes)) None) (ap is_complete same ∙ whole))
 run-scans state bytes (b ∷ bs) last e whole = at (growth state b) e (λ next more f. run-scans next more bs last f whole)
   where
-    fresh : (o : Option State) → option_and_then (λ n. run n bs) o ≡ Some last → ((next : State) (more : List ℕ) → run next bs ≡ Some last → (ps : List Piece) × (scan next more bs ≡ Some ps)) → (ps : List Piece) × (option_and_then (λ next. behind (ended state bytes) (scan next (b ∷ []) bs)) o ≡ Some ps)
+    fresh : (o : Option State) → option_and_then (λ n. run n bs) o ≡ Some last → ((next : State) (more : List ℕ) → run next bs ≡ Some last → (ps : List Lexeme) × (scan next more bs ≡ Some ps)) → (ps : List Lexeme) × (option_and_then (λ next. behind (ended state bytes) (scan next (b ∷ []) bs)) o ≡ Some ps)
     fresh None f again = absurd (cc)
     fresh (Some next) f again = let r = again next (b ∷ []) f in (ended state bytes ++ r.0, ap (behind (ended state bytes)) r.1)
 
-    at : (g : Growth) → option_and_then (λ n. run n bs) (step_by g (begun b)) ≡ Some last → ((next : State) (more : List ℕ) → run next bs ≡ Some last → (ps : List Piece) × (scan next more bs ≡ Some ps)) → (ps : List Piece) × (scan_by (λ next more. scan next more bs) state bytes b g ≡ Some ps)
+    at : (g : Growth) → option_and_then (λ n. run n bs) (step_by g (begun b)) ≡ Some last → ((next : State) (more : List ℕ) → run next bs ≡ Some last → (ps : List Lexeme) × (scan next more bs ≡ Some ps)) → (ps : List Lexeme) × (scan_by (λ next more. scan next more bs) state bytes b g ≡ Some ps)
     at (To next) f again = again next (bytes ++ b ∷ []) f
     at Over f again = fresh (begun b) f again
     at Fault f again = absurd (cc)
 
--- what scans runs to a whole piece
-scan-runs : (state : State) (bytes bs : List ℕ) (ps : List Piece) → scan state bytes bs ≡ Some ps → (last : State) × (run state bs ≡ Some last) × (is_complete last ≡ true)
+-- what scans runs to a whole lexeme
+scan-runs : (state : State) (bytes bs : List ℕ) (ps : List Lexeme) → scan state bytes bs ≡ Some ps → (last : State) × (run state bs ≡ Some last) × (is_complete last ≡ true)
 scan-runs state bytes [] ps e = at (is_complete state) refl e
   where
     at : (t : Bool) → is_complete state ≡ t → cond t (Some (ended state bytes)) None ≡ Some ps → (last : State) × (Some state ≡ Some last) × (is_complete last ≡ true)
@@ -50,20 +50,20 @@ scan-runs state bytes [] ps e = at (is_complete state) refl e
     at false et f = absurd (cc)
 scan-runs state bytes (b ∷ bs) ps e = at (growth state b) e (λ next more qs f. scan-runs next more bs qs f)
   where
-    fresh : (o : Option State) → option_and_then (λ next. behind (ended state bytes) (scan next (b ∷ []) bs)) o ≡ Some ps → ((next : State) (more : List ℕ) (qs : List Piece) → scan next more bs ≡ Some qs → (last : State) × (run next bs ≡ Some last) × (is_complete last ≡ true)) → (last : State) × (option_and_then (λ n. run n bs) o ≡ Some last) × (is_complete last ≡ true)
+    fresh : (o : Option State) → option_and_then (λ next. behind (ended state bytes) (scan next (b ∷ []) bs)) o ≡ Some ps → ((next : State) (more : List ℕ) (qs : List Lexeme) → scan next more bs ≡ Some qs → (last : State) × (run next bs ≡ Some last) × (is_complete last ≡ true)) → (last : State) × (option_and_then (λ n. run n bs) o ≡ Some last) × (is_complete last ≡ true)
     fresh None f again = absurd (cc)
     fresh (Some next) f again = scanned (scan next (b ∷ []) bs) refl f
       where
-        scanned : (o : Option (List Piece)) → scan next (b ∷ []) bs ≡ o → behind (ended state bytes) o ≡ Some ps → (last : State) × (run next bs ≡ Some last) × (is_complete last ≡ true)
+        scanned : (o : Option (List Lexeme)) → scan next (b ∷ []) bs ≡ o → behind (ended state bytes) o ≡ Some ps → (last : State) × (run next bs ≡ Some last) × (is_complete last ≡ true)
         scanned None eo g = absurd (cc)
         scanned (Some qs) eo g = again next (b ∷ []) qs eo
 
-    at : (g : Growth) → scan_by (λ next more. scan next more bs) state bytes b g ≡ Some ps → ((next : State) (more : List ℕ) (qs : List Piece) → scan next more bs ≡ Some qs → (last : State) × (run next bs ≡ Some last) × (is_complete last ≡ true)) → (last : State) × (option_and_then (λ n. run n bs) (step_by g (begun b)) ≡ Some last) × (is_complete last ≡ true)
+    at : (g : Growth) → scan_by (λ next more. scan next more bs) state bytes b g ≡ Some ps → ((next : State) (more : List ℕ) (qs : List Lexeme) → scan next more bs ≡ Some qs → (last : State) × (run next bs ≡ Some last) × (is_complete last ≡ true)) → (last : State) × (option_and_then (λ n. run n bs) (step_by g (begun b)) ≡ Some last) × (is_complete last ≡ true)
     at (To next) f again = again next (bytes ++ b ∷ []) ps f
     at Over f again = fresh (begun b) f again
     at Fault f again = absurd (cc)
 
--- bytes that make a piece whole
+-- bytes that make a lexeme whole
 completion : State → List ℕ
 completion states.Quoted = 34 ∷ []
 completion states.Escaped = 34 ∷ 34 ∷ []
@@ -96,14 +96,14 @@ completes states.LineComment = record { last = states.LineComment; runs = refl; 
 completes states.Closed = record { last = states.Closed; runs = refl; complete = refl; small = refl }
 
 -- what is scanned lexes
-pub scans-lexes : (bytes : List ℕ) (ps : List Piece) → scan states.Blank [] bytes ≡ Some ps → Lexes bytes (tokens_of ps)
+pub scans-lexes : (bytes : List ℕ) (ps : List Lexeme) → scan states.Blank [] bytes ≡ Some ps → Lexes bytes (tokens_of ps)
 scans-lexes bytes ps e =
     let c = scan-cuts states.Blank [] bytes ps refl e in
-    record { pieces = ps; cut = c.cut; text = c.text; are = refl }
+    record { lexemes = ps; cut = c.cut; text = c.text; are = refl }
 
 -- what lexes is scanned
-pub lexes-scans : (bytes : List ℕ) (tokens : List Token) → Lexes bytes tokens → (ps : List Piece) × (scan states.Blank [] bytes ≡ Some ps) × (tokens ≡ tokens_of ps)
-lexes-scans bytes tokens l = (l.pieces, ap (scan states.Blank []) l.text ∙ cut-scans l.pieces l.cut, l.are)
+pub lexes-scans : (bytes : List ℕ) (tokens : List Token) → Lexes bytes tokens → (ps : List Lexeme) × (scan states.Blank [] bytes ≡ Some ps) × (tokens ≡ tokens_of ps)
+lexes-scans bytes tokens l = (l.lexemes, ap (scan states.Blank []) l.text ∙ cut-scans l.lexemes l.cut, l.are)
 
 lexes-runs : (bytes : List ℕ) (tokens : List Token) → Lexes bytes tokens → (last : State) × (run states.Blank bytes ≡ Some last) × (is_complete last ≡ true)
 lexes-runs bytes tokens l = let s = lexes-scans bytes tokens l in scan-runs states.Blank [] bytes s.0 s.1
@@ -140,7 +140,7 @@ fault-at bytes place b state h eb e stops =
       behind = λ _ more. stuck front more.more more.tokens none more.lexes;
     }
 
--- the bytes end within a piece
+-- the bytes end within a lexeme
 pub fault-end : (bytes : List ℕ) (state : State) → run states.Blank bytes ≡ Some state → is_complete state ≡ false → IsFault bytes (length bytes)
 fault-end bytes state e unfinished =
     record {

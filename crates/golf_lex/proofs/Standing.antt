@@ -1,10 +1,10 @@
--- Which byte ends a piece, by what the piece is.
+-- Which byte ends a lexeme, by what the lexeme is.
 use Rattle.std.proofs.Common.{◌≡◌, ℕ, Bool, true, false, cond, not, ◌||◌, List, [], ◌∷◌, refl, sym, subst}
 use Rattle.std.specs.Prelude.{Option, Some, None}
 use Rattle.golf_tokens.specs.declared.token.TokenKind.TheVariants.{Name, Integer, Text, Keyword as KeywordToken, Mark as MarkToken}
 use Rattle.golf_tokens.specs.declared.token.Keyword.{Keyword}
 use Rattle.golf_tokens.specs.Bytes.{is_letter, is_digit, is_word_byte}
-use Rattle.golf_tokens.specs.Pieces.{Class, Blank, LineComment, GeneralComment, Of, begins, Forms, MayPrecede}
+use Rattle.golf_tokens.specs.Lexemes.{Class, Blank, LineComment, GeneralComment, Of, begins, Forms, MayPrecede}
 use Rattle.golf_lex.specs.declared.automaton.State.{State}
 use Rattle.golf_lex.specs.declared.automaton.State.TheVariants as states
 use Rattle.golf_lex.specs.declared.automaton.Growth.{Growth}
@@ -20,7 +20,7 @@ is_over (To _) = false
 is_over Over = true
 is_over Fault = false
 
--- the byte ends a piece of this class
+-- the byte ends a lexeme of this class
 abbrev pub ends_at : Class → ℕ → Bool
 ends_at Blank c = true
 ends_at LineComment c = false
@@ -64,7 +64,7 @@ over states.Bar bytes c w e = absurd (cc)
 over states.GeneralComment bytes c w e = absurd (cc)
 over states.Star bytes c w e = absurd (cc)
 
--- a piece may stand before what begins with a byte that ends it
+-- a lexeme may stand before what begins with a byte that ends it
 pub precedes : (class : Class) (bytes rest : List ℕ) → Forms class bytes → begins (ends_at class) rest ≡ true → MayPrecede class bytes rest
 precedes class bytes [] f e = follows-end class bytes
 precedes class bytes (c ∷ rest) f e =

@@ -1,4 +1,4 @@
--- What the bytes of a whole piece are, by the state that they end in.
+-- What the bytes of a whole lexeme are, by the state that they end in.
 use Rattle.std.proofs.Common.{◌≡◌, ℕ, Bool, true, false, cond, not, ◌&&◌, ◌||◌, List, [], ◌∷◌, ◌++◌, refl, sym, ap, ◌∙◌, subst, append-nil, arith}
 use Rattle.std.proofs.lemmas.Bool.{eqb-true}
 use Rattle.std.proofs.lemmas.Bool.Decides.{nat_tests}
@@ -9,9 +9,9 @@ use Rattle.golf_tokens.specs.declared.token.TokenKind.TheVariants.{Integer, Text
 use Rattle.golf_tokens.specs.declared.token.Keyword.{Keyword}
 use Rattle.golf_tokens.specs.declared.token.Mark.{Mark}
 use Rattle.golf_tokens.specs.declared.token.Mark.TheVariants as marks
-use Rattle.golf_tokens.specs.Bytes.{is_letter, is_digit, is_word_byte, is_blank, is_plain}
+use Rattle.golf_tokens.specs.Bytes.{is_letter, is_digit, is_word_byte, is_blank, is_ordinary}
 use Rattle.golf_tokens.specs.Spelling.{Part, Itself, Newline, Tab, Backslash, Quote, is_part, parts_text, parts_bytes, mark_text, is_word, is_integer, Spells}
-use Rattle.golf_tokens.specs.Pieces.{Class, Blank, LineComment, GeneralComment, Of, Forms}
+use Rattle.golf_tokens.specs.Lexemes.{Class, Blank, LineComment, GeneralComment, Of, Forms}
 use Rattle.golf_lex.specs.declared.automaton.State.{State}
 use Rattle.golf_lex.specs.declared.automaton.State.TheVariants as states
 use Rattle.golf_lex.specs.declared.automaton.Growth.{Growth}
@@ -26,7 +26,7 @@ use Rattle.golf_lex.proofs.Comments.{comments}
 use Rattle.golf_lex.proofs.Marks.{Grows, over, longer, line, general, grows, begun_mark-text}
 use Rattle.golf_lex.proofs.Told.{keyword_of-text, keyword_of-none}
 
--- what a piece is that ends in the state
+-- what a lexeme is that ends in the state
 abbrev pub class_at : State → List ℕ → Class
 class_at states.Word bytes = Of (word_kind bytes)
 class_at states.Zero bytes = Of (Integer bytes)
@@ -52,7 +52,7 @@ ended-class states.Bar b bs whole = absurd (cc)
 ended-class states.GeneralComment b bs whole = absurd (cc)
 ended-class states.Star b bs whole = absurd (cc)
 
--- how a byte begins a piece
+-- how a byte begins a lexeme
 data Begins (b : ℕ) (s : State) : Type 0 where
   letter : is_letter b ≡ true → s ≡ states.Word → Begins b s
   nought : b ≡ 48 → s ≡ states.Zero → Begins b s
@@ -78,9 +78,9 @@ begins b s = at (is_letter b) (nat_eq b 48) (is_digit b) (is_blank b) (nat_eq b 
     at false false false false false true el ez ed ek eq ev e = let same : states.Bar ≡ s = cc in bar (eqb-true b 124 ev) (sym same)
     at false false false false false false el ez ed ek eq ev e = begins-mark b s (begun_mark b) refl e
 
--- a plain byte is no quote and no backslash
-pub plain-other : (b : ℕ) → is_plain b ≡ true → (nat_eq b 34 ≡ false) × (nat_eq b 92 ≡ false)
-plain-other b = at (nat_eq b 0) (nat_eq b 10) (nat_eq b 34) (nat_eq b 92)
+-- an ordinary byte is no quote and no backslash
+pub ordinary-other : (b : ℕ) → is_ordinary b ≡ true → (nat_eq b 34 ≡ false) × (nat_eq b 92 ≡ false)
+ordinary-other b = at (nat_eq b 0) (nat_eq b 10) (nat_eq b 34) (nat_eq b 92)
   where
     at : (z n q s : Bool) → not (z || n || q || s) ≡ true → (q ≡ false) × (s ≡ false)
     at true n q s e = absurd (cc)
@@ -97,8 +97,8 @@ both false b e = absurd (cc)
 pub content_from-parts : (ps : List Part) (rest : List ℕ) → list_all is_part ps ≡ true → content_from false (parts_text ps ++ rest) ≡ parts_bytes ps ++ content_from false rest
 content_from-parts [] rest v = refl
 content_from-parts (Itself b ∷ ps) rest v =
-    let w = both (is_plain b) (list_all is_part ps) v in
-    let o = plain-other b w.0 in
+    let w = both (is_ordinary b) (list_all is_part ps) v in
+    let o = ordinary-other b w.0 in
     ap (λ t. cond t (content_from true (parts_text ps ++ rest)) (cond (nat_eq b 34) (content_from false (parts_text ps ++ rest)) (b ∷ content_from false (parts_text ps ++ rest)))) o.1
     ∙ ap (λ t. cond t (content_from false (parts_text ps ++ rest)) (b ∷ content_from false (parts_text ps ++ rest))) o.0
     ∙ ap (λ xs. b ∷ xs) (content_from-parts ps rest w.1)
@@ -119,7 +119,7 @@ integer-forms : (b : ℕ) (bs : List ℕ) → nat_eq b 48 ≡ false → is_digit
 integer-forms b [] e h v = h
 integer-forms b (c ∷ bs) e h v = ap (λ t. t && list_all is_digit (c ∷ bs)) (leading-digit b e h) ∙ v
 
--- the bytes are a piece of the class of their state
+-- the bytes are a lexeme of the class of their state
 abbrev pub Whole : State → List ℕ → Type 0
 Whole last bytes = Forms (class_at last bytes) bytes
 
@@ -173,7 +173,7 @@ mark-whole m b (c ∷ bs) last e f whole = by (grows m c)
           first = s.1.first;
         })
 
--- what ends in a complete state is a piece
+-- what ends in a complete state is a lexeme
 pub whole : (b : ℕ) (bs : List ℕ) (last : State) → reached (b ∷ bs) ≡ Some last → is_complete last ≡ true → Whole last (b ∷ bs)
 whole b bs last e complete = first (begun b) refl e
   where

@@ -4,11 +4,11 @@ use Rattle.std.specs.Prelude.{Option, Some, None, MatchOption, option_to_list, n
 use Rattle.golf_tokens.specs.declared.token.Token.{Token}
 use Rattle.golf_tokens.specs.declared.token.TokenKind.{TokenKind}
 use Rattle.golf_tokens.specs.Bytes.{newlines}
-use Rattle.golf_tokens.specs.Pieces.{Class, Blank, LineComment, GeneralComment, Piece}
-use Rattle.golf_tokens.specs.Pieces as pieces
-use Rattle.golf_tokens.specs.Semicolons.{Item, Of, Newline, newline_in, piece_items, items, may_end, line_ends, semicolon, semicolon_behind, inserted, is_separator, is_closing, closes, without_optional, tokens_of}
+use Rattle.golf_tokens.specs.Lexemes.{Class, Blank, LineComment, GeneralComment, Lexeme}
+use Rattle.golf_tokens.specs.Lexemes as lexemes
+use Rattle.golf_tokens.specs.Semicolons.{Item, Of, Newline, newline_in, lexeme_items, items, may_end, line_ends, semicolon, semicolon_behind, inserted, is_separator, is_closing, closes, without_optional, tokens_of}
 use Rattle.golf_lex.specs.declared.output.Output.{Output}
-use Rattle.golf_lex.specs.Output.{empty, released, pushed, with_token, line_ended_by, line_ended, with_space, with_class, moved, with_pieces, finished}
+use Rattle.golf_lex.specs.Output.{empty, released, pushed, with_token, line_ended_by, line_ended, with_space, with_class, moved, with_lexemes, finished}
 
 -- what is held back is a separator
 abbrev pub Holds : Option Token → Type 0
@@ -104,11 +104,11 @@ pending-none rest = at (line_ends rest)
     at true = refl
     at false = refl
 
--- what is written at the end, where these pieces follow
-abbrev pub Later : List Piece → Type 0
-Later ps = (o : Output) → Holds o.held → finished (with_pieces o ps) ≡ left o.tokens o.held (rest_of o.semicolon (items o.line ps))
+-- what is written at the end, where these lexemes follow
+abbrev pub Later : List Lexeme → Type 0
+Later ps = (o : Output) → Holds o.held → finished (with_lexemes o ps) ≡ left o.tokens o.held (rest_of o.semicolon (items o.line ps))
 
-writes-token : (o : Output) (kind : TokenKind) (bytes : List ℕ) (ps : List Piece) → Holds o.held → Later ps → finished (with_pieces (moved (with_token o kind) bytes) ps) ≡ left o.tokens o.held (rest_of o.semicolon (Of (record { kind = kind; line = o.line }) ∷ items (o.line + newlines bytes) ps))
+writes-token : (o : Output) (kind : TokenKind) (bytes : List ℕ) (ps : List Lexeme) → Holds o.held → Later ps → finished (with_lexemes (moved (with_token o kind) bytes) ps) ≡ left o.tokens o.held (rest_of o.semicolon (Of (record { kind = kind; line = o.line }) ∷ items (o.line + newlines bytes) ps))
 unfolding pending
 writes-token o kind bytes ps h later =
     let token : Token = record { kind = kind; line = o.line } in
@@ -119,11 +119,11 @@ writes-token o kind bytes ps h later =
     ∙ pushed-left o token (rest_of wanted rest) h
     ∙ ap (λ xs. left o.tokens o.held (token ∷ (xs ++ inserted rest))) (pending-token kind o.line rest)
 
-writes-space : (o : Output) (bytes : List ℕ) (ps : List Piece) → Holds o.held → Later ps → finished (with_pieces (moved (with_space o bytes) bytes) ps) ≡ left o.tokens o.held (rest_of o.semicolon (newline_in bytes ++ items (o.line + newlines bytes) ps))
+writes-space : (o : Output) (bytes : List ℕ) (ps : List Lexeme) → Holds o.held → Later ps → finished (with_lexemes (moved (with_space o bytes) bytes) ps) ≡ left o.tokens o.held (rest_of o.semicolon (newline_in bytes ++ items (o.line + newlines bytes) ps))
 unfolding pending
 writes-space o bytes ps h later = at (nat_eq (newlines bytes) 0)
   where
-    at : (t : Bool) → finished (with_pieces (moved (cond t o (line_ended o)) bytes) ps) ≡ left o.tokens o.held (rest_of o.semicolon (cond t [] (Newline ∷ []) ++ items (o.line + newlines bytes) ps))
+    at : (t : Bool) → finished (with_lexemes (moved (cond t o (line_ended o)) bytes) ps) ≡ left o.tokens o.held (rest_of o.semicolon (cond t [] (Newline ∷ []) ++ items (o.line + newlines bytes) ps))
     at true = later (moved o bytes) h
     at false =
         let rest = items (o.line + newlines bytes) ps in
@@ -134,20 +134,20 @@ writes-space o bytes ps h later = at (nat_eq (newlines bytes) 0)
         ∙ ap (λ xs. left (line_ended o).tokens (line_ended o).held (xs ++ inserted rest)) (pending-none rest)
         ∙ f.0
 
-pub writes-left : (ps : List Piece) → Later ps
+pub writes-left : (ps : List Lexeme) → Later ps
 unfolding pending
 writes-left [] o h =
     let f = line_ended-facts o [] h in
     flushed (line_ended o).tokens (line_ended o).held f.1 ∙ f.0
 writes-left (p ∷ ps) o h = by p.class (writes-left ps)
   where
-    by : (class : Class) → Later ps → finished (with_pieces (moved (with_class o class p.bytes) p.bytes) ps) ≡ left o.tokens o.held (rest_of o.semicolon (piece_items o.line class p.bytes ++ items (o.line + newlines p.bytes) ps))
+    by : (class : Class) → Later ps → finished (with_lexemes (moved (with_class o class p.bytes) p.bytes) ps) ≡ left o.tokens o.held (rest_of o.semicolon (lexeme_items o.line class p.bytes ++ items (o.line + newlines p.bytes) ps))
     by Blank later = writes-space o p.bytes ps h later
     by LineComment later = writes-space o p.bytes ps h later
     by GeneralComment later = writes-space o p.bytes ps h later
-    by (pieces.Of kind) later = writes-token o kind p.bytes ps h later
+    by (lexemes.Of kind) later = writes-token o kind p.bytes ps h later
 
--- what is written of the pieces of a file is its tokens
-pub writes-tokens : (ps : List Piece) → finished (with_pieces empty ps) ≡ tokens_of ps
+-- what is written of the lexemes of a file is its tokens
+pub writes-tokens : (ps : List Lexeme) → finished (with_lexemes empty ps) ≡ tokens_of ps
 unfolding left
 writes-tokens ps = writes-left ps empty tt ∙ ap (λ xs. without_optional (xs ++ inserted (items 1 ps))) (pending-none (items 1 ps))

@@ -3,7 +3,7 @@ use Rattle.std.specs.Prelude.{ℕ, Bool, true, false, ◌||◌, nat_eq, cond, Li
 use Rattle.std.specs.Option.{option_map}
 use Rattle.golf_tokens.specs.declared.token.Mark.{Mark}
 use Rattle.golf_tokens.specs.declared.token.Mark.TheVariants as marks
-use Rattle.golf_tokens.specs.Bytes.{is_letter, is_digit, is_word_byte, is_blank, is_plain}
+use Rattle.golf_tokens.specs.Bytes.{is_letter, is_digit, is_word_byte, is_blank, is_ordinary}
 use Rattle.golf_lex.specs.declared.automaton.State.{State}
 use Rattle.golf_lex.specs.declared.automaton.State.TheVariants as states
 use Rattle.golf_lex.specs.declared.automaton.Growth.{Growth}
@@ -33,7 +33,7 @@ begun_mark b =
     cond (nat_eq b 46) (Some marks.Dot) (
     cond (nat_eq b 61) (Some marks.Assign) None)))))))))))))))))))
 
--- the state behind the first byte of a piece
+-- the state behind the first byte of a lexeme
 abbrev pub begun : ℕ → Option State
 begun b =
     cond (is_letter b) (Some states.Word) (
@@ -76,13 +76,13 @@ after_mark _ b = Over
 abbrev pub is_escape : ℕ → Bool
 is_escape b = nat_eq b 110 || nat_eq b 116 || nat_eq b 92 || nat_eq b 34
 
--- what a byte does to a piece
+-- what a byte does to a lexeme
 abbrev pub growth : State → ℕ → Growth
 growth states.Blank b = Over
 growth states.Word b = cond (is_word_byte b) (To states.Word) Over
 growth states.Zero b = cond (is_word_byte b) Fault Over
 growth states.Digits b = cond (is_digit b) (To states.Digits) (cond (is_letter b) Fault Over)
-growth states.Quoted b = cond (nat_eq b 34) (To states.Text) (cond (nat_eq b 92) (To states.Escaped) (cond (is_plain b) (To states.Quoted) Fault))
+growth states.Quoted b = cond (nat_eq b 34) (To states.Text) (cond (nat_eq b 92) (To states.Escaped) (cond (is_ordinary b) (To states.Quoted) Fault))
 growth states.Escaped b = cond (is_escape b) (To states.Quoted) Fault
 growth states.Text b = Over
 growth (states.Mark m) b = after_mark m b
@@ -92,7 +92,7 @@ growth states.GeneralComment b = cond (nat_eq b 0) Fault (cond (nat_eq b 42) (To
 growth states.Star b = cond (nat_eq b 47) (To states.Closed) (cond (nat_eq b 0) Fault (cond (nat_eq b 42) (To states.Star) (To states.GeneralComment)))
 growth states.Closed b = Over
 
--- the bytes so far may be a piece
+-- the bytes so far may be a lexeme
 abbrev pub is_complete : State → Bool
 is_complete states.Quoted = false
 is_complete states.Escaped = false

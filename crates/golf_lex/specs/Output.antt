@@ -1,10 +1,10 @@
--- What the lexer keeps of the pieces that it has read.
+-- What the lexer keeps of the lexemes that it has read.
 use Rattle.std.specs.Prelude.{ℕ, ◌+◌, nat_eq, cond, List, [], ◌∷◌, ◌++◌, Option, Some, None, option_to_list}
 use Rattle.std.specs.Option.{option_map}
 use Rattle.golf_tokens.specs.declared.token.Token.{Token}
 use Rattle.golf_tokens.specs.declared.token.TokenKind.{TokenKind}
 use Rattle.golf_tokens.specs.Bytes.{newlines}
-use Rattle.golf_tokens.specs.Pieces.{Class, Of, Piece}
+use Rattle.golf_tokens.specs.Lexemes.{Class, Of, Lexeme}
 use Rattle.golf_tokens.specs.Semicolons.{may_end, semicolon, is_separator, is_closing}
 use Rattle.golf_lex.specs.declared.automaton.State.{State}
 use Rattle.golf_lex.specs.declared.output.Output.{Output}
@@ -48,14 +48,14 @@ with_class o _ bytes = with_space o bytes
 abbrev pub moved : Output → List ℕ → Output
 moved o bytes = record o { line = o.line + newlines bytes }
 
-abbrev pub with_pieces : Output → List Piece → Output
-with_pieces o [] = o
-with_pieces o (p ∷ ps) = with_pieces (moved (with_class o p.class p.bytes) p.bytes) ps
+abbrev pub with_lexemes : Output → List Lexeme → Output
+with_lexemes o [] = o
+with_lexemes o (p ∷ ps) = with_lexemes (moved (with_class o p.class p.bytes) p.bytes) ps
 
 -- the tokens, at the end of the file
 abbrev pub finished : Output → List Token
 finished o = let last = line_ended o in last.tokens ++ option_to_list last.held
 
--- the tokens, where a piece in this state has these bytes so far and the rest follows
+-- the tokens, where a lexeme in this state has these bytes so far and the rest follows
 abbrev pub read : Output → State → List ℕ → List ℕ → Option (List Token)
-read o state bytes rest = option_map (λ pieces. finished (with_pieces o pieces)) (scan state bytes rest)
+read o state bytes rest = option_map (λ lexemes. finished (with_lexemes o lexemes)) (scan state bytes rest)

@@ -1,9 +1,9 @@
--- How bytes are cut into pieces by the automaton.
+-- How bytes are cut into lexemes by the automaton.
 use Rattle.std.specs.Prelude.{ℕ, false, cond, List, [], ◌∷◌, ◌++◌, Option, Some, None, option_and_then}
 use Rattle.std.specs.Option.{option_map}
 use Rattle.golf_tokens.specs.declared.token.TokenKind.{TokenKind}
 use Rattle.golf_tokens.specs.declared.token.TokenKind.TheVariants.{Integer, Text, Mark}
-use Rattle.golf_tokens.specs.Pieces.{Blank, LineComment, GeneralComment, Of, Piece}
+use Rattle.golf_tokens.specs.Lexemes.{Blank, LineComment, GeneralComment, Of, Lexeme}
 use Rattle.golf_lex.specs.declared.automaton.State.{State}
 use Rattle.golf_lex.specs.declared.automaton.State.TheVariants as states
 use Rattle.golf_lex.specs.declared.automaton.Growth.{Growth}
@@ -21,8 +21,8 @@ kind_at states.Text bytes = Some (Text (content_from false bytes))
 kind_at (states.Mark m) bytes = Some (Mark m)
 kind_at _ bytes = None
 
--- the piece that ends in the state; before the first byte there is none
-abbrev pub ended : State → List ℕ → List Piece
+-- the lexeme that ends in the state; before the first byte there is none
+abbrev pub ended : State → List ℕ → List Lexeme
 ended states.Blank [] = []
 ended states.Blank (b ∷ bytes) = record { class = Blank; bytes = b ∷ bytes } ∷ []
 ended states.LineComment bytes = record { class = LineComment; bytes = bytes } ∷ []
@@ -34,17 +34,17 @@ ended states.Text bytes = record { class = Of (Text (content_from false bytes));
 ended (states.Mark m) bytes = record { class = Of (Mark m); bytes = bytes } ∷ []
 ended _ bytes = []
 
--- pieces in front of those that follow, if these are there
-abbrev pub behind : List Piece → Option (List Piece) → Option (List Piece)
-behind front rest = option_map (λ pieces. front ++ pieces) rest
+-- lexemes in front of those that follow, if these are there
+abbrev pub behind : List Lexeme → Option (List Lexeme) → Option (List Lexeme)
+behind front rest = option_map (λ lexemes. front ++ lexemes) rest
 
 -- what is scanned where a byte comes that does this
-abbrev pub scan_by : (State → List ℕ → Option (List Piece)) → State → List ℕ → ℕ → Growth → Option (List Piece)
+abbrev pub scan_by : (State → List ℕ → Option (List Lexeme)) → State → List ℕ → ℕ → Growth → Option (List Lexeme)
 scan_by again state bytes b (To next) = again next (bytes ++ b ∷ [])
 scan_by again state bytes b Over = option_and_then (λ next. behind (ended state bytes) (again next (b ∷ []))) (begun b)
 scan_by again state bytes b Fault = None
 
--- the pieces, where a piece in this state has these bytes so far and the rest follows
-abbrev pub scan : State → List ℕ → List ℕ → Option (List Piece)
+-- the lexemes, where a lexeme in this state has these bytes so far and the rest follows
+abbrev pub scan : State → List ℕ → List ℕ → Option (List Lexeme)
 scan state bytes [] = cond (is_complete state) (Some (ended state bytes)) None
 scan state bytes (b ∷ rest) = scan_by (λ next more. scan next more rest) state bytes b (growth state b)

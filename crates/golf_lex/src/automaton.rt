@@ -1,15 +1,16 @@
 //! The automaton that reads a file byte by byte.
 //!
-//! A state says what the bytes of the piece that is being read are so far. A byte makes the piece longer, or begins the next
+//! A state says what the bytes of the lexeme that is being read are so far. A byte makes the lexeme longer, or begins the next
 //! one, or can stand in no text that lexes.
 
 ghost use Rattle.std.specs.Prelude.{◌≡◌, ℕ, Option};
-ghost use Rattle.golf_lex.specs.Automaton.{after_doubling as after_doubling_of, after_mark as after_mark_of, begun, begun_mark as begun_mark_of, growth, is_complete as is_complete_of, is_escape as is_escape_of, with_equals as with_equals_of};
+ghost use Rattle.golf_lex.specs.Automaton as automaton_spec;
+ghost use Rattle.golf_lex.specs.Automaton.{begun, growth};
 
-use crate::bytes::{is_blank, is_digit, is_letter, is_plain, is_word_byte};
+use crate::bytes::{is_blank, is_digit, is_letter, is_ordinary, is_word_byte};
 use golf_tokens::Mark;
 
-/// What the bytes of a piece are so far.
+/// What the bytes of a lexeme are so far.
 #[derive(Clone, Copy, Debug)]
 pub(crate) enum State {
     /// A blank, or none yet.
@@ -37,18 +38,18 @@ pub(crate) enum State {
     Closed,
 }
 
-/// What a byte does to a piece.
+/// What a byte does to a lexeme.
 #[derive(Clone, Copy, Debug)]
 pub(crate) enum Growth {
-    /// The piece has the byte too.
+    /// The lexeme has the byte too.
     To(State),
-    /// The piece ends before the byte.
+    /// The lexeme ends before the byte.
     Over,
     /// No text that lexes goes on like this.
     Fault,
 }
 
-/// The state behind the first byte of a piece, if one begins with it.
+/// The state behind the first byte of a lexeme, if one begins with it.
 pub(crate) fn begin(byte: u8) -> Option<State>
     ensures { result ≡ begun byte }
 {
@@ -71,7 +72,7 @@ pub(crate) fn begin(byte: u8) -> Option<State>
 
 // The mark of one byte.
 fn begun_mark(byte: u8) -> Option<Mark>
-    ensures { result ≡ begun_mark_of byte }
+    ensures { result ≡ automaton_spec.begun_mark byte }
 {
     match byte {
         b'+' => Some(Mark::Plus),
@@ -98,7 +99,7 @@ fn begun_mark(byte: u8) -> Option<Mark>
     }
 }
 
-/// What the byte does to a piece in this state.
+/// What the byte does to a lexeme in this state.
 pub(crate) fn extend(state: State, byte: u8) -> Growth
     ensures { result ≡ growth state byte }
 {
@@ -156,7 +157,7 @@ fn after_quoted(byte: u8) -> Growth
         Growth::To(State::Text)
     } else if byte == b'\\' {
         Growth::To(State::Escaped)
-    } else if is_plain(byte) {
+    } else if is_ordinary(byte) {
         Growth::To(State::Quoted)
     } else {
         Growth::Fault
@@ -164,7 +165,7 @@ fn after_quoted(byte: u8) -> Growth
 }
 
 fn is_escape(byte: u8) -> bool
-    ensures { result ≡ is_escape_of byte }
+    ensures { result ≡ automaton_spec.is_escape byte }
 {
     byte == b'n' || byte == b't' || byte == b'\\' || byte == b'"'
 }
@@ -225,7 +226,7 @@ fn after_star(byte: u8) -> Growth
 
 // What the byte does to a mark. The longest mark is read.
 fn after_mark(mark: Mark, byte: u8) -> Growth
-    ensures { result ≡ after_mark_of mark byte }
+    ensures { result ≡ automaton_spec.after_mark mark byte }
 {
     match mark {
         Mark::Plus => after_doubling(byte, b'+', Mark::Increment, Mark::PlusAssign),
@@ -244,7 +245,7 @@ fn after_mark(mark: Mark, byte: u8) -> Growth
 }
 
 fn with_equals(mark: Mark, byte: u8) -> Growth
-    ensures { result ≡ with_equals_of mark byte }
+    ensures { result ≡ automaton_spec.with_equals mark byte }
 {
     if byte == b'=' {
         Growth::To(State::Mark(mark))
@@ -255,7 +256,7 @@ fn with_equals(mark: Mark, byte: u8) -> Growth
 
 // What a byte does to a mark that a second byte or `=` makes longer.
 fn after_doubling(byte: u8, second: u8, doubled: Mark, assigning: Mark) -> Growth
-    ensures { result ≡ after_doubling_of byte second doubled assigning }
+    ensures { result ≡ automaton_spec.after_doubling byte second doubled assigning }
 {
     if byte == second {
         Growth::To(State::Mark(doubled))
@@ -265,7 +266,7 @@ fn after_doubling(byte: u8, second: u8, doubled: Mark, assigning: Mark) -> Growt
 }
 
 fn after_slash(byte: u8) -> Growth
-    ensures { result ≡ after_mark_of Mark.Slash byte }
+    ensures { result ≡ automaton_spec.after_mark Mark.Slash byte }
 {
     if byte == b'/' {
         Growth::To(State::LineComment)
@@ -277,7 +278,7 @@ fn after_slash(byte: u8) -> Growth
 }
 
 fn after_ampersand(byte: u8) -> Growth
-    ensures { result ≡ after_mark_of Mark.Ampersand byte }
+    ensures { result ≡ automaton_spec.after_mark Mark.Ampersand byte }
 {
     if byte == b'&' {
         Growth::To(State::Mark(Mark::And))
@@ -286,9 +287,9 @@ fn after_ampersand(byte: u8) -> Growth
     }
 }
 
-/// Whether the bytes so far may be a whole piece.
+/// Whether the bytes so far may be a whole lexeme.
 pub(crate) fn is_complete(state: State) -> bool
-    ensures { result ≡ is_complete_of state }
+    ensures { result ≡ automaton_spec.is_complete state }
 {
     match state {
         State::Quoted | State::Escaped | State::Bar | State::GeneralComment | State::Star => false,

@@ -1,7 +1,7 @@
 //! Kinds of tokens.
 
 ghost use Rattle.std.specs.Prelude.{◌≡◌, IfOk};
-ghost use Rattle.golf_tokens.specs.Semicolons.{is_closing as is_closing_of, is_separator as is_separator_of, may_end as may_end_of};
+ghost use Rattle.golf_tokens.specs.Semicolons as semicolons_spec;
 ghost use Rattle.golf_lex.specs.Scanning.{kind_at};
 ghost use Rattle.golf_lex.specs.Words.{word_kind};
 
@@ -14,7 +14,7 @@ use std::alloc::Global;
 
 /// Whether a newline behind such a token stands for a semicolon.
 pub(crate) fn may_end(kind: &TokenKind) -> bool
-    ensures { result ≡ may_end_of kind.now }
+    ensures { result ≡ semicolons_spec.may_end kind.now }
 {
     match kind {
         TokenKind::Name(_) | TokenKind::Integer(_) | TokenKind::Text(_) => true,
@@ -25,20 +25,20 @@ pub(crate) fn may_end(kind: &TokenKind) -> bool
 
 /// Whether it is `;` or `,`, which is left out before `)` and `}`.
 pub(crate) fn is_separator(kind: &TokenKind) -> bool
-    ensures { result ≡ is_separator_of kind.now }
+    ensures { result ≡ semicolons_spec.is_separator kind.now }
 {
     matches!(kind, TokenKind::Mark(Mark::Semicolon | Mark::Comma))
 }
 
 /// Whether it is `)` or `}`.
 pub(crate) fn is_closing(kind: &TokenKind) -> bool
-    ensures { result ≡ is_closing_of kind.now }
+    ensures { result ≡ semicolons_spec.is_closing kind.now }
 {
     matches!(kind, TokenKind::Mark(Mark::CloseParen | Mark::CloseBrace))
 }
 
 fn keyword_may_end(keyword: Keyword) -> bool
-    ensures { result ≡ may_end_of (TokenKind.Keyword keyword) }
+    ensures { result ≡ semicolons_spec.may_end (TokenKind.Keyword keyword) }
 {
     matches!(
         keyword,
@@ -47,7 +47,7 @@ fn keyword_may_end(keyword: Keyword) -> bool
 }
 
 fn mark_may_end(mark: Mark) -> bool
-    ensures { result ≡ may_end_of (TokenKind.Mark mark) }
+    ensures { result ≡ semicolons_spec.may_end (TokenKind.Mark mark) }
 {
     matches!(
         mark,
@@ -72,7 +72,7 @@ fn word(alloc: Global, bytes: &[u8]) -> Result<TokenKind, Memory>
     }
 }
 
-/// The token that a piece of these bytes is, where the automaton ended it in this state. Blanks and comments are none.
+/// The token that a lexeme of these bytes is, where the automaton ended it in this state. Blanks and comments are none.
 pub(crate) fn kind(alloc: Global, state: State, bytes: &[u8]) -> Result<Option<TokenKind>, Memory>
     ensures { IfOk result (λ kind. kind ≡ kind_at state bytes.now) }
 {

@@ -8,8 +8,6 @@ mod laws;
 mod lexer;
 mod output;
 mod strings;
-#[cfg(test)]
-mod tests;
 mod words;
 
 pub use laws::{faults_once, lexes_once, lexes_or_faults};

@@ -1,7 +1,7 @@
-//! The tokens of the pieces that are read, with inserted semicolons and without optional separators.
+//! The tokens of the lexemes that are read, with inserted semicolons and without optional separators.
 
 ghost use Rattle.std.specs.Prelude.{◌≡◌, ◌+◌, ◌<◌, ◌^◌, IfOk, OnOk, true};
-ghost use Rattle.golf_tokens.specs.Bytes.{newlines as newlines_of};
+ghost use Rattle.golf_tokens.specs.Bytes as bytes_spec;
 
 use crate::automaton::State;
 use crate::bytes::newlines;
@@ -10,7 +10,7 @@ use golf_base::{List, Memory};
 use golf_tokens::{Mark, Token, TokenKind};
 use std::alloc::Global;
 
-/// What is kept of the pieces that were read.
+/// What is kept of the lexemes that were read.
 #[derive(Drop)]
 pub(crate) struct Output {
     pub(crate) tokens: List<Token>,
@@ -23,7 +23,8 @@ pub(crate) struct Output {
 }
 
 impl Output {
-    ghost use Rattle.golf_lex.specs.Output.{empty, pushed, with_token, line_ended as line_ended_of, with_space, with_pieces, moved, finished};
+    ghost use Rattle.golf_lex.specs.Output as output_spec;
+    ghost use Rattle.golf_lex.specs.Output.{empty, pushed, with_token, with_space, with_lexemes, moved, finished};
     ghost use Rattle.golf_lex.specs.Automaton.{is_complete};
     ghost use Rattle.golf_lex.specs.Scanning.{ended};
 
@@ -71,7 +72,7 @@ impl Output {
     }
 
     fn end_line(&mut self) -> Result<(), Memory>
-        ensures { OnOk result (self.new ≡ line_ended_of self.old) }
+        ensures { OnOk result (self.new ≡ output_spec.line_ended self.old) }
     {
         if let Some(line) = self.semicolon.take() {
             self.push(Token {
@@ -82,11 +83,11 @@ impl Output {
         Ok(())
     }
 
-    /// Adds the piece that the automaton ended in this state.
+    /// Adds the lexeme that the automaton ended in this state.
     pub(crate) fn add(&mut self, alloc: Global, state: State, bytes: &[u8]) -> Result<(), Memory>
         requires complete { is_complete state ≡ true }
-        requires line { self.old.line + newlines_of bytes.now < 2 ^ 32 }
-        ensures { OnOk result (self.new ≡ with_pieces self.old (ended state bytes.now)) }
+        requires line { self.old.line + bytes_spec.newlines bytes.now < 2 ^ 32 }
+        ensures { OnOk result (self.new ≡ with_lexemes self.old (ended state bytes.now)) }
     {
         let count = newlines(bytes);
         match kind(alloc, state, bytes)? {

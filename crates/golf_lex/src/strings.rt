@@ -1,13 +1,14 @@
 //! String literals.
 
 ghost use Rattle.std.specs.Prelude.{◌≡◌, ℕ, IfOk, false};
-ghost use Rattle.golf_lex.specs.Strings.{content_from, escaped_byte as escaped_byte_of};
+ghost use Rattle.golf_lex.specs.Strings as strings_spec;
+ghost use Rattle.golf_lex.specs.Strings.{content_from};
 
 use golf_base::{List, Memory};
 use std::alloc::Global;
 
 fn escaped_byte(byte: u8) -> u8
-    ensures { result ≡ escaped_byte_of byte }
+    ensures { result ≡ strings_spec.escaped_byte byte }
 {
     match byte {
         b'n' => b'\n',

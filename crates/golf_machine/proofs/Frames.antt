@@ -13,7 +13,7 @@ use Rattle.golf_data.specs.declared.goroutine.Mode.{Mode}
 use Rattle.golf_data.specs.declared.goroutine.PanicKind.{PanicKind}
 use Rattle.golf_theory.specs.Maps.{find}
 use Rattle.golf_theory.proofs.MapFinds.{find-add_old}
-use Rattle.golf_model.specs.Plain.{PlainFrame, PlainGoroutine}
+use Rattle.golf_model.specs.Views.{FrameView, GoroutineView}
 use Rattle.golf_model.specs.State.{State, call_frame, not_empty}
 use Rattle.golf_model.specs.Values.{reference, line_bytes}
 use Rattle.golf_model.specs.Changes.{Change, apply_all, become, finish, make, spawn, output, behind_first}
@@ -21,18 +21,18 @@ use Rattle.golf_model.specs.Waking.{on_top, unwinding}
 use Rattle.golf_model.specs.Acting.{Actor, next, stands, goes, on_some, choose, taking_one, standing, with_frames}
 use Rattle.golf_model.specs.Calculating.{stores}
 use Rattle.golf_model.specs.Structures.{makes_channel, is_bad_size, new_channel}
-use Rattle.golf_model.specs.Calls.{enters, is_full, calls, spawns, begins_deferred, ends, returns_to, ends_returning, unwinds_to}
+use Rattle.golf_model.specs.Calls.{enters, is_full, calls, spawns, defers, begins_deferred, ends, returns_to, ends_returning, unwinds_to}
 use Rattle.golf_state.specs.Looked.{frames_of, reframed}
-use Rattle.golf_state.specs.Going.{went, stored, stored_in, undeferred, exchanged, exchanged_in}
+use Rattle.golf_state.specs.Going.{went, has_deferred, stored, stored_in, undeferred, exchanged, exchanged_in}
 use Rattle.golf_state.specs.Operands.{operands_of, top_operands}
 use Rattle.golf_state.specs.Doing.{does, Stands}
-use Rattle.golf_state.proofs.Doings.{actor_of, does-is, frames-is, reframed-is, stands-is, goes-is}
+use Rattle.golf_state.proofs.Doings.{actor_of, does-is, went-next, frames-is, reframed-is, stands-is, goes-is}
 use Rattle.golf_machine.specs.Acts.{last_of, begins_latest, deferred_of, top_deferred}
 use Rattle.golf_machine.proofs.Takings.{taking-is}
 
 -- frames that are as they were
-pub kept : (g : ℕ) (s : State) (fs ps : List PlainFrame) → fs ≡ ps → ps ≡ frames_of g s → reframed g (frames_of g s) s ≡ s → reframed g fs s ≡ s
-kept g s fs ps a b same = ap (λ (xs : List PlainFrame). reframed g xs s) (a ∙ b) ∙ same
+pub kept : (g : ℕ) (s : State) (fs ps : List FrameView) → fs ≡ ps → ps ≡ frames_of g s → reframed g (frames_of g s) s ≡ s → reframed g fs s ≡ s
+kept g s fs ps a b same = ap (λ (xs : List FrameView). reframed g xs s) (a ∙ b) ∙ same
 
 pub apply_all-append : (xs ys : List Change) (s : State) → apply_all (xs ++ ys) s ≡ apply_all ys (apply_all xs s)
 apply_all-append [] ys s = refl
@@ -50,7 +50,7 @@ module _ (g after : ℕ) (s : State) (st : Stands g after s) (line : ℕ) where
 
   -- it stays as it is
   stay : reframed g (frames_of g s) s ≡ s → apply_all (stands (actor_of st line) st.frame) s ≡ s
-  stay same = sym (reframed-is g after s st (st.frame ∷ st.callers)) ∙ ap (λ (fs : List PlainFrame). reframed g fs s) (sym (frames-is g after s st)) ∙ same
+  stay same = sym (reframed-is g after s st (st.frame ∷ st.callers)) ∙ ap (λ (fs : List FrameView). reframed g fs s) (sym (frames-is g after s st)) ∙ same
 
   -- ---- a slot
 
@@ -60,7 +60,7 @@ module _ (g after : ℕ) (s : State) (st : Stands g after s) (line : ℕ) where
   stores-in i (v ∷ rest) None same = stay same
   stores-in i (v ∷ rest) (Some old) same = ap (λ n. apply_all (stands (actor_of st line) (record st.frame { at = n; slots = slice_set st.frame.slots i v; operands = rest })) s) st.next
 
-  pub stores-is : (i : ℕ) (fs : List PlainFrame) → fs ≡ on_top (stored after i) (frames_of g s) → reframed g (frames_of g s) s ≡ s → reframed g fs s ≡ does (λ a. stores a i) g line s
+  pub stores-is : (i : ℕ) (fs : List FrameView) → fs ≡ on_top (stored after i) (frames_of g s) → reframed g (frames_of g s) s ≡ s → reframed g fs s ≡ does (λ a. stores a i) g line s
   stores-is i fs e same =
       stands-is g after s st (stored after i) fs line e
       ∙ stores-in i st.frame.operands (slice_get st.frame.slots i) same
@@ -68,14 +68,14 @@ module _ (g after : ℕ) (s : State) (st : Stands g after s) (line : ℕ) where
 
   -- ---- a frame more
 
-  enters-full : (fs : List PlainFrame) (x : PlainFrame) → 10000 ≤ length fs → enters (actor_of st line) fs x ≡ Change.Finish (Ending.Panicked PanicKind.StackOverflow (record { 0 = g }) line) ∷ []
+  enters-full : (fs : List FrameView) (x : FrameView) → 10000 ≤ length fs → enters (actor_of st line) fs x ≡ Change.Finish (Ending.Panicked PanicKind.StackOverflow (record { 0 = g }) line) ∷ []
   enters-full fs x l = ap (λ b. choose b (Change.Finish (Ending.Panicked PanicKind.StackOverflow (record { 0 = g }) line) ∷ []) (Change.Become g (with_frames (actor_of st line) (x ∷ fs)) ∷ [])) (le-leb 10000 (length fs) l)
 
-  enters-more : (fs : List PlainFrame) (x : PlainFrame) → length fs < 10000 → enters (actor_of st line) fs x ≡ Change.Become g (with_frames (actor_of st line) (x ∷ fs)) ∷ []
+  enters-more : (fs : List FrameView) (x : FrameView) → length fs < 10000 → enters (actor_of st line) fs x ≡ Change.Become g (with_frames (actor_of st line) (x ∷ fs)) ∷ []
   enters-more fs x l = ap (λ b. choose b (Change.Finish (Ending.Panicked PanicKind.StackOverflow (record { 0 = g }) line) ∷ []) (Change.Become g (with_frames (actor_of st line) (x ∷ fs)) ∷ [])) (lt-leb 10000 (length fs) l)
 
-  depth-is : (f : PlainFrame) → length (frames_of g s) ≡ length (f ∷ st.callers)
-  depth-is f = ap (λ (fs : List PlainFrame). length fs) (frames-is g after s st)
+  depth-is : (f : FrameView) → length (frames_of g s) ≡ length (f ∷ st.callers)
+  depth-is f = ap (λ (fs : List FrameView). length fs) (frames-is g after s st)
 
   -- ---- a call
 
@@ -93,22 +93,22 @@ module _ (g after : ℕ) (s : State) (st : Stands g after s) (line : ℕ) where
 
     module _ (vs : List Value) (taken : Some vs ≡ last_of n (operands_of g s)) where
       pub calls-missing : None ≡ call_frame code f vs false → s ≡ does (λ a. calls code a f n) g line s
-      calls-missing e = sym (calls-at (Some vs) (sym taken) ∙ ap (λ (o : Option PlainFrame). apply_all (on_some (enters (actor_of st line) (next st.frame (drop n st.frame.operands) ∷ st.callers)) o) s) (sym e))
+      calls-missing e = sym (calls-at (Some vs) (sym taken) ∙ ap (λ (o : Option FrameView). apply_all (on_some (enters (actor_of st line) (next st.frame (drop n st.frame.operands) ∷ st.callers)) o) s) (sym e))
 
-      calls-found : (x : PlainFrame) → Some x ≡ call_frame code f vs false
+      calls-found : (x : FrameView) → Some x ≡ call_frame code f vs false
           → does (λ a. calls code a f n) g line s ≡ apply_all (enters (actor_of st line) (next st.frame (drop n st.frame.operands) ∷ st.callers) x) s
-      calls-found x e = calls-at (Some vs) (sym taken) ∙ ap (λ (o : Option PlainFrame). apply_all (on_some (enters (actor_of st line) (next st.frame (drop n st.frame.operands) ∷ st.callers)) o) s) (sym e)
+      calls-found x e = calls-at (Some vs) (sym taken) ∙ ap (λ (o : Option FrameView). apply_all (on_some (enters (actor_of st line) (next st.frame (drop n st.frame.operands) ∷ st.callers)) o) s) (sym e)
 
-      pub calls-full : (x : PlainFrame) (s1 : State) → Some x ≡ call_frame code f vs false → 10000 ≤ length (frames_of g s) → s1 ≡ finish (Ending.Panicked PanicKind.StackOverflow (record { 0 = g }) line) s → s1 ≡ does (λ a. calls code a f n) g line s
+      pub calls-full : (x : FrameView) (s1 : State) → Some x ≡ call_frame code f vs false → 10000 ≤ length (frames_of g s) → s1 ≡ finish (Ending.Panicked PanicKind.StackOverflow (record { 0 = g }) line) s → s1 ≡ does (λ a. calls code a f n) g line s
       calls-full x s1 e l is =
           let f1 = next st.frame (drop n st.frame.operands) in
           is ∙ sym (calls-found x e ∙ ap (λ (cs : List Change). apply_all cs s) (enters-full (f1 ∷ st.callers) x (omega (arith, depth-is f1))))
 
-      pub calls-enter : (x : PlainFrame) (fs : List PlainFrame) → Some x ≡ call_frame code f vs false → length (frames_of g s) < 10000 → fs ≡ x ∷ on_top (went after n []) (frames_of g s) → reframed g fs s ≡ does (λ a. calls code a f n) g line s
+      pub calls-enter : (x : FrameView) (fs : List FrameView) → Some x ≡ call_frame code f vs false → length (frames_of g s) < 10000 → fs ≡ x ∷ on_top (went after n []) (frames_of g s) → reframed g fs s ≡ does (λ a. calls code a f n) g line s
       calls-enter x fs e l is =
           let f1 = next st.frame (drop n st.frame.operands) in
           reframed-is g after s st fs
-          ∙ ap (λ (xs : List PlainFrame). become g (with_frames (actor_of st line) xs) s) (is ∙ ap (λ (ys : List PlainFrame). x ∷ on_top (went after n []) ys) (frames-is g after s st))
+          ∙ ap (λ (xs : List FrameView). become g (with_frames (actor_of st line) xs) s) (is ∙ ap (λ (ys : List FrameView). x ∷ on_top (went after n []) ys) (frames-is g after s st))
           ∙ ap (λ k. become g (with_frames (actor_of st line) (x ∷ record st.frame { at = k; operands = drop n st.frame.operands } ∷ st.callers)) s) st.next
           ∙ sym (calls-found x e ∙ ap (λ (cs : List Change). apply_all cs s) (enters-more (f1 ∷ st.callers) x (omega (arith, depth-is f1))))
 
@@ -127,18 +127,40 @@ module _ (g after : ℕ) (s : State) (st : Stands g after s) (line : ℕ) where
 
     module _ (vs : List Value) (taken : Some vs ≡ last_of n (operands_of g s)) where
       pub spawns-missing : None ≡ call_frame code f vs true → s ≡ does (λ a. spawns code a f n) g line s
-      spawns-missing e = sym (spawns-at (Some vs) (sym taken) ∙ ap (λ (o : Option PlainFrame). apply_all (on_some (λ x. Change.Spawn (record { frames = x ∷ []; mode = Mode.Running; started = line }) ∷ goes (actor_of st line) (drop n st.frame.operands)) o) s) (sym e))
+      spawns-missing e = sym (spawns-at (Some vs) (sym taken) ∙ ap (λ (o : Option FrameView). apply_all (on_some (λ x. Change.Spawn (record { frames = x ∷ []; mode = Mode.Running; started = line }) ∷ goes (actor_of st line) (drop n st.frame.operands)) o) s) (sym e))
 
-      pub spawns-enter : (x : PlainFrame) (s1 : State) (st1 : Stands g after s1) (fs : List PlainFrame) → Some x ≡ call_frame code f vs true
-          → s1 ≡ spawn (record { frames = x ∷ []; mode = Mode.Running; started = line }) s → st1.frame ≡ st.frame → st1.callers ≡ st.callers → st1.started ≡ st.started → fs ≡ on_top (went after n []) (frames_of g s1) → reframed g fs s1 ≡ does (λ a. spawns code a f n) g line s
-      spawns-enter x s1 st1 fs e is same below since went_on =
-          let r : PlainGoroutine = record { frames = x ∷ []; mode = Mode.Running; started = line } in
-          goes-is g after s1 st1 n [] fs line went_on
+      pub spawns-enter : (x : FrameView) (s1 s2 : State) (st1 : Stands g after s1) → Some x ≡ call_frame code f vs true
+          → s1 ≡ spawn (record { frames = x ∷ []; mode = Mode.Running; started = line }) s → st1.frame ≡ st.frame → st1.callers ≡ st.callers → st1.started ≡ st.started → s2 ≡ does (λ a. stands a (went after n [] a.frame)) g line s1 → s2 ≡ does (λ a. spawns code a f n) g line s
+      spawns-enter x s1 s2 st1 e is same below since went_on =
+          let r : GoroutineView = record { frames = x ∷ []; mode = Mode.Running; started = line } in
+          went_on
+          ∙ does-is g after s1 st1 (λ a. stands a (went after n [] a.frame)) line
+          ∙ ap (λ (h : FrameView). apply_all (stands (actor_of st1 line) h) s1) (went-next g after s1 st1 n [])
           ∙ ap (λ (t : State). become g (with_frames (actor_of st1 line) (next st1.frame (drop n st1.frame.operands) ∷ st1.callers)) t) is
-          ∙ ap (λ (h : PlainFrame). become g (record { frames = next h (drop n h.operands) ∷ st1.callers; mode = Mode.Running; started = st1.started }) (spawn r s)) same
-          ∙ ap (λ (hs : List PlainFrame). become g (record { frames = next st.frame (drop n st.frame.operands) ∷ hs; mode = Mode.Running; started = st1.started }) (spawn r s)) below
+          ∙ ap (λ (h : FrameView). become g (record { frames = next h (drop n h.operands) ∷ st1.callers; mode = Mode.Running; started = st1.started }) (spawn r s)) same
+          ∙ ap (λ (hs : List FrameView). become g (record { frames = next st.frame (drop n st.frame.operands) ∷ hs; mode = Mode.Running; started = st1.started }) (spawn r s)) below
           ∙ ap (λ k. become g (record { frames = next st.frame (drop n st.frame.operands) ∷ st.callers; mode = Mode.Running; started = k }) (spawn r s)) since
-          ∙ sym (spawns-at (Some vs) (sym taken) ∙ ap (λ (o : Option PlainFrame). apply_all (on_some (λ x. Change.Spawn (record { frames = x ∷ []; mode = Mode.Running; started = line }) ∷ goes (actor_of st line) (drop n st.frame.operands)) o) s) (sym e))
+          ∙ sym (spawns-at (Some vs) (sym taken) ∙ ap (λ (o : Option FrameView). apply_all (on_some (λ x. Change.Spawn (record { frames = x ∷ []; mode = Mode.Running; started = line }) ∷ goes (actor_of st line) (drop n st.frame.operands)) o) s) (sym e))
+
+  -- ---- a call that is deferred
+
+  module _ (f n : ℕ) where
+    defers-at : (o : Option (List Value)) → last_of n (operands_of g s) ≡ o
+        → does (λ a. defers a f n) g line s ≡ apply_all (on_some (λ vs. stands (actor_of st line) (record st.frame { at = st.frame.at + 1; operands = drop n st.frame.operands; deferred = record { function = f; arguments = vs } ∷ st.frame.deferred })) o) s
+    defers-at o e =
+        does-is g after s st (λ a. defers a f n) line
+        ∙ ap (λ (cs : List Change). apply_all cs s)
+        (taking-is n st.frame.operands (λ arguments rest. stands (actor_of st line) (record st.frame { at = st.frame.at + 1; operands = rest; deferred = record { function = f; arguments = arguments } ∷ st.frame.deferred }))
+        ∙ ap (on_some (λ vs. stands (actor_of st line) (record st.frame { at = st.frame.at + 1; operands = drop n st.frame.operands; deferred = record { function = f; arguments = vs } ∷ st.frame.deferred }))) (ap (last_of n) (sym operands-is) ∙ e))
+
+    pub defers-none : None ≡ last_of n (operands_of g s) → s ≡ does (λ a. defers a f n) g line s
+    defers-none e = sym (defers-at None (sym e))
+
+    pub defers-some : (vs : List Value) (fs : List FrameView) → Some vs ≡ last_of n (operands_of g s) → fs ≡ on_top (has_deferred after n (record { function = f; arguments = vs })) (frames_of g s) → reframed g fs s ≡ does (λ a. defers a f n) g line s
+    defers-some vs fs e is =
+        stands-is g after s st (has_deferred after n (record { function = f; arguments = vs })) fs line is
+        ∙ ap (λ k. apply_all (stands (actor_of st line) (record st.frame { at = k; operands = drop n st.frame.operands; deferred = record { function = f; arguments = vs } ∷ st.frame.deferred })) s) st.next
+        ∙ sym (defers-at (Some vs) (sym e))
 
   -- ---- a deferred call
 
@@ -153,34 +175,34 @@ module _ (g after : ℕ) (s : State) (st : Stands g after s) (line : ℕ) where
         ∙ ap (λ (cs : List Change). apply_all cs s) (latest-is st.frame.deferred (latest ∙ ap (λ (ds : List Deferred). slice_get ds 0) deferred-is))
 
     pub deferred-missing : None ≡ call_frame code d.function d.arguments true → s ≡ does (λ a. begins_latest code a a.frame.deferred) g line s
-    deferred-missing e = sym (deferred-at ∙ ap (λ (o : Option PlainFrame). apply_all (on_some (enters (actor_of st line) (record st.frame { deferred = behind_first st.frame.deferred } ∷ st.callers)) o) s) (sym e))
+    deferred-missing e = sym (deferred-at ∙ ap (λ (o : Option FrameView). apply_all (on_some (enters (actor_of st line) (record st.frame { deferred = behind_first st.frame.deferred } ∷ st.callers)) o) s) (sym e))
 
-    deferred-found : (x : PlainFrame) → Some x ≡ call_frame code d.function d.arguments true
+    deferred-found : (x : FrameView) → Some x ≡ call_frame code d.function d.arguments true
         → does (λ a. begins_latest code a a.frame.deferred) g line s ≡ apply_all (enters (actor_of st line) (record st.frame { deferred = behind_first st.frame.deferred } ∷ st.callers) x) s
-    deferred-found x e = deferred-at ∙ ap (λ (o : Option PlainFrame). apply_all (on_some (enters (actor_of st line) (record st.frame { deferred = behind_first st.frame.deferred } ∷ st.callers)) o) s) (sym e)
+    deferred-found x e = deferred-at ∙ ap (λ (o : Option FrameView). apply_all (on_some (enters (actor_of st line) (record st.frame { deferred = behind_first st.frame.deferred } ∷ st.callers)) o) s) (sym e)
 
-    pub deferred-full : (x : PlainFrame) (s1 : State) → Some x ≡ call_frame code d.function d.arguments true → 10000 ≤ length (frames_of g s) → s1 ≡ finish (Ending.Panicked PanicKind.StackOverflow (record { 0 = g }) line) s → s1 ≡ does (λ a. begins_latest code a a.frame.deferred) g line s
+    pub deferred-full : (x : FrameView) (s1 : State) → Some x ≡ call_frame code d.function d.arguments true → 10000 ≤ length (frames_of g s) → s1 ≡ finish (Ending.Panicked PanicKind.StackOverflow (record { 0 = g }) line) s → s1 ≡ does (λ a. begins_latest code a a.frame.deferred) g line s
     deferred-full x s1 e l is =
         let f1 = undeferred st.frame in
         is ∙ sym (deferred-found x e ∙ ap (λ (cs : List Change). apply_all cs s) (enters-full (f1 ∷ st.callers) x (omega (arith, depth-is f1))))
 
-    pub deferred-enter : (x : PlainFrame) (fs : List PlainFrame) → Some x ≡ call_frame code d.function d.arguments true → length (frames_of g s) < 10000 → fs ≡ x ∷ on_top undeferred (frames_of g s) → reframed g fs s ≡ does (λ a. begins_latest code a a.frame.deferred) g line s
+    pub deferred-enter : (x : FrameView) (fs : List FrameView) → Some x ≡ call_frame code d.function d.arguments true → length (frames_of g s) < 10000 → fs ≡ x ∷ on_top undeferred (frames_of g s) → reframed g fs s ≡ does (λ a. begins_latest code a a.frame.deferred) g line s
     deferred-enter x fs e l is =
         let f1 = undeferred st.frame in
         reframed-is g after s st fs
-        ∙ ap (λ (xs : List PlainFrame). become g (with_frames (actor_of st line) xs) s) (is ∙ ap (λ (ys : List PlainFrame). x ∷ on_top undeferred ys) (frames-is g after s st))
+        ∙ ap (λ (xs : List FrameView). become g (with_frames (actor_of st line) xs) s) (is ∙ ap (λ (ys : List FrameView). x ∷ on_top undeferred ys) (frames-is g after s st))
         ∙ sym (deferred-found x e ∙ ap (λ (cs : List Change). apply_all cs s) (enters-more (f1 ∷ st.callers) x (omega (arith, depth-is f1))))
 
   -- ---- a goroutine that ends
 
-  pub ends-zero : (fs : List PlainFrame) → g ≡ 0 → fs ≡ [] → reframed g fs s ≡ does ends g line s
+  pub ends-zero : (fs : List FrameView) → g ≡ 0 → fs ≡ [] → reframed g fs s ≡ does ends g line s
   ends-zero fs z e =
       reframed-is g after s st fs
-      ∙ ap (λ (xs : List PlainFrame). become g (with_frames (actor_of st line) xs) s) e
+      ∙ ap (λ (xs : List FrameView). become g (with_frames (actor_of st line) xs) s) e
       ∙ ap (λ k. become k (with_frames (actor_of st line) []) s) z
       ∙ sym (does-is g after s st ends line ∙ ap (λ b. apply_all (choose b (Change.Become 0 (with_frames (actor_of st line) []) ∷ []) (Change.Leave g ∷ [])) s) (eq-eqb g 0 z))
 
-  no_callers : (fs : List PlainFrame) → length (frames_of g s) ≤ 1 → length fs ≡ length st.callers → fs ≡ []
+  no_callers : (fs : List FrameView) → length (frames_of g s) ≤ 1 → length fs ≡ length st.callers → fs ≡ []
   no_callers [] l e = refl
   no_callers (f ∷ fs) l e = absurd (omega (arith, depth-is st.frame))
 
@@ -189,7 +211,7 @@ module _ (g after : ℕ) (s : State) (st : Stands g after s) (line : ℕ) where
       let A1 = actor_of st line in
       is ∙ ap (apply_all (choose b (Change.Finish Ending.Returned ∷ []) [])) (e ∙ does-is g after s st ends line)
       ∙ sym (does-is g after s st (λ a. returns_to a v a.callers) line
-      ∙ ap (λ (cs : List PlainFrame). apply_all (returns_to A1 v cs) s) (no_callers st.callers l refl)
+      ∙ ap (λ (cs : List FrameView). apply_all (returns_to A1 v cs) s) (no_callers st.callers l refl)
       ∙ apply_all-append (ends A1) (choose (g == 1) (Change.Finish Ending.Returned ∷ []) []) s
       ∙ ap (λ c. apply_all (choose c (Change.Finish Ending.Returned ∷ []) []) (apply_all (ends A1) s)) t)
 
@@ -198,12 +220,12 @@ module _ (g after : ℕ) (s : State) (st : Stands g after s) (line : ℕ) where
       let A1 = actor_of st line in
       is ∙ ap (finish (Ending.Panicked x.kind (record { 0 = g }) x.line)) (e ∙ does-is g after s st ends line)
       ∙ sym (does-is g after s st (λ a. unwinds_to a x a.callers) line
-      ∙ ap (λ (cs : List PlainFrame). apply_all (unwinds_to A1 x cs) s) (no_callers st.callers l refl)
+      ∙ ap (λ (cs : List FrameView). apply_all (unwinds_to A1 x cs) s) (no_callers st.callers l refl)
       ∙ apply_all-append (ends A1) (Change.Finish (Ending.Panicked x.kind (record { 0 = g }) x.line) ∷ []) s)
 
 -- the goroutine in its turn stands where it stood
 module _ (g after : ℕ) (s : State) (st : Stands g after s) (s1 : State) where
-  abbrev pub stands-spawned : (r : PlainGoroutine) → s1 ≡ spawn r s → Stands g after s1
+  abbrev pub stands-spawned : (r : GoroutineView) → s1 ≡ spawn r s → Stands g after s1
   stands-spawned r e = record {
     frame = st.frame;
     callers = st.callers;

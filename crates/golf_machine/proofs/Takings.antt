@@ -6,7 +6,7 @@ use Rattle.std.proofs.lemmas.List.{reverse-append, reverse-reverse, length-rever
 use Rattle.golf_data.specs.declared.value.Value.{Value}
 use Rattle.golf_model.specs.Changes.{Change}
 use Rattle.golf_model.specs.Acting.{on_some, taking}
-use Rattle.golf_model.proofs.PlainForms.{taking-last, taking-short}
+use Rattle.golf_model.proofs.ViewForms.{taking-last, taking-short}
 use Rattle.golf_machine.specs.Acts.{last_of}
 
 last_of-short : (n : ℕ) (os : List Value) → length os < n → last_of n os ≡ None

@@ -17,7 +17,7 @@ use Rattle.golf_theory.specs.Maps.{Entry, find, IsRising, keys_where}
 use Rattle.golf_theory.proofs.Lists.{In-slice_get}
 use Rattle.golf_theory.proofs.MapEntries.{Entry-keys_where}
 use Rattle.golf_theory.proofs.MapFinds.{find-Entry}
-use Rattle.golf_model.specs.Plain.{PlainFrame, PlainGoroutine}
+use Rattle.golf_model.specs.Views.{FrameView, GoroutineView}
 use Rattle.golf_model.specs.State.{State, is_running, not_empty, can_run, runnable, ending, ending_of}
 use Rattle.golf_model.specs.Changes.{Change, apply_all, behind_first}
 use Rattle.golf_model.specs.Turn.{changes, line_at, turn_of, turn_changes, whose_turn, step, frame_changes, performs}
@@ -36,6 +36,9 @@ awake None (x ∷ xs) h = omega arith
 module _ (s : State) (n : ℕ) (xs : List GoroutineId) (told : map (λ g. g.0) xs ≡ runnable s) (goes : ending s ≡ None) where
   pub some_run : 0 < length xs
   some_run = let l = awake s.recorded (runnable s) goes in let k = length-map xs (λ (g : GoroutineId). g.0) in let e = ap (λ (ys : List ℕ). length ys) told in omega (arith, l, k, e)
+
+  pub how_many : length xs ≡ length (runnable s)
+  how_many = sym (length-map xs (λ (g : GoroutineId). g.0)) ∙ ap (λ (ys : List ℕ). length ys) told
 
   pub whose : whose_turn s n ≡ Some (get_or xs (n % length xs) (record { 0 = 0 })).0
   whose =
@@ -59,14 +62,14 @@ turn-runs s n g r h =
     record {
       frames = x.frames;
       started = x.started;
-      found = find-Entry s.goroutines g x r i.1 ∙ ap (λ (k : Mode). let y : PlainGoroutine = record { frames = x.frames; mode = k; started = x.started } in Some y) m;
+      found = find-Entry s.goroutines g x r i.1 ∙ ap (λ (k : Mode). let y : GoroutineView = record { frames = x.frames; mode = k; started = x.started } in Some y) m;
     }
 
 -- ---- the step
 
 module _ (code : Code) (s : State) (n g : ℕ) (turn : whose_turn s n ≡ Some g) where
-  pub step-is : (s1 : State) → ((choice : ℕ) → s1 ≡ apply_all (turn_of code g choice s (find g s.goroutines)) s) → s1 ≡ step code s n
-  step-is s1 h = h (n / length (runnable s)) ∙ sym (ap (λ (o : Option ℕ). apply_all (turn_changes code (n / length (runnable s)) s o) s) turn)
+  pub step-is : (s1 : State) (count : ℕ) → count ≡ length (runnable s) → s1 ≡ apply_all (turn_of code g (n / count) s (find g s.goroutines)) s → s1 ≡ step code s n
+  step-is s1 count e h = h ∙ ap (λ k. apply_all (turn_of code g (n / k) s (find g s.goroutines)) s) e ∙ sym (ap (λ (o : Option ℕ). apply_all (turn_changes code (n / length (runnable s)) s o) s) turn)
 
   pub wants-is : wants_collection code s n ≡ goroutine_collects code (find g s.goroutines)
   wants-is = ap (λ (o : Option ℕ). goroutine_collects code (option_and_then (λ k. find k s.goroutines) o)) turn
@@ -77,33 +80,33 @@ pub no_first : {X : Type 0} (xs : List X) → None ≡ slice_get xs 0 → xs ≡
 no_first [] h = refl
 no_first (x ∷ xs) h = cc
 
-pub first-is : (fs : List PlainFrame) (f : PlainFrame) → Some f ≡ slice_get fs 0 → fs ≡ f ∷ behind_first fs
+pub first-is : (fs : List FrameView) (f : FrameView) → Some f ≡ slice_get fs 0 → fs ≡ f ∷ behind_first fs
 first-is [] f h = cc
-first-is (g ∷ fs) f h = let same : g ≡ f = cc in ap (λ (x : PlainFrame). x ∷ fs) same
+first-is (g ∷ fs) f h = let same : g ≡ f = cc in ap (λ (x : FrameView). x ∷ fs) same
 
 module _ (g : ℕ) (s : State) (r : Runs g s) where
   pub frames-are : frames_of g s ≡ r.frames
   frames-are = ap frames_in r.found
 
-  abbrev pub stands-at : (f : PlainFrame) → Some f ≡ slice_get (frames_of g s) 0 → Stands g (f.at + 1) s
+  abbrev pub stands-at : (f : FrameView) → Some f ≡ slice_get (frames_of g s) 0 → Stands g (f.at + 1) s
   stands-at f e = record {
     frame = f;
     callers = behind_first r.frames;
     started = r.started;
-    found = r.found ∙ ap (λ (fs : List PlainFrame). let x : PlainGoroutine = record { frames = fs; mode = Mode.Running; started = r.started } in Some x) (first-is r.frames f (e ∙ ap (λ (fs : List PlainFrame). slice_get fs 0) frames-are));
+    found = r.found ∙ ap (λ (fs : List FrameView). let x : GoroutineView = record { frames = fs; mode = Mode.Running; started = r.started } in Some x) (first-is r.frames f (e ∙ ap (λ (fs : List FrameView). slice_get fs 0) frames-are));
     next = refl;
   }
 
   -- the turn of a goroutine at an instruction
-  pub turn-is : (code : Code) (f : PlainFrame) (at : Some f ≡ slice_get (frames_of g s) 0) (l : Line) (choice : ℕ) → f.leaving ≡ Leaving.No → Some l ≡ line_at code f.function f.at
+  pub turn-is : (code : Code) (f : FrameView) (at : Some f ≡ slice_get (frames_of g s) 0) (l : Line) (choice : ℕ) → f.leaving ≡ Leaving.No → Some l ≡ line_at code f.function f.at
       → does (λ a. changes code l.instr a choice s) g l.line s ≡ apply_all (turn_of code g choice s (find g s.goroutines)) s
   turn-is code f at l choice stays is =
       let st = stands-at f at in
-      let x : PlainGoroutine = record { frames = f ∷ st.callers; mode = Mode.Running; started = st.started } in
+      let x : GoroutineView = record { frames = f ∷ st.callers; mode = Mode.Running; started = st.started } in
       does-is g (f.at + 1) s st (λ a. changes code l.instr a choice s) l.line
       ∙ ap (λ (o : Option Line). apply_all (performs code g x f st.callers choice s o) s) is
       ∙ ap (λ (m : Leaving). apply_all (frame_changes code g x f st.callers choice s m) s) (sym stays)
-      ∙ sym (ap (λ (o : Option PlainGoroutine). apply_all (turn_of code g choice s o) s) st.found)
+      ∙ sym (ap (λ (o : Option GoroutineView). apply_all (turn_of code g choice s o) s) st.found)
 
 -- ---- places
 

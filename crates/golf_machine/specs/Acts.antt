@@ -9,7 +9,7 @@ use Rattle.golf_model.specs.State.{State}
 use Rattle.golf_model.specs.Changes.{Change}
 use Rattle.golf_model.specs.Acting.{Actor}
 use Rattle.golf_model.specs.Calls.{begins_deferred}
-use Rattle.golf_model.specs.Plain.{PlainFrame}
+use Rattle.golf_model.specs.Views.{FrameView}
 use Rattle.golf_state.specs.Looked.{frames_of}
 use Rattle.golf_state.specs.Doing.{Stands}
 
@@ -30,7 +30,7 @@ abbrev pub begins_latest : Code → Actor → List Deferred → List Change
 begins_latest code a [] = []
 begins_latest code a (d ∷ ds) = begins_deferred code a d ds
 
-abbrev pub top_deferred : List PlainFrame → List Deferred
+abbrev pub top_deferred : List FrameView → List Deferred
 top_deferred [] = []
 top_deferred (f ∷ fs) = f.deferred
 

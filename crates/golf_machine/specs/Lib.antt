@@ -1,3 +1,5 @@
 pub mod Acts
-pub mod Built
+pub mod Groups
+pub mod Objects
+pub mod Operations
 pub mod Turns

@@ -1,12 +1,12 @@
 //! Frames that calls, goroutines, deferred calls and finalisers begin with.
 
 ghost use Rattle.std.specs.Prelude.{◌≡◌, ◌<◌, ◌∷◌, [], ℕ, Some, None, IfOk, OnOk, OnErr, option_map, reverse, slice_get, option_to_list, true};
-ghost use Rattle.golf_model.specs.Plain.{plain_frame, plain_frames};
+ghost use Rattle.golf_model.specs.Views.{frame_view, frame_views};
 ghost use Rattle.golf_model.specs.State.{call_frame};
 ghost use Rattle.golf_model.specs.Changes.{apply_all, finish};
 ghost use Rattle.golf_data.specs.declared.goroutine.Ending.{Ending};
 ghost use Rattle.golf_data.specs.declared.goroutine.PanicKind.{PanicKind};
-ghost use Rattle.golf_model.specs.Calls.{calls, spawns, begins_deferred};
+ghost use Rattle.golf_model.specs.Calls.{calls, spawns, defers, begins_deferred};
 ghost use Rattle.golf_model.specs.Finalising.{begins_queued};
 ghost use Rattle.golf_model.specs.Turn.{turn_of};
 ghost use Rattle.golf_theory.specs.Maps.{find};
@@ -16,7 +16,7 @@ ghost use Rattle.golf_machine.specs.Acts.{Acts, HasNoFrame, last_of, deferred_of
 
 use golf_base::{GoroutineId, List, Memory, Room};
 use golf_data::{Code, Deferred, Ending, Frame, Leaving, PanicKind, Value};
-use golf_state::{Acting, State, enter, enter_deferred, pass};
+use golf_state::{Acting, State, defer, enter, enter_deferred, proceed};
 use std::alloc::Global;
 
 /// The most frames of a goroutine.
@@ -30,7 +30,7 @@ fn open_frame(
     arguments: &[Value],
     discards: bool,
 ) -> Result<Option<Frame>, Memory>
-    ensures { IfOk result (λ frame. option_map plain_frame frame ≡ call_frame code.now number arguments.now discards) }
+    ensures { IfOk result (λ frame. option_map frame_view frame ≡ call_frame code.now number arguments.now discards) }
 {
     let Some(function) = code.functions.as_slice().get(number as usize) else {
         return Ok(None);
@@ -141,8 +141,40 @@ pub fn go(
         return Ok(());
     };
     state.spawn(frames_of(alloc, frame)?, acting.line)?;
-    pass(state.frames_mut(g), acting.after, count as usize);
+    proceed(state, acting, acting.after, count as usize);
     Ok(())
+}
+
+// A deferred call of a function with these arguments.
+fn deferred_of(alloc: Global, function: u32, values: &[Value]) -> Result<Deferred, Memory>
+    ensures { IfOk result (λ deferred. deferred ≡ record { function = function; arguments = values.now }) }
+{
+    let mut arguments = List::new(alloc);
+    arguments.extend_from_slice(values)?;
+    Ok(Deferred {
+        function,
+        arguments,
+    })
+}
+
+/// Defers a call of a function with the last operands, so many.
+pub fn defer_call(
+    alloc: Global,
+    state: &mut State,
+    acting: Acting,
+    number: u32,
+    count: u32,
+) -> Result<(), Memory>
+    requires { Stands acting.goroutine.0 acting.after state.old }
+    ensures ok { OnOk result (state.new ≡ does (λ a. defers a number count) acting.goroutine.0 acting.line state.old) }
+    ensures err { OnErr result (state.new ≡ state.old) }
+{
+    let g = acting.goroutine;
+    let Some(values) = last_values(state, g, count) else {
+        return Ok(());
+    };
+    let deferred = deferred_of(alloc, number, values)?;
+    defer(state.frames_mut(g), acting.after, count as usize, deferred)
 }
 
 // The last item.
@@ -215,7 +247,7 @@ pub fn begin_queued(
 
 /// The frames of goroutine 1 before the first turn: that of function 0, where the code has one.
 pub fn first_frames(alloc: Global, code: &Code) -> Result<List<Frame>, Memory>
-    ensures { IfOk result (λ frames. plain_frames frames ≡ option_to_list (call_frame code.now 0 [] true)) }
+    ensures { IfOk result (λ frames. frame_views frames ≡ option_to_list (call_frame code.now 0 [] true)) }
 {
     match open_frame(alloc, code, 0, &[], true)? {
         Some(frame) => frames_of(alloc, frame),

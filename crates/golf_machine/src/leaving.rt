@@ -1,7 +1,7 @@
 //! Frames that return or unwind, and goroutines that end.
 
 ghost use Rattle.std.specs.Prelude.{◌≡◌, ℕ, OnOk, OnErr};
-ghost use Rattle.golf_model.specs.Calls.{ends, returns, returns_to, unwinds_to, leaves_returning, leaves_unwinding};
+ghost use Rattle.golf_model.specs.Calls.{ends, returns, returns_value, returns_to, unwinds_to, leaves_returning, leaves_unwinding};
 ghost use Rattle.golf_state.specs.Doing.{does, Stands};
 ghost use Rattle.golf_model.specs.State.{not_empty};
 ghost use Rattle.golf_machine.specs.Acts.{Acts, deferred_of};
@@ -9,7 +9,7 @@ ghost use Rattle.golf_machine.specs.Acts.{Acts, deferred_of};
 use crate::entering::{begin_deferred, latest_deferred};
 use golf_base::{GoroutineId, Memory};
 use golf_data::{Code, Ending, Fault, Value};
-use golf_state::{Acting, State, begin_return, return_frame, unwind_caller};
+use golf_state::{Acting, State, begin_return, last_operand, return_frame, unwind_caller};
 use std::alloc::Global;
 
 // The goroutine's last frame is gone: it has ended, but goroutine 0 waits for its queue.
@@ -76,10 +76,28 @@ pub fn return_without_value(state: &mut State, acting: Acting) -> Result<(), Mem
     ensures err { OnErr result (state.new ≡ state.old) }
 {
     if has_deferred(state, acting.goroutine) {
-        begin_return(state.frames_mut(acting.goroutine), acting.after);
+        begin_return(state.frames_mut(acting.goroutine), acting.after, 0, None);
         return Ok(());
     }
     return_to(state, acting.goroutine, None)
+}
+
+/// The goroutine returns with its last operand: with deferred calls its innermost frame is returning,
+/// else the frame is gone.
+pub fn return_with_value(state: &mut State, acting: Acting) -> Result<(), Memory>
+    requires { Stands acting.goroutine.0 acting.after state.old }
+    ensures ok { OnOk result (state.new ≡ does returns_value acting.goroutine.0 acting.line state.old) }
+    ensures err { OnErr result (state.new ≡ state.old) }
+{
+    let g = acting.goroutine;
+    let Some(value) = last_operand(state, g) else {
+        return Ok(());
+    };
+    if has_deferred(state, g) {
+        begin_return(state.frames_mut(g), acting.after, 1, Some(value));
+        return Ok(());
+    }
+    return_to(state, g, Some(value))
 }
 
 /// The turn of a goroutine whose innermost frame is returning, from a return of this line.

@@ -1,10 +1,14 @@
 //! What `fmt.Println` prints.
 
-ghost use Rattle.std.specs.Prelude.{◌≡◌, ◌++◌, true, false, IfOk, MatchOption};
+ghost use Rattle.std.specs.Prelude.{◌≡◌, ◌++◌, true, false, IfOk, OnOk, OnErr, MatchOption};
 ghost use Rattle.golf_model.specs.Values.{bytes_of, line_bytes};
+ghost use Rattle.golf_model.specs.Turn.{prints};
+ghost use Rattle.golf_state.specs.Doing.{does, Stands};
 
+use crate::entering::last_values;
 use golf_base::{List, Memory};
-use golf_data::Value;
+use golf_data::{Code, Value};
+use golf_state::{Acting, State, proceed};
 use std::alloc::Global;
 
 // Adds a value as it is printed, where it has a form.
@@ -62,4 +66,28 @@ pub fn line_of(
     }
     text.push(b'\n')?;
     Ok(Some(text))
+}
+
+/// Prints the line of the last operands, so many.
+pub fn print(
+    alloc: Global,
+    code: &Code,
+    state: &mut State,
+    acting: Acting,
+    count: u32,
+) -> Result<(), Memory>
+    requires { Stands acting.goroutine.0 acting.after state.old }
+    ensures ok { OnOk result (state.new ≡ does (λ a. prints code.now a count) acting.goroutine.0 acting.line state.old) }
+    ensures err { OnErr result (state.new ≡ state.old) }
+{
+    let g = acting.goroutine;
+    let Some(values) = last_values(state, g, count) else {
+        return Ok(());
+    };
+    let Some(line) = line_of(alloc, code.texts.as_slice(), values)? else {
+        return Ok(());
+    };
+    state.add_output(line.as_slice())?;
+    proceed(state, acting, acting.after, count as usize);
+    Ok(())
 }

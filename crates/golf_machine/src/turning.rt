@@ -4,16 +4,14 @@ ghost use Rattle.std.specs.Prelude.{◌≡◌, None, IfOk, OnOk, OnErr};
 ghost use Rattle.golf_data.specs.Places.{HasPlaces};
 ghost use Rattle.golf_model.specs.State.{ending, start as start_of};
 ghost use Rattle.golf_model.specs.Turn.{step};
-ghost use Rattle.golf_model.specs.Values.{zeros_of};
 ghost use Rattle.golf_model.specs.Running.{wants_collection};
-ghost use Rattle.golf_machine.specs.Built.{HasBuiltLines};
 ghost use Rattle.golf_machine.specs.Turns.{turned_of};
 
 use crate::entering::first_frames;
-use crate::performing::zero_of;
 use crate::stepping::{act, collects};
-use golf_base::{List, Memory};
-use golf_data::{Code, Ending, Value};
+use crate::structures::zeros_of;
+use golf_base::Memory;
+use golf_data::{Code, Ending};
 use golf_state::State;
 use std::alloc::Global;
 
@@ -26,17 +24,6 @@ pub enum Turned {
     WantsCollection,
     /// The program has ended.
     Ended(Ending),
-}
-
-// The zero values of globals.
-fn zeros_of(alloc: Global, values: &[Value]) -> Result<List<Value>, Memory>
-    ensures { IfOk result (λ zeros. zeros ≡ zeros_of values.now) }
-{
-    let mut zeros = List::new(alloc);
-    for value in values {
-        zeros.push(zero_of(*value))?;
-    }
-    Ok(zeros)
 }
 
 /// The state before the first turn: goroutine 1 is at the first instruction of function 0, where
@@ -53,16 +40,16 @@ pub fn start(alloc: Global, code: &Code) -> Result<State, Memory>
 /// counted round. It takes all its memory first: on `Memory` the state is unchanged.
 pub fn turn(alloc: Global, code: &Code, state: &mut State, number: u64) -> Result<Turned, Memory>
     requires places { HasPlaces code.now }
-    requires built { HasBuiltLines code.now }
     requires goes { ending state.old ≡ None }
     ensures ok { OnOk result (state.new ≡ step code.now state.old number) }
     ensures turned { IfOk result (λ turned. turned ≡ turned_of (ending state.new) (wants_collection code.now state.old number)) }
     ensures err { OnErr result (state.new ≡ state.old) }
 {
     let runnable = state.runnable();
-    let g = runnable[(number % runnable.len() as u64) as usize];
+    let count = runnable.len() as u64;
+    let g = runnable[(number % count) as usize];
     let collects = collects(code, state, g);
-    act(alloc, code, state, g)?;
+    act(alloc, code, state, g, number / count)?;
     Ok(match state.ending() {
         Some(ending) => Turned::Ended(ending),
         None if collects => Turned::WantsCollection,

@@ -1,13 +1,10 @@
--- Code whose functions are all ready has places, and built lines.
-use Rattle.std.specs.Prelude.{slice_get, option_and_then}
-use Rattle.std.proofs.Common.{◌≡◌, ℕ, zero, suc, true, List, [], ◌∷◌, All, Option, Some, None}
+-- Code whose functions are all ready has places.
+use Rattle.std.specs.Prelude.{slice_get}
+use Rattle.std.proofs.Common.{ℕ, zero, suc, List, [], ◌∷◌, All, Option, Some, None}
 use Rattle.std.proofs.lemmas.List.Elements.{All-head, All-tail}
 use Rattle.golf_data.specs.declared.code.Code.{Code}
 use Rattle.golf_data.specs.declared.code.Function.{Function}
-use Rattle.golf_data.specs.declared.code.Line.{Line}
 use Rattle.golf_data.specs.Places.{IsShort, HasPlaces}
-use Rattle.golf_data.specs.Built.{is_built, IsBuiltLine}
-use Rattle.golf_machine.specs.Built.{HasBuiltLines}
 use Rattle.golf_machine_tests.specs.Ready.{IsReady}
 
 -- what is so of each item, and of none, is so of what stands at a place
@@ -16,14 +13,5 @@ everywhere P Q none some [] h k = none
 everywhere P Q none some (x ∷ xs) h zero = some x (All-head P x xs h)
 everywhere P Q none some (x ∷ xs) h (suc k) = everywhere P Q none some xs (All-tail P x xs h) k
 
-abbrev IsBuiltAt : ℕ → Option Function → Type 0
-IsBuiltAt at o = IsBuiltLine (option_and_then (λ (f : Function). slice_get f.body at) o)
-
 pub ready_places : (code : Code) → All IsReady code.functions → HasPlaces code
-ready_places code each = everywhere IsReady IsShort tt (λ f h. h.0) code.functions each
-
-pub ready_lines : (code : Code) → All IsReady code.functions → HasBuiltLines code
-ready_lines code each f at =
-    everywhere IsReady (IsBuiltAt at) tt
-    (λ fn h. everywhere (λ (l : Line). is_built l.instr ≡ true) IsBuiltLine tt (λ l e. e) fn.body h.1 at)
-    code.functions each f
+ready_places code each = everywhere IsReady IsShort tt (λ f h. h) code.functions each

@@ -5,6 +5,12 @@
 #[cfg(test)]
 mod codes;
 #[cfg(test)]
+mod heap;
+#[cfg(test)]
+mod instructions;
+#[cfg(test)]
+mod programs;
+#[cfg(test)]
 mod ready;
 #[cfg(test)]
 mod runs;

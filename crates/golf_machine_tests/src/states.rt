@@ -28,7 +28,7 @@ fn deferred_call(alloc: Global) -> Result<(usize, usize), Memory> {
     })?;
     let mut frames = List::new(alloc);
     frames.push(frame(alloc, deferred))?;
-    begin_return(&mut frames, 2);
+    begin_return(&mut frames, 2, 0, None);
     enter_deferred(&mut frames, frame(alloc, List::new(alloc)))?;
     let inside = frames.len();
     return_frame(&mut frames, None)?;

@@ -24,15 +24,15 @@ use Rattle.golf_mark.specs.Turning.{is_one}
 use Rattle.golf_mark.specs.Working.{IsScanned}
 use Rattle.golf_mark.specs.Gathering.{AllRun, IsEvenWith, IsGathered, Finisher, IsFinisherOf, IsHandedOver}
 
-pub gathered_first : (marks : Marks) (ms rest : List Marker) (m : Marker) → ms ≡ rest ++ m ∷ [] → IsSeatOf marks m.scanner.seat → length m.missed.items ≡ place_count (graph_in marks) → IsGathered marks ms rest (record { seat = m.scanner.seat; todo = m.missed.items })
-gathered_first marks ms rest m is seat missed = record {
-  fits = record { seat = seat; todo = missed };
+pub gathered_first : (marks : Marks) (ms rest : List Marker) (m : Marker) → ms ≡ rest ++ m ∷ [] → IsSeatOf marks m.scanner.seat → length m.deferred.items ≡ place_count (graph_in marks) → IsGathered marks ms rest (record { seat = m.scanner.seat; todo = m.deferred.items })
+gathered_first marks ms rest m is seat deferred = record {
+  fits = record { seat = seat; todo = deferred };
   begins = λ k x e. subst (λ (l : List Marker). get_elem? l k ≡ some x) (sym is) (at_longer rest (m ∷ []) k x e);
   all = λ k x e low. ⊎_elim (λ (t : (k < length rest) × (get_elem? rest k ≡ some x)). t.1) (λ (t : (k ≡ length rest) × (m ≡ x)). absurd (omega arith)) (here k x e);
   sums = λ h. omega (arith, sum_by_push (λ (y : Marker). sum_by h (claimed y.scanner.seat)) rest m, ap (sum_by (λ (y : Marker). sum_by h (claimed y.scanner.seat))) is);
   counted = omega (arith, sum_by_push (λ (y : Marker). parts y.scanner.seat) rest m, ap (sum_by (λ (y : Marker). parts y.scanner.seat)) is);
   told = λ k x e low y h. subst (λ (z : Marker). In y (known z.scanner.seat)) (sym (is_last k x e low)) h;
-  noted = λ k x e low y _ h. ap (λ (z : Marker). get_or z.missed.items y false) (is_last k x e low) ∙ h;
+  noted = λ k x e low y _ h. ap (λ (z : Marker). get_or z.deferred.items y false) (is_last k x e low) ∙ h;
 }
   where
     here : (k : ℕ) (x : Marker) → get_elem? ms k ≡ some x → ((k < length rest) × (get_elem? rest k ≡ some x)) ⊎ ((k ≡ length rest) × (m ≡ x))
@@ -47,7 +47,7 @@ last_in marks ms rest more m f is g = g.begins (length more) m (subst (λ (l : L
 pub gathered_more : (marks : Marks) (ms rest more : List Marker) (m : Marker) (f e : Finisher) → rest ≡ more ++ m ∷ [] → IsGathered marks ms rest f → IsFinisherOf marks e
     → ((h : ℕ → ℕ) → sum_by h (claimed e.seat) ≡ sum_by h (claimed f.seat) + sum_by h (claimed m.scanner.seat)) → parts e.seat ≡ parts f.seat + parts m.scanner.seat
     → ((x : ℕ) → In x (known f.seat) → In x (known e.seat)) → ((x : ℕ) → In x (known m.scanner.seat) → In x (known e.seat))
-    → ((x : ℕ) → IsSet f.todo x → IsSet e.todo x) → ((x : ℕ) → x < place_count (graph_in marks) → get_or m.missed.items x false ≡ true → IsSet e.todo x) → IsGathered marks ms more e
+    → ((x : ℕ) → IsSet f.todo x → IsSet e.todo x) → ((x : ℕ) → x < place_count (graph_in marks) → get_or m.deferred.items x false ≡ true → IsSet e.todo x) → IsGathered marks ms more e
 gathered_more marks ms rest more m f e is g fits sums count kept new still todo = record {
   fits = fits;
   begins = λ k x d. g.begins k x (subst (λ (l : List Marker). get_elem? l k ≡ some x) (sym is) (at_longer more (m ∷ []) k x d));
@@ -60,7 +60,7 @@ gathered_more marks ms rest more m f e is g fits sums count kept new still todo 
       (λ (past : length rest ≤ k). kept y (g.told k x d past y h))
       (cases_lt k (length rest));
   noted = λ k x d low y in_range h. ⊎_elim
-      (λ (old : k < length rest). todo y in_range (ap (λ (z : Marker). get_or z.missed.items y false) (is_last k x d low old) ∙ h))
+      (λ (old : k < length rest). todo y in_range (ap (λ (z : Marker). get_or z.deferred.items y false) (is_last k x d low old) ∙ h))
       (λ (past : length rest ≤ k). still y (g.noted k x d past y in_range h))
       (cases_lt k (length rest));
 }
@@ -101,8 +101,8 @@ covers marks pool ms rest left f e none run even g seat kept noted x low pos =
     let t = some_takes ms x (omega (arith, same, g.sums (is_one x), no_items (λ (m : Marker). sum_by (is_one x) (claimed m.scanner.seat)) rest none, even (is_one x))) in
     ⊎_elim
     (λ (s : IsScanned (graph_in marks) (known t.1.scanner.seat) x). inl (λ q l. subst (λ (y : MarkSeat). In q (known y)) (sym seat) (g.told t.0 t.1 t.2 (omega arith) q (s q l))))
-    (λ (m : get_or t.1.missed.items x false ≡ true). inr (kept x (g.noted t.0 t.1 t.2 (omega arith) x low m)))
-    ((run t.0 t.1 t.2).tended x low t.3))
+    (λ (m : get_or t.1.deferred.items x false ≡ true). inr (kept x (g.noted t.0 t.1 t.2 (omega arith) x low m)))
+    ((run t.0 t.1 t.2).attended x low t.3))
     (cases_lt 0 (sum_by (is_one x) left))
 
 pub handed_first : (ms rest : List Marker) (m : Marker) → ms ≡ rest ++ m ∷ [] → IsHandedOver ms rest (m.hand ∷ [])

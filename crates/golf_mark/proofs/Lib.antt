@@ -1,13 +1,12 @@
 pub mod Ranges
 pub mod Scans
-pub mod Rows
 pub mod Flags
 pub mod Gaining
 pub mod Turns
 pub mod Marked
 pub mod Winning
 pub mod Running
-pub mod Tending
+pub mod Attending
 pub mod Settling
 pub mod Gathers
 pub mod Whole

@@ -49,14 +49,14 @@ runs_parts marks pool [] (y ∷ after) e = absurd e
 runs_parts marks pool (x ∷ xs) [] e = absurd e
 runs_parts marks pool (x ∷ xs) (y ∷ after) e = omega (arith, runs_parts marks pool xs after e.1, e.0.keeps.parts, sum_by-cons (λ (m : Marker). parts m.scanner.seat) x xs, sum_by-cons (λ (m : Marker). parts m.scanner.seat) y after)
 
--- markers that had taken nothing have tended all that they took
+-- markers that had taken nothing have attended all that they took
 pub all_run : (marks : Marks) (pool : GreyPool) (before after : List Marker) → EachRuns marks pool before after → AllFresh marks pool before → AllRun marks pool after
 all_run marks pool before after e fresh k b at =
     let m = mate_before marks pool before after e k b at in
     let f = fresh k m.0 m.1 in
     record {
       fits = m.2.fits;
-      tended = m.2.tended (λ p low pos. absurd (omega (arith, pos, f.none (is_one p))));
+      attended = m.2.attended (λ p low pos. absurd (omega (arith, pos, f.none (is_one p))));
       number = m.2.keeps.number ∙ f.number;
     }
 
@@ -122,9 +122,9 @@ pub record IsEquipping (marks : Marks) (pool : GreyPool) (total : ℕ) (seats : 
 
 pub equipped : (marks : Marks) (pool : GreyPool) (total : ℕ) (seats some_seats : List MarkSeat) (hands some_hands : List GreyHand) (ms : List Marker) (m : Marker)
     → IsEquipping marks pool total seats hands ms → seats ≡ some_seats ++ m.scanner.seat ∷ [] → hands ≡ some_hands ++ m.hand ∷ []
-    → length m.missed.items ≡ place_count (graph_in marks) → m.scanner.won.items ≡ [] → word_count (graph_in marks) ≤ m.scanner.won.spare → word_count (graph_in marks) ≤ capacity_of pool
+    → length m.deferred.items ≡ place_count (graph_in marks) → m.scanner.won.items ≡ [] → word_count (graph_in marks) ≤ m.scanner.won.spare → word_count (graph_in marks) ≤ capacity_of pool
     → IsEquipping marks pool total some_seats some_hands (ms ++ m ∷ [])
-equipped marks pool total seats some_seats hands some_hands ms m q seat_is hand_is missed idle room capacity =
+equipped marks pool total seats some_seats hands some_hands ms m q seat_is hand_is deferred idle room capacity =
     let seat_facts = subst (λ (l : List MarkSeat). Every (IsNewSeatOf marks) l) seat_is q.all_seats in
     let seat = (Every-right (IsNewSeatOf marks) some_seats (m.scanner.seat ∷ []) seat_facts).0 in
     let hand_facts = subst (λ (l : List GreyHand). Every IsNewHand l) hand_is q.new_hands in
@@ -154,7 +154,7 @@ equipped marks pool total seats some_seats hands some_hands ms m q seat_is hand_
               hand = mine.0;
               same = hand.none_pushed ∙ sym seat.claimed;
               room = capacity;
-              missed = missed;
+              deferred = deferred;
             };
             none = hand.none_taken;
             number = omega (arith, mine.1, q.count, hands_long, t.0);

@@ -19,12 +19,12 @@ use Rattle.golf_mark.specs.Working.{IsScanned}
 abbrev pub work_of : Marks → Scanner → ℕ
 work_of marks s = 2 * (word_count (graph_in marks) - length (claimed s.seat)) + length s.won.items
 
--- what settling keeps
-pub record IsSettling (marks : Marks) (todo : List Bool) (from : ℕ) (old s : Scanner) : Type 0 where
+-- what settling keeps: what is covered stays covered, whatever is noted
+pub record IsSettling (marks : Marks) (old s : Scanner) : Type 0 where
   pub fits : IsScannerOf marks s
   pub won : KnowsWon marks s
   pub keeps : KeepsSeat old s
-  pub covered : IsCovered marks todo from s
+  pub covered : (todo : List Bool) (from : ℕ) → IsCovered marks todo from old → IsCovered marks todo from s
 
 -- a place that was won is taken out
 pub popped : (marks : Marks) (s : Scanner) (won : Roomy ℕ) (place : ℕ) → s.won.items ≡ won.items ++ place ∷ [] → won.spare + length won.items ≡ s.won.spare + length s.won.items → IsScannerOf marks s → IsScannerOf marks (record { seat = s.seat; won = won })
@@ -36,17 +36,17 @@ popped marks s won place items spare fits = record {
 }
 
 -- and scanned
-pub settles : (marks : Marks) (todo : List Bool) (from place : ℕ) (old a b : Scanner) (won : Roomy ℕ) → a.won.items ≡ won.items ++ place ∷ [] → Wins marks (record { seat = a.seat; won = won }) b
-    → IsScanned (graph_in marks) (known b.seat) place → IsSettling marks todo from old a → IsSettling marks todo from old b
-settles marks todo from place old a b won items w scanned s = record {
+pub settles : (marks : Marks) (place : ℕ) (old a b : Scanner) (won : Roomy ℕ) → a.won.items ≡ won.items ++ place ∷ [] → Wins marks (record { seat = a.seat; won = won }) b
+    → IsScanned (graph_in marks) (known b.seat) place → IsSettling marks old a → IsSettling marks old b
+settles marks place old a b won items w scanned s = record {
   fits = w.fits;
   won = λ p h. elim (In-cases p won.items w.won.0 (subst (λ (l : List ℕ). In p l) w.won.2 h)) [
     | inl i ↦ let r = s.won p (subst (λ (l : List ℕ). In p l) (sym items) (In-left p won.items (place ∷ []) i)) in (r.0, w.known p r.1)
     | inr i ↦ w.won.3 p i
   ];
   keeps = record { known = λ p h. w.known p (s.keeps.known p h); parts = w.parts ∙ s.keeps.parts };
-  covered = λ p low h. elim (In-cases p (claimed a.seat) w.won.0 (subst (λ (l : List ℕ). In p l) w.won.1 h)) [
-    | inl i ↦ elim (s.covered p low i) [
+  covered = λ todo from before p low h. elim (In-cases p (claimed a.seat) w.won.0 (subst (λ (l : List ℕ). In p l) w.won.1 h)) [
+    | inl i ↦ elim (s.covered todo from before p low i) [
       | inl done ↦ inl (λ q j. w.known q (done q j))
       | inr j ↦ elim j [
         | inl k ↦ elim (In-cases p won.items (place ∷ []) (subst (λ (l : List ℕ). In p l) items k)) [

@@ -12,12 +12,12 @@ use Rattle.golf_grey.specs.declared.hand.GreyHand.{GreyHand}
 use Rattle.golf_grey.specs.declared.pool.GreyPool.{GreyPool}
 use Rattle.golf_grey.specs.Hands.{pushed, took}
 use Rattle.golf_mark.specs.declared.marker.Marker.{Marker}
-use Rattle.golf_mark.specs.Turning.{IsMarkerOf, IsTended}
+use Rattle.golf_mark.specs.Turning.{IsMarkerOf, IsAtattended}
 
 -- the marker k has run
 pub record HasRun (marks : Marks) (pool : GreyPool) (k : ℕ) (m : Marker) : Type 0 where
   pub fits : IsMarkerOf marks pool m
-  pub tended : IsTended (graph_in marks) m
+  pub attended : IsAtattended (graph_in marks) m
   pub number : m.hand.number ≡ k
 
 abbrev pub AllRun : Marks → GreyPool → List Marker → Type 0
@@ -31,7 +31,7 @@ IsRooted roots ms = (p : ℕ) → In p roots → (k : ℕ) × (m : Marker) × (g
 abbrev pub marker_parts : List Marker → ℕ
 marker_parts ms = sum_by (λ m. parts m.scanner.seat) ms
 
--- one seat that has taken others in, and the places that were missed
+-- one seat that has taken others in, and the places that were deferred
 pub record Finisher : Type 0 where
   pub seat : MarkSeat
   pub todo : List Bool
@@ -48,7 +48,7 @@ pub record IsGathered (marks : Marks) (ms rest : List Marker) (f : Finisher) : T
   pub sums : (h : ℕ → ℕ) → sum_by h (claimed f.seat) + sum_by (λ m. sum_by h (claimed m.scanner.seat)) rest ≡ sum_by (λ m. sum_by h (claimed m.scanner.seat)) ms
   pub counted : parts f.seat + marker_parts rest ≡ marker_parts ms
   pub told : (k : ℕ) (m : Marker) → get_elem? ms k ≡ some m → length rest ≤ k → (p : ℕ) → In p (known m.scanner.seat) → In p (known f.seat)
-  pub noted : (k : ℕ) (m : Marker) → get_elem? ms k ≡ some m → length rest ≤ k → (p : ℕ) → p < place_count (graph_in marks) → IsSet m.missed.items p → IsSet f.todo p
+  pub noted : (k : ℕ) (m : Marker) → get_elem? ms k ≡ some m → length rest ≤ k → (p : ℕ) → p < place_count (graph_in marks) → IsSet m.deferred.items p → IsSet f.todo p
 
 -- the hands of the markers but for the rest, the last first
 pub record IsHandedOver (ms rest : List Marker) (hands : List GreyHand) : Type 0 where

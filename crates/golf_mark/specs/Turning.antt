@@ -19,15 +19,15 @@ pub record IsMarkerOf (marks : Marks) (pool : GreyPool) (m : Marker) : Type 0 wh
   pub hand : IsHandOf pool m.hand
   pub same : pushed m.hand ≡ claimed m.scanner.seat
   pub room : word_count (graph_in marks) ≤ capacity_of pool
-  pub missed : length m.missed.items ≡ place_count (graph_in marks)
+  pub deferred : length m.deferred.items ≡ place_count (graph_in marks)
 
 -- the weight by which a place counts itself
 abbrev pub is_one : ℕ → ℕ → ℕ
 is_one p q = (if q == p then 1 else 0)
 
--- each place that it took is scanned, or noted as missed
-abbrev pub IsTended : GraphParts → Marker → Type 0
-IsTended g m = (p : ℕ) → p < place_count g → 0 < took (is_one p) m.hand → IsScanned g (known m.scanner.seat) p ⊎ IsSet m.missed.items p
+-- each place that it took is scanned, or noted as deferred
+abbrev pub IsAtattended : GraphParts → Marker → Type 0
+IsAtattended g m = (p : ℕ) → p < place_count g → 0 < took (is_one p) m.hand → IsScanned g (known m.scanner.seat) p ⊎ IsSet m.deferred.items p
 
 -- it knows what it knew, and stands for the same seats and the same hand
 pub record Keeps (old new : Marker) : Type 0 where
@@ -35,19 +35,19 @@ pub record Keeps (old new : Marker) : Type 0 where
   pub parts : parts new.scanner.seat ≡ parts old.scanner.seat
   pub number : new.hand.number ≡ old.hand.number
 
--- a place that was taken is tended
-pub record Tends (marks : Marks) (pool : GreyPool) (place : ℕ) (old new : Marker) : Type 0 where
+-- a place that was taken is attended
+pub record Attends (marks : Marks) (pool : GreyPool) (place : ℕ) (old new : Marker) : Type 0 where
   pub fits : IsMarkerOf marks pool new
   pub keeps : Keeps old new
   pub took : (f : ℕ → ℕ) → took f new.hand ≡ took f old.hand
-  pub missed : (p : ℕ) → IsSet old.missed.items p → IsSet new.missed.items p
-  pub here : place < place_count (graph_in marks) → IsScanned (graph_in marks) (known new.scanner.seat) place ⊎ IsSet new.missed.items place
+  pub deferred : (p : ℕ) → IsSet old.deferred.items p → IsSet new.deferred.items p
+  pub here : place < place_count (graph_in marks) → IsScanned (graph_in marks) (known new.scanner.seat) place ⊎ IsSet new.deferred.items place
 
 -- a marker goes through some turns
 pub record Runs (marks : Marks) (pool : GreyPool) (old new : Marker) : Type 0 where
   pub fits : IsMarkerOf marks pool new
   pub keeps : Keeps old new
-  pub tended : IsTended (graph_in marks) old → IsTended (graph_in marks) new
+  pub attended : IsAtattended (graph_in marks) old → IsAtattended (graph_in marks) new
 
 -- each marker of a list goes through some turns
 abbrev pub EachRuns : Marks → GreyPool → List Marker → List Marker → Type 0

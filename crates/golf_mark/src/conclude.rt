@@ -23,14 +23,14 @@ use golf_marks::{MarkSeat, Marks};
 use golf_model::{Graph, Marked};
 
 // Notes what the other flags note.
-fn note(todo: &mut Vec<bool>, missed: Vec<bool>)
-    requires { length missed.items ≡ length todo.old.items }
+fn note(todo: &mut Vec<bool>, deferred: Vec<bool>)
+    requires { length deferred.items ≡ length todo.old.items }
     ensures length { length todo.new.items ≡ length todo.old.items }
     ensures kept { (p : ℕ) → IsSet todo.old.items p → IsSet todo.new.items p }
-    ensures noted { (p : ℕ) → IsSet missed.items p → IsSet todo.new.items p }
+    ensures noted { (p : ℕ) → IsSet deferred.items p → IsSet todo.new.items p }
 {
-    for place in 0..missed.len() {
-        if missed[place] {
+    for place in 0..deferred.len() {
+        if deferred[place] {
             todo[place] = true;
         }
     }
@@ -80,19 +80,19 @@ pub(crate) fn conclude(
     let Marker {
         mut scanner,
         hand,
-        missed: mut todo,
+        deferred: mut todo,
     } = first;
     hands.push_ready(hand);
     while let Some(marker) = rest.pop() {
         let Marker {
             scanner: theirs,
             hand,
-            missed,
+            deferred,
         } = marker;
         hands.push_ready(hand);
         let Scanner { seat, won: _ } = theirs;
         marks.join(&mut scanner.seat, seat);
-        note(&mut todo, missed);
+        note(&mut todo, deferred);
     }
     let left = pool.close(hands.into_list());
     note_left(&mut todo, left.places.as_slice());

@@ -44,14 +44,14 @@ pub(crate) fn equip(
         let Some(seat) = seats.pop() else {
             unreachable!()
         };
-        let missed = Vec::from_elem(alloc, false, places as usize)?;
+        let deferred = Vec::from_elem(alloc, false, places as usize)?;
         let mut won = Room::new(alloc);
         won.reserve(places.max(1) as usize)?;
         let scanner = Scanner { seat, won };
         markers.push(Marker {
             scanner,
             hand,
-            missed,
+            deferred,
         })?;
     }
     Ok(markers)

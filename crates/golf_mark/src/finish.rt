@@ -1,6 +1,6 @@
 //! The finishing scan, of what the markers have left.
 
-ghost use Rattle.std.specs.Prelude.{◌≡◌, ◌+◌, ◌<◌, ◌≤◌, ℕ, length};
+ghost use Rattle.std.specs.Prelude.{◌≡◌, ◌+◌, ◌<◌, ◌≤◌, ℕ, Bool, List, length};
 ghost use Rattle.golf_marks.specs.Places.{place_count};
 ghost use Rattle.golf_marks.specs.Seats.{graph_in};
 ghost use Rattle.golf_mark.specs.Finishing.{IsIdle, IsCovered, KeepsSeat, KnowsWon};
@@ -13,25 +13,15 @@ use golf_marks::Marks;
 use golf_model::Graph;
 
 // Scans what was won, until nothing is.
-fn settle_won(
-    marks: &Marks,
-    graph: &Graph,
-    waiters: &Waiters,
-    scanner: &mut Scanner,
-    todo: &[bool],
-    from: u32,
-)
+fn settle_won(marks: &Marks, graph: &Graph, waiters: &Waiters, scanner: &mut Scanner)
     requires fits { IsScannerOf marks.now scanner.old }
     requires graph { graph_in marks.now ≡ graph.now }
     requires waiters { IsWaiters graph.now waiters.now }
     requires won { KnowsWon marks.now scanner.old }
-    requires covered { IsCovered marks.now todo.now from scanner.old }
     ensures idle { IsIdle marks.now scanner.new }
     ensures keeps { KeepsSeat scanner.old scanner.new }
-    ensures covered { IsCovered marks.now todo.now from scanner.new }
+    ensures covered { (todo : List Bool) (from : ℕ) → IsCovered marks.now todo from scanner.old → IsCovered marks.now todo from scanner.new }
 {
-    let _ = todo;
-    let _ = from;
     while let Some(place) = scanner.won.pop() {
         scan(marks, graph, waiters, scanner, place);
     }
@@ -64,7 +54,7 @@ fn settle_at(
         return;
     }
     scan(marks, graph, waiters, scanner, place);
-    settle_won(marks, graph, waiters, scanner, todo, place + 1);
+    settle_won(marks, graph, waiters, scanner);
 }
 
 /// Scans all places that are noted, and what is won from there.

@@ -4,7 +4,7 @@ ghost use Rattle.std.specs.Prelude.{◌≡◌, ◌+◌, ◌++◌, ◌<◌, ◌�
 ghost use Rattle.std.specs.Thread.{IsSync};
 ghost use Rattle.golf_marks.specs.Seats.{graph_in};
 ghost use Rattle.golf_grey.specs.Hands.{capacity_of, pushed, took, IsHandOf};
-ghost use Rattle.golf_mark.specs.Turning.{IsMarkerOf, Tends, Runs, EachRuns};
+ghost use Rattle.golf_mark.specs.Turning.{IsMarkerOf, Attends, Runs, EachRuns};
 ghost use Rattle.golf_mark.specs.Waiters.{IsWaiters};
 
 use crate::scanner::{Scanner, scan};
@@ -15,13 +15,22 @@ use golf_marks::Marks;
 use golf_model::Graph;
 use std::thread::{Threads, join_mut};
 
+/// What all markers of a run share: the mark words, the deques, the graph, and who waits on its nodes.
+#[derive(Clone, Copy)]
+pub(crate) struct Shared<'a> {
+    pub(crate) marks: &'a Marks,
+    pub(crate) pool: &'a GreyPool,
+    pub(crate) graph: &'a Graph,
+    pub(crate) waiters: &'a Waiters,
+}
+
 /// What one marker works with.
 #[derive(Drop)]
 pub(crate) struct Marker {
     pub(crate) scanner: Scanner,
     pub(crate) hand: GreyHand,
     /// For each place whether it was taken and could not be scanned.
-    pub(crate) missed: Vec<bool>,
+    pub(crate) deferred: Vec<bool>,
 }
 
 /// Pushes these places.
@@ -38,70 +47,55 @@ pub(crate) fn push_all(pool: &GreyPool, hand: &mut GreyHand, places: &[u32])
     }
 }
 
-// Scans a place that was taken. Where it is not known as marked it is noted for the finishing scan.
-fn tend(
-    marks: &Marks,
-    pool: &GreyPool,
-    graph: &Graph,
-    waiters: &Waiters,
-    marker: &mut Marker,
-    place: u32,
-)
-    requires fits { IsMarkerOf marks.now pool.now marker.old }
-    requires graph { graph_in marks.now ≡ graph.now }
-    requires waiters { IsWaiters graph.now waiters.now }
-    ensures { Tends marks.now pool.now place marker.old marker.new }
+// Scans a place that was taken. Where it is not known as marked it is deferred to the finishing scan.
+fn scan_or_defer(shared: &Shared, marker: &mut Marker, place: u32)
+    requires fits { IsMarkerOf shared.now.marks.now shared.now.pool.now marker.old }
+    requires graph { graph_in shared.now.marks.now ≡ shared.now.graph.now }
+    requires waiters { IsWaiters shared.now.graph.now shared.now.waiters.now }
+    ensures { Attends shared.now.marks.now shared.now.pool.now place marker.old marker.new }
 {
-    if place >= graph.nodes() + graph.sleepers() {
+    if place >= shared.graph.nodes() + shared.graph.sleepers() {
         return;
     }
-    if marks.is_marked(&mut marker.scanner.seat, place) {
-        scan(marks, graph, waiters, &mut marker.scanner, place);
-        push_all(pool, &mut marker.hand, marker.scanner.won.as_slice());
+    if shared.marks.is_marked(&mut marker.scanner.seat, place) {
+        scan(
+            shared.marks,
+            shared.graph,
+            shared.waiters,
+            &mut marker.scanner,
+            place,
+        );
+        push_all(shared.pool, &mut marker.hand, marker.scanner.won.as_slice());
         marker.scanner.won.clear();
         return;
     }
-    marker.missed[place as usize] = true;
+    marker.deferred[place as usize] = true;
 }
 
-// Takes a place and tends it. False where none came.
-fn step(
-    marks: &Marks,
-    pool: &GreyPool,
-    graph: &Graph,
-    waiters: &Waiters,
-    marker: &mut Marker,
-) -> bool
-    requires fits { IsMarkerOf marks.now pool.now marker.old }
-    requires graph { graph_in marks.now ≡ graph.now }
-    requires waiters { IsWaiters graph.now waiters.now }
-    ensures { Runs marks.now pool.now marker.old marker.new }
+// Takes a place, and scans or defers it. False where none came.
+fn step(shared: &Shared, marker: &mut Marker) -> bool
+    requires fits { IsMarkerOf shared.now.marks.now shared.now.pool.now marker.old }
+    requires graph { graph_in shared.now.marks.now ≡ shared.now.graph.now }
+    requires waiters { IsWaiters shared.now.graph.now shared.now.waiters.now }
+    ensures { Runs shared.now.marks.now shared.now.pool.now marker.old marker.new }
 {
-    let Some(place) = pool.take(&mut marker.hand) else {
+    let Some(place) = shared.pool.take(&mut marker.hand) else {
         return false;
     };
-    tend(marks, pool, graph, waiters, marker, place);
+    scan_or_defer(shared, marker, place);
     true
 }
 
 // Takes places until none comes.
-fn run<G: Gate>(
-    gate: &G,
-    number: u32,
-    marks: &Marks,
-    pool: &GreyPool,
-    graph: &Graph,
-    waiters: &Waiters,
-    marker: &mut Marker,
-)
-    requires fits { IsMarkerOf marks.now pool.now marker.old }
-    requires graph { graph_in marks.now ≡ graph.now }
-    requires waiters { IsWaiters graph.now waiters.now }
-    ensures { Runs marks.now pool.now marker.old marker.new }
+fn run<G: Gate>(gate: &G, number: u32, shared: &Shared, marker: &mut Marker)
+    requires fits { IsMarkerOf shared.now.marks.now shared.now.pool.now marker.old }
+    requires graph { graph_in shared.now.marks.now ≡ shared.now.graph.now }
+    requires waiters { IsWaiters shared.now.graph.now shared.now.waiters.now }
+    ensures { Runs shared.now.marks.now shared.now.pool.now marker.old marker.new }
 {
     for turn in 0..u64::MAX {
         gate.pass(number, turn);
-        if !step(marks, pool, graph, waiters, marker) {
+        if !step(shared, marker) {
             return;
         }
     }
@@ -112,23 +106,20 @@ pub(crate) fn run_all<G: Gate + Sync, R: Threads + Sync>(
     rt: &R,
     gate: &G,
     first: u32,
-    marks: &Marks,
-    pool: &GreyPool,
-    graph: &Graph,
-    waiters: &Waiters,
+    shared: &Shared,
     markers: &mut [Marker],
 )
-    requires fits { All (IsMarkerOf marks.now pool.now) markers.old }
-    requires graph { graph_in marks.now ≡ graph.now }
-    requires waiters { IsWaiters graph.now waiters.now }
+    requires fits { All (IsMarkerOf shared.now.marks.now shared.now.pool.now) markers.old }
+    requires graph { graph_in shared.now.marks.now ≡ shared.now.graph.now }
+    requires waiters { IsWaiters shared.now.graph.now shared.now.waiters.now }
     requires small { first + length markers.old < 4294967296 }
-    ensures { EachRuns marks.now pool.now markers.old markers.new }
+    ensures { EachRuns shared.now.marks.now shared.now.pool.now markers.old markers.new }
 {
     if markers.is_empty() {
         return;
     }
     if markers.len() == 1 {
-        run(gate, first, marks, pool, graph, waiters, &mut markers[0]);
+        run(gate, first, shared, &mut markers[0]);
         return;
     }
     let half = markers.len() / 2;
@@ -137,12 +128,12 @@ pub(crate) fn run_all<G: Gate + Sync, R: Threads + Sync>(
     join_mut(
         rt,
         &mut ||
-            requires { IsSync R.row × All (IsMarkerOf marks.now pool.now) front.now × (graph_in marks.now ≡ graph.now) × IsWaiters graph.now waiters.now × (first + length front.now < 4294967296) }
-            ensures { EachRuns marks.entry.now pool.entry.now front.entry.now front.exit.now }
-        { run_all(rt, gate, first, marks, pool, graph, waiters, front) },
+            requires { IsSync R.row × All (IsMarkerOf shared.now.marks.now shared.now.pool.now) front.now × (graph_in shared.now.marks.now ≡ shared.now.graph.now) × IsWaiters shared.now.graph.now shared.now.waiters.now × (first + length front.now < 4294967296) }
+            ensures { EachRuns shared.entry.now.marks.now shared.entry.now.pool.now front.entry.now front.exit.now }
+        { run_all(rt, gate, first, shared, front) },
         &mut ||
-            requires { IsSync R.row × All (IsMarkerOf marks.now pool.now) back.now × (graph_in marks.now ≡ graph.now) × IsWaiters graph.now waiters.now × (second + length back.now < 4294967296) }
-            ensures { EachRuns marks.entry.now pool.entry.now back.entry.now back.exit.now }
-        { run_all(rt, gate, second, marks, pool, graph, waiters, back) },
+            requires { IsSync R.row × All (IsMarkerOf shared.now.marks.now shared.now.pool.now) back.now × (graph_in shared.now.marks.now ≡ shared.now.graph.now) × IsWaiters shared.now.graph.now shared.now.waiters.now × (second + length back.now < 4294967296) }
+            ensures { EachRuns shared.entry.now.marks.now shared.entry.now.pool.now back.entry.now back.exit.now }
+        { run_all(rt, gate, second, shared, back) },
     );
 }

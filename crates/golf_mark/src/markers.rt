@@ -10,7 +10,7 @@ ghost use Rattle.golf_mark.specs.Waiters.{IsWaiters};
 
 use crate::conclude::conclude;
 use crate::deal::{deal, equip};
-use crate::marker::{Marker, run_all};
+use crate::marker::{Marker, Shared, run_all};
 use crate::waiters::Waiters;
 use golf_base::{Gate, Memory, Room};
 use golf_grey::{GreyHand, GreyPool};
@@ -47,29 +47,17 @@ impl Model for Markers {
 fn run_markers<G: Gate + Sync, R: Threads + Sync>(
     rt: &R,
     gate: &G,
-    marks: &Marks,
-    pool: &GreyPool,
-    graph: &Graph,
-    waiters: &Waiters,
+    shared: &Shared,
     markers: Vec<Marker>,
 ) -> Vec<Marker>
-    requires graph { graph_in marks.now ≡ graph.now }
-    requires waiters { IsWaiters graph.now waiters.now }
+    requires graph { graph_in shared.now.marks.now ≡ shared.now.graph.now }
+    requires waiters { IsWaiters shared.now.graph.now shared.now.waiters.now }
     requires few { length markers.items ≤ 16 }
-    requires fresh { AllFresh marks.now pool.now markers.items }
-    ensures { EachRuns marks.now pool.now markers.items result.items }
+    requires fresh { AllFresh shared.now.marks.now shared.now.pool.now markers.items }
+    ensures { EachRuns shared.now.marks.now shared.now.pool.now markers.items result.items }
 {
     let mut markers = markers;
-    run_all(
-        rt,
-        gate,
-        0,
-        marks,
-        pool,
-        graph,
-        waiters,
-        markers.as_mut_slice(),
-    );
+    run_all(rt, gate, 0, shared, markers.as_mut_slice());
     markers
 }
 
@@ -119,7 +107,13 @@ impl Markers {
             seats,
         } = self;
         let dealt = deal(&marks, &pool, graph, markers);
-        let done = run_markers(rt, gate, &marks, &pool, graph, &waiters, dealt);
+        let shared = Shared {
+            marks: &marks,
+            pool: &pool,
+            graph,
+            waiters: &waiters,
+        };
+        let done = run_markers(rt, gate, &shared, dealt);
         conclude(marks, pool, graph, &waiters, done, hands, seats)
     }
 }

@@ -1,12 +1,10 @@
 //! For each node the sleepers that wait on it.
 
-ghost use Rattle.std.specs.Prelude.{◌≡◌, ◌<◌, ◌↔◌, ℕ, IfOk, OnOk, length};
-ghost use Rattle.golf_theory.specs.Membership.{In, Every};
-ghost use Rattle.golf_model.specs.Graph.{node_count};
-ghost use Rattle.golf_mark.specs.Waiters.{row_of, AddsTo, IsWaiters, IsWaitersBelow};
+ghost use Rattle.std.specs.Prelude.{◌≡◌, ◌<◌, IfOk, length};
 
 use golf_base::{List, Memory};
 use golf_model::Graph;
+use golf_rows::{add_to_all, empty_rows};
 use std::alloc::Global;
 use std::marker::Model;
 
@@ -14,7 +12,7 @@ use std::marker::Model;
 /// waits on.
 #[derive(Drop)]
 pub(crate) struct Waiters {
-    rows: Vec<List<u32>>,
+    rows: List<List<u32>>,
 }
 
 impl Model for Waiters {
@@ -22,11 +20,12 @@ impl Model for Waiters {
 
     ghost Value = { List (List ℕ) };
 
-    ghost view = { λ w. w.rows.items };
+    ghost view = { λ w. w.rows };
 }
 
 impl Waiters {
-    ghost use Rattle.golf_mark.specs.Waiters.{row_of, IsWaiters};
+    ghost use Rattle.golf_rows.specs.Rows.{row_of};
+    ghost use Rattle.golf_mark.specs.Waiters.{IsWaiters};
 
     pub(crate) fn new(alloc: Global, graph: &Graph) -> Result<Waiters, Memory>
         ensures { IfOk result (IsWaiters graph.now) }
@@ -43,40 +42,6 @@ impl Waiters {
         requires { node < length self.now }
         ensures { result.now ≡ row_of self.now node }
     {
-        self.rows[node as usize].as_slice()
+        self.rows.as_slice()[node as usize].as_slice()
     }
-}
-
-fn empty_rows(alloc: Global, count: u32) -> Result<Vec<List<u32>>, Memory>
-    ensures length { IfOk result (λ rows. length rows.items ≡ count) }
-    ensures empty { IfOk result (λ rows. (n s : ℕ) → In s (row_of rows.items n) → ⊥) }
-{
-    let mut rows = Vec::with_capacity(alloc, count as usize)?;
-    for _ in 0..count {
-        rows.push(List::new(alloc))?;
-    }
-    Ok(rows)
-}
-
-// Adds a sleeper to the row of a node.
-fn add(rows: &mut Vec<List<u32>>, sleeper: u32, node: u32) -> Result<(), Memory>
-    requires { node < length rows.old.items }
-    ensures length { length rows.new.items ≡ length rows.old.items }
-    ensures ok { OnOk result (AddsTo (λ n. n ≡ node) sleeper rows.old.items rows.new.items) }
-{
-    let row = &mut rows[node as usize];
-    row.push(sleeper)?;
-    Ok(())
-}
-
-// Adds a sleeper to the rows of these nodes.
-fn add_to_all(rows: &mut Vec<List<u32>>, sleeper: u32, nodes: &[u32]) -> Result<(), Memory>
-    requires { Every (λ n. n < length rows.old.items) nodes.now }
-    ensures length { length rows.new.items ≡ length rows.old.items }
-    ensures ok { OnOk result (AddsTo (λ n. In n nodes.now) sleeper rows.old.items rows.new.items) }
-{
-    for node in nodes {
-        add(rows, sleeper, *node)?;
-    }
-    Ok(())
 }

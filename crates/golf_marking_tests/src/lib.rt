@@ -7,6 +7,10 @@ mod alone;
 #[cfg(test)]
 mod examples;
 #[cfg(test)]
+mod hands;
+#[cfg(test)]
 mod markers;
 #[cfg(test)]
 mod same;
+#[cfg(test)]
+mod seats;

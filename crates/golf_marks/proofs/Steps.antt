@@ -35,7 +35,7 @@ views_set : (g : GraphParts) (old words : List ℕ) (views : List View) (id : �
     → ((k : ℕ) (v : View) → get_elem? views k ≡ some v → Fits g old v) → Fits g words w → (k : ℕ) (v : View) → get_elem? (set views id w) k ≡ some v → Fits g words v
 views_set g old words views id w grows all mine k v e = ⊎_elim
     (λ (t : (k ≡ id) × (w ≡ v)). subst (Fits g words) t.1 mine)
-    (λ (t : (k ≢ id) × (get_elem? views k ≡ some v)). let f = all k v t.1 in record { idle = f.idle; graph = f.graph; own = f.own; known = λ x h. grows x (f.known x h) })
+    (λ (t : (k ≢ id) × (get_elem? views k ≡ some v)). let f = all k v t.1 in record { idle = f.idle; ignorant = f.ignorant; graph = f.graph; own = f.own; known = λ x h. grows x (f.known x h) })
     (at_set views id k w v e)
 
 -- a step by which a view and the words change
@@ -87,6 +87,7 @@ module _ (plan : Plan) (s : State (Unit {0}) View) (id : ℕ) (v : View) (i : �
       let f = h.views id v at in
       record {
         idle = λ none. absurd (omega arith);
+        ignorant = λ none. absurd (omega arith);
         graph = f.graph;
         own = own;
         known = λ x c. ⊎_elim (λ (t : (x ≡ i) × (slice_index (set s.words i 1) x ≡ 1)). t.1)
@@ -160,7 +161,7 @@ module _ (plan : Plan) (s : State (Unit {0}) View) (id : ℕ) (v : View) (i : �
       let w : View = view_of v.graph v.parts v.claimed known in
       let f = h.views id v at in
       subst (λ (ws : List ℕ). Holds plan (WithWords s ws id w)) (sym (words_same n is))
-      (stepped plan s id v w s.words h at refl refl h.bits (λ x. refl) (λ x e. e) (record { idle = f.idle; graph = f.graph; own = own; known = k }) h.sound)
+      (stepped plan s id v w s.words h at refl refl h.bits (λ x. refl) (λ x e. e) (record { idle = f.idle; ignorant = λ none. absurd (omega arith); graph = f.graph; own = own; known = k }) h.sound)
 
   looks_at : (n : ℕ) → slice_index s.words i ≡ n → n ≤ 1
       → (w : View) × Holds plan (WithWords s (set s.words i n) id w) × Looks i v n w
@@ -197,8 +198,8 @@ forks plan id v two s h at =
       claims = λ x. omega (arith, sum_by_push (λ (u : View). times x u.claimed) (set s.views id w) (right_view v), total_set (λ (u : View). times x u.claimed) s.views id v w at, h.claims x);
       parts = omega (arith, sum_by_push (λ (u : View). u.parts) (set s.views id w) (right_view v), total_set (λ (u : View). u.parts) s.views id v w at, h.parts);
       views = λ k u e. ⊎_elim
-          (λ (was : get_elem? (set s.views id w) k ≡ some u). views_set (graph_of plan) s.words s.words s.views id w (λ x e. e) h.views (record { idle = λ none. absurd (omega arith); graph = λ _. f.graph live; own = f.own; known = f.known }) k u was)
-          (λ (same : right_view v ≡ u). subst (Fits (graph_of plan) s.words) same (record { idle = λ none. refl; graph = λ _. f.graph live; own = λ x c. absurd c; known = f.known }))
+          (λ (was : get_elem? (set s.views id w) k ≡ some u). views_set (graph_of plan) s.words s.words s.views id w (λ x e. e) h.views (record { idle = λ none. absurd (omega arith); ignorant = λ none. absurd (omega arith); graph = λ _. f.graph live; own = f.own; known = f.known }) k u was)
+          (λ (same : right_view v ≡ u). subst (Fits (graph_of plan) s.words) same (record { idle = λ none. refl; ignorant = λ none. absurd (omega arith); graph = λ _. f.graph live; own = λ x c. absurd c; known = f.known }))
           (at_snoc (set s.views id w) (right_view v) u k e);
       sound = h.sound;
     }
@@ -211,11 +212,12 @@ merges plan id v other u live there s h at apart at' =
     let theirs = h.views other u was in
     let fits : Fits (graph_of plan) s.words both = record {
       idle = λ none. absurd (omega arith);
+      ignorant = λ none. absurd (omega arith);
       graph = λ _. mine.graph live;
       own = λ x c. elim (In-cases x v.claimed u.claimed c) [ inl k ↦ In-left x v.known u.known (mine.own x k) | inr k ↦ In-right x v.known u.known (theirs.own x k) ];
       known = λ x c. elim (In-cases x v.known u.known c) [ inl k ↦ mine.known x k | inr k ↦ theirs.known x k ];
     } in
-    let gone : Fits (graph_of plan) s.words spent_view = record { idle = λ _. refl; graph = λ some_part. absurd (omega arith); own = λ x c. absurd c; known = λ x c. absurd c } in
+    let gone : Fits (graph_of plan) s.words spent_view = record { idle = λ _. refl; ignorant = λ _. refl; graph = λ some_part. absurd (omega arith); own = λ x c. absurd c; known = λ x c. absurd c } in
     let mid = views_set (graph_of plan) s.words s.words s.views id both (λ x e. e) h.views fits in record {
       size = h.size;
       bits = h.bits;
@@ -239,7 +241,7 @@ begins plan some_seat = record {
 }
   where
     first : (k : ℕ) (v : View) → get_elem? (first_view plan ∷ []) k ≡ some v → Fits (graph_of plan) (replicate (word_count (graph_of plan)) 0) v
-    first zero v e = subst (Fits (graph_of plan) (replicate (word_count (graph_of plan)) 0)) (some-injective (first_view plan) v e) (record { idle = λ _. refl; graph = λ _. refl; own = λ x c. absurd c; known = λ x c. absurd c })
+    first zero v e = subst (Fits (graph_of plan) (replicate (word_count (graph_of plan)) 0)) (some-injective (first_view plan) v e) (record { idle = λ _. refl; ignorant = λ _. refl; graph = λ _. refl; own = λ x c. absurd c; known = λ x c. absurd c })
     first (suc k) v e = absurd (some-ne-none v (sym e))
 
 -- where one view has all parts, a word is 1 exactly where its place stands in what that view has claimed

@@ -17,9 +17,10 @@ view_of g parts claimed known = record { graph = g; parts = parts; claimed = cla
 abbrev pub graph_of : Plan → GraphParts
 graph_of plan = plan.graph.value
 
--- a view without a part has claimed nothing; another one names the graph of the words; what it claimed it knows, and what it knows is marked
+-- a view without a part has claimed nothing and knows nothing; another one names the graph of the words; what it claimed it knows, and what it knows is marked
 pub record Fits (g : GraphParts) (words : List ℕ) (v : View) : Type 0 where
   pub idle : v.parts ≡ 0 → v.claimed ≡ []
+  pub ignorant : v.parts ≡ 0 → v.known ≡ []
   pub graph : 0 < v.parts → v.graph ≡ g
   pub own : (p : ℕ) → In p v.claimed → In p v.known
   pub known : (p : ℕ) → In p v.known → slice_index words p ≡ 1

@@ -9,8 +9,6 @@ mod close;
 mod deal;
 mod marks;
 mod rule;
-#[cfg(test)]
-mod tests;
 
 pub use marks::{MarkSeat, Marks};
 pub use rule::{Plan, View};

@@ -2,7 +2,7 @@
 use Rattle.golf_theory.specs.Maps.{find}
 use Rattle.golf_model.specs.Refs.{refs_of_goroutine}
 use Rattle.golf_model.specs.Reaching.{sources}
-use Rattle.golf_model.specs.Collecting.{bars, keeps, Keeps, retained, Retained}
+use Rattle.golf_model.specs.Collecting.{prevents_removal, keeps, Keeps, retained, Retained}
 use Rattle.std.proofs.Common.{◌≡◌, ◌⊎◌, ℕ, Bool, true, false, not, ◌&&◌, List, [], ◌∷◌, ◌++◌, map, inl, inr, refl, sym, ap, ◌∙◌, subst, ◌==◌}
 use Rattle.std.proofs.lemmas.Bool.{or_cases, or_left, or_right, and_parts, and_from, eqb-true, eq-eqb, false_from_ne_true, both_ways, not_from_false, not-true}
 use Rattle.golf_theory.specs.Membership.{In, is_in, any_of}
@@ -14,13 +14,13 @@ use Rattle.golf_theory.proofs.Lists.{In-left, In-right, In-cases, In-map}
 use Rattle.golf_theory.proofs.MapEntries.{In-keys_where, Entry-keys_where}
 use Rattle.golf_theory.proofs.Tests.{is_in-from, In-from, any_of-from, from_any_of}
 use Rattle.golf_data.specs.declared.value.Object.{Object}
-use Rattle.golf_model.specs.Plain.{PlainGoroutine}
+use Rattle.golf_model.specs.Views.{GoroutineView}
 use Rattle.golf_model.specs.Values.{refs}
 use Rattle.golf_model.specs.Waiting.{waits_of}
 use Rattle.golf_model.specs.State.{State, is_running}
 use Rattle.golf_model.specs.Refs.{object_refs, goroutine_refs, waited, queue_refs, refs_if, refs_where, goroutine_refs_where, has_finaliser}
 use Rattle.golf_model.specs.Reaching.{RefersTo, Reach, is_near, reach}
-use Rattle.golf_model.specs.Living.{Node, LiveRoot, LiveStep, Live, has_object, has_goroutine, is_awake, awakes, is_live_next, named_objects, nodes, live_list, is_dead, dead, Dead}
+use Rattle.golf_model.specs.Living.{Node, LiveRoot, LiveStep, Live, has_object, has_goroutine, is_awakened, awakes, is_live_next, named_objects, nodes, live_list, is_dead, dead, Dead}
 
 -- ---- references in what passes a test
 
@@ -51,17 +51,17 @@ refs_where-complete test (e ∷ es) o p x t (inl k) i =
 refs_where-complete test (e ∷ es) o p x t (inr k) i =
     In-right o (refs_if (test e.0) (object_refs e.1)) (refs_where test es) (refs_where-complete test es o p x t k i)
 
-abbrev pub InTestedGoroutine : (ℕ → Bool) → List (ℕ × PlainGoroutine) → ℕ → Type 0
-InTestedGoroutine test es o = (g : ℕ) × (r : PlainGoroutine) × (test g ≡ true) × Entry es g r × In o (goroutine_refs r)
+abbrev pub InTestedGoroutine : (ℕ → Bool) → List (ℕ × GoroutineView) → ℕ → Type 0
+InTestedGoroutine test es o = (g : ℕ) × (r : GoroutineView) × (test g ≡ true) × Entry es g r × In o (goroutine_refs r)
 
-pub goroutine_refs_where-sound : (test : ℕ → Bool) (es : List (ℕ × PlainGoroutine)) (o : ℕ) → In o (goroutine_refs_where test es) → InTestedGoroutine test es o
+pub goroutine_refs_where-sound : (test : ℕ → Bool) (es : List (ℕ × GoroutineView)) (o : ℕ) → In o (goroutine_refs_where test es) → InTestedGoroutine test es o
 goroutine_refs_where-sound test [] o h = absurd h
 goroutine_refs_where-sound test (e ∷ es) o h = elim (In-cases o (refs_if (test e.0) (goroutine_refs e.1)) (goroutine_refs_where test es) h) [
   | inl a ↦ let r = refs_if-true (test e.0) o (goroutine_refs e.1) a in (e.0, e.1, r.0, inl (refl, refl), r.1)
   | inr a ↦ let r = goroutine_refs_where-sound test es o a in (r.0, r.1, r.2, inr r.3, r.4)
 ]
 
-pub goroutine_refs_where-complete : (test : ℕ → Bool) (es : List (ℕ × PlainGoroutine)) (o g : ℕ) (r : PlainGoroutine) → test g ≡ true → Entry es g r → In o (goroutine_refs r) → In o (goroutine_refs_where test es)
+pub goroutine_refs_where-complete : (test : ℕ → Bool) (es : List (ℕ × GoroutineView)) (o g : ℕ) (r : GoroutineView) → test g ≡ true → Entry es g r → In o (goroutine_refs r) → In o (goroutine_refs_where test es)
 goroutine_refs_where-complete test [] o g r t h i = absurd h
 goroutine_refs_where-complete test (e ∷ es) o g r t (inl k) i =
     In-left o (refs_if (test e.0) (goroutine_refs e.1)) (goroutine_refs_where test es)
@@ -149,18 +149,18 @@ has_goroutine-complete (Node.AnObject p ∷ xs) g (inr h) = has_goroutine-comple
 has_goroutine-complete (Node.AGoroutine f ∷ xs) g (inl e) = or_left (g == f) _ (eq-eqb g f (same_goroutine g f e))
 has_goroutine-complete (Node.AGoroutine f ∷ xs) g (inr h) = or_right (g == f) _ (has_goroutine-complete xs g h)
 
-pub awakes-sound : (live : ℕ → Bool) (g : ℕ) (es : List (ℕ × PlainGoroutine)) → awakes live g es ≡ true → (r : PlainGoroutine) × Entry es g r × (is_awake live r ≡ true)
+pub awakes-sound : (live : ℕ → Bool) (g : ℕ) (es : List (ℕ × GoroutineView)) → awakes live g es ≡ true → (r : GoroutineView) × Entry es g r × (is_awakened live r ≡ true)
 awakes-sound live g [] h = cc
-awakes-sound live g (e ∷ es) h = elim (or_cases ((g == e.0) && is_awake live e.1) (awakes live g es) h) [
-  | inl t ↦ let b = and_parts (g == e.0) (is_awake live e.1) t in (e.1, inl (eqb-true g e.0 b.0, refl), b.1)
+awakes-sound live g (e ∷ es) h = elim (or_cases ((g == e.0) && is_awakened live e.1) (awakes live g es) h) [
+  | inl t ↦ let b = and_parts (g == e.0) (is_awakened live e.1) t in (e.1, inl (eqb-true g e.0 b.0, refl), b.1)
   | inr t ↦ let r = awakes-sound live g es t in (r.0, inr r.1, r.2)
 ]
 
-pub awakes-complete : (live : ℕ → Bool) (g : ℕ) (es : List (ℕ × PlainGoroutine)) (r : PlainGoroutine) → Entry es g r → is_awake live r ≡ true → awakes live g es ≡ true
+pub awakes-complete : (live : ℕ → Bool) (g : ℕ) (es : List (ℕ × GoroutineView)) (r : GoroutineView) → Entry es g r → is_awakened live r ≡ true → awakes live g es ≡ true
 awakes-complete live g [] r h t = absurd h
 awakes-complete live g (e ∷ es) r (inl k) t =
-    or_left ((g == e.0) && is_awake live e.1) _ (and_from (g == e.0) (is_awake live e.1) (eq-eqb g e.0 k.0) (ap (is_awake live) (sym k.1) ∙ t))
-awakes-complete live g (e ∷ es) r (inr k) t = or_right ((g == e.0) && is_awake live e.1) _ (awakes-complete live g es r k t)
+    or_left ((g == e.0) && is_awakened live e.1) _ (and_from (g == e.0) (is_awakened live e.1) (eq-eqb g e.0 k.0) (ap (is_awakened live) (sym k.1) ∙ t))
+awakes-complete live g (e ∷ es) r (inr k) t = or_right ((g == e.0) && is_awakened live e.1) _ (awakes-complete live g es r k t)
 
 abbrev LiveFollows : State → List Node → Node → Type 0
 LiveFollows s = Follows (LiveRoot s) (LiveStep s)
@@ -232,7 +232,7 @@ in_object : (s : State) (o p : ℕ) (x : Object) → Entry s.objects p x → In 
 in_object s o p x h i =
     object_node s o (In-right o (refs s.globals) _ (In-right o (queue_refs s.queue) _ (In-left o (refs_where (λ n. true) s.objects) _ (refs_where-complete (λ n. true) s.objects o p x refl h i))))
 
-in_goroutine : (s : State) (o g : ℕ) (r : PlainGoroutine) → Entry s.goroutines g r → In o (goroutine_refs r) → In (Node.AnObject o) (nodes s)
+in_goroutine : (s : State) (o g : ℕ) (r : GoroutineView) → Entry s.goroutines g r → In o (goroutine_refs r) → In (Node.AnObject o) (nodes s)
 in_goroutine s o g r h i =
     object_node s o (In-right o (refs s.globals) _ (In-right o (queue_refs s.queue) _ (In-right o (refs_where (λ n. true) s.objects) _ (goroutine_refs_where-complete (λ n. true) s.goroutines o g r refl h i))))
 
@@ -275,26 +275,26 @@ dead-complete s g (r, h, f, n) =
 
 -- ---- what is kept and retained
 
-bars-sound : (s : State) (sets : Bool) (o : ℕ) → bars s sets o ≡ true → In o (keys s.finalisers) ⊎ ((sets ≡ true) × Live s (Node.AnObject o))
-bars-sound s sets o h = elim (or_cases (has_finaliser s o) (sets && has_object (live_list s) o) h) [
+prevents_removal-sound : (s : State) (sets_finalisers : Bool) (o : ℕ) → prevents_removal s sets_finalisers o ≡ true → In o (keys s.finalisers) ⊎ ((sets_finalisers ≡ true) × Live s (Node.AnObject o))
+prevents_removal-sound s sets_finalisers o h = elim (or_cases (has_finaliser s o) (sets_finalisers && has_object (live_list s) o) h) [
   | inl t ↦ inl (In-from o (keys s.finalisers) t)
-  | inr t ↦ let b = and_parts sets (has_object (live_list s) o) t in inr (b.0, live_list-sound s (Node.AnObject o) (has_object-sound (live_list s) o b.1))
+  | inr t ↦ let b = and_parts sets_finalisers (has_object (live_list s) o) t in inr (b.0, live_list-sound s (Node.AnObject o) (has_object-sound (live_list s) o b.1))
 ]
 
-bars-complete : (s : State) (sets : Bool) (o : ℕ) → In o (keys s.finalisers) ⊎ ((sets ≡ true) × Live s (Node.AnObject o)) → bars s sets o ≡ true
-bars-complete s sets o (inl i) = or_left (has_finaliser s o) _ (is_in-from o (keys s.finalisers) i)
-bars-complete s sets o (inr r) =
-    or_right (has_finaliser s o) _ (and_from sets (has_object (live_list s) o) r.0 (has_object-complete (live_list s) o (live_list-complete s (Node.AnObject o) r.1)))
+prevents_removal-complete : (s : State) (sets_finalisers : Bool) (o : ℕ) → In o (keys s.finalisers) ⊎ ((sets_finalisers ≡ true) × Live s (Node.AnObject o)) → prevents_removal s sets_finalisers o ≡ true
+prevents_removal-complete s sets_finalisers o (inl i) = or_left (has_finaliser s o) _ (is_in-from o (keys s.finalisers) i)
+prevents_removal-complete s sets_finalisers o (inr r) =
+    or_right (has_finaliser s o) _ (and_from sets_finalisers (has_object (live_list s) o) r.0 (has_object-complete (live_list s) o (live_list-complete s (Node.AnObject o) r.1)))
 
-pub keeps-sound : (s : State) (sets : Bool) (g : ℕ) → keeps s sets g ≡ true → Keeps s sets g
-keeps-sound s sets g h =
+pub keeps-sound : (s : State) (sets_finalisers : Bool) (g : ℕ) → keeps s sets_finalisers g ≡ true → Keeps s sets_finalisers g
+keeps-sound s sets_finalisers g h =
     let xs : List ℕ = refs_of_goroutine (find g s.goroutines) in
-    let r = from_any_of (bars s sets) (reach s xs) h in
-    (r.0, reach-sound s xs r.0 r.1, bars-sound s sets r.0 r.2)
+    let r = from_any_of (prevents_removal s sets_finalisers) (reach s xs) h in
+    (r.0, reach-sound s xs r.0 r.1, prevents_removal-sound s sets_finalisers r.0 r.2)
 
-pub keeps-complete : (s : State) (sets : Bool) (g : ℕ) → Keeps s sets g → keeps s sets g ≡ true
-keeps-complete s sets g (o, d, h) =
-    any_of-from (bars s sets) (reach s (refs_of_goroutine (find g s.goroutines))) o (reach-complete s (refs_of_goroutine (find g s.goroutines)) o d) (bars-complete s sets o h)
+pub keeps-complete : (s : State) (sets_finalisers : Bool) (g : ℕ) → Keeps s sets_finalisers g → keeps s sets_finalisers g ≡ true
+keeps-complete s sets_finalisers g (o, d, h) =
+    any_of-from (prevents_removal s sets_finalisers) (reach s (refs_of_goroutine (find g s.goroutines))) o (reach-complete s (refs_of_goroutine (find g s.goroutines)) o d) (prevents_removal-complete s sets_finalisers o h)
 
 pub retained-sound : (s : State) (gone : List ℕ) (o : ℕ) → In o (retained s gone) → Retained s gone o
 retained-sound s gone o h = elim (In-cases o (reach s (sources s gone)) (keys s.finalisers) h) [ inl a ↦ inl (reach-sound s (sources s gone) o a) | inr a ↦ inr a ]

@@ -6,6 +6,9 @@ pub mod Selecting
 pub mod Panicking
 pub mod Mutexes
 pub mod Calculating
+pub mod Blocking
+pub mod Stuck
+pub mod Written
 pub mod Finalisers
 pub mod Leaks
 pub mod Graphs

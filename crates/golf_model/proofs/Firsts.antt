@@ -4,7 +4,7 @@ use Rattle.std.specs.Prelude.{nat_lt}
 use Rattle.std.proofs.lemmas.Bool.{ltb-true, ltb-false}
 use Rattle.golf_theory.specs.Membership.{In, Every}
 use Rattle.golf_data.specs.declared.goroutine.Side.{Side}
-use Rattle.golf_model.specs.Plain.{PlainGoroutine}
+use Rattle.golf_model.specs.Views.{GoroutineView}
 use Rattle.golf_model.specs.Waiting.{Waiter, waiter_ticket, waiter_of, earlier, first, by_ticket, enter, waiters}
 use Rattle.golf_model.specs.Laws.{head, TicketsRise, IsWaiterOf}
 
@@ -19,7 +19,7 @@ enter-head : (m : Option Waiter) (ws : List Waiter) → head (enter m ws) ≡ ea
 enter-head None ws = refl
 enter-head (Some w) ws = by_ticket-head w ws
 
-pub first-head : (o : ℕ) (side : Side) (gs : List (ℕ × PlainGoroutine)) → first o side gs ≡ head (waiters o side gs)
+pub first-head : (o : ℕ) (side : Side) (gs : List (ℕ × GoroutineView)) → first o side gs ≡ head (waiters o side gs)
 first-head o side [] = refl
 first-head o side (e ∷ es) = ap (earlier (waiter_of o side e)) (first-head o side es) ∙ sym (enter-head (waiter_of o side e) (waiters o side es))
 
@@ -46,7 +46,7 @@ by_ticket-old w (x ∷ xs) v h =
       | false ↦ inr h
     ]
 
-enter-in : (o : ℕ) (side : Side) (e : ℕ × PlainGoroutine) (es : List (ℕ × PlainGoroutine)) (ws : List Waiter) (m : Option Waiter) → waiter_of o side e ≡ m → (v : Waiter)
+enter-in : (o : ℕ) (side : Side) (e : ℕ × GoroutineView) (es : List (ℕ × GoroutineView)) (ws : List Waiter) (m : Option Waiter) → waiter_of o side e ≡ m → (v : Waiter)
     → (In v ws → IsWaiterOf o side es v) → In v (enter m ws) → IsWaiterOf o side (e ∷ es) v
 enter-in o side e es ws None q v ih h = let r = ih h in (r.0, inr r.1, r.2)
 enter-in o side e es ws (Some w) q v ih h = elim (by_ticket-in w ws v h) [
@@ -54,7 +54,7 @@ enter-in o side e es ws (Some w) q v ih h = elim (by_ticket-in w ws v h) [
   | inr a ↦ let r = ih a in (r.0, inr r.1, r.2)
 ]
 
-pub waiters-sound : (o : ℕ) (side : Side) (gs : List (ℕ × PlainGoroutine)) (v : Waiter) → In v (waiters o side gs) → IsWaiterOf o side gs v
+pub waiters-sound : (o : ℕ) (side : Side) (gs : List (ℕ × GoroutineView)) (v : Waiter) → In v (waiters o side gs) → IsWaiterOf o side gs v
 waiters-sound o side [] v h = absurd h
 waiters-sound o side (e ∷ es) v h = enter-in o side e es (waiters o side es) (waiter_of o side e) refl v (waiters-sound o side es v) h
 
@@ -65,10 +65,10 @@ enter-old : (m : Option Waiter) (ws : List Waiter) (v : Waiter) → In v ws → 
 enter-old None ws v h = h
 enter-old (Some w) ws v h = by_ticket-old w ws v h
 
-same_entry : (o : ℕ) (side : Side) (g h : ℕ) (r q : PlainGoroutine) → g ≡ h → r ≡ q → waiter_of o side (g, r) ≡ waiter_of o side (h, q)
+same_entry : (o : ℕ) (side : Side) (g h : ℕ) (r q : GoroutineView) → g ≡ h → r ≡ q → waiter_of o side (g, r) ≡ waiter_of o side (h, q)
 same_entry o side g h r q e f = ap (λ n. waiter_of o side (n, r)) e ∙ ap (λ x. waiter_of o side (h, x)) f
 
-pub waiters-complete : (o : ℕ) (side : Side) (gs : List (ℕ × PlainGoroutine)) (v : Waiter) → IsWaiterOf o side gs v → In v (waiters o side gs)
+pub waiters-complete : (o : ℕ) (side : Side) (gs : List (ℕ × GoroutineView)) (v : Waiter) → IsWaiterOf o side gs v → In v (waiters o side gs)
 waiters-complete o side [] v (f, h, q) = absurd h
 waiters-complete o side (e ∷ es) v (f, inl k, q) =
     enter-new (waiter_of o side e) (waiters o side es) v (sym (same_entry o side f.0 e.0 f.1 e.1 k.0 k.1) ∙ q)
@@ -103,6 +103,6 @@ enter-rise : (m : Option Waiter) (ws : List Waiter) → TicketsRise ws → Ticke
 enter-rise None ws s = s
 enter-rise (Some w) ws s = by_ticket-rise w ws s
 
-pub waiters-rise : (o : ℕ) (side : Side) (gs : List (ℕ × PlainGoroutine)) → TicketsRise (waiters o side gs)
+pub waiters-rise : (o : ℕ) (side : Side) (gs : List (ℕ × GoroutineView)) → TicketsRise (waiters o side gs)
 waiters-rise o side [] = tt
 waiters-rise o side (e ∷ es) = enter-rise (waiter_of o side e) (waiters o side es) (waiters-rise o side es)

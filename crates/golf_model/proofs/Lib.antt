@@ -1,5 +1,5 @@
 pub mod Agreeing
 pub mod Firsts
 pub mod GraphLaws
-pub mod PlainForms
+pub mod ViewForms
 pub mod Examples

@@ -1,4 +1,4 @@
--- The goroutine whose turn it is, and the plain ways in which its turn goes.
+-- The goroutine whose turn it is, and the usual ways in which its turn goes.
 use Rattle.std.specs.Prelude.{ℕ, ◌+◌, zero, suc, Bool, true, false, List, [], ◌∷◌, Option, Some, None, ℤ}
 use Rattle.golf_data.specs.declared.value.Value.{Value}
 use Rattle.golf_data.specs.declared.value.Object.{Object}
@@ -8,35 +8,35 @@ use Rattle.golf_data.specs.declared.goroutine.Mode.{Mode}
 use Rattle.golf_data.specs.declared.goroutine.PanicKind.{PanicKind}
 use Rattle.golf_data.specs.declared.goroutine.Wait.{Wait}
 use Rattle.golf_data.specs.declared.goroutine.WaitKind.{WaitKind}
-use Rattle.golf_model.specs.Plain.{PlainFrame, PlainGoroutine}
+use Rattle.golf_model.specs.Views.{FrameView, GoroutineView}
 use Rattle.golf_model.specs.Waking.{fault, unwinding}
 use Rattle.golf_model.specs.Changes.{Change}
 
 -- a goroutine with a frame, in its turn: its number, innermost frame, the frames below, the line where it was started, and the line of its instruction
 pub record Actor : Type 0 where
   pub number : ℕ
-  pub frame : PlainFrame
-  pub callers : List PlainFrame
+  pub frame : FrameView
+  pub callers : List FrameView
   pub started : ℕ
   pub line : ℕ
 
 -- the goroutine with these frames
-abbrev pub with_frames : Actor → List PlainFrame → PlainGoroutine
+abbrev pub with_frames : Actor → List FrameView → GoroutineView
 with_frames a frames = record { frames = frames; mode = Mode.Running; started = a.started }
 
 -- its innermost frame becomes this one
-abbrev pub standing : Actor → PlainFrame → PlainGoroutine
+abbrev pub standing : Actor → FrameView → GoroutineView
 standing a f = with_frames a (f ∷ a.callers)
 
--- the frame behind its instruction, with these operands
-abbrev pub next : PlainFrame → List Value → PlainFrame
+-- the frame after its instruction, with these operands
+abbrev pub next : FrameView → List Value → FrameView
 next f operands = record f { at = f.at + 1; operands = operands }
 
 -- the goroutine goes on with this frame
-abbrev pub stands : Actor → PlainFrame → List Change
+abbrev pub stands : Actor → FrameView → List Change
 stands a f = Change.Become a.number (standing a f) ∷ []
 
--- it goes on behind the instruction, with these operands
+-- it goes on after the instruction, with these operands
 abbrev pub goes : Actor → List Value → List Change
 goes a operands = stands a (next a.frame operands)
 
@@ -58,7 +58,7 @@ abbrev pub dies : Actor → PanicKind → List Change
 dies a kind = Change.Finish (Ending.Panicked kind (record { 0 = a.number }) a.line) ∷ []
 
 -- it blocks with this frame
-abbrev pub blocks : Actor → PlainFrame → WaitKind → List Wait → List Change
+abbrev pub blocks : Actor → FrameView → WaitKind → List Wait → List Change
 blocks a f kind waits = Change.Block a.number kind a.line waits (standing a f) ∷ []
 
 -- what is there is acted on; else no rule fits

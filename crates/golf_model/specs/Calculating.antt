@@ -3,7 +3,7 @@ use Rattle.std.specs.Prelude.{ℕ, ◌+◌, Bool, not, List, ◌∷◌, slice_ge
 use Rattle.std.specs.Int.{w64, int_wrapping_add, int_wrapping_sub, int_wrapping_mul, int_wrapping_div, int_wrapping_neg}
 use Rattle.golf_data.specs.declared.value.Value.{Value}
 use Rattle.golf_data.specs.declared.goroutine.PanicKind.{PanicKind}
-use Rattle.golf_model.specs.Values.{int_of, bool_of, same_value, is_zero}
+use Rattle.golf_model.specs.Values.{int_of, bool_of, equality, is_zero}
 use Rattle.golf_model.specs.State.{State}
 use Rattle.golf_model.specs.Changes.{Change}
 use Rattle.golf_model.specs.Acting.{Actor, stands, goes, jumps, leaves, panics, on_some, taking_one, taking_two, choose}
@@ -80,7 +80,7 @@ remainder m n = int_rem m n
 
 -- `a, b -> a == b`
 abbrev pub equates : Actor → List Change
-equates a = taking_two (λ x y rest. goes a (Value.Bool (same_value x y) ∷ rest)) a.frame.operands
+equates a = taking_two (λ x y rest. on_some (λ b. goes a (Value.Bool b ∷ rest)) (equality x y)) a.frame.operands
 
 -- `b ->`; goes on at the target where b is false
 abbrev pub jumps_unless : Actor → ℕ → List Change

@@ -8,7 +8,7 @@ use Rattle.golf_data.specs.declared.goroutine.Fault.{Fault}
 use Rattle.golf_data.specs.declared.goroutine.Leaving.{Leaving}
 use Rattle.golf_data.specs.declared.goroutine.Mode.{Mode}
 use Rattle.golf_data.specs.declared.goroutine.PanicKind.{PanicKind}
-use Rattle.golf_model.specs.Plain.{PlainFrame}
+use Rattle.golf_model.specs.Views.{FrameView}
 use Rattle.golf_model.specs.State.{call_frame}
 use Rattle.golf_model.specs.Waking.{unwinding}
 use Rattle.golf_model.specs.Changes.{Change}
@@ -19,11 +19,11 @@ abbrev pub most_frames : ℕ
 most_frames = 10000
 
 -- whether one frame more is too many
-abbrev pub is_full : List PlainFrame → Bool
+abbrev pub is_full : List FrameView → Bool
 is_full frames = nat_le most_frames (length frames)
 
 -- one more frame on these, or the stack overflows
-abbrev pub enters : Actor → List PlainFrame → PlainFrame → List Change
+abbrev pub enters : Actor → List FrameView → FrameView → List Change
 enters a frames f = choose (is_full frames) (dies a PanicKind.StackOverflow) (Change.Become a.number (with_frames a (f ∷ frames)) ∷ [])
 
 -- calls the function with so many arguments
@@ -50,18 +50,18 @@ abbrev pub ends_returning : Actor → List Change
 ends_returning a = ends a ++ choose (a.number == 1) (Change.Finish Ending.Returned ∷ []) []
 
 -- the value of a frame goes to its caller, unless it was a deferred or first frame
-abbrev pub handed_back : Bool → Option Value → PlainFrame → PlainFrame
+abbrev pub handed_back : Bool → Option Value → FrameView → FrameView
 handed_back true v f = f
 handed_back false None f = f
 handed_back false (Some v) f = record f { operands = v ∷ f.operands }
 
 -- the innermost frame is gone by returning
-abbrev pub returns_to : Actor → Option Value → List PlainFrame → List Change
+abbrev pub returns_to : Actor → Option Value → List FrameView → List Change
 returns_to a v [] = ends_returning a
 returns_to a v (f ∷ fs) = Change.Become a.number (with_frames a (handed_back a.frame.discards v f ∷ fs)) ∷ []
 
 -- the innermost frame is gone by unwinding: its caller unwinds in place of whatever it was doing, and the program ends with the last frame
-abbrev pub unwinds_to : Actor → Fault → List PlainFrame → List Change
+abbrev pub unwinds_to : Actor → Fault → List FrameView → List Change
 unwinds_to a x [] = ends a ++ (Change.Finish (Ending.Panicked x.kind (record { 0 = a.number }) x.line) ∷ [])
 unwinds_to a x (f ∷ fs) = Change.Become a.number (with_frames a (unwinding x f ∷ fs)) ∷ []
 

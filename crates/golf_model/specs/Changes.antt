@@ -8,7 +8,7 @@ use Rattle.golf_data.specs.declared.goroutine.Mode.{Mode}
 use Rattle.golf_data.specs.declared.goroutine.Side.{Side}
 use Rattle.golf_data.specs.declared.goroutine.Wait.{Wait}
 use Rattle.golf_data.specs.declared.goroutine.WaitKind.{WaitKind}
-use Rattle.golf_model.specs.Plain.{PlainGoroutine}
+use Rattle.golf_model.specs.Views.{GoroutineView}
 use Rattle.golf_model.specs.State.{State}
 use Rattle.golf_model.specs.Waking.{Waking, woken_by, released}
 
@@ -19,11 +19,11 @@ pub data Change : Type 0 where
   Replace : (o : ℕ) (x : Object) → Change
   SetGlobal : (i : ℕ) (v : Value) → Change
   -- the goroutine of this number becomes this one
-  Become : (g : ℕ) (r : PlainGoroutine) → Change
+  Become : (g : ℕ) (r : GoroutineView) → Change
   -- the goroutine becomes this one, blocked: it takes the next ticket
-  Block : (g : ℕ) (kind : WaitKind) (line : ℕ) (waits : List Wait) (r : PlainGoroutine) → Change
+  Block : (g : ℕ) (kind : WaitKind) (line : ℕ) (waits : List Wait) (r : GoroutineView) → Change
   -- the next goroutine number is given to this goroutine
-  Spawn : (r : PlainGoroutine) → Change
+  Spawn : (r : GoroutineView) → Change
   -- the goroutine has ended
   Leave : (g : ℕ) → Change
   -- the program has ended
@@ -47,15 +47,15 @@ replace o x s = record s { objects = put o x s.objects }
 abbrev pub set_global : ℕ → Value → State → State
 set_global i v s = record s { globals = slice_set s.globals i v }
 
-abbrev pub become : ℕ → PlainGoroutine → State → State
+abbrev pub become : ℕ → GoroutineView → State → State
 become g r s = record s { goroutines = put g r s.goroutines }
 
 -- each goroutine that blocks takes the next ticket, also where it waits on nothing (profile)
-abbrev pub block : ℕ → WaitKind → ℕ → List Wait → PlainGoroutine → State → State
+abbrev pub block : ℕ → WaitKind → ℕ → List Wait → GoroutineView → State → State
 block g kind line waits r s =
     record s { goroutines = put g (record r { mode = Mode.Blocked kind line waits s.next_ticket }) s.goroutines; next_ticket = s.next_ticket + 1 }
 
-abbrev pub spawn : PlainGoroutine → State → State
+abbrev pub spawn : GoroutineView → State → State
 spawn r s = record s { goroutines = add s.next_goroutine r s.goroutines; next_goroutine = s.next_goroutine + 1 }
 
 abbrev pub leave : ℕ → State → State
@@ -94,16 +94,16 @@ moved m ticket Mode.Running = Mode.Running
 moved m ticket (Mode.Blocked kind line waits old) = Mode.Blocked kind line (moved_waits m waits) ticket
 
 -- it waits for the mutex from now on, with the next ticket
-abbrev pub move_wait : ℕ → ℕ → PlainGoroutine → State → State
+abbrev pub move_wait : ℕ → ℕ → GoroutineView → State → State
 move_wait g m r s =
     record s { goroutines = put g (record r { mode = moved m s.next_ticket r.mode }) s.goroutines; next_ticket = s.next_ticket + 1 }
 
 -- an unlocked mutex becomes locked and the goroutine runs; a locked one is what it waits for from now on (package sync, `Cond.Wait`: it "locks c.L before returning"; the order is the profile's)
-abbrev pub pass_on_by : Bool → ℕ → ℕ → PlainGoroutine → State → State
+abbrev pub pass_on_by : Bool → ℕ → ℕ → GoroutineView → State → State
 pass_on_by false g m r s = replace m (Object.Mutex true) (become g (released r) s)
 pass_on_by true g m r s = move_wait g m r s
 
-abbrev pub pass_on_at : Object → ℕ → ℕ → PlainGoroutine → State → State
+abbrev pub pass_on_at : Object → ℕ → ℕ → GoroutineView → State → State
 pass_on_at (Object.Struct fields) g m r s = s
 pass_on_at (Object.Slice elements) g m r s = s
 pass_on_at (Object.Chan c) g m r s = s
@@ -112,7 +112,7 @@ pass_on_at (Object.Group n) g m r s = s
 pass_on_at (Object.Rw n) g m r s = s
 pass_on_at (Object.Cond v) g m r s = s
 
-abbrev pub pass_on : ℕ → ℕ → Option PlainGoroutine → Option Object → State → State
+abbrev pub pass_on : ℕ → ℕ → Option GoroutineView → Option Object → State → State
 pass_on g m None x s = s
 pass_on g m (Some r) None s = s
 pass_on g m (Some r) (Some x) s = pass_on_at x g m r s

@@ -7,7 +7,7 @@ use Rattle.golf_data.specs.declared.value.Channel.{Channel}
 use Rattle.golf_data.specs.declared.goroutine.PanicKind.{PanicKind}
 use Rattle.golf_data.specs.declared.goroutine.Side.{Side}
 use Rattle.golf_data.specs.declared.goroutine.WaitKind.{WaitKind}
-use Rattle.golf_model.specs.Plain.{PlainFrame}
+use Rattle.golf_model.specs.Views.{FrameView}
 use Rattle.golf_model.specs.State.{State}
 use Rattle.golf_model.specs.Waiting.{Waiter, first, send_wait, receive_wait}
 use Rattle.golf_model.specs.Waking.{Waking, received, resumed}
@@ -19,17 +19,17 @@ abbrev pub served : Waiter → List Value → Change
 served w vs = Change.Become w.number (resumed w.wait vs w.goroutine)
 
 -- a value is appended where there is room; else the sender blocks
-abbrev pub buffers : Actor → PlainFrame → ℕ → Value → Channel → List Change
+abbrev pub buffers : Actor → FrameView → ℕ → Value → Channel → List Change
 buffers a after o v c =
     choose (nat_lt (length c.buffer) c.capacity) (Change.Replace o (Object.Chan (record c { buffer = c.buffer ++ v ∷ [] })) ∷ stands a after) (blocks a after WaitKind.Send (send_wait o v None ∷ []))
 
 -- the first receiver gets the value
-abbrev pub sends_to : Actor → PlainFrame → ℕ → Value → Channel → Option Waiter → List Change
+abbrev pub sends_to : Actor → FrameView → ℕ → Value → Channel → Option Waiter → List Change
 sends_to a after o v c None = buffers a after o v c
 sends_to a after o v c (Some w) = stands a after ++ (served w (received w.wait.with_ok v true) ∷ [])
 
 -- a send of v on channel o, after which the sender has this frame
-abbrev pub sends_on : Actor → PlainFrame → Value → State → ℕ → List Change
+abbrev pub sends_on : Actor → FrameView → Value → State → ℕ → List Change
 sends_on a after v s o =
     at_channel (λ c. choose c.closed (panics a PanicKind.SendClosed) (sends_to a after o v c (first o Side.Receive s.goroutines))) (find o s.objects)
 
@@ -39,7 +39,7 @@ sends a s =
     taking_two (λ c v rest. at_reference_or (blocks a (next a.frame rest) WaitKind.SendNil []) (sends_on a (next a.frame rest) v s) c) a.frame.operands
 
 -- the receiver's frame with what it is given on top
-abbrev pub given : PlainFrame → List Value → PlainFrame
+abbrev pub given : FrameView → List Value → FrameView
 given after vs = record after { operands = vs ++ after.operands }
 
 -- the value that a waiting sender has to send, and the sender going on
@@ -52,19 +52,19 @@ sender_served None = []
 sender_served (Some w) = served w [] ∷ []
 
 -- an empty channel: the first sender's value; else the zero value where it is closed; else the receiver blocks
-abbrev pub receives_unbuffered : Actor → PlainFrame → Bool → ℕ → Channel → Option Waiter → List Change
+abbrev pub receives_unbuffered : Actor → FrameView → Bool → ℕ → Channel → Option Waiter → List Change
 receives_unbuffered a after with_ok o c None =
     choose c.closed (stands a (given after (received with_ok c.zero false))) (blocks a after WaitKind.Receive (receive_wait o None with_ok ∷ []))
 receives_unbuffered a after with_ok o c (Some w) = stands a (given after (received with_ok w.wait.value true)) ++ (served w [] ∷ [])
 
 -- the first buffered value; the first sender's value takes the free place
-abbrev pub receives_from : Actor → PlainFrame → Bool → ℕ → Channel → List Value → Option Waiter → List Change
+abbrev pub receives_from : Actor → FrameView → Bool → ℕ → Channel → List Value → Option Waiter → List Change
 receives_from a after with_ok o c [] w = receives_unbuffered a after with_ok o c w
 receives_from a after with_ok o c (v ∷ vs) w =
     Change.Replace o (Object.Chan (record c { buffer = vs ++ sent_by w })) ∷ (stands a (given after (received with_ok v true)) ++ sender_served w)
 
 -- a receive from channel o, after which the receiver has this frame with what it is given
-abbrev pub receives_on : Actor → PlainFrame → Bool → State → ℕ → List Change
+abbrev pub receives_on : Actor → FrameView → Bool → State → ℕ → List Change
 receives_on a after with_ok s o =
     at_channel (λ c. receives_from a after with_ok o c c.buffer (first o Side.Send s.goroutines)) (find o s.objects)
 

@@ -28,30 +28,30 @@ abbrev pub is_setting : Instr → Bool
 is_setting (Instr.SetFinalizer f) = true
 is_setting _ = false
 
-abbrev pub sets : Code → Bool
-sets code = any_of (λ fn. any_of (λ l. is_setting l.instr) fn.body) code.functions
+abbrev pub sets_finalisers : Code → Bool
+sets_finalisers code = any_of (λ fn. any_of (λ l. is_setting l.instr) fn.body) code.functions
 
 -- what keeps a dead goroutine that reaches it: an object with a finaliser, and a live one where the code sets finalisers
-abbrev pub bars : State → Bool → ℕ → Bool
-bars s may_set o = has_finaliser s o || (may_set && has_object (live_list s) o)
+abbrev pub prevents_removal : State → Bool → ℕ → Bool
+prevents_removal s sets_finalisers o = has_finaliser s o || (sets_finalisers && has_object (live_list s) o)
 
 -- the keep rule: a dead goroutine stays where its removal could let a finaliser run (profile)
 abbrev pub keeps : State → Bool → ℕ → Bool
-keeps s may_set g = any_of (bars s may_set) (reach s (refs_of_goroutine (find g s.goroutines)))
+keeps s sets_finalisers g = any_of (prevents_removal s sets_finalisers) (reach s (refs_of_goroutine (find g s.goroutines)))
 
 -- the same as a relation: it reaches an object with a finaliser, or, where the code sets finalisers, a live one
 abbrev pub Keeps : State → Bool → ℕ → Type 0
-Keeps s may_set g =
-    (o : ℕ) × Reach s (refs_of_goroutine (find g s.goroutines)) o × (In o (keys s.finalisers) ⊎ ((may_set ≡ true) × Live s (Node.AnObject o)))
+Keeps s sets_finalisers g =
+    (o : ℕ) × Reach s (refs_of_goroutine (find g s.goroutines)) o × (In o (keys s.finalisers) ⊎ ((sets_finalisers ≡ true) × Live s (Node.AnObject o)))
 
 -- the dead goroutines that are not kept
 abbrev pub unkept : State → Bool → List ℕ
-unkept s may_set = filter (λ g. not (keeps s may_set g)) (dead s)
+unkept s sets_finalisers = filter (λ g. not (keeps s sets_finalisers g)) (dead s)
 
 -- those that a collection removes
 abbrev pub removed : State → Bool → Bool → List ℕ
-removed s true may_set = unkept s may_set
-removed s false may_set = []
+removed s true sets_finalisers = unkept s sets_finalisers
+removed s false sets_finalisers = []
 
 -- what a collection does not free: what is reached without the removed goroutines, and each object that had a finaliser
 abbrev pub retained : State → List ℕ → List ℕ
@@ -74,4 +74,4 @@ collect_without gone s = cut_to gone (retained s gone) (plain_collect s)
 
 -- the plain collection, and then the removed goroutines are gone and only retained objects are left
 abbrev pub real_collect : State → Bool → Bool → State
-real_collect s recover may_set = collect_without (removed s recover may_set) s
+real_collect s recover sets_finalisers = collect_without (removed s recover sets_finalisers) s

@@ -13,9 +13,10 @@ use Rattle.golf_model.specs.Acting.{Actor, goes, dies, taking_one, at_reference,
 use Rattle.golf_model.specs.Mutexes.{hands_over, blocks_on}
 use Rattle.golf_model.specs.Structures.{makes}
 
--- `m -> ref`, a condition with this mutex
+-- `m -> ref`, a condition with this mutex, which may be nil
 abbrev pub makes_condition : Actor → State → List Change
-makes_condition a s = taking_one (λ m rest. makes a (Object.Cond m) rest s) a.frame.operands
+makes_condition a s =
+    taking_one (λ m rest. at_reference_or (makes a (Object.Cond m) rest s) (λ o. at_mutex (λ locked. makes a (Object.Cond m) rest s) (find o s.objects)) m) a.frame.operands
 
 -- `c -> m`
 abbrev pub gets_mutex : Actor → State → List Change
@@ -40,16 +41,17 @@ abbrev pub first_only : Option Waiter → List Waiter
 first_only None = []
 first_only (Some w) = w ∷ []
 
--- nobody waits on a condition without a mutex
-abbrev pub notifies : Actor → List Value → List Waiter → Value → List Change
-notifies a rest ws m = at_reference_or (goes a rest) (λ p. goes a rest ++ passes_on p ws) m
+-- where nobody is passed on the mutex is not looked at; else it is a mutex, or no rule fits
+abbrev pub notifies : Actor → List Value → State → List Waiter → Value → List Change
+notifies a rest s [] m = goes a rest
+notifies a rest s (w ∷ ws) m = at_reference_or [] (λ p. at_mutex (λ locked. goes a rest ++ passes_on p (w ∷ ws)) (find p s.objects)) m
 
 -- `c ->`; the first waiter, if any, is passed on
 abbrev pub signals : Actor → State → List Change
 signals a s =
-    taking_one (λ c rest. at_reference a (λ o. at_condition (notifies a rest (first_only (first o Side.Cond s.goroutines))) (find o s.objects)) c) a.frame.operands
+    taking_one (λ c rest. at_reference a (λ o. at_condition (notifies a rest s (first_only (first o Side.Cond s.goroutines))) (find o s.objects)) c) a.frame.operands
 
 -- `c ->`; each waiter is passed on, by rising ticket (profile)
 abbrev pub broadcasts : Actor → State → List Change
 broadcasts a s =
-    taking_one (λ c rest. at_reference a (λ o. at_condition (notifies a rest (waiters o Side.Cond s.goroutines)) (find o s.objects)) c) a.frame.operands
+    taking_one (λ c rest. at_reference a (λ o. at_condition (notifies a rest s (waiters o Side.Cond s.goroutines)) (find o s.objects)) c) a.frame.operands

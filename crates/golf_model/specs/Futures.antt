@@ -6,19 +6,19 @@ use Rattle.golf_data.specs.declared.code.Code.{Code}
 use Rattle.golf_data.specs.declared.goroutine.Ending.{Ending}
 use Rattle.golf_data.specs.declared.goroutine.Queued.{Queued}
 use Rattle.golf_data.specs.declared.report.Entry.{Entry as Reported}
-use Rattle.golf_model.specs.Plain.{PlainGoroutine}
+use Rattle.golf_model.specs.Views.{GoroutineView}
 use Rattle.golf_model.specs.Values.{refs}
 use Rattle.golf_model.specs.State.{State, ending, start}
 use Rattle.golf_model.specs.Turn.{step}
 use Rattle.golf_model.specs.Refs.{object_refs, goroutine_refs, queue_refs}
 use Rattle.golf_model.specs.Living.{dead, live_objects}
-use Rattle.golf_model.specs.Collecting.{sets, plain_collect, real_collect}
+use Rattle.golf_model.specs.Collecting.{sets_finalisers, plain_collect, real_collect}
 use Rattle.golf_model.specs.Running.{Event, run, stops_by, finaliser_calls}
 use Rattle.golf_model.specs.Reporting.{entries, without}
 
 -- whatever happens, the goroutine stands as it stands now: with these frames, this mode, its waits and its ticket
 abbrev pub Still : Code → State → ℕ → Type 0
-Still code s g = (r : PlainGoroutine) × Entry s.goroutines g r × ((events : List Event) → Entry (run code s events).goroutines g r)
+Still code s g = (r : GoroutineView) × Entry s.goroutines g r × ((events : List Event) → Entry (run code s events).goroutines g r)
 
 -- what can be seen right before a collection: the live objects, and the dead goroutines with their waits and lines
 pub record Sight : Type 0 where
@@ -49,7 +49,7 @@ futures code s events gone = record {
 pub data Leads (code : Code) : State → Type 0 where
   Start : Leads code (start code)
   Turn : (s : State) (c : ℕ) → Leads code s → ending s ≡ None → Leads code (step code s c)
-  Collection : (s : State) (recover : Bool) → Leads code s → ending s ≡ None → Leads code (real_collect s recover (sets code))
+  Collection : (s : State) (recover : Bool) → Leads code s → ending s ≡ None → Leads code (real_collect s recover (sets_finalisers code))
   Emptied : (s : State) → Leads code s → Leads code (record s { output = [] })
 
 abbrev pub UpTo : ℕ → List ℕ → Type 0

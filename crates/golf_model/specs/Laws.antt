@@ -3,7 +3,7 @@ use Rattle.std.specs.Prelude.{◌≡◌, ℕ, ◌≤◌, Bool, true, List, [], �
 use Rattle.golf_theory.specs.Membership.{In, Every}
 use Rattle.golf_theory.specs.Maps.{Entry}
 use Rattle.golf_data.specs.declared.goroutine.Side.{Side}
-use Rattle.golf_model.specs.Plain.{PlainGoroutine}
+use Rattle.golf_model.specs.Views.{GoroutineView}
 use Rattle.golf_model.specs.Waiting.{Waiter, waiter_ticket, waiter_of, first, waiters}
 use Rattle.golf_model.specs.State.{State}
 use Rattle.golf_model.specs.Reaching.{Reach, reach}
@@ -34,16 +34,16 @@ TicketsRise [] = Unit {0}
 TicketsRise (w ∷ ws) = Every (λ v. waiter_ticket w ≤ waiter_ticket v) ws × TicketsRise ws
 
 -- it is a goroutine of the map that waits on the object with that side
-abbrev pub IsWaiterOf : ℕ → Side → List (ℕ × PlainGoroutine) → Waiter → Type 0
-IsWaiterOf o side gs w = (e : ℕ × PlainGoroutine) × Entry gs e.0 e.1 × (waiter_of o side e ≡ Some w)
+abbrev pub IsWaiterOf : ℕ → Side → List (ℕ × GoroutineView) → Waiter → Type 0
+IsWaiterOf o side gs w = (e : ℕ × GoroutineView) × Entry gs e.0 e.1 × (waiter_of o side e ≡ Some w)
 
 -- the waiters are all who wait there, and stand by rising ticket
 abbrev pub WaitersInOrder : Type 0
-WaitersInOrder = (o : ℕ) (side : Side) (gs : List (ℕ × PlainGoroutine)) → TicketsRise (waiters o side gs) × ((w : Waiter) → In w (waiters o side gs) ↔ IsWaiterOf o side gs w)
+WaitersInOrder = (o : ℕ) (side : Side) (gs : List (ℕ × GoroutineView)) → TicketsRise (waiters o side gs) × ((w : Waiter) → In w (waiters o side gs) ↔ IsWaiterOf o side gs w)
 
 -- the first waiter is the one that stands first
 abbrev pub FirstInOrder : Type 0
-FirstInOrder = (o : ℕ) (side : Side) (gs : List (ℕ × PlainGoroutine)) → first o side gs ≡ head (waiters o side gs)
+FirstInOrder = (o : ℕ) (side : Side) (gs : List (ℕ × GoroutineView)) → first o side gs ≡ head (waiters o side gs)
 
 -- the computed places are the least closed set of the graph
 abbrev pub LeastComputed : Type 0
@@ -51,7 +51,7 @@ LeastComputed = (g : GraphParts) (p : ℕ) → In p (least_places g) ↔ Least g
 
 -- the test of the keep rule is the relation
 abbrev pub KeepsComputed : Type 0
-KeepsComputed = (s : State) (may_set : Bool) (g : ℕ) → (keeps s may_set g ≡ true) ↔ Keeps s may_set g
+KeepsComputed = (s : State) (sets_finalisers : Bool) (g : ℕ) → (keeps s sets_finalisers g ≡ true) ↔ Keeps s sets_finalisers g
 
 -- the computed objects are those that are retained
 abbrev pub RetainedComputed : Type 0

@@ -1,4 +1,4 @@
-pub mod Plain
+pub mod Views
 pub mod Values
 pub mod State
 pub mod Waiting

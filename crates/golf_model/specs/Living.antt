@@ -5,7 +5,7 @@ use Rattle.golf_theory.specs.Membership.{In, is_in, any_of}
 use Rattle.golf_theory.specs.Reached.{Reached}
 use Rattle.golf_theory.specs.Least.{least}
 use Rattle.golf_data.specs.declared.value.Object.{Object}
-use Rattle.golf_model.specs.Plain.{PlainGoroutine}
+use Rattle.golf_model.specs.Views.{GoroutineView}
 use Rattle.golf_model.specs.Values.{refs}
 use Rattle.golf_model.specs.Waiting.{waits_of}
 use Rattle.golf_model.specs.State.{State, is_running}
@@ -22,15 +22,15 @@ pub data LiveRoot (s : State) : Node → Type 0 where
   InQueue : (o : ℕ) → In o (queue_refs s.queue) → LiveRoot s (Node.AnObject o)
   -- in the references of an object that has a finaliser
   InFinalised : (o p : ℕ) (x : Object) → In p (keys s.finalisers) → Entry s.objects p x → In o (object_refs x) → LiveRoot s (Node.AnObject o)
-  Running : (g : ℕ) (r : PlainGoroutine) → Entry s.goroutines g r → is_running r.mode ≡ true → LiveRoot s (Node.AGoroutine g)
+  Running : (g : ℕ) (r : GoroutineView) → Entry s.goroutines g r → is_running r.mode ≡ true → LiveRoot s (Node.AGoroutine g)
   FinaliserGoroutine : LiveRoot s (Node.AGoroutine 0)
 
 -- what one live node makes live
 pub data LiveStep (s : State) : Node → Node → Type 0 where
   InObject : (p o : ℕ) (x : Object) → Entry s.objects p x → In o (object_refs x) → LiveStep s (Node.AnObject p) (Node.AnObject o)
-  InGoroutine : (g o : ℕ) (r : PlainGoroutine) → Entry s.goroutines g r → In o (goroutine_refs r) → LiveStep s (Node.AGoroutine g) (Node.AnObject o)
+  InGoroutine : (g o : ℕ) (r : GoroutineView) → Entry s.goroutines g r → In o (goroutine_refs r) → LiveStep s (Node.AGoroutine g) (Node.AnObject o)
   -- a blocked goroutine that waits on the object
-  Awakened : (o g : ℕ) (r : PlainGoroutine) → Entry s.goroutines g r → In o (waited (waits_of r.mode)) → LiveStep s (Node.AnObject o) (Node.AGoroutine g)
+  Awakened : (o g : ℕ) (r : GoroutineView) → Entry s.goroutines g r → In o (waited (waits_of r.mode)) → LiveStep s (Node.AnObject o) (Node.AGoroutine g)
 
 -- a list ends with the node in which each entry is live at once, or made live by an earlier one
 abbrev pub Live : State → Node → Type 0
@@ -47,12 +47,12 @@ has_goroutine (Node.AnObject p ∷ xs) h = has_goroutine xs h
 has_goroutine (Node.AGoroutine g ∷ xs) h = (h == g) || has_goroutine xs h
 
 -- it runs, or waits on an object that is live already
-abbrev pub is_awake : (ℕ → Bool) → PlainGoroutine → Bool
-is_awake live r = is_running r.mode || any_of live (waited (waits_of r.mode))
+abbrev pub is_awakened : (ℕ → Bool) → GoroutineView → Bool
+is_awakened live r = is_running r.mode || any_of live (waited (waits_of r.mode))
 
-abbrev pub awakes : (ℕ → Bool) → ℕ → List (ℕ × PlainGoroutine) → Bool
+abbrev pub awakes : (ℕ → Bool) → ℕ → List (ℕ × GoroutineView) → Bool
 awakes live g [] = false
-awakes live g (e ∷ es) = ((g == e.0) && is_awake live e.1) || awakes live g es
+awakes live g (e ∷ es) = ((g == e.0) && is_awakened live e.1) || awakes live g es
 
 -- live at once, or made live by what is in the list already
 abbrev pub is_live_next : State → List Node → Node → Bool
@@ -77,7 +77,7 @@ abbrev pub live_objects : State → List ℕ
 live_objects s = filter (has_object (live_list s)) (keys s.objects)
 
 -- blocked and outside these
-abbrev pub is_dead : List Node → ℕ → PlainGoroutine → Bool
+abbrev pub is_dead : List Node → ℕ → GoroutineView → Bool
 is_dead live g r = not (is_running r.mode) && not (has_goroutine live g)
 
 -- the blocked goroutines outside the live set, in rising order
@@ -86,4 +86,4 @@ dead s = keys_where (is_dead (live_list s)) s.goroutines
 
 -- a goroutine is dead
 abbrev pub Dead : State → ℕ → Type 0
-Dead s g = (r : PlainGoroutine) × Entry s.goroutines g r × (is_running r.mode ≡ false) × (Live s (Node.AGoroutine g) → ⊥)
+Dead s g = (r : GoroutineView) × Entry s.goroutines g r × (is_running r.mode ≡ false) × (Live s (Node.AGoroutine g) → ⊥)

@@ -8,7 +8,7 @@ use Rattle.golf_data.specs.declared.goroutine.Side.{Side}
 use Rattle.golf_data.specs.declared.goroutine.WaitKind.{WaitKind}
 use Rattle.golf_model.specs.Values.{int_of, is_zero}
 use Rattle.golf_model.specs.State.{State}
-use Rattle.golf_model.specs.Waiting.{Waiter, first, plain_wait}
+use Rattle.golf_model.specs.Waiting.{Waiter, first, bare_wait}
 use Rattle.golf_model.specs.Waking.{Waking, released}
 use Rattle.golf_model.specs.Changes.{Change}
 use Rattle.golf_model.specs.Acting.{Actor, next, goes, panics, dies, blocks, on_some, taking_one, taking_two, choose, at_reference, at_mutex, at_group}
@@ -20,7 +20,7 @@ runs w = Change.Become w.number (released w.goroutine)
 
 -- blocks on the object with that side
 abbrev pub blocks_on : Actor → List Value → WaitKind → ℕ → Side → List Change
-blocks_on a rest kind o side = blocks a (next a.frame rest) kind (plain_wait o side ∷ [])
+blocks_on a rest kind o side = blocks a (next a.frame rest) kind (bare_wait o side ∷ [])
 
 -- an unlocked mutex becomes locked; a locked one blocks
 abbrev pub locks_by : Actor → List Value → ℕ → Bool → List Change

@@ -6,7 +6,7 @@ use Rattle.golf_data.specs.declared.value.Object.{Object}
 use Rattle.golf_data.specs.declared.goroutine.PanicKind.{PanicKind}
 use Rattle.golf_data.specs.declared.goroutine.Side.{Side}
 use Rattle.golf_data.specs.declared.goroutine.WaitKind.{WaitKind}
-use Rattle.golf_model.specs.Plain.{PlainGoroutine}
+use Rattle.golf_model.specs.Views.{GoroutineView}
 use Rattle.golf_model.specs.Values.{is_zero, is_minus_one}
 use Rattle.golf_model.specs.State.{State}
 use Rattle.golf_model.specs.Waiting.{Waiter, waiter_ticket, first}
@@ -24,12 +24,12 @@ one_if None = 0
 one_if (Some x) = 1
 
 -- how many readers are served
-abbrev pub readers_next : Option ℕ → ℕ → List (ℕ × PlainGoroutine) → ℕ
+abbrev pub readers_next : Option ℕ → ℕ → List (ℕ × GoroutineView) → ℕ
 readers_next below o [] = 0
 readers_next below o (e ∷ es) = one_if (reads_next below o e.1) + readers_next below o es
 
 -- each reader with a ticket below that of every writer runs, and the count is their number
-abbrev pub to_readers : ℕ → Option ℕ → List (ℕ × PlainGoroutine) → List Change
+abbrev pub to_readers : ℕ → Option ℕ → List (ℕ × GoroutineView) → List Change
 to_readers o below gs = counted o (pos (readers_next below o gs)) ∷ Change.WakeAll o (Waking.ToReaders below) ∷ []
 
 -- the writer runs, and the count is -1
@@ -37,13 +37,13 @@ abbrev pub to_writer : ℕ → Waiter → List Change
 to_writer o w = counted o (negsuc 0) ∷ runs w ∷ []
 
 -- whoever waits first is served (profile)
-abbrev pub serves_first : ℕ → List (ℕ × PlainGoroutine) → Option Waiter → Option Waiter → List Change
+abbrev pub serves_first : ℕ → List (ℕ × GoroutineView) → Option Waiter → Option Waiter → List Change
 serves_first o gs None r = to_readers o None gs
 serves_first o gs (Some w) None = to_writer o w
 serves_first o gs (Some w) (Some r) = choose (nat_lt (waiter_ticket r) (waiter_ticket w)) (to_readers o (Some (waiter_ticket w)) gs) (to_writer o w)
 
 -- a free mutex is handed on; where nobody waits the count is 0
-abbrev pub serves : ℕ → List (ℕ × PlainGoroutine) → List Change
+abbrev pub serves : ℕ → List (ℕ × GoroutineView) → List Change
 serves o gs = serves_first o gs (first o Side.Write gs) (first o Side.Read gs)
 
 abbrev pub write_locks_by : Actor → List Value → ℕ → ℤ → List Change

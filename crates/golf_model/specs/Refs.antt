@@ -8,7 +8,7 @@ use Rattle.golf_data.specs.declared.goroutine.Deferred.{Deferred}
 use Rattle.golf_data.specs.declared.goroutine.Leaving.{Leaving}
 use Rattle.golf_data.specs.declared.goroutine.Queued.{Queued}
 use Rattle.golf_data.specs.declared.goroutine.Wait.{Wait}
-use Rattle.golf_model.specs.Plain.{PlainFrame, PlainGoroutine}
+use Rattle.golf_model.specs.Views.{FrameView, GoroutineView}
 use Rattle.golf_model.specs.Values.{value_refs, refs}
 use Rattle.golf_model.specs.Waiting.{waits_of}
 use Rattle.golf_model.specs.State.{State}
@@ -39,10 +39,10 @@ leaving_refs (Leaving.Returning v) = option_refs v
 leaving_refs (Leaving.Unwinding x) = []
 
 -- the references in a frame; every slot counts until the frame is gone
-abbrev pub frame_refs : PlainFrame → List ℕ
+abbrev pub frame_refs : FrameView → List ℕ
 frame_refs f = refs f.slots ++ (refs f.operands ++ (deferred_refs f.deferred ++ leaving_refs f.leaving))
 
-abbrev pub frames_refs : List PlainFrame → List ℕ
+abbrev pub frames_refs : List FrameView → List ℕ
 frames_refs [] = []
 frames_refs (f ∷ fs) = frame_refs f ++ frames_refs fs
 
@@ -57,7 +57,7 @@ wait_refs [] = []
 wait_refs (w ∷ ws) = w.object.0 ∷ (value_refs w.value ++ wait_refs ws)
 
 -- the references in all frames of a goroutine and in its waits
-abbrev pub goroutine_refs : PlainGoroutine → List ℕ
+abbrev pub goroutine_refs : GoroutineView → List ℕ
 goroutine_refs r = frames_refs r.frames ++ wait_refs (waits_of r.mode)
 
 -- the objects of the finaliser queue
@@ -79,11 +79,11 @@ refs_where test [] = []
 refs_where test (e ∷ es) = refs_if (test e.0) (object_refs e.1) ++ refs_where test es
 
 -- the references in those goroutines that pass the test
-abbrev pub goroutine_refs_where : (ℕ → Bool) → List (ℕ × PlainGoroutine) → List ℕ
+abbrev pub goroutine_refs_where : (ℕ → Bool) → List (ℕ × GoroutineView) → List ℕ
 goroutine_refs_where test [] = []
 goroutine_refs_where test (e ∷ es) = refs_if (test e.0) (goroutine_refs e.1) ++ goroutine_refs_where test es
 
 -- the references in the goroutine of this number
-abbrev pub refs_of_goroutine : Option PlainGoroutine → List ℕ
+abbrev pub refs_of_goroutine : Option GoroutineView → List ℕ
 refs_of_goroutine None = []
 refs_of_goroutine (Some r) = goroutine_refs r

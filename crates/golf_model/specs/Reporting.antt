@@ -5,14 +5,15 @@ use Rattle.golf_theory.specs.Membership.{is_in}
 use Rattle.golf_base.specs.declared.ids.GoroutineId.{GoroutineId}
 use Rattle.golf_data.specs.declared.code.Code.{Code}
 use Rattle.golf_data.specs.declared.goroutine.Mode.{Mode}
+use Rattle.golf_data.specs.declared.goroutine.Queued.{Queued}
 use Rattle.golf_data.specs.declared.report.Book.{Book}
 use Rattle.golf_data.specs.declared.report.Entry.{Entry}
 use Rattle.golf_data.specs.declared.report.Report.{Report}
-use Rattle.golf_model.specs.Plain.{PlainGoroutine}
+use Rattle.golf_model.specs.Views.{GoroutineView}
 use Rattle.golf_model.specs.State.{State, start}
 use Rattle.golf_model.specs.Living.{dead, live_objects}
-use Rattle.golf_model.specs.Collecting.{unkept, retained, real_collect, sets}
-use Rattle.golf_model.specs.Running.{Event, run_by, stops_by}
+use Rattle.golf_model.specs.Collecting.{unkept, retained, real_collect, sets_finalisers}
+use Rattle.golf_model.specs.Running.{Event, run_by, stops_by, calls_by}
 
 abbrev pub goroutine_id : ℕ → GoroutineId
 goroutine_id g = record { 0 = g }
@@ -26,7 +27,7 @@ entry_by g started Mode.Running = []
 entry_by g started (Mode.Blocked kind line waits ticket) =
     record { goroutine = goroutine_id g; wait = kind; line = line; started = started } ∷ []
 
-abbrev pub entry_of : ℕ → Option PlainGoroutine → List Entry
+abbrev pub entry_of : ℕ → Option GoroutineView → List Entry
 entry_of g None = []
 entry_of g (Some r) = entry_by g r.started r.mode
 
@@ -49,12 +50,12 @@ new_dead book p = without (dead p) (numbers book.reported)
 
 -- those that this stop removes
 abbrev pub new_gone : Bool → Bool → Book → State → List ℕ
-new_gone true may_set book p = without (unkept p may_set) (numbers book.reclaimed)
-new_gone false may_set book p = []
+new_gone true sets_finalisers book p = without (unkept p sets_finalisers) (numbers book.reclaimed)
+new_gone false sets_finalisers book p = []
 
 -- all that were removed by then
 abbrev pub all_gone : Bool → Bool → Book → State → List ℕ
-all_gone recover may_set book p = numbers book.reclaimed ++ new_gone recover may_set book p
+all_gone recover sets_finalisers book p = numbers book.reclaimed ++ new_gone recover sets_finalisers book p
 
 -- the retained ones of the objects, in rising order
 abbrev pub retained_objects : State → List ℕ → List ℕ
@@ -62,37 +63,41 @@ retained_objects p gone = filter (λ o. is_in o (retained p gone)) (keys p.objec
 
 -- the book with one collection more
 abbrev pub book_after : Bool → Bool → Book → State → Book
-book_after recover may_set book p = record {
+book_after recover sets_finalisers book p = record {
   collections = book.collections + 1;
   reported = book.reported ++ map goroutine_id (new_dead book p);
-  reclaimed = book.reclaimed ++ map goroutine_id (new_gone recover may_set book p);
+  reclaimed = book.reclaimed ++ map goroutine_id (new_gone recover sets_finalisers book p);
 }
 
 -- the report of a collection, on the state right before it and the book so far
 abbrev pub report : Bool → Bool → Book → State → Report
-report recover may_set book p = record {
+report recover sets_finalisers book p = record {
   number = book.collections + 1;
   marked = length (live_objects p);
   reported = entries p (new_dead book p);
-  kept = length (without (dead p) (all_gone recover may_set book p));
-  reclaimed = length (new_gone recover may_set book p);
-  objects = length (retained_objects p (all_gone recover may_set book p));
+  kept = length (without (dead p) (all_gone recover sets_finalisers book p));
+  reclaimed = length (new_gone recover sets_finalisers book p);
+  objects = length (retained_objects p (all_gone recover sets_finalisers book p));
 }
 
 -- the reports of the stops, one after another
 abbrev pub reports_from : Bool → Bool → Book → List State → List Report
-reports_from recover may_set book [] = []
-reports_from recover may_set book (p ∷ ps) = report recover may_set book p ∷ reports_from recover may_set (book_after recover may_set book p) ps
+reports_from recover sets_finalisers book [] = []
+reports_from recover sets_finalisers book (p ∷ ps) = report recover sets_finalisers book p ∷ reports_from recover sets_finalisers (book_after recover sets_finalisers book p) ps
 
 -- the book of reports of a plain run with these stops
 abbrev pub book_of : List State → Bool → Bool → List Report
-book_of ps recover may_set = reports_from recover may_set new_book ps
+book_of ps recover sets_finalisers = reports_from recover sets_finalisers new_book ps
 
 -- the run in which every collection is a real one
 abbrev pub real_run : Code → List Event → Bool → State
-real_run code es recover = run_by (λ s. real_collect s recover (sets code)) code (start code) es
+real_run code es recover = run_by (λ s. real_collect s recover (sets_finalisers code)) code (start code) es
+
+-- the entries that goroutine 0 took from the queue in it, in order
+abbrev pub real_calls : Code → List Event → Bool → List Queued
+real_calls code es recover = calls_by (λ s. real_collect s recover (sets_finalisers code)) code (start code) es
 
 -- its reports, each on the state right before it and the goroutines that earlier ones reported
 abbrev pub real_reports : Code → List Event → Bool → List Report
 real_reports code es recover =
-    book_of (stops_by (λ s. real_collect s recover (sets code)) code (start code) es) recover (sets code)
+    book_of (stops_by (λ s. real_collect s recover (sets_finalisers code)) code (start code) es) recover (sets_finalisers code)

@@ -7,7 +7,7 @@ use Rattle.golf_data.specs.declared.code.Instr.{Instr}
 use Rattle.golf_data.specs.declared.code.Line.{Line}
 use Rattle.golf_data.specs.declared.goroutine.Leaving.{Leaving}
 use Rattle.golf_data.specs.declared.goroutine.Queued.{Queued}
-use Rattle.golf_model.specs.Plain.{PlainFrame, PlainGoroutine}
+use Rattle.golf_model.specs.Views.{FrameView, GoroutineView}
 use Rattle.golf_model.specs.State.{State, runnable, ending, start}
 use Rattle.golf_model.specs.Changes.{Change}
 use Rattle.golf_model.specs.Turn.{line_at, whose_turn, turn_changes, step}
@@ -29,16 +29,16 @@ abbrev pub line_collects : Option Line → Bool
 line_collects None = false
 line_collects (Some l) = is_collection l.instr
 
-abbrev pub frame_collects : Code → PlainFrame → Leaving → Bool
+abbrev pub frame_collects : Code → FrameView → Leaving → Bool
 frame_collects code f Leaving.No = line_collects (line_at code f.function f.at)
 frame_collects code f (Leaving.Returning v) = false
 frame_collects code f (Leaving.Unwinding x) = false
 
-abbrev pub frames_collect : Code → List PlainFrame → Bool
+abbrev pub frames_collect : Code → List FrameView → Bool
 frames_collect code [] = false
 frames_collect code (f ∷ fs) = frame_collects code f f.leaving
 
-abbrev pub goroutine_collects : Code → Option PlainGoroutine → Bool
+abbrev pub goroutine_collects : Code → Option GoroutineView → Bool
 goroutine_collects code None = false
 goroutine_collects code (Some r) = frames_collect code r.frames
 
@@ -52,7 +52,7 @@ module _ (collect : State → State) (code : Code) where
   collected_if true s = collect s
   collected_if false s = s
 
-  -- a turn, and behind it the collection that its instruction asks for; a state with an ending stays
+  -- a turn, and after it the collection that its instruction asks for; a state with an ending stays
   abbrev pub happens_in : Bool → State → Event → State
   happens_in true s e = s
   happens_in false s (Event.Turn c) = collected_if (wants_collection code s c) (step code s c)

@@ -1,5 +1,5 @@
 -- `select` (Go specification, "Select statements").
-use Rattle.std.specs.Prelude.{ℕ, ◌%◌, Bool, true, false, ◌||◌, List, [], ◌∷◌, ◌++◌, length, Option, Some, None, is_some, slice_get, nat_lt}
+use Rattle.std.specs.Prelude.{ℕ, ◌%◌, Bool, true, false, ◌&&◌, ◌||◌, List, [], ◌∷◌, ◌++◌, length, Option, Some, None, is_some, slice_get, nat_lt}
 use Rattle.golf_theory.specs.Maps.{find}
 use Rattle.golf_data.specs.declared.value.Value.{Value}
 use Rattle.golf_data.specs.declared.value.Object.{Object}
@@ -9,11 +9,11 @@ use Rattle.golf_data.specs.declared.code.CaseKind.{CaseKind}
 use Rattle.golf_data.specs.declared.goroutine.Side.{Side}
 use Rattle.golf_data.specs.declared.goroutine.Wait.{Wait}
 use Rattle.golf_data.specs.declared.goroutine.WaitKind.{WaitKind}
-use Rattle.golf_model.specs.Plain.{PlainFrame, PlainGoroutine}
+use Rattle.golf_model.specs.Views.{FrameView, GoroutineView}
 use Rattle.golf_model.specs.State.{State, not_empty}
 use Rattle.golf_model.specs.Waiting.{first, send_wait, receive_wait}
 use Rattle.golf_model.specs.Changes.{Change}
-use Rattle.golf_model.specs.Acting.{Actor, next, jumps, blocks, at_reference_or}
+use Rattle.golf_model.specs.Acting.{Actor, next, jumps, blocks, choose, at_reference_or}
 use Rattle.golf_model.specs.Channels.{sends_on, receives_on}
 
 -- a case with its operands
@@ -51,20 +51,45 @@ abbrev pub offers_of : List SelectCase → List Value → Option Taken
 offers_of [] operands = Some ([], operands)
 offers_of (k ∷ ks) operands = and_case k (offers_of ks operands)
 
+-- whether an object is a channel
+abbrev pub is_channel : Option Object → Bool
+is_channel None = false
+is_channel (Some (Object.Struct fields)) = false
+is_channel (Some (Object.Slice elements)) = false
+is_channel (Some (Object.Chan c)) = true
+is_channel (Some (Object.Mutex locked)) = false
+is_channel (Some (Object.Group n)) = false
+is_channel (Some (Object.Rw n)) = false
+is_channel (Some (Object.Cond v)) = false
+
+-- whether a value is nil or a channel
+abbrev pub is_nil_or_channel : State → Value → Bool
+is_nil_or_channel s (Value.Int n) = false
+is_nil_or_channel s (Value.Bool b) = false
+is_nil_or_channel s (Value.Text k) = false
+is_nil_or_channel s Value.Unit = false
+is_nil_or_channel s Value.Nil = true
+is_nil_or_channel s (Value.Ref o) = is_channel (find o.0 s.objects)
+
+-- whether each case is on nil or on a channel
+abbrev pub all_on_channels : State → List Offer → Bool
+all_on_channels s [] = true
+all_on_channels s (x ∷ xs) = is_nil_or_channel s x.channel && all_on_channels s xs
+
 -- whether a send or a receive would not block
-abbrev pub can_send : ℕ → List (ℕ × PlainGoroutine) → Channel → Bool
+abbrev pub can_send : ℕ → List (ℕ × GoroutineView) → Channel → Bool
 can_send o gs c = c.closed || (is_some (first o Side.Receive gs) || nat_lt (length c.buffer) c.capacity)
 
-abbrev pub can_receive : ℕ → List (ℕ × PlainGoroutine) → Channel → Bool
+abbrev pub can_receive : ℕ → List (ℕ × GoroutineView) → Channel → Bool
 can_receive o gs c = not_empty c.buffer || (is_some (first o Side.Send gs) || c.closed)
 
-abbrev pub can_proceed : CaseKind → ℕ → List (ℕ × PlainGoroutine) → Channel → Bool
+abbrev pub can_proceed : CaseKind → ℕ → List (ℕ × GoroutineView) → Channel → Bool
 can_proceed CaseKind.Send o gs c = can_send o gs c
 can_proceed CaseKind.Take o gs c = can_receive o gs c
 can_proceed CaseKind.TakeOk o gs c = can_receive o gs c
 
 -- the same of an object, which is a channel
-abbrev pub is_ready_at : CaseKind → ℕ → List (ℕ × PlainGoroutine) → Option Object → Bool
+abbrev pub is_ready_at : CaseKind → ℕ → List (ℕ × GoroutineView) → Option Object → Bool
 is_ready_at kind o gs None = false
 is_ready_at kind o gs (Some (Object.Struct fields)) = false
 is_ready_at kind o gs (Some (Object.Slice elements)) = false
@@ -96,7 +121,7 @@ ready s [] = []
 ready s (x ∷ xs) = kept_if (is_ready s x) x (ready s xs)
 
 -- a case is done as the operation alone would be, and the goroutine goes on at its target
-abbrev pub proceeds_by : Actor → PlainFrame → CaseKind → Value → State → ℕ → List Change
+abbrev pub proceeds_by : Actor → FrameView → CaseKind → Value → State → ℕ → List Change
 proceeds_by a after CaseKind.Send v s o = sends_on a after v s o
 proceeds_by a after CaseKind.Take v s o = receives_on a after false s o
 proceeds_by a after CaseKind.TakeOk v s o = receives_on a after true s o
@@ -139,9 +164,10 @@ selects_one a rest s xs otherwise (Some x) = proceeds a rest s x
 abbrev pub chosen : ℕ → List Offer → Option Offer
 chosen choice xs = slice_get xs (choice % length xs)
 
+-- where a case is on what is neither nil nor a channel, no rule fits
 abbrev pub selects_from : Actor → State → ℕ → Option ℕ → Option Taken → List Change
 selects_from a s choice otherwise None = []
-selects_from a s choice otherwise (Some t) = selects_one a t.1 s t.0 otherwise (chosen choice (ready s t.0))
+selects_from a s choice otherwise (Some t) = choose (all_on_channels s t.0) (selects_one a t.1 s t.0 otherwise (chosen choice (ready s t.0))) []
 
 -- takes the operands of all cases
 abbrev pub selects : Actor → State → ℕ → List SelectCase → Option ℕ → List Change

@@ -9,7 +9,7 @@ use Rattle.golf_data.specs.declared.goroutine.Ending.{Ending}
 use Rattle.golf_data.specs.declared.goroutine.Leaving.{Leaving}
 use Rattle.golf_data.specs.declared.goroutine.Mode.{Mode}
 use Rattle.golf_data.specs.declared.goroutine.Queued.{Queued}
-use Rattle.golf_model.specs.Plain.{PlainFrame, PlainGoroutine}
+use Rattle.golf_model.specs.Views.{FrameView, GoroutineView}
 use Rattle.golf_model.specs.Values.{zeros_of}
 
 -- everything that a run can depend on; the three maps have their entries in rising order of number, and goroutine 0 is always there
@@ -17,7 +17,7 @@ pub record State : Type 0 where
   pub globals : List Value
   pub objects : List (ℕ × Object)
   pub finalisers : List (ℕ × ℕ)
-  pub goroutines : List (ℕ × PlainGoroutine)
+  pub goroutines : List (ℕ × GoroutineView)
   pub queue : List Queued
   pub output : List ℕ
   pub last_object : ℕ
@@ -34,7 +34,7 @@ not_empty [] = false
 not_empty (x ∷ xs) = true
 
 -- whether a goroutine can run; goroutine 0, which runs finalisers, wants a frame or an entry of the queue to begin with (package runtime, `SetFinalizer`: "a single goroutine runs all finalizers for a program, sequentially")
-abbrev pub can_run : List Queued → ℕ → PlainGoroutine → Bool
+abbrev pub can_run : List Queued → ℕ → GoroutineView → Bool
 can_run queue g r = is_running r.mode && (not (g == 0) || (not_empty r.frames || not_empty queue))
 
 -- the goroutines that can run, in rising order
@@ -55,7 +55,7 @@ abbrev pub slots_of : Function → List Value → List Value
 slots_of fn arguments = arguments ++ replicate (fn.slots - length arguments) (Value.Int (pos 0))
 
 -- a frame at the first instruction of a function
-abbrev pub opened : ℕ → List Value → Bool → Function → PlainFrame
+abbrev pub opened : ℕ → List Value → Bool → Function → FrameView
 opened f arguments discards fn = record {
   function = f;
   at = 0;
@@ -67,11 +67,11 @@ opened f arguments discards fn = record {
 }
 
 -- the first frame of a call of the function of this number, where the code has one
-abbrev pub call_frame : Code → ℕ → List Value → Bool → Option PlainFrame
+abbrev pub call_frame : Code → ℕ → List Value → Bool → Option FrameView
 call_frame code f arguments discards = option_map (opened f arguments discards) (slice_get code.functions f)
 
 -- goroutine 0 without a frame, and goroutine 1 in function 0, which runs the initialisers and calls `main` (Go specification, "Program initialization")
-abbrev pub first_goroutines : Code → List (ℕ × PlainGoroutine)
+abbrev pub first_goroutines : Code → List (ℕ × GoroutineView)
 first_goroutines code =
     (0, record { frames = []; mode = Mode.Running; started = 0 })
     ∷ (1, record { frames = option_to_list (call_frame code 0 [] true); mode = Mode.Running; started = code.main_line })

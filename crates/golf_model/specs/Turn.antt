@@ -8,7 +8,7 @@ use Rattle.golf_data.specs.declared.code.Instr.{Instr}
 use Rattle.golf_data.specs.declared.code.Line.{Line}
 use Rattle.golf_data.specs.declared.goroutine.Leaving.{Leaving}
 use Rattle.golf_data.specs.declared.goroutine.PanicKind.{PanicKind}
-use Rattle.golf_model.specs.Plain.{PlainFrame, PlainGoroutine}
+use Rattle.golf_model.specs.Views.{FrameView, GoroutineView}
 use Rattle.golf_model.specs.Values.{text_of, line_bytes}
 use Rattle.golf_model.specs.State.{State, runnable}
 use Rattle.golf_model.specs.Changes.{Change, apply_all}
@@ -95,42 +95,42 @@ changes code Instr.ReturnValue a choice s = returns_value a
 changes code (Instr.Print n) a choice s = prints code a n
 changes code Instr.Collect a choice s = goes a a.frame.operands
 changes code (Instr.SetFinalizer f) a choice s = finalises a f s
-changes code Instr.ClearFinalizer a choice s = unfinalises a
+changes code Instr.ClearFinalizer a choice s = unfinalises a s
 changes code Instr.Panic a choice s = panics_with a
 
 -- the instruction at a place of a function, with its line
 abbrev pub line_at : Code → ℕ → ℕ → Option Line
 line_at code f at = option_and_then (λ fn. slice_get fn.body at) (slice_get code.functions f)
 
--- the line of the return of a returning frame, which stands behind it
 abbrev pub line_number : Option Line → ℕ
 line_number None = 0
 line_number (Some l) = l.line
 
-abbrev pub return_line : Code → PlainFrame → ℕ
+-- the line of the return of a returning frame, which stands one place past it
+abbrev pub return_line : Code → FrameView → ℕ
 return_line code f = line_number (line_at code f.function (f.at - 1))
 
 -- the goroutine with this innermost frame, at an instruction of this line
-abbrev pub acting : ℕ → PlainGoroutine → PlainFrame → List PlainFrame → ℕ → Actor
+abbrev pub acting : ℕ → GoroutineView → FrameView → List FrameView → ℕ → Actor
 acting g r f callers line = record { number = g; frame = f; callers = callers; started = r.started; line = line }
 
 -- the changes of an instruction with its line; past the end no rule fits
-abbrev pub performs : Code → ℕ → PlainGoroutine → PlainFrame → List PlainFrame → ℕ → State → Option Line → List Change
+abbrev pub performs : Code → ℕ → GoroutineView → FrameView → List FrameView → ℕ → State → Option Line → List Change
 performs code g r f callers choice s None = []
 performs code g r f callers choice s (Some l) = changes code l.instr (acting g r f callers l.line) choice s
 
 -- the turn of a goroutine with this innermost frame
-abbrev pub frame_changes : Code → ℕ → PlainGoroutine → PlainFrame → List PlainFrame → ℕ → State → Leaving → List Change
+abbrev pub frame_changes : Code → ℕ → GoroutineView → FrameView → List FrameView → ℕ → State → Leaving → List Change
 frame_changes code g r f callers choice s Leaving.No = performs code g r f callers choice s (line_at code f.function f.at)
 frame_changes code g r f callers choice s (Leaving.Returning v) = leaves_returning code (acting g r f callers (return_line code f)) v f.deferred
 frame_changes code g r f callers choice s (Leaving.Unwinding x) = leaves_unwinding code (acting g r f callers x.line) x f.deferred
 
 -- the turn of a goroutine with these frames; without one, goroutine 0 goes to its queue
-abbrev pub goroutine_changes : Code → ℕ → PlainGoroutine → ℕ → State → List PlainFrame → List Change
+abbrev pub goroutine_changes : Code → ℕ → GoroutineView → ℕ → State → List FrameView → List Change
 goroutine_changes code g r choice s [] = cond (g == 0) (begins_queued code r s.queue) []
 goroutine_changes code g r choice s (f ∷ callers) = frame_changes code g r f callers choice s f.leaving
 
-abbrev pub turn_of : Code → ℕ → ℕ → State → Option PlainGoroutine → List Change
+abbrev pub turn_of : Code → ℕ → ℕ → State → Option GoroutineView → List Change
 turn_of code g choice s None = []
 turn_of code g choice s (Some r) = goroutine_changes code g r choice s r.frames
 

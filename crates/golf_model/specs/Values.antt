@@ -69,67 +69,68 @@ same_int (pos m) (negsuc n) = false
 same_int (negsuc m) (pos n) = false
 same_int (negsuc m) (negsuc n) = m == n
 
-abbrev pub is_int : ℤ → Value → Bool
-is_int n (Value.Int m) = same_int n m
-is_int n (Value.Bool b) = false
-is_int n (Value.Text k) = false
-is_int n Value.Unit = false
-is_int n Value.Nil = false
-is_int n (Value.Ref o) = false
-
 abbrev pub same_bool : Bool → Bool → Bool
 same_bool true b = b
 same_bool false true = false
 same_bool false false = true
 
-abbrev pub is_bool : Bool → Value → Bool
-is_bool b (Value.Int n) = false
-is_bool b (Value.Bool c) = same_bool b c
-is_bool b (Value.Text k) = false
-is_bool b Value.Unit = false
-is_bool b Value.Nil = false
-is_bool b (Value.Ref o) = false
+-- an integer is compared with an integer, and so for the other kinds; nil and references are of one kind
+abbrev pub equals_int : ℤ → Value → Option Bool
+equals_int n (Value.Int m) = Some (same_int n m)
+equals_int n (Value.Bool b) = None
+equals_int n (Value.Text k) = None
+equals_int n Value.Unit = None
+equals_int n Value.Nil = None
+equals_int n (Value.Ref o) = None
 
-abbrev pub is_text : ℕ → Value → Bool
-is_text k (Value.Int n) = false
-is_text k (Value.Bool b) = false
-is_text k (Value.Text j) = k == j
-is_text k Value.Unit = false
-is_text k Value.Nil = false
-is_text k (Value.Ref o) = false
+abbrev pub equals_bool : Bool → Value → Option Bool
+equals_bool b (Value.Int n) = None
+equals_bool b (Value.Bool c) = Some (same_bool b c)
+equals_bool b (Value.Text k) = None
+equals_bool b Value.Unit = None
+equals_bool b Value.Nil = None
+equals_bool b (Value.Ref o) = None
 
-abbrev pub is_unit : Value → Bool
-is_unit (Value.Int n) = false
-is_unit (Value.Bool b) = false
-is_unit (Value.Text k) = false
-is_unit Value.Unit = true
-is_unit Value.Nil = false
-is_unit (Value.Ref o) = false
+abbrev pub equals_text : ℕ → Value → Option Bool
+equals_text k (Value.Int n) = None
+equals_text k (Value.Bool b) = None
+equals_text k (Value.Text j) = Some (k == j)
+equals_text k Value.Unit = None
+equals_text k Value.Nil = None
+equals_text k (Value.Ref o) = None
 
-abbrev pub is_nil : Value → Bool
-is_nil (Value.Int n) = false
-is_nil (Value.Bool b) = false
-is_nil (Value.Text k) = false
-is_nil Value.Unit = false
-is_nil Value.Nil = true
-is_nil (Value.Ref o) = false
+abbrev pub equals_unit : Value → Option Bool
+equals_unit (Value.Int n) = None
+equals_unit (Value.Bool b) = None
+equals_unit (Value.Text k) = None
+equals_unit Value.Unit = Some true
+equals_unit Value.Nil = None
+equals_unit (Value.Ref o) = None
 
-abbrev pub is_reference : ℕ → Value → Bool
-is_reference o (Value.Int n) = false
-is_reference o (Value.Bool b) = false
-is_reference o (Value.Text k) = false
-is_reference o Value.Unit = false
-is_reference o Value.Nil = false
-is_reference o (Value.Ref p) = o == p.0
+abbrev pub equals_nil : Value → Option Bool
+equals_nil (Value.Int n) = None
+equals_nil (Value.Bool b) = None
+equals_nil (Value.Text k) = None
+equals_nil Value.Unit = None
+equals_nil Value.Nil = Some true
+equals_nil (Value.Ref o) = Some false
 
--- `==`: the same kind and the same content; a text is its place in the table, which has each text once (Go specification, "Comparison operators")
-abbrev pub same_value : Value → Value → Bool
-same_value (Value.Int n) v = is_int n v
-same_value (Value.Bool b) v = is_bool b v
-same_value (Value.Text k) v = is_text k v
-same_value Value.Unit v = is_unit v
-same_value Value.Nil v = is_nil v
-same_value (Value.Ref o) v = is_reference o.0 v
+abbrev pub equals_reference : ℕ → Value → Option Bool
+equals_reference o (Value.Int n) = None
+equals_reference o (Value.Bool b) = None
+equals_reference o (Value.Text k) = None
+equals_reference o Value.Unit = None
+equals_reference o Value.Nil = Some false
+equals_reference o (Value.Ref p) = Some (o == p.0)
+
+-- `==` of two values of one kind: the same content; a text is its place in the table, which has each text once (Go specification, "Comparison operators")
+abbrev pub equality : Value → Value → Option Bool
+equality (Value.Int n) v = equals_int n v
+equality (Value.Bool b) v = equals_bool b v
+equality (Value.Text k) v = equals_text k v
+equality Value.Unit v = equals_unit v
+equality Value.Nil v = equals_nil v
+equality (Value.Ref o) v = equals_reference o.0 v
 
 -- `true` and `false`
 abbrev pub bool_bytes : Bool → List ℕ
@@ -151,7 +152,7 @@ before None rest = None
 before (Some xs) None = None
 before (Some xs) (Some ys) = Some (xs ++ ys)
 
--- each operand behind a space, and a newline
+-- each operand with a space before it, and a newline
 abbrev pub spaced_bytes : List (List ℕ) → List Value → Option (List ℕ)
 spaced_bytes texts [] = Some (10 ∷ [])
 spaced_bytes texts (v ∷ vs) = before (Some (32 ∷ [])) (before (bytes_of texts v) (spaced_bytes texts vs))

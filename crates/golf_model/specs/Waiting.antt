@@ -4,7 +4,7 @@ use Rattle.golf_data.specs.declared.value.Value.{Value}
 use Rattle.golf_data.specs.declared.goroutine.Mode.{Mode}
 use Rattle.golf_data.specs.declared.goroutine.Side.{Side}
 use Rattle.golf_data.specs.declared.goroutine.Wait.{Wait}
-use Rattle.golf_model.specs.Plain.{PlainGoroutine}
+use Rattle.golf_model.specs.Views.{GoroutineView}
 
 -- what a goroutine waits on, in source order of the cases
 abbrev pub waits_of : Mode → List Wait
@@ -45,14 +45,14 @@ wait_on o (w ∷ ws) = cond (w.object.0 == o) (Some w) (wait_on o ws)
 -- a goroutine that waits on an object, with its first fitting wait
 pub record Waiter : Type 0 where
   pub number : ℕ
-  pub goroutine : PlainGoroutine
+  pub goroutine : GoroutineView
   pub wait : Wait
 
 abbrev pub waiter_ticket : Waiter → ℕ
 waiter_ticket w = ticket_of w.goroutine.mode
 
 -- the goroutine as a waiter, where it is one
-abbrev pub waiter_of : ℕ → Side → ℕ × PlainGoroutine → Option Waiter
+abbrev pub waiter_of : ℕ → Side → ℕ × GoroutineView → Option Waiter
 waiter_of o side e = option_map (λ w. record { number = e.0; goroutine = e.1; wait = w }) (wait_for o side (waits_of e.1.mode))
 
 -- the one with the earlier ticket
@@ -62,7 +62,7 @@ earlier (Some v) None = Some v
 earlier (Some v) (Some w) = cond (nat_lt (waiter_ticket w) (waiter_ticket v)) (Some w) (Some v)
 
 -- the goroutine of least ticket among those that wait on the object with that side: waiters are served by rising ticket (profile)
-abbrev pub first : ℕ → Side → List (ℕ × PlainGoroutine) → Option Waiter
+abbrev pub first : ℕ → Side → List (ℕ × GoroutineView) → Option Waiter
 first o side [] = None
 first o side (e ∷ es) = earlier (waiter_of o side e) (first o side es)
 
@@ -76,13 +76,13 @@ enter None ws = ws
 enter (Some w) ws = by_ticket w ws
 
 -- all who wait on the object with that side, by rising ticket
-abbrev pub waiters : ℕ → Side → List (ℕ × PlainGoroutine) → List Waiter
+abbrev pub waiters : ℕ → Side → List (ℕ × GoroutineView) → List Waiter
 waiters o side [] = []
 waiters o side (e ∷ es) = enter (waiter_of o side e) (waiters o side es)
 
 -- a wait on the object with that side, which gives nothing when it is served
-abbrev pub plain_wait : ℕ → Side → Wait
-plain_wait o side = record { object = record { 0 = o }; side = side; value = Value.Nil; target = None; with_ok = false }
+abbrev pub bare_wait : ℕ → Side → Wait
+bare_wait o side = record { object = record { 0 = o }; side = side; value = Value.Nil; target = None; with_ok = false }
 
 -- a wait to send the value; the goroutine goes on at the target, or where it stands
 abbrev pub send_wait : ℕ → Value → Option ℕ → Wait

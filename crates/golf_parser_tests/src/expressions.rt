@@ -2,7 +2,7 @@
 //! "Statements". A semicolon follows each text.
 
 use crate::words::tokens_of;
-use golf_expressions::{level_at, prefixed_at, simple_at, type_at};
+use golf_expressions::{Place, expression_at, operand_at, simple_at, type_at};
 use golf_grammar::{BinaryOperator, Expr, SimpleKind, TypeExpr, UnaryOperator};
 use std::alloc::Global;
 use std::process::Abort;
@@ -41,12 +41,12 @@ fn expect_heads(
     expected: (&str, &str, &str),
 ) -> Result<(), Fail> {
     let list = tokens_of(rt, alloc, text);
-    match level_at(alloc, false, 1, list.as_slice())? {
+    match expression_at(alloc, Place::Elsewhere, list.as_slice())? {
         None => panic!(rt; "{text} is no expression"),
         Some((e, rest)) => {
             assert_eq!(rt; rest.len(), 1);
-            assert_eq!(rt; head(&e), expected.0);
-            assert_eq!(rt; heads(&e), (expected.1, expected.2));
+            assert_eq!(rt; head(e.get()), expected.0);
+            assert_eq!(rt; heads(e.get()), (expected.1, expected.2));
         }
     }
     Ok(())
@@ -79,10 +79,10 @@ fn operators_group_as_they_bind(rt: HostRuntime) -> Result<(), Fail> {
 fn in_a_header_an_ampersand_stands_in_brackets_alone(rt: HostRuntime) -> Result<(), Fail> {
     let alloc = rt.alloc();
     let bare = tokens_of(&rt, alloc, "& T { }");
-    assert!(rt; level_at(alloc, true, 1, bare.as_slice())?.is_none());
-    assert!(rt; level_at(alloc, false, 1, bare.as_slice())?.is_some());
+    assert!(rt; expression_at(alloc, Place::Header, bare.as_slice())?.is_none());
+    assert!(rt; expression_at(alloc, Place::Elsewhere, bare.as_slice())?.is_some());
     let inside = tokens_of(&rt, alloc, "( & T { } )");
-    assert!(rt; level_at(alloc, true, 1, inside.as_slice())?.is_some());
+    assert!(rt; expression_at(alloc, Place::Header, inside.as_slice())?.is_some());
     Ok(())
 }
 
@@ -90,10 +90,10 @@ fn in_a_header_an_ampersand_stands_in_brackets_alone(rt: HostRuntime) -> Result<
 fn an_operand_ends_before_a_binary_operator(rt: HostRuntime) -> Result<(), Fail> {
     let alloc = rt.alloc();
     let list = tokens_of(&rt, alloc, "<- a . b + c");
-    match prefixed_at(alloc, false, list.as_slice())? {
+    match operand_at(alloc, list.as_slice())? {
         None => panic!(rt; "no operand"),
         Some((e, rest)) => {
-            assert_eq!(rt; head(&e), "receive");
+            assert_eq!(rt; head(e.get()), "receive");
             assert_eq!(rt; rest.len(), 3);
         }
     }
@@ -115,7 +115,7 @@ fn an_arrow_belongs_to_the_leftmost_chan(rt: HostRuntime) -> Result<(), Fail> {
     match type_at(alloc, list.as_slice())? {
         None => panic!(rt; "no type"),
         Some((found, rest)) => {
-            assert!(rt; is_chan_to_send_chans(&found));
+            assert!(rt; is_chan_to_send_chans(found.get()));
             assert_eq!(rt; rest.len(), 1);
         }
     }
@@ -126,20 +126,20 @@ fn an_arrow_belongs_to_the_leftmost_chan(rt: HostRuntime) -> Result<(), Fail> {
 fn a_simple_statement_is_told_by_its_marks(rt: HostRuntime) -> Result<(), Fail> {
     let alloc = rt.alloc();
     let pair = tokens_of(&rt, alloc, "v , ok := <- c");
-    match simple_at(alloc, false, pair.as_slice())? {
+    match simple_at(alloc, Place::Elsewhere, pair.as_slice())? {
         Some((simple, rest)) => {
-            assert!(rt; matches!(&simple.kind, SimpleKind::DefineReceived(_, _, _)));
-            assert_eq!(rt; simple.line, 1);
+            assert!(rt; matches!(simple.get().kind.get(), SimpleKind::DefineReceived(_, _, _)));
+            assert_eq!(rt; simple.get().line, 1);
             assert_eq!(rt; rest.len(), 1);
         }
         None => panic!(rt; "no statement"),
     }
     let send = tokens_of(&rt, alloc, "<- c <- v");
-    match simple_at(alloc, false, send.as_slice())? {
-        Some((simple, _)) => assert!(rt; matches!(&simple.kind, SimpleKind::Send(_, _))),
+    match simple_at(alloc, Place::Elsewhere, send.as_slice())? {
+        Some((simple, _)) => assert!(rt; matches!(simple.get().kind.get(), SimpleKind::Send(_, _))),
         None => panic!(rt; "no statement"),
     }
     let wrong = tokens_of(&rt, alloc, "v , ok := c");
-    assert!(rt; simple_at(alloc, false, wrong.as_slice())?.is_none());
+    assert!(rt; simple_at(alloc, Place::Elsewhere, wrong.as_slice())?.is_none());
     Ok(())
 }

@@ -242,13 +242,16 @@ fn each_prefix_of_a_file_is_read_or_has_the_line_of_its_last_declaration(
     Ok(())
 }
 
-// Whether a front of the file lexes and parses, or is at fault where it ends or on the line of a declaration.
+// Whether a front of the file lexes and parses, or is at fault where it ends or where its last declaration begins.
 fn is_front(rt: &impl Abort, alloc: Global, front: &[u8]) -> bool {
     assert!(rt; front.len() < 100_000);
     match tokens(alloc, front) {
         Ok(list) => {
             let line = line_of(rt, &parse(alloc, list.as_slice()));
-            line == 0 || line == start_of(line)
+            match list.as_slice().last() {
+                None => line == 1,
+                Some(last) => line == 0 || line == start_of(last.line),
+            }
         }
         Err(LexFault::At { byte, .. }) => byte as usize == front.len(),
         Err(LexFault::Memory) => panic!(rt; "memory is wanting"),

@@ -53,7 +53,7 @@ fn expect_statement(
     match stmt_at(alloc, list.as_slice())? {
         None => assert_eq!(rt; "none", expected),
         Some((statement, rest)) => {
-            assert_eq!(rt; statement_name(&statement), expected);
+            assert_eq!(rt; statement_name(statement.get()), expected);
             assert_eq!(rt; rest.len(), left);
         }
     }
@@ -73,7 +73,7 @@ fn a_variable_has_a_type_or_a_value_or_both(rt: HostRuntime) -> Result<(), Fail>
         match var_at(rt.alloc(), 1, list.as_slice())? {
             None => assert_eq!(rt; "none", expected),
             Some((var, rest)) => {
-                assert_eq!(rt; content_name(&var.content), expected);
+                assert_eq!(rt; content_name(var.get().content.get()), expected);
                 assert_eq!(rt; rest.len(), 1);
             }
         }
@@ -99,7 +99,7 @@ fn a_header_is_told_by_its_semicolons_and_its_range(rt: HostRuntime) -> Result<(
         match header_at(rt.alloc(), list.as_slice())? {
             None => assert_eq!(rt; "none", expected),
             Some((header, rest)) => {
-                assert_eq!(rt; header_name(&header), expected);
+                assert_eq!(rt; header_name(header.get()), expected);
                 assert_eq!(rt; rest.len(), 1);
             }
         }
@@ -165,7 +165,7 @@ fn a_block_has_its_statements(rt: HostRuntime) -> Result<(), Fail> {
     match block_at(rt.alloc(), list.as_slice())? {
         None => assert_eq!(rt; "none", "a block"),
         Some((statements, rest)) => {
-            assert_eq!(rt; statements.len(), 3);
+            assert_eq!(rt; statements.get().len(), 3);
             assert_eq!(rt; rest.len(), 1);
         }
     }

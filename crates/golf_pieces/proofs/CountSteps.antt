@@ -6,14 +6,14 @@ use Rattle.std.proofs.lemmas.List.Sums.{sum_by_push, sum_by-cons}
 use Rattle.std.proofs.lemmas.List.Sorted.{IsPermutation-reverse, sum_by-IsPermutation}
 use Rattle.std.proofs.lemmas.Bool.Decides.{nat_tests}
 use Rattle.golf_tokens.specs.declared.token.Token.{Token}
-use Rattle.golf_grammar.specs.Reads.{most, first_costly}
+use Rattle.golf_grammar.specs.Reads.{most, first_too_complex}
 use Rattle.golf_tokens.specs.declared.token.TokenKind.{TokenKind}
 use Rattle.golf_tokens.specs.declared.token.TokenKind.TheVariants as kinds
 use Rattle.golf_tokens.specs.declared.token.Mark.{Mark}
 use Rattle.golf_tokens.specs.declared.token.Mark.TheVariants as marks
 use Rattle.golf_tokens.specs.Cost.{one_more, closed, cleared, counted}
 use Rattle.golf_pieces.specs.declared.cost.Role.{Role}
-use Rattle.golf_pieces.specs.declared.cost.Role.TheVariants.{Opens, Closes, Separates, Plain}
+use Rattle.golf_pieces.specs.declared.cost.Role.TheVariants.{Opens, Closes, Separates, Ordinary}
 use Rattle.golf_pieces.specs.Counts.{role_of_mark, role_of}
 
 -- the counts behind a token of a role
@@ -21,7 +21,7 @@ abbrev pub counted_by : Role → List ℕ → List ℕ
 counted_by Opens counts = 0 ∷ one_more counts
 counted_by Closes counts = one_more (closed counts)
 counted_by Separates counts = cleared (one_more counts)
-counted_by Plain counts = one_more counts
+counted_by Ordinary counts = one_more counts
 
 mark-counts : (m : Mark) (counts : List ℕ) → counted (kinds.Mark m) counts ≡ counted_by (role_of_mark m) counts
 mark-counts marks.OpenParen counts = refl
@@ -44,11 +44,11 @@ sum-push xs n = sum_by_push (λ x. x) xs n
 pub sum-turned : (n : ℕ) (xs : List ℕ) → sum (n ∷ reverse xs) ≡ n + sum xs
 sum-turned n xs = sum_by-cons (λ x. x) n (reverse xs) ∙ ap (λ k. n + k) (sum_by-IsPermutation (λ x. x) xs (reverse xs) (IsPermutation-reverse xs))
 
--- the first costly token of what is left, one token on
-pub costly-on : (counts : List ℕ) (ts : List Token) (i : ℕ) (t : Token) → i < length ts → t ≡ get_or ts i t → first_costly counts (drop i ts) ≡ cond (nat_lt most (sum (counted t.kind counts))) (Some t.line) (first_costly (counted t.kind counts) (drop (i + 1) ts))
-costly-on counts ts i t h e =
-    at_drop_more (first_costly counts) ts i t h
-    ∙ ap (λ (q : Token). cond (nat_lt most (sum (counted q.kind counts))) (Some q.line) (first_costly (counted q.kind counts) (drop (i + 1) ts))) (sym e)
+-- the first too_complex token of what is left, one token on
+pub too_complex-on : (counts : List ℕ) (ts : List Token) (i : ℕ) (t : Token) → i < length ts → t ≡ get_or ts i t → first_too_complex counts (drop i ts) ≡ cond (nat_lt most (sum (counted t.kind counts))) (Some t.line) (first_too_complex (counted t.kind counts) (drop (i + 1) ts))
+too_complex-on counts ts i t h e =
+    at_drop_more (first_too_complex counts) ts i t h
+    ∙ ap (λ (q : Token). cond (nat_lt most (sum (counted q.kind counts))) (Some q.line) (first_too_complex (counted q.kind counts) (drop (i + 1) ts))) (sym e)
 
 more-than : (n : ℕ) → 1000 < n → nat_lt most n ≡ true
 unfolding most
@@ -59,16 +59,16 @@ unfolding most
 no-more n h = grind (arith, nat_tests)
 
 -- a token that costs more
-pub costs-more : (counts : List ℕ) (ts : List Token) (i : ℕ) (t : Token) (inner : ℕ) (outer : List ℕ) → i < length ts → t ≡ get_or ts i t → inner ∷ reverse outer ≡ counted t.kind counts → 1000 < inner + sum outer → first_costly counts (drop i ts) ≡ Some t.line
+pub costs-more : (counts : List ℕ) (ts : List Token) (i : ℕ) (t : Token) (inner : ℕ) (outer : List ℕ) → i < length ts → t ≡ get_or ts i t → inner ∷ reverse outer ≡ counted t.kind counts → 1000 < inner + sum outer → first_too_complex counts (drop i ts) ≡ Some t.line
 costs-more counts ts i t inner outer h e c big =
-    costly-on counts ts i t h e
-    ∙ ap (λ b. cond b (Some t.line) (first_costly (counted t.kind counts) (drop (i + 1) ts))) (ap (λ n. nat_lt most n) (ap sum (sym c) ∙ sum-turned inner outer) ∙ more-than (inner + sum outer) big)
+    too_complex-on counts ts i t h e
+    ∙ ap (λ b. cond b (Some t.line) (first_too_complex (counted t.kind counts) (drop (i + 1) ts))) (ap (λ n. nat_lt most n) (ap sum (sym c) ∙ sum-turned inner outer) ∙ more-than (inner + sum outer) big)
 
 -- a token that does not
-pub costs-little : (counts : List ℕ) (ts : List Token) (i : ℕ) (t : Token) (inner : ℕ) (outer : List ℕ) → i < length ts → t ≡ get_or ts i t → inner ∷ reverse outer ≡ counted t.kind counts → inner + sum outer ≤ 1000 → first_costly counts (drop i ts) ≡ first_costly (inner ∷ reverse outer) (drop (i + 1) ts)
+pub costs-little : (counts : List ℕ) (ts : List Token) (i : ℕ) (t : Token) (inner : ℕ) (outer : List ℕ) → i < length ts → t ≡ get_or ts i t → inner ∷ reverse outer ≡ counted t.kind counts → inner + sum outer ≤ 1000 → first_too_complex counts (drop i ts) ≡ first_too_complex (inner ∷ reverse outer) (drop (i + 1) ts)
 costs-little counts ts i t inner outer h e c small =
-    costly-on counts ts i t h e
-    ∙ ap (λ b. cond b (Some t.line) (first_costly (counted t.kind counts) (drop (i + 1) ts))) (ap (λ n. nat_lt most n) (ap sum (sym c) ∙ sum-turned inner outer) ∙ no-more (inner + sum outer) small)
-    ∙ ap (λ cs. first_costly cs (drop (i + 1) ts)) (sym c)
+    too_complex-on counts ts i t h e
+    ∙ ap (λ b. cond b (Some t.line) (first_too_complex (counted t.kind counts) (drop (i + 1) ts))) (ap (λ n. nat_lt most n) (ap sum (sym c) ∙ sum-turned inner outer) ∙ no-more (inner + sum outer) small)
+    ∙ ap (λ cs. first_too_complex cs (drop (i + 1) ts)) (sym c)
 
 pub ruleset count_steps = (counts-by, turned, sum-push)

@@ -7,7 +7,7 @@ use Rattle.golf_tokens.specs.declared.token.TokenKind.TheVariants as kinds
 use Rattle.golf_tokens.specs.declared.token.Mark.{Mark}
 use Rattle.golf_tokens.specs.declared.token.Mark.TheVariants as marks
 use Rattle.golf_grammar.specs.Pieces.{pieces}
-use Rattle.golf_grammar.specs.Reads.{most, first_costly, no_counts}
+use Rattle.golf_grammar.specs.Reads.{most, first_too_complex, no_counts}
 
 abbrev on : ℕ → TokenKind → Token
 on l k = record { kind = k; line = l }
@@ -24,6 +24,6 @@ three_pieces : pieces 0 (named (codes "x") ∷ mark marks.Semicolon ∷ mark mar
 three_pieces = refl
 
 -- no token of a short list costs too much
-cheap : first_costly no_counts (mark marks.OpenParen ∷ mark marks.OpenParen ∷ mark marks.CloseParen ∷ []) ≡ None
+cheap : first_too_complex no_counts (mark marks.OpenParen ∷ mark marks.OpenParen ∷ mark marks.CloseParen ∷ []) ≡ None
 unfolding most
 cheap = refl

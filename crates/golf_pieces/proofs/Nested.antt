@@ -21,50 +21,50 @@ is_close marks.CloseBrace = true
 is_close _ = false
 
 -- neither a bracket nor a semicolon
-abbrev pub is_plain_mark : Mark → Bool
-is_plain_mark marks.OpenParen = false
-is_plain_mark marks.OpenBracket = false
-is_plain_mark marks.OpenBrace = false
-is_plain_mark marks.CloseParen = false
-is_plain_mark marks.CloseBracket = false
-is_plain_mark marks.CloseBrace = false
-is_plain_mark marks.Semicolon = false
-is_plain_mark _ = true
+abbrev pub is_ordinary_mark : Mark → Bool
+is_ordinary_mark marks.OpenParen = false
+is_ordinary_mark marks.OpenBracket = false
+is_ordinary_mark marks.OpenBrace = false
+is_ordinary_mark marks.CloseParen = false
+is_ordinary_mark marks.CloseBracket = false
+is_ordinary_mark marks.CloseBrace = false
+is_ordinary_mark marks.Semicolon = false
+is_ordinary_mark _ = true
 
-abbrev pub is_plain : TokenKind → Bool
-is_plain (kinds.Mark m) = is_plain_mark m
-is_plain _ = true
+abbrev pub is_ordinary : TokenKind → Bool
+is_ordinary (kinds.Mark m) = is_ordinary_mark m
+is_ordinary _ = true
 
 -- the brackets are in pairs, and semicolons stand outside them only where they may
 pub data Nested : Bool → List Word → Type 0 where
   none : (b : Bool) → Nested b []
-  plain : (b : Bool) (k : TokenKind) (l : Option ℕ) (ws : List Word) → is_plain k ≡ true → Nested b ws → Nested b (record { kind = k; line = l } ∷ ws)
+  ordinary : (b : Bool) (k : TokenKind) (l : Option ℕ) (ws : List Word) → is_ordinary k ≡ true → Nested b ws → Nested b (record { kind = k; line = l } ∷ ws)
   semicolon : (l : Option ℕ) (ws : List Word) → Nested true ws → Nested true (record { kind = kinds.Mark marks.Semicolon; line = l } ∷ ws)
   bracket : (b : Bool) (first last : Mark) (l : Option ℕ) (inner ws : List Word) → is_open first ≡ true → is_close last ≡ true → Nested true inner → Nested b ws →
       Nested b (record { kind = kinds.Mark first; line = l } ∷ (inner ++ words.mark last ∷ ws))
 
 pub append : (b : Bool) (xs ys : List Word) → Nested b xs → Nested b ys → Nested b (xs ++ ys)
 append _ _ ys (none b) n = n
-append _ _ ys (plain b k l ws p m) n = plain b k l (ws ++ ys) p (append b ws ys m n)
+append _ _ ys (ordinary b k l ws p m) n = ordinary b k l (ws ++ ys) p (append b ws ys m n)
 append _ _ ys (semicolon l ws m) n = semicolon l (ws ++ ys) (append true ws ys m n)
 append _ _ ys (bracket b first last l inner ws o c i m) n =
     subst (λ vs. Nested b (record { kind = kinds.Mark first; line = l } ∷ vs)) (sym (append_assoc inner (words.mark last ∷ ws) ys)) (bracket b first last l inner (ws ++ ys) o c i (append b ws ys m n))
 
 pub weaken : (b : Bool) (ws : List Word) → Nested b ws → Nested true ws
 weaken _ _ (none b) = none true
-weaken _ _ (plain b k l vs p m) = plain true k l vs p (weaken b vs m)
+weaken _ _ (ordinary b k l vs p m) = ordinary true k l vs p (weaken b vs m)
 weaken _ _ (semicolon l vs m) = semicolon l vs m
 weaken _ _ (bracket b first last l inner vs o c i m) = bracket true first last l inner vs o c i (weaken b vs m)
 
 pub on-line : (b : Bool) (l : ℕ) (ws : List Word) → Nested b ws → Nested b (on_line l ws)
 on-line _ l _ (none b) = none b
-on-line _ l _ (plain b k old vs p m) = plain b k (Some l) vs p m
+on-line _ l _ (ordinary b k old vs p m) = ordinary b k (Some l) vs p m
 on-line _ l _ (semicolon old vs m) = semicolon (Some l) vs m
 on-line _ l _ (bracket b first last old inner vs o c i m) = bracket b first last (Some l) inner vs o c i m
 
 -- a word in front
-pub one : (b : Bool) (k : TokenKind) (ws : List Word) → is_plain k ≡ true → Nested b ws → Nested b (words.word k ∷ ws)
-one b k ws p m = plain b k None ws p m
+pub one : (b : Bool) (k : TokenKind) (ws : List Word) → is_ordinary k ≡ true → Nested b ws → Nested b (words.word k ∷ ws)
+one b k ws p m = ordinary b k None ws p m
 
 pub parens : (b : Bool) (inner ws : List Word) → Nested true inner → Nested b ws → Nested b (words.mark marks.OpenParen ∷ (inner ++ words.mark marks.CloseParen ∷ ws))
 parens b inner ws i m = bracket b marks.OpenParen marks.CloseParen None inner ws refl refl i m

@@ -32,7 +32,7 @@ use Rattle.golf_grammar.specs.Words.{Word}
 use Rattle.golf_grammar.specs.Types.{print_type_step, print_type}
 use Rattle.golf_grammar.specs.Expressions.{unary_mark, binary_mark, print_step, print_element_step, print_expr, print_element}
 use Rattle.golf_grammar.specs.Simple.{update_mark, print_simple_kind, print_simple, print_content, print_var, optional, print_range_names, print_header, print_comm}
-use Rattle.golf_pieces.proofs.Nested.{Nested, none, semicolon, is_plain_mark, append, weaken, on-line, one, parens, braces, brackets, each-known, commas}
+use Rattle.golf_pieces.proofs.Nested.{Nested, none, semicolon, is_ordinary_mark, append, weaken, on-line, one, parens, braces, brackets, each-known, commas}
 
 abbrev TypeIs : TypeExpr → Type 0
 TypeIs t = Nested false (print_type t)
@@ -53,13 +53,13 @@ type-rolled y = subst (Nested false) (sym (fold-roll-TypeExpr (List Word) print_
 pub type-nested : (t : TypeExpr) → Nested false (print_type t)
 type-nested = ind-TypeExpr TypeIs (λ x y is. subst (λ z. TypeIs (roll-TypeExpr z)) is (type-rolled y))
 
-plain-unary : (o : UnaryOperator) → is_plain_mark (unary_mark o) ≡ true
-plain-unary unary.Negate = refl
-plain-unary _ = refl
+ordinary-unary : (o : UnaryOperator) → is_ordinary_mark (unary_mark o) ≡ true
+ordinary-unary unary.Negate = refl
+ordinary-unary _ = refl
 
-plain-binary : (o : BinaryOperator) → is_plain_mark (binary_mark o) ≡ true
-plain-binary binary.Or = refl
-plain-binary _ = refl
+ordinary-binary : (o : BinaryOperator) → is_ordinary_mark (binary_mark o) ≡ true
+ordinary-binary binary.Or = refl
+ordinary-binary _ = refl
 
 abbrev ExprIs : Expr → Type 0
 ExprIs e = Nested false (print_expr e)
@@ -67,13 +67,13 @@ ExprIs e = Nested false (print_expr e)
 abbrev ElementIs : Element → Type 0
 ElementIs d = Nested false (print_element d)
 
-abbrev plain_expr : Expr-F ((e : Expr) × ExprIs e) ((d : Element) × ElementIs d) → Expr-F Expr Element
-plain_expr y = map-Expr ((e : Expr) × ExprIs e) ((d : Element) × ElementIs d) Expr Element (λ p. p.0) (λ p. p.0) y
+abbrev bare_expr : Expr-F ((e : Expr) × ExprIs e) ((d : Element) × ElementIs d) → Expr-F Expr Element
+bare_expr y = map-Expr ((e : Expr) × ExprIs e) ((d : Element) × ElementIs d) Expr Element (λ p. p.0) (λ p. p.0) y
 
-abbrev plain_element : Element-F ((e : Expr) × ExprIs e) ((d : Element) × ElementIs d) → Element-F Expr Element
-plain_element y = map-Element ((e : Expr) × ExprIs e) ((d : Element) × ElementIs d) Expr Element (λ p. p.0) (λ p. p.0) y
+abbrev bare_element : Element-F ((e : Expr) × ExprIs e) ((d : Element) × ElementIs d) → Element-F Expr Element
+bare_element y = map-Element ((e : Expr) × ExprIs e) ((d : Element) × ElementIs d) Expr Element (λ p. p.0) (λ p. p.0) y
 
-expr-at : (y : Expr-F ((e : Expr) × ExprIs e) ((d : Element) × ElementIs d)) → Nested false (print_step (map-Expr Expr Element (List Word) (List Word) print_expr print_element (plain_expr y)))
+expr-at : (y : Expr-F ((e : Expr) × ExprIs e) ((d : Element) × ElementIs d)) → Nested false (print_step (map-Expr Expr Element (List Word) (List Word) print_expr print_element (bare_expr y)))
 expr-at (F.Integer digits) = one false _ _ refl (none false)
 expr-at (F.Text bytes) = one false _ _ refl (none false)
 expr-at (F.Name n) = one false _ _ refl (none false)
@@ -89,21 +89,21 @@ expr-at (F.NewSync n) = one false _ _ refl (parens false _ _ (one true _ _ refl 
 expr-at (F.Selector a n) = append false _ _ a.1 (one false _ _ refl (one false _ _ refl (none false)))
 expr-at (F.Index a b) = append false _ _ a.1 (brackets false _ [] (weaken false _ b.1) (none false))
 expr-at (F.Call a xs) = append false _ _ a.1 (parens false _ _ (commas _ (each-known Expr false print_expr xs)) (none false))
-expr-at (F.Unary o a) = one false _ _ (plain-unary o) a.1
-expr-at (F.Binary o a b) = append false _ _ a.1 (one false _ _ (plain-binary o) b.1)
+expr-at (F.Unary o a) = one false _ _ (ordinary-unary o) a.1
+expr-at (F.Binary o a b) = append false _ _ a.1 (one false _ _ (ordinary-binary o) b.1)
 
-expr-rolled : (y : Expr-F ((e : Expr) × ExprIs e) ((d : Element) × ElementIs d)) → ExprIs (roll-Expr (plain_expr y))
-expr-rolled y = subst (Nested false) (sym (fold-roll-Expr (List Word) (List Word) print_step print_element_step (plain_expr y))) (expr-at y)
+expr-rolled : (y : Expr-F ((e : Expr) × ExprIs e) ((d : Element) × ElementIs d)) → ExprIs (roll-Expr (bare_expr y))
+expr-rolled y = subst (Nested false) (sym (fold-roll-Expr (List Word) (List Word) print_step print_element_step (bare_expr y))) (expr-at y)
 
-element-rolled : (y : Element-F ((e : Expr) × ExprIs e) ((d : Element) × ElementIs d)) → ElementIs (roll-Element (plain_element y))
-element-rolled y = subst (Nested false) (sym (fold-roll-Element (List Word) (List Word) print_step print_element_step (plain_element y))) (one false _ _ refl (one false _ _ refl y.value.1))
+element-rolled : (y : Element-F ((e : Expr) × ExprIs e) ((d : Element) × ElementIs d)) → ElementIs (roll-Element (bare_element y))
+element-rolled y = subst (Nested false) (sym (fold-roll-Element (List Word) (List Word) print_step print_element_step (bare_element y))) (one false _ _ refl (one false _ _ refl y.value.1))
 
 pub expr-nested : (e : Expr) → Nested false (print_expr e)
 expr-nested = ind-Expr ExprIs ElementIs (λ x y is. subst (λ z. ExprIs (roll-Expr z)) is (expr-rolled y)) (λ x y is. subst (λ z. ElementIs (roll-Element z)) is (element-rolled y))
 
-plain-update : (o : UpdateOperator) → is_plain_mark (update_mark o) ≡ true
-plain-update update.Add = refl
-plain-update _ = refl
+ordinary-update : (o : UpdateOperator) → is_ordinary_mark (update_mark o) ≡ true
+ordinary-update update.Add = refl
+ordinary-update _ = refl
 
 kind-nested : (k : SimpleKind) → Nested false (print_simple_kind k)
 kind-nested (s.Expression e) = expr-nested e
@@ -111,7 +111,7 @@ kind-nested (s.Send c v) = append false _ _ (expr-nested c) (one false _ _ refl 
 kind-nested (s.Increment e) = append false _ _ (expr-nested e) (one false _ _ refl (none false))
 kind-nested (s.Decrement e) = append false _ _ (expr-nested e) (one false _ _ refl (none false))
 kind-nested (s.Assign p v) = append false _ _ (expr-nested p) (one false _ _ refl (expr-nested v))
-kind-nested (s.Update p o v) = append false _ _ (expr-nested p) (one false _ _ (plain-update o) (expr-nested v))
+kind-nested (s.Update p o v) = append false _ _ (expr-nested p) (one false _ _ (ordinary-update o) (expr-nested v))
 kind-nested (s.Define n v) = one false _ _ refl (one false _ _ refl (expr-nested v))
 kind-nested (s.DefineReceived n ok c) = one false _ _ refl (one false _ _ refl (one false _ _ refl (one false _ _ refl (one false _ _ refl (expr-nested c)))))
 kind-nested (s.AssignReceived n ok c) = one false _ _ refl (one false _ _ refl (one false _ _ refl (one false _ _ refl (one false _ _ refl (expr-nested c)))))

@@ -14,7 +14,7 @@ use Rattle.golf_grammar.specs.Words.{Word, closed, Spells}
 use Rattle.golf_grammar.specs.Declarations.{package_words, print_import, print_decl}
 use Rattle.golf_grammar.specs.Pieces.{deeper, depth_behind, ends_piece, in_front, before_piece, pieces}
 use Rattle.golf_pieces.specs.Laws.{Ended, IsPiece, DeclPieces, ImportPieces, FilePieces, ImportsArePieces, DeclsArePieces, FilesArePieces}
-use Rattle.golf_pieces.proofs.Nested.{Nested, none, plain, semicolon, bracket, is_open, is_close, is_plain_mark, is_plain, one}
+use Rattle.golf_pieces.proofs.Nested.{Nested, none, ordinary, semicolon, bracket, is_open, is_close, is_ordinary_mark, is_ordinary, one}
 use Rattle.golf_pieces.proofs.Spelling.{split, part, closing}
 use Rattle.golf_pieces.proofs.Blocks.{import-nested, decl-nested}
 
@@ -35,19 +35,19 @@ chop-all (w ∷ ws) [] mid ps h = absurd h
 chop-all (w ∷ ws) (t ∷ ts) mid ps h = ap (in_front t) (chop-all ws ts mid ps h.1)
 
 -- what a token does to the depth
-plain-mark-depth : (m : Mark) (depth : ℕ) → is_plain_mark m ≡ true → (ends_piece (kinds.Mark m) depth ≡ false) × (deeper m depth ≡ depth)
-plain-mark-depth marks.OpenParen depth h = cc
-plain-mark-depth marks.OpenBracket depth h = cc
-plain-mark-depth marks.OpenBrace depth h = cc
-plain-mark-depth marks.CloseParen depth h = cc
-plain-mark-depth marks.CloseBracket depth h = cc
-plain-mark-depth marks.CloseBrace depth h = cc
-plain-mark-depth marks.Semicolon depth h = cc
-plain-mark-depth _ depth h = (refl, refl)
+ordinary-mark-depth : (m : Mark) (depth : ℕ) → is_ordinary_mark m ≡ true → (ends_piece (kinds.Mark m) depth ≡ false) × (deeper m depth ≡ depth)
+ordinary-mark-depth marks.OpenParen depth h = cc
+ordinary-mark-depth marks.OpenBracket depth h = cc
+ordinary-mark-depth marks.OpenBrace depth h = cc
+ordinary-mark-depth marks.CloseParen depth h = cc
+ordinary-mark-depth marks.CloseBracket depth h = cc
+ordinary-mark-depth marks.CloseBrace depth h = cc
+ordinary-mark-depth marks.Semicolon depth h = cc
+ordinary-mark-depth _ depth h = (refl, refl)
 
-plain-depth : (k : TokenKind) (depth : ℕ) → is_plain k ≡ true → (ends_piece k depth ≡ false) × (depth_behind k depth ≡ depth)
-plain-depth (kinds.Mark m) depth h = plain-mark-depth m depth h
-plain-depth _ depth h = (refl, refl)
+ordinary-depth : (k : TokenKind) (depth : ℕ) → is_ordinary k ≡ true → (ends_piece k depth ≡ false) × (depth_behind k depth ≡ depth)
+ordinary-depth (kinds.Mark m) depth h = ordinary-mark-depth m depth h
+ordinary-depth _ depth h = (refl, refl)
 
 open-depth : (m : Mark) (depth : ℕ) → is_open m ≡ true → (ends_piece (kinds.Mark m) depth ≡ false) × (deeper m depth ≡ suc depth)
 open-depth marks.OpenParen depth h = (refl, refl)
@@ -87,9 +87,9 @@ semicolon-inside (suc depth) t ts d is = on (kinds.Mark marks.Semicolon) (suc de
 -- no piece ends within
 cut : (b : Bool) (ws : List Word) → Nested b ws → (depth : ℕ) → Deep b depth → (ts mid us : List Token) → Spells ws ts mid → pieces depth (ts ++ us) ≡ chop ws ts (pieces depth (mid ++ us))
 cut _ _ (none b) depth f ts mid us h = ap (λ vs. pieces depth (vs ++ us)) h
-cut _ _ (plain b k l vs p n) depth f [] mid us h = absurd h
-cut _ _ (plain b k l vs p n) depth f (t ∷ ts) mid us h =
-    let d = plain-depth k depth p in
+cut _ _ (ordinary b k l vs p n) depth f [] mid us h = absurd h
+cut _ _ (ordinary b k l vs p n) depth f (t ∷ ts) mid us h =
+    let d = ordinary-depth k depth p in
     on k depth depth t (ts ++ us) h.0.0 d.0 d.1 ∙ ap (in_front t) (cut b vs n depth f ts mid us h.1)
 cut _ _ (semicolon l vs n) depth f [] mid us h = absurd h
 cut _ _ (semicolon l vs n) depth f (t ∷ ts) mid us h = semicolon-inside depth t (ts ++ us) f h.0.0 ∙ ap (in_front t) (cut true vs n depth f ts mid us h.1)

@@ -2,7 +2,8 @@
 
 ghost use Rattle.std.specs.Prelude.{◌≡◌, ◌+◌, ◌≤◌, ◌∷◌, IfOk, reverse, sum};
 ghost use Rattle.golf_tokens.specs.Cost.{counted};
-ghost use Rattle.golf_grammar.specs.Reads.{first_costly as first_costly_of, no_counts};
+ghost use Rattle.golf_grammar.specs.Reads as reads_spec;
+ghost use Rattle.golf_grammar.specs.Reads.{no_counts};
 ghost use Rattle.golf_pieces.specs.Counts.{role_of};
 
 use golf_base::{List, Memory};
@@ -15,7 +16,7 @@ pub enum Role {
     Opens,
     Closes,
     Separates,
-    Plain,
+    Ordinary,
 }
 
 // How many tokens stand in the innermost open bracket since the last `;` or `,` in it, in those around it, and in all.
@@ -33,7 +34,7 @@ fn mark_role(mark: Mark) -> Role
         Mark::OpenParen | Mark::OpenBracket | Mark::OpenBrace => Role::Opens,
         Mark::CloseParen | Mark::CloseBracket | Mark::CloseBrace => Role::Closes,
         Mark::Semicolon | Mark::Comma => Role::Separates,
-        _ => Role::Plain,
+        _ => Role::Ordinary,
     }
 }
 
@@ -42,7 +43,7 @@ fn kind_role(kind: &TokenKind) -> Role
 {
     match kind {
         TokenKind::Mark(mark) => mark_role(*mark),
-        _ => Role::Plain,
+        _ => Role::Ordinary,
     }
 }
 
@@ -85,7 +86,7 @@ fn count(counts: Counts, kind: &TokenKind) -> Result<Counts, Memory>
             outer,
             total: total - inner,
         }),
-        Role::Plain => Ok(Counts {
+        Role::Ordinary => Ok(Counts {
             inner: inner + 1,
             outer,
             total: total + 1,
@@ -94,8 +95,8 @@ fn count(counts: Counts, kind: &TokenKind) -> Result<Counts, Memory>
 }
 
 /// The line of the first token that costs more than 1,000.
-pub fn first_costly(alloc: Global, tokens: &[Token]) -> Result<Option<u32>, Memory>
-    ensures { IfOk result (λ o. o ≡ first_costly_of no_counts tokens.now) }
+pub fn first_too_complex(alloc: Global, tokens: &[Token]) -> Result<Option<u32>, Memory>
+    ensures { IfOk result (λ o. o ≡ reads_spec.first_too_complex no_counts tokens.now) }
 {
     let mut counts = Counts {
         inner: 0,

@@ -7,9 +7,7 @@
 mod cost;
 mod laws;
 mod pieces;
-#[cfg(test)]
-mod tests;
 
-pub use cost::first_costly;
+pub use cost::first_too_complex;
 pub use laws::{declarations_are_pieces, files_are_pieces, imports_are_pieces};
 pub use pieces::front_piece;

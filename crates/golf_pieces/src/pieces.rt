@@ -1,15 +1,16 @@
 //! The first piece of a list of tokens.
 
 ghost use Rattle.std.specs.Prelude.{◌≡◌, ◌<◌, ◌^◌, length, IfSome};
-ghost use Rattle.golf_grammar.specs.Pieces.{depth_behind as depth_behind_of, ends_piece as ends_piece_of};
-ghost use Rattle.golf_pieces.specs.Cut.{CutAt, front_length as front_length_of};
+ghost use Rattle.golf_grammar.specs.Pieces as pieces_spec;
+ghost use Rattle.golf_pieces.specs.Cut as cut_spec;
+ghost use Rattle.golf_pieces.specs.Cut.{CutAt};
 
 use golf_tokens::{Mark, Token, TokenKind};
 
 // How many brackets are open behind a mark.
 fn deeper(mark: Mark, depth: usize) -> usize
     requires { depth < 2 ^ 63 }
-    ensures value { result ≡ depth_behind_of (TokenKind.Mark mark) depth }
+    ensures value { result ≡ pieces_spec.depth_behind (TokenKind.Mark mark) depth }
 {
     match mark {
         Mark::OpenParen | Mark::OpenBracket | Mark::OpenBrace => depth + 1,
@@ -24,7 +25,7 @@ fn deeper(mark: Mark, depth: usize) -> usize
 
 fn depth_behind(kind: &TokenKind, depth: usize) -> usize
     requires { depth < 2 ^ 63 }
-    ensures value { result ≡ depth_behind_of kind.now depth }
+    ensures value { result ≡ pieces_spec.depth_behind kind.now depth }
 {
     match kind {
         TokenKind::Mark(mark) => deeper(*mark, depth),
@@ -33,7 +34,7 @@ fn depth_behind(kind: &TokenKind, depth: usize) -> usize
 }
 
 fn ends_piece(kind: &TokenKind, depth: usize) -> bool
-    ensures { result ≡ ends_piece_of kind.now depth }
+    ensures { result ≡ pieces_spec.ends_piece kind.now depth }
 {
     match kind {
         TokenKind::Mark(Mark::Semicolon) => depth == 0,
@@ -43,7 +44,7 @@ fn ends_piece(kind: &TokenKind, depth: usize) -> bool
 
 // How many tokens the first piece has.
 fn front_length(tokens: &[Token]) -> usize
-    ensures { result ≡ front_length_of 0 tokens.now }
+    ensures { result ≡ cut_spec.front_length 0 tokens.now }
 {
     let mut depth = 0;
     let mut count = 0;

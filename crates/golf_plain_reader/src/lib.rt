@@ -10,8 +10,6 @@ mod reading;
 mod scope;
 mod statements;
 mod stop;
-#[cfg(test)]
-mod tests;
 mod texts;
 mod tree;
 

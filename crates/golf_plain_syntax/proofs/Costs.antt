@@ -1,7 +1,7 @@
 -- No token of a plain file costs too much.
 use Rattle.std.proofs.Common.{◌≡◌, ℕ, ◌+◌, Bool, true, List, [], ◌∷◌, ◌++◌, map, refl, ap, ◌∙◌, append_assoc}
 use Rattle.golf_tokens.specs.declared.token.Mark.TheVariants as marks
-use Rattle.golf_tokens.specs.Pieces.{Piece}
+use Rattle.golf_tokens.specs.Lexemes.{Lexeme}
 use Rattle.golf_grammar.specs.declared.declarations.Import.TheVariants as imports
 use Rattle.golf_grammar.specs.declared.declarations.Decl.TheVariants as d
 use Rattle.golf_grammar.specs.Words.{Word, mark, on_line, behind, separated, closed}
@@ -26,19 +26,19 @@ abbrev pub affords : List ℕ → List Word → Bool
 affords counts ws = is_affordable counts (map (λ w. w.kind) ws)
 
 -- what an item costs in brackets of which these counts stand outside
-record ItemCosts {A : Type 0} (item : A → List Piece) (outer : List ℕ) : Type 0 where
+record ItemCosts {A : Type 0} (item : A → List Lexeme) (outer : List ℕ) : Type 0 where
   pub behind_it : ℕ
-  pub words : (x : A) (tail : List Piece) (ws : List Word) → affords (0 ∷ outer) (row_words (item x ++ tail) ++ ws) ≡ affords (behind_it ∷ outer) (row_words tail ++ ws)
+  pub words : (x : A) (tail : List Lexeme) (ws : List Word) → affords (0 ∷ outer) (row_words (item x ++ tail) ++ ws) ≡ affords (behind_it ∷ outer) (row_words tail ++ ws)
   pub comma : (n : ℕ) (ws : List Word) → affords (n ∷ outer) (mark marks.Comma ∷ ws) ≡ affords (0 ∷ outer) ws
 
-costs-more : {A : Type 0} (item : A → List Piece) (outer : List ℕ) → ItemCosts item outer → (n : ℕ) (xs : List A) (tail : List Piece) (ws : List Word) (answer : Bool) → ((m : ℕ) → affords (m ∷ outer) (row_words tail ++ ws) ≡ answer) → affords (n ∷ outer) (row_words (more_row item xs tail) ++ ws) ≡ answer
+costs-more : {A : Type 0} (item : A → List Lexeme) (outer : List ℕ) → ItemCosts item outer → (n : ℕ) (xs : List A) (tail : List Lexeme) (ws : List Word) (answer : Bool) → ((m : ℕ) → affords (m ∷ outer) (row_words tail ++ ws) ≡ answer) → affords (n ∷ outer) (row_words (more_row item xs tail) ++ ws) ≡ answer
 costs-more item outer h n [] tail ws answer f = f n
 costs-more item outer h n (x ∷ xs) tail ws answer f =
     h.comma n (row_words (item x ++ more_row item xs tail) ++ ws)
     ∙ h.words x (more_row item xs tail) ws
     ∙ costs-more item outer h h.behind_it xs tail ws answer f
 
-costs-items : {A : Type 0} (item : A → List Piece) (outer : List ℕ) → ItemCosts item outer → (xs : List A) (tail : List Piece) (ws : List Word) (answer : Bool) → ((m : ℕ) → affords (m ∷ outer) (row_words tail ++ ws) ≡ answer) → affords (0 ∷ outer) (row_words (items_row item xs tail) ++ ws) ≡ answer
+costs-items : {A : Type 0} (item : A → List Lexeme) (outer : List ℕ) → ItemCosts item outer → (xs : List A) (tail : List Lexeme) (ws : List Word) (answer : Bool) → ((m : ℕ) → affords (m ∷ outer) (row_words tail ++ ws) ≡ answer) → affords (0 ∷ outer) (row_words (items_row item xs tail) ++ ws) ≡ answer
 costs-items item outer h [] tail ws answer f = f 0
 costs-items item outer h (x ∷ xs) tail ws answer f = h.words x (more_row item xs tail) ws ∙ costs-more item outer h h.behind_it xs tail ws answer f
 
@@ -51,7 +51,7 @@ names-go : ItemCosts name_row (3 ∷ 5 ∷ [])
 unfolding most
 names-go = record { behind_it = 1; words = λ x tail ws. refl; comma = λ n ws. refl }
 
-operand-costs : (x : PlainOperand) (tail : List Piece) (ws : List Word) → affords (0 ∷ 4 ∷ 5 ∷ []) (row_words (operand_row x ++ tail) ++ ws) ≡ affords (1 ∷ 4 ∷ 5 ∷ []) (row_words tail ++ ws)
+operand-costs : (x : PlainOperand) (tail : List Lexeme) (ws : List Word) → affords (0 ∷ 4 ∷ 5 ∷ []) (row_words (operand_row x ++ tail) ++ ws) ≡ affords (1 ∷ 4 ∷ 5 ∷ []) (row_words tail ++ ws)
 unfolding most
 operand-costs (Integer digits) tail ws = refl
 operand-costs (Truth b) tail ws = refl

@@ -8,7 +8,7 @@ use Rattle.std.specs.List.{list_all}
 use Rattle.golf_tokens.specs.declared.token.TokenKind.TheVariants as kind
 use Rattle.golf_tokens.specs.declared.token.Keyword.{Keyword}
 use Rattle.golf_tokens.specs.declared.token.Keyword.TheVariants as keywords
-use Rattle.golf_tokens.specs.Bytes.{is_letter, is_digit, is_word_byte, is_plain, newlines}
+use Rattle.golf_tokens.specs.Bytes.{is_letter, is_digit, is_word_byte, is_ordinary, newlines}
 use Rattle.golf_tokens.specs.Spelling.{keyword_text, is_word, Names, Spells, Part, Itself, Newline, Tab, Backslash, Quote, part_text, part_byte, is_part, parts_text, parts_bytes}
 use Rattle.golf_tokens.specs.Spelling as spelling
 use Rattle.golf_lex.specs.Words.{keyword_of}
@@ -192,7 +192,7 @@ text-backslash b bs e later = subst (λ x. IsText false (x ∷ bs)) (sym e) (rec
 -- a byte that stands for itself is no newline
 record Other (b : ℕ) : Type 0 where
   pub newline : nat_eq b 10 ≡ false
-  pub plain : is_plain b ≡ true
+  pub plain : is_ordinary b ≡ true
 
 itself-other : (b : ℕ) → is_itself b ≡ true → Other b
 itself-other b h = at (nat_eq b 0) (nat_eq b 10) (nat_eq b 34) (nat_eq b 92) refl refl refl refl h

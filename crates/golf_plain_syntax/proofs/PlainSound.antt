@@ -9,7 +9,7 @@ use Rattle.golf_tokens.specs.declared.token.Mark.{Mark}
 use Rattle.golf_tokens.specs.declared.token.Mark.TheVariants as marks
 use Rattle.golf_tokens.specs.Bytes.{is_blank, is_word_byte, newlines}
 use Rattle.golf_tokens.specs.Spelling.{keyword_text, mark_text}
-use Rattle.golf_tokens.specs.Pieces.{Of, Piece, pieces_text, begins}
+use Rattle.golf_tokens.specs.Lexemes.{Of, Lexeme, lexemes_text, begins}
 use Rattle.golf_plain.specs.declared.plain.Plain.{Plain}
 use Rattle.golf_plain.specs.declared.plain.PlainImport.{PlainImport}
 use Rattle.golf_plain.specs.declared.plain.PlainImport.TheVariants.{Fmt, Runtime}
@@ -27,38 +27,38 @@ use Rattle.golf_plain_syntax.proofs.PlainRows.{name_piece, integer_piece, text_p
 use Rattle.golf_plain_syntax.proofs.PlainPieces.{IsName, name-by, variable-name, small-digits, spelling-string}
 
 -- no letter, `_` or digit is next
-abbrev pub WordEnds : List Piece → Type 0
-WordEnds ps = begins (λ c. not (is_word_byte c)) (pieces_text ps ++ 10 ∷ []) ≡ true
+abbrev pub WordEnds : List Lexeme → Type 0
+WordEnds ps = begins (λ c. not (is_word_byte c)) (lexemes_text ps ++ 10 ∷ []) ≡ true
 
 begins-any : (test : ℕ → Bool) → ((c : ℕ) → test c ≡ true) → (xs : List ℕ) → begins test (xs ++ 10 ∷ []) ≡ true
 begins-any test h [] = h 10
 begins-any test h (x ∷ xs) = h x
 
-sound-gap : (b : ℕ) (ps : List Piece) → is_blank b ≡ true → newlines (b ∷ []) ≡ 0 → Sound ps → Sound (gap b ∷ ps)
-sound-gap b ps k e s = ((b, refl, k), e, begins-any (λ c. true) (λ c. refl) (pieces_text ps), s)
+sound-gap : (b : ℕ) (ps : List Lexeme) → is_blank b ≡ true → newlines (b ∷ []) ≡ 0 → Sound ps → Sound (gap b ∷ ps)
+sound-gap b ps k e s = ((b, refl, k), e, begins-any (λ c. true) (λ c. refl) (lexemes_text ps), s)
 
-space : (ps : List Piece) → Sound ps → Sound (gap 32 ∷ ps)
+space : (ps : List Lexeme) → Sound ps → Sound (gap 32 ∷ ps)
 space ps s = sound-gap 32 ps refl refl s
 
-sound-mark : (m : Mark) (ps : List Piece) → newlines (mark_text m) ≡ 0 → ((c : ℕ) → ends_at (Of (MarkToken m)) c ≡ true) → Sound ps → Sound (mark_piece m ∷ ps)
-sound-mark m ps e h s = (refl, e, begins-any (ends_at (Of (MarkToken m))) h (pieces_text ps), s)
+sound-mark : (m : Mark) (ps : List Lexeme) → newlines (mark_text m) ≡ 0 → ((c : ℕ) → ends_at (Of (MarkToken m)) c ≡ true) → Sound ps → Sound (mark_piece m ∷ ps)
+sound-mark m ps e h s = (refl, e, begins-any (ends_at (Of (MarkToken m))) h (lexemes_text ps), s)
 
-sound-keyword : (k : Keyword) (ps : List Piece) → newlines (keyword_text k) ≡ 0 → WordEnds ps → Sound ps → Sound (keyword_piece k ∷ ps)
+sound-keyword : (k : Keyword) (ps : List Lexeme) → newlines (keyword_text k) ≡ 0 → WordEnds ps → Sound ps → Sound (keyword_piece k ∷ ps)
 sound-keyword k ps e w s = (refl, e, w, s)
 
-sound-name : (x : List ℕ) (ps : List Piece) → IsName x → WordEnds ps → Sound ps → Sound (name_piece x ∷ ps)
+sound-name : (x : List ℕ) (ps : List Lexeme) → IsName x → WordEnds ps → Sound ps → Sound (name_piece x ∷ ps)
 sound-name x ps n w s = (n.forms, n.level, w, s)
 
-sound-variable : (x : List ℕ) (ps : List Piece) → is_variable x ≡ true → WordEnds ps → Sound ps → Sound (name_piece x ∷ ps)
+sound-variable : (x : List ℕ) (ps : List Lexeme) → is_variable x ≡ true → WordEnds ps → Sound ps → Sound (name_piece x ∷ ps)
 sound-variable x ps v w s = sound-name x ps (variable-name x v) w s
 
-sound-integer : (ds : List ℕ) (ps : List Piece) → is_small ds ≡ true → WordEnds ps → Sound ps → Sound (integer_piece ds ∷ ps)
+sound-integer : (ds : List ℕ) (ps : List Lexeme) → is_small ds ≡ true → WordEnds ps → Sound ps → Sound (integer_piece ds ∷ ps)
 sound-integer ds ps v w s = let d = small-digits ds v in ((refl, d.forms), d.level, w, s)
 
-sound-text : (bs : List ℕ) (ps : List Piece) → is_spelling false bs ≡ true → Sound ps → Sound (text_piece bs ∷ ps)
-sound-text bs ps v s = let t = spelling-string bs v in (t.forms, t.level, begins-any (λ c. true) (λ c. refl) (pieces_text ps), s)
+sound-text : (bs : List ℕ) (ps : List Lexeme) → is_spelling false bs ≡ true → Sound ps → Sound (text_piece bs ∷ ps)
+sound-text bs ps v s = let t = spelling-string bs v in (t.forms, t.level, begins-any (λ c. true) (λ c. refl) (lexemes_text ps), s)
 
-sound-operand : (x : PlainOperand) (ps : List Piece) → is_operand x ≡ true → WordEnds ps → Sound ps → Sound (operand_piece x ∷ ps)
+sound-operand : (x : PlainOperand) (ps : List Lexeme) → is_operand x ≡ true → WordEnds ps → Sound ps → Sound (operand_piece x ∷ ps)
 sound-operand (Integer ds) ps v w s = sound-integer ds ps v w s
 sound-operand (Truth true) ps v w s = sound-name (codes "true") ps (name-by (codes "true") refl refl) w s
 sound-operand (Truth false) ps v w s = sound-name (codes "false") ps (name-by (codes "false") refl refl) w s
@@ -66,17 +66,17 @@ sound-operand (Text bs) ps v w s = sound-text bs ps v s
 sound-operand (Name x) ps v w s = sound-variable x ps v w s
 
 -- an item is sound before whatever ends a word
-abbrev SoundItem : {A : Type 0} → (A → List Piece) → (A → Bool) → Type 0
-SoundItem {A} item good = (x : A) (tail : List Piece) → good x ≡ true → WordEnds tail → Sound tail → Sound (item x ++ tail)
+abbrev SoundItem : {A : Type 0} → (A → List Lexeme) → (A → Bool) → Type 0
+SoundItem {A} item good = (x : A) (tail : List Lexeme) → good x ≡ true → WordEnds tail → Sound tail → Sound (item x ++ tail)
 
-sound-more : {A : Type 0} (item : A → List Piece) (good : A → Bool) → SoundItem item good → (xs : List A) (tail : List Piece) → list_all good xs ≡ true → WordEnds tail → Sound tail → Sound (more_row item xs tail) × WordEnds (more_row item xs tail)
+sound-more : {A : Type 0} (item : A → List Lexeme) (good : A → Bool) → SoundItem item good → (xs : List A) (tail : List Lexeme) → list_all good xs ≡ true → WordEnds tail → Sound tail → Sound (more_row item xs tail) × WordEnds (more_row item xs tail)
 sound-more item good h [] tail v w s = (s, w)
 sound-more item good h (x ∷ xs) tail v w s =
     let g = both (good x) (list_all good xs) v in
     let later = sound-more item good h xs tail g.1 w s in
     (sound-mark marks.Comma (gap 32 ∷ (item x ++ more_row item xs tail)) refl (λ _. refl) (space (item x ++ more_row item xs tail) (h x (more_row item xs tail) g.0 later.1 later.0)), refl)
 
-sound-items : {A : Type 0} (item : A → List Piece) (good : A → Bool) → SoundItem item good → (xs : List A) (tail : List Piece) → list_all good xs ≡ true → WordEnds tail → Sound tail → Sound (items_row item xs tail)
+sound-items : {A : Type 0} (item : A → List Lexeme) (good : A → Bool) → SoundItem item good → (xs : List A) (tail : List Lexeme) → list_all good xs ≡ true → WordEnds tail → Sound tail → Sound (items_row item xs tail)
 sound-items item good h [] tail v w s = s
 sound-items item good h (x ∷ xs) tail v w s =
     let g = both (good x) (list_all good xs) v in
@@ -86,7 +86,7 @@ sound-items item good h (x ∷ xs) tail v w s =
 sound-close : Sound close_paren
 sound-close = sound-mark marks.CloseParen [] refl (λ _. refl) tt
 
-sound-open : (ps : List Piece) → Sound ps → Sound (mark_piece marks.OpenParen ∷ ps)
+sound-open : (ps : List Lexeme) → Sound ps → Sound (mark_piece marks.OpenParen ∷ ps)
 sound-open ps s = sound-mark marks.OpenParen ps refl (λ _. refl) s
 
 int-name : IsName (codes "int")
@@ -104,21 +104,21 @@ sound-call f xs v =
     (sound-open (items_row name_row xs close_paren) (sound-items name_row is_variable sound-variable xs close_paren w.1 refl sound-close))
 
 -- ` := ` and what stands behind it
-sound-define : (x : List ℕ) (ps : List Piece) → is_variable x ≡ true → Sound ps → Sound (name_piece x ∷ gap 32 ∷ mark_piece marks.Define ∷ gap 32 ∷ ps)
+sound-define : (x : List ℕ) (ps : List Lexeme) → is_variable x ≡ true → Sound ps → Sound (name_piece x ∷ gap 32 ∷ mark_piece marks.Define ∷ gap 32 ∷ ps)
 sound-define x ps v s =
     sound-variable x (gap 32 ∷ mark_piece marks.Define ∷ gap 32 ∷ ps) v refl
     (space (mark_piece marks.Define ∷ gap 32 ∷ ps) (sound-mark marks.Define (gap 32 ∷ ps) refl (λ _. refl) (space ps s)))
 
-sound-arrow : (ps : List Piece) → Sound ps → Sound (mark_piece marks.Arrow ∷ ps)
+sound-arrow : (ps : List Lexeme) → Sound ps → Sound (mark_piece marks.Arrow ∷ ps)
 sound-arrow ps s = sound-mark marks.Arrow ps refl (λ _. refl) s
 
 -- `a.b(`
-sound-selector : (a b : List ℕ) (ps : List Piece) → IsName a → IsName b → Sound ps → Sound (name_piece a ∷ mark_piece marks.Dot ∷ name_piece b ∷ mark_piece marks.OpenParen ∷ ps)
+sound-selector : (a b : List ℕ) (ps : List Lexeme) → IsName a → IsName b → Sound ps → Sound (name_piece a ∷ mark_piece marks.Dot ∷ name_piece b ∷ mark_piece marks.OpenParen ∷ ps)
 sound-selector a b ps n m s =
     sound-name a (mark_piece marks.Dot ∷ name_piece b ∷ mark_piece marks.OpenParen ∷ ps) n refl
     (sound-mark marks.Dot (name_piece b ∷ mark_piece marks.OpenParen ∷ ps) refl (λ _. refl) (sound-name b (mark_piece marks.OpenParen ∷ ps) m refl (sound-open ps s)))
 
-abbrev make_row : List Piece
+abbrev make_row : List Lexeme
 make_row = name_piece (codes "make") ∷ mark_piece marks.OpenParen ∷ keyword_piece keywords.Chan ∷ gap 32 ∷ name_piece (codes "int") ∷ close_paren
 
 sound-make : Sound make_row
@@ -145,7 +145,7 @@ sound-statement (Go f xs) v = sound-keyword keywords.Go (gap 32 ∷ call_row f x
 sound-statement Collect v = sound-selector (codes "runtime") (codes "GC") close_paren (name-by (codes "runtime") refl refl) (name-by (codes "GC") refl refl) sound-close
 sound-statement (Print xs) v = sound-selector (codes "fmt") (codes "Println") (items_row operand_row xs close_paren) (name-by (codes "fmt") refl refl) (name-by (codes "Println") refl refl) (sound-items operand_row is_operand sound-operand xs close_paren v refl sound-close)
 
-sound-body : (ls : List PlainLine) (rest : List (List Piece)) → list_all is_line ls ≡ true → AllSound rest → AllSound (body_rows ls rest)
+sound-body : (ls : List PlainLine) (rest : List (List Lexeme)) → list_all is_line ls ≡ true → AllSound rest → AllSound (body_rows ls rest)
 sound-body [] rest v s = s
 sound-body (l ∷ ls) rest v s =
     let w = both (is_line l) (list_all is_line ls) v in
@@ -174,7 +174,7 @@ sound-import : (i : PlainImport) → Sound (import_row i)
 sound-import Fmt = sound-keyword keywords.Import (gap 32 ∷ text_piece (codes "fmt") ∷ []) refl refl (space (text_piece (codes "fmt") ∷ []) (sound-text (codes "fmt") [] refl tt))
 sound-import Runtime = sound-keyword keywords.Import (gap 32 ∷ text_piece (codes "runtime") ∷ []) refl refl (space (text_piece (codes "runtime") ∷ []) (sound-text (codes "runtime") [] refl tt))
 
-sound-imports : (is : List PlainImport) (rest : List (List Piece)) → AllSound rest → AllSound (imports_rows is rest)
+sound-imports : (is : List PlainImport) (rest : List (List Lexeme)) → AllSound rest → AllSound (imports_rows is rest)
 sound-imports [] rest s = s
 sound-imports (i ∷ is) rest s = (sound-import i, sound-imports is rest s)
 

@@ -4,7 +4,7 @@ use Rattle.golf_tokens.specs.declared.token.Token.{Token}
 use Rattle.golf_tokens.specs.declared.token.TokenKind.{TokenKind}
 use Rattle.golf_tokens.specs.declared.token.Keyword.TheVariants as keywords
 use Rattle.golf_tokens.specs.declared.token.Mark.TheVariants as marks
-use Rattle.golf_tokens.specs.Pieces.{Piece}
+use Rattle.golf_tokens.specs.Lexemes.{Lexeme}
 use Rattle.golf_tokens.specs.Semicolons.{semicolon, closes, without_optional}
 use Rattle.golf_grammar.specs.declared.declarations.Import.TheVariants as imports
 use Rattle.golf_grammar.specs.declared.declarations.Decl.TheVariants as d
@@ -40,7 +40,7 @@ spells-line : (line : ℕ) (l : PlainLine) (rest : List Token) → Spells (print
 spells-line line l rest = subst (λ ws. Spells ws (tokens_on line (kinds (line_row l)) ++ rest) rest) (sym (print-line line l)) (spells-row line (kinds (line_row l)) rest)
 
 -- the tokens of rows that stand in the file
-abbrev pub kept : ℕ → List (List Piece) → List Token
+abbrev pub kept : ℕ → List (List Lexeme) → List Token
 kept line rs = without_optional (rows_tokens line rs)
 
 next_line : (line : ℕ) (ls : List PlainLine) (l : PlainLine) (after : ℕ) → after ≡ line + length (l ∷ ls) → after ≡ line + 1 + length ls
@@ -53,7 +53,7 @@ spells-step line l later rest out h =
     (spells-append (print_stmt (stmt_of line l)) later (tokens_on line (kinds (line_row l)) ++ without_optional (semicolon line ∷ rest)) (without_optional (semicolon line ∷ rest)) out (spells-line line l (without_optional (semicolon line ∷ rest))) h)
 
 -- the statements behind the first, and the end of the body
-spells-behind : (before line : ℕ) (ls : List PlainLine) (after : ℕ) → after ≡ line + length ls → (rows : List (List Piece)) (later : List Word) (out : List Token) → Spells later (kept after (end_row ∷ rows)) out → Spells (behind marks.Semicolon (map print_stmt (body_of line ls)) ++ later) (without_optional (semicolon before ∷ rows_tokens line (body_rows ls (end_row ∷ rows)))) out
+spells-behind : (before line : ℕ) (ls : List PlainLine) (after : ℕ) → after ≡ line + length ls → (rows : List (List Lexeme)) (later : List Word) (out : List Token) → Spells later (kept after (end_row ∷ rows)) out → Spells (behind marks.Semicolon (map print_stmt (body_of line ls)) ++ later) (without_optional (semicolon before ∷ rows_tokens line (body_rows ls (end_row ∷ rows)))) out
 spells-behind before line [] after e rows later out h =
     let same : after ≡ line = omega arith in
     subst (λ n. Spells later (kept n (end_row ∷ rows)) out) same h
@@ -65,7 +65,7 @@ spells-behind before line (l ∷ ls) after e rows later out h =
     subst (λ ts. Spells (mark marks.Semicolon ∷ ((print_stmt (stmt_of line l) ++ others) ++ later)) ts out) (sym (semicolon-stays before (row_tokens line (kinds (line_row l)) rest) (line-opens line l rest))) ((refl, tt), here)
 
 -- the statements of a body, and its end
-spells-body : (line : ℕ) (ls : List PlainLine) (after : ℕ) → after ≡ line + length ls → (rows : List (List Piece)) (later : List Word) (out : List Token) → Spells later (kept after (end_row ∷ rows)) out → Spells (separated marks.Semicolon (map print_stmt (body_of line ls)) ++ later) (kept line (body_rows ls (end_row ∷ rows))) out
+spells-body : (line : ℕ) (ls : List PlainLine) (after : ℕ) → after ≡ line + length ls → (rows : List (List Lexeme)) (later : List Word) (out : List Token) → Spells later (kept after (end_row ∷ rows)) out → Spells (separated marks.Semicolon (map print_stmt (body_of line ls)) ++ later) (kept line (body_rows ls (end_row ∷ rows))) out
 spells-body line [] after e rows later out h =
     let same : after ≡ line = omega arith in
     subst (λ n. Spells later (kept n (end_row ∷ rows)) out) same h
@@ -88,7 +88,7 @@ print-function line f =
     ∙ ap (λ ws. on_line line (keyword keywords.Func ∷ name f.name ∷ mark marks.OpenParen ∷ ws)) (append_assoc params (row_words begin_body) (body_words (line + 1) f.body))
     )
 
-spells-function : (line : ℕ) (f : PlainFunction) (rows : List (List Piece)) (later : List Word) (out : List Token) → closes (rows_tokens (line + span f) rows) ≡ false → Spells later (kept (line + span f) rows) out → Spells (print_decl (d.Func (func_of line f)) ++ mark marks.Semicolon ∷ later) (kept line (head_row f ∷ body_rows f.body (end_row ∷ rows))) out
+spells-function : (line : ℕ) (f : PlainFunction) (rows : List (List Lexeme)) (later : List Word) (out : List Token) → closes (rows_tokens (line + span f) rows) ≡ false → Spells later (kept (line + span f) rows) out → Spells (print_decl (d.Func (func_of line f)) ++ mark marks.Semicolon ∷ later) (kept line (head_row f ∷ body_rows f.body (end_row ∷ rows))) out
 spells-function line f rows later out opens h =
     let first = on_line line (row_words (head_row f)) in
     let statements = separated marks.Semicolon (map print_stmt (body_of (line + 1) f.body)) in

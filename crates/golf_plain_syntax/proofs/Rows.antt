@@ -4,34 +4,34 @@ use Rattle.std.specs.Prelude.{nat_eq}
 use Rattle.golf_tokens.specs.declared.token.Token.{Token}
 use Rattle.golf_tokens.specs.declared.token.TokenKind.{TokenKind}
 use Rattle.golf_tokens.specs.Bytes.{newlines}
-use Rattle.golf_tokens.specs.Pieces.{Class, Blank, LineComment, GeneralComment, Of, Piece, pieces_text, begins, Forms, Cut}
-use Rattle.golf_tokens.specs.Semicolons.{Item, Newline, piece_items, items, may_end, semicolon, semicolon_behind, inserted, without_optional, tokens_of}
+use Rattle.golf_tokens.specs.Lexemes.{Class, Blank, LineComment, GeneralComment, Of, Lexeme, lexemes_text, begins, Forms, Cut}
+use Rattle.golf_tokens.specs.Semicolons.{Item, Newline, lexeme_items, items, may_end, semicolon, semicolon_behind, inserted, without_optional, tokens_of}
 use Rattle.golf_tokens.specs.Semicolons as item
 use Rattle.golf_tokens.specs.Lexes.{Lexes}
 use Rattle.golf_lex.proofs.Standing.{ends_at, precedes}
 
 -- a space, a tab or a newline
-abbrev pub gap : ℕ → Piece
+abbrev pub gap : ℕ → Lexeme
 gap b = record { class = Blank; bytes = b ∷ [] }
 
 -- pieces within one line, each ended by what stands behind it; a newline stands behind the last
-abbrev pub Sound : List Piece → Type 0
+abbrev pub Sound : List Lexeme → Type 0
 Sound [] = Unit {0}
-Sound (p ∷ ps) = Forms p.class p.bytes × (newlines p.bytes ≡ 0) × (begins (ends_at p.class) (pieces_text ps ++ 10 ∷ []) ≡ true) × Sound ps
+Sound (p ∷ ps) = Forms p.class p.bytes × (newlines p.bytes ≡ 0) × (begins (ends_at p.class) (lexemes_text ps ++ 10 ∷ []) ≡ true) × Sound ps
 
-pub text-row : (r rest : List Piece) → pieces_text (r ++ gap 10 ∷ rest) ≡ pieces_text r ++ 10 ∷ pieces_text rest
+pub text-row : (r rest : List Lexeme) → lexemes_text (r ++ gap 10 ∷ rest) ≡ lexemes_text r ++ 10 ∷ lexemes_text rest
 text-row [] rest = refl
-text-row (p ∷ ps) rest = ap (λ xs. p.bytes ++ xs) (text-row ps rest) ∙ sym (append_assoc p.bytes (pieces_text ps) (10 ∷ pieces_text rest))
+text-row (p ∷ ps) rest = ap (λ xs. p.bytes ++ xs) (text-row ps rest) ∙ sym (append_assoc p.bytes (lexemes_text ps) (10 ∷ lexemes_text rest))
 
 begins-front : (test : ℕ → Bool) (xs ys : List ℕ) → begins test (xs ++ 10 ∷ ys) ≡ begins test (xs ++ 10 ∷ [])
 begins-front test [] ys = refl
 begins-front test (x ∷ xs) ys = refl
 
-cut-row : (r rest : List Piece) → Sound r → Cut rest → Cut (r ++ gap 10 ∷ rest)
+cut-row : (r rest : List Lexeme) → Sound r → Cut rest → Cut (r ++ gap 10 ∷ rest)
 cut-row [] rest s c = ((10, refl, refl), tt, c)
 cut-row (p ∷ ps) rest s c =
-    let front : begins (ends_at p.class) (pieces_text (ps ++ gap 10 ∷ rest)) ≡ true = ap (begins (ends_at p.class)) (text-row ps rest) ∙ begins-front (ends_at p.class) (pieces_text ps) (pieces_text rest) ∙ s.2 in
-    (s.0, precedes p.class p.bytes (pieces_text (ps ++ gap 10 ∷ rest)) s.0 front, cut-row ps rest s.3 c)
+    let front : begins (ends_at p.class) (lexemes_text (ps ++ gap 10 ∷ rest)) ≡ true = ap (begins (ends_at p.class)) (text-row ps rest) ∙ begins-front (ends_at p.class) (lexemes_text ps) (lexemes_text rest) ∙ s.2 in
+    (s.0, precedes p.class p.bytes (lexemes_text (ps ++ gap 10 ∷ rest)) s.0 front, cut-row ps rest s.3 c)
 
 -- the kinds of the tokens
 abbrev pub kinds_of : Class → List TokenKind
@@ -40,7 +40,7 @@ kinds_of LineComment = []
 kinds_of GeneralComment = []
 kinds_of (Of kind) = kind ∷ []
 
-abbrev pub kinds : List Piece → List TokenKind
+abbrev pub kinds : List Lexeme → List TokenKind
 kinds [] = []
 kinds (p ∷ ps) = kinds_of p.class ++ kinds ps
 
@@ -53,7 +53,7 @@ abbrev pub as_items : List Token → List Item
 as_items [] = []
 as_items (t ∷ ts) = item.Of t ∷ as_items ts
 
-items-row : (line : ℕ) (r rest : List Piece) → Sound r → items line (r ++ gap 10 ∷ rest) ≡ as_items (tokens_on line (kinds r)) ++ Newline ∷ items (line + 1) rest
+items-row : (line : ℕ) (r rest : List Lexeme) → Sound r → items line (r ++ gap 10 ∷ rest) ≡ as_items (tokens_on line (kinds r)) ++ Newline ∷ items (line + 1) rest
 items-row line [] rest s = refl
 items-row line (p ∷ ps) rest s = by p.class p.bytes s.1 (items-row line ps rest s.3)
   where
@@ -63,7 +63,7 @@ items-row line (p ∷ ps) rest s = by p.class p.bytes s.1 (items-row line ps res
     blank : (bytes : List ℕ) → newlines bytes ≡ 0 → cond (nat_eq (newlines bytes) 0) [] (Newline ∷ []) ++ items (line + newlines bytes) (ps ++ gap 10 ∷ rest) ≡ items line (ps ++ gap 10 ∷ rest)
     blank bytes e = ap (λ n. cond (nat_eq n 0) [] (Newline ∷ []) ++ items (line + n) (ps ++ gap 10 ∷ rest)) e ∙ ap (λ n. items n (ps ++ gap 10 ∷ rest)) same_line
 
-    by : (class : Class) (bytes : List ℕ) → newlines bytes ≡ 0 → items line (ps ++ gap 10 ∷ rest) ≡ as_items (tokens_on line (kinds ps)) ++ Newline ∷ items (line + 1) rest → piece_items line class bytes ++ items (line + newlines bytes) (ps ++ gap 10 ∷ rest) ≡ as_items (tokens_on line (kinds_of class ++ kinds ps)) ++ Newline ∷ items (line + 1) rest
+    by : (class : Class) (bytes : List ℕ) → newlines bytes ≡ 0 → items line (ps ++ gap 10 ∷ rest) ≡ as_items (tokens_on line (kinds ps)) ++ Newline ∷ items (line + 1) rest → lexeme_items line class bytes ++ items (line + newlines bytes) (ps ++ gap 10 ∷ rest) ≡ as_items (tokens_on line (kinds_of class ++ kinds ps)) ++ Newline ∷ items (line + 1) rest
     by Blank bytes e later = blank bytes e ∙ later
     by LineComment bytes e later = blank bytes e ∙ later
     by GeneralComment bytes e later = blank bytes e ∙ later
@@ -96,24 +96,24 @@ inserted-row line [] rest = refl
 inserted-row line (k ∷ ks) rest = inserted-behind line k ks rest
 
 -- rows, with a newline behind each
-abbrev pub pieces_of : List (List Piece) → List Piece
+abbrev pub pieces_of : List (List Lexeme) → List Lexeme
 pieces_of [] = []
 pieces_of (r ∷ rs) = r ++ gap 10 ∷ pieces_of rs
 
-abbrev pub AllSound : List (List Piece) → Type 0
+abbrev pub AllSound : List (List Lexeme) → Type 0
 AllSound [] = Unit {0}
 AllSound (r ∷ rs) = Sound r × AllSound rs
 
 -- the tokens of rows, the first on this line
-abbrev pub rows_tokens : ℕ → List (List Piece) → List Token
+abbrev pub rows_tokens : ℕ → List (List Lexeme) → List Token
 rows_tokens line [] = []
 rows_tokens line (r ∷ rs) = row_tokens line (kinds r) (rows_tokens (line + 1) rs)
 
-cut-rows : (rs : List (List Piece)) → AllSound rs → Cut (pieces_of rs)
+cut-rows : (rs : List (List Lexeme)) → AllSound rs → Cut (pieces_of rs)
 cut-rows [] s = tt
 cut-rows (r ∷ rs) s = cut-row r (pieces_of rs) s.0 (cut-rows rs s.1)
 
-inserted-rows : (line : ℕ) (rs : List (List Piece)) → AllSound rs → inserted (items line (pieces_of rs)) ≡ rows_tokens line rs
+inserted-rows : (line : ℕ) (rs : List (List Lexeme)) → AllSound rs → inserted (items line (pieces_of rs)) ≡ rows_tokens line rs
 inserted-rows line [] s = refl
 inserted-rows line (r ∷ rs) s =
     ap inserted (items-row line r (pieces_of rs) s.0)
@@ -121,9 +121,9 @@ inserted-rows line (r ∷ rs) s =
     ∙ ap (row_tokens line (kinds r)) (inserted-rows (line + 1) rs s.1)
 
 -- rows lex as their tokens
-pub rows-lex : (rs : List (List Piece)) (bytes : List ℕ) → AllSound rs → bytes ≡ pieces_text (pieces_of rs) → Lexes bytes (without_optional (rows_tokens 1 rs))
+pub rows-lex : (rs : List (List Lexeme)) (bytes : List ℕ) → AllSound rs → bytes ≡ lexemes_text (pieces_of rs) → Lexes bytes (without_optional (rows_tokens 1 rs))
 rows-lex rs bytes s e = record {
-  pieces = pieces_of rs;
+  lexemes = pieces_of rs;
   cut = cut-rows rs s;
   text = e;
   are = ap without_optional (sym (inserted-rows 1 rs s));

@@ -6,7 +6,7 @@ use Rattle.golf_tokens.specs.declared.token.TokenKind.{TokenKind}
 use Rattle.golf_tokens.specs.declared.token.TokenKind.TheVariants as kind
 use Rattle.golf_tokens.specs.declared.token.Keyword.TheVariants as keywords
 use Rattle.golf_tokens.specs.declared.token.Mark.TheVariants as marks
-use Rattle.golf_tokens.specs.Pieces.{Piece}
+use Rattle.golf_tokens.specs.Lexemes.{Lexeme}
 use Rattle.golf_tokens.specs.Semicolons.{semicolon, closes, without_optional}
 use Rattle.golf_plain.specs.declared.plain.PlainFunction.{PlainFunction}
 use Rattle.golf_plain.specs.declared.plain.PlainLine.{PlainLine}
@@ -31,15 +31,15 @@ abbrev pub Firm : List TokenKind → Type 0
 Firm ks = (line : ℕ) (rest : List Token) → without_optional (tokens_on line ks ++ rest) ≡ tokens_on line ks ++ without_optional rest
 
 -- nor is one of an item, or the comma before it
-record FirmItem {A : Type 0} (item : A → List Piece) : Type 0 where
-  pub first : (x : A) (tail : List Piece) → Firm (kinds tail) → Firm (kinds (item x ++ tail))
-  pub later : (x : A) (tail : List Piece) → Firm (kinds tail) → Firm (kind.Mark marks.Comma ∷ kinds (item x ++ tail))
+record FirmItem {A : Type 0} (item : A → List Lexeme) : Type 0 where
+  pub first : (x : A) (tail : List Lexeme) → Firm (kinds tail) → Firm (kinds (item x ++ tail))
+  pub later : (x : A) (tail : List Lexeme) → Firm (kinds tail) → Firm (kind.Mark marks.Comma ∷ kinds (item x ++ tail))
 
-firm-more : {A : Type 0} (item : A → List Piece) → FirmItem item → (xs : List A) (tail : List Piece) → Firm (kinds tail) → Firm (kinds (more_row item xs tail))
+firm-more : {A : Type 0} (item : A → List Lexeme) → FirmItem item → (xs : List A) (tail : List Lexeme) → Firm (kinds tail) → Firm (kinds (more_row item xs tail))
 firm-more item h [] tail f = f
 firm-more item h (x ∷ xs) tail f = h.later x (more_row item xs tail) (firm-more item h xs tail f)
 
-firm-items : {A : Type 0} (item : A → List Piece) → FirmItem item → (xs : List A) (tail : List Piece) → Firm (kinds tail) → Firm (kinds (items_row item xs tail))
+firm-items : {A : Type 0} (item : A → List Lexeme) → FirmItem item → (xs : List A) (tail : List Lexeme) → Firm (kinds tail) → Firm (kinds (items_row item xs tail))
 firm-items item h [] tail f = f
 firm-items item h (x ∷ xs) tail f = h.first x (more_row item xs tail) (firm-more item h xs tail f)
 
@@ -49,13 +49,13 @@ firm-names = record {
   later = λ x tail f line rest. ap (λ ts. on line (kind.Mark marks.Comma) ∷ on line (kind.Name x) ∷ ts) (f line rest);
 }
 
-firm-operand : (x : PlainOperand) (tail : List Piece) → Firm (kinds tail) → Firm (kinds (operand_row x ++ tail))
+firm-operand : (x : PlainOperand) (tail : List Lexeme) → Firm (kinds tail) → Firm (kinds (operand_row x ++ tail))
 firm-operand (Integer digits) tail f line rest = ap (λ ts. on line (kind.Integer digits) ∷ ts) (f line rest)
 firm-operand (Truth b) tail f line rest = ap (λ ts. on line (kind.Name (truth_name b)) ∷ ts) (f line rest)
 firm-operand (Text spelling) tail f line rest = ap (λ ts. on line (kind.Text (spelt false spelling)) ∷ ts) (f line rest)
 firm-operand (Name x) tail f line rest = ap (λ ts. on line (kind.Name x) ∷ ts) (f line rest)
 
-firm-later : (x : PlainOperand) (tail : List Piece) → Firm (kinds tail) → Firm (kind.Mark marks.Comma ∷ kinds (operand_row x ++ tail))
+firm-later : (x : PlainOperand) (tail : List Lexeme) → Firm (kinds tail) → Firm (kind.Mark marks.Comma ∷ kinds (operand_row x ++ tail))
 firm-later (Integer digits) tail f line rest = ap (λ ts. on line (kind.Mark marks.Comma) ∷ on line (kind.Integer digits) ∷ ts) (f line rest)
 firm-later (Truth b) tail f line rest = ap (λ ts. on line (kind.Mark marks.Comma) ∷ on line (kind.Name (truth_name b)) ∷ ts) (f line rest)
 firm-later (Text spelling) tail f line rest = ap (λ ts. on line (kind.Mark marks.Comma) ∷ on line (kind.Text (spelt false spelling)) ∷ ts) (f line rest)
@@ -94,18 +94,18 @@ firm-head f line rest = ap (λ ts. on line (kind.Keyword keywords.Func) ∷ on l
 abbrev pub Ends : Bool → List TokenKind → Type 0
 Ends answer ks = (before : Bool) → ends_line before ks ≡ answer
 
-abbrev EndsItem : {A : Type 0} → Bool → (A → List Piece) → Type 0
-EndsItem {A} answer item = (x : A) (tail : List Piece) → Ends answer (kinds tail) → Ends answer (kinds (item x ++ tail))
+abbrev EndsItem : {A : Type 0} → Bool → (A → List Lexeme) → Type 0
+EndsItem {A} answer item = (x : A) (tail : List Lexeme) → Ends answer (kinds tail) → Ends answer (kinds (item x ++ tail))
 
-ends-more : {A : Type 0} (answer : Bool) (item : A → List Piece) → EndsItem answer item → (xs : List A) (tail : List Piece) → Ends answer (kinds tail) → Ends answer (kinds (more_row item xs tail))
+ends-more : {A : Type 0} (answer : Bool) (item : A → List Lexeme) → EndsItem answer item → (xs : List A) (tail : List Lexeme) → Ends answer (kinds tail) → Ends answer (kinds (more_row item xs tail))
 ends-more answer item h [] tail f before = f before
 ends-more answer item h (x ∷ xs) tail f before = h x (more_row item xs tail) (ends-more answer item h xs tail f) false
 
-ends-items : {A : Type 0} (answer : Bool) (item : A → List Piece) → EndsItem answer item → (xs : List A) (tail : List Piece) → Ends answer (kinds tail) → Ends answer (kinds (items_row item xs tail))
+ends-items : {A : Type 0} (answer : Bool) (item : A → List Lexeme) → EndsItem answer item → (xs : List A) (tail : List Lexeme) → Ends answer (kinds tail) → Ends answer (kinds (items_row item xs tail))
 ends-items answer item h [] tail f = f
 ends-items answer item h (x ∷ xs) tail f = h x (more_row item xs tail) (ends-more answer item h xs tail f)
 
-ends-operand : (x : PlainOperand) (tail : List Piece) → Ends true (kinds tail) → Ends true (kinds (operand_row x ++ tail))
+ends-operand : (x : PlainOperand) (tail : List Lexeme) → Ends true (kinds tail) → Ends true (kinds (operand_row x ++ tail))
 ends-operand (Integer digits) tail f before = f true
 ends-operand (Truth b) tail f before = f true
 ends-operand (Text spelling) tail f before = f true

@@ -7,7 +7,7 @@ use Rattle.std.specs.Str.{bytes_eq}
 use Rattle.golf_tokens.specs.declared.token.TokenKind.{TokenKind}
 use Rattle.golf_tokens.specs.declared.token.Keyword.TheVariants as keywords
 use Rattle.golf_tokens.specs.declared.token.Mark.TheVariants as marks
-use Rattle.golf_tokens.specs.Pieces.{Piece}
+use Rattle.golf_tokens.specs.Lexemes.{Lexeme}
 use Rattle.golf_grammar.specs.declared.expressions.UnaryOperator.TheVariants as unary
 use Rattle.golf_grammar.specs.declared.expressions.Expr.{Expr}
 use Rattle.golf_grammar.specs.declared.expressions.Expr.TheVariants as e
@@ -38,18 +38,18 @@ abbrev pub words : List TokenKind → List Word
 words [] = []
 words (k ∷ ks) = word k ∷ words ks
 
-abbrev pub row_words : List Piece → List Word
+abbrev pub row_words : List Lexeme → List Word
 row_words r = words (kinds r)
 
 -- an item prints its row, whatever stands behind
-abbrev pub PrintsItem : {A B : Type 0} → (A → List Piece) → (A → B) → (B → List Word) → Type 0
-PrintsItem {A} item of print = (x : A) (tail : List Piece) → row_words (item x ++ tail) ≡ print (of x) ++ row_words tail
+abbrev pub PrintsItem : {A B : Type 0} → (A → List Lexeme) → (A → B) → (B → List Word) → Type 0
+PrintsItem {A} item of print = (x : A) (tail : List Lexeme) → row_words (item x ++ tail) ≡ print (of x) ++ row_words tail
 
-print-more : {A B : Type 0} (item : A → List Piece) (of : A → B) (print : B → List Word) → PrintsItem item of print → (xs : List A) (tail : List Piece) → row_words (more_row item xs tail) ≡ behind marks.Comma (map print (map of xs)) ++ row_words tail
+print-more : {A B : Type 0} (item : A → List Lexeme) (of : A → B) (print : B → List Word) → PrintsItem item of print → (xs : List A) (tail : List Lexeme) → row_words (more_row item xs tail) ≡ behind marks.Comma (map print (map of xs)) ++ row_words tail
 print-more item of print h [] tail = refl
 print-more item of print h (x ∷ xs) tail = ap (λ ws. mark marks.Comma ∷ ws) (h x (more_row item xs tail) ∙ ap (λ ws. print (of x) ++ ws) (print-more item of print h xs tail) ∙ sym (append_assoc (print (of x)) (behind marks.Comma (map print (map of xs))) (row_words tail)))
 
-pub print-items : {A B : Type 0} (item : A → List Piece) (of : A → B) (print : B → List Word) → PrintsItem item of print → (xs : List A) (tail : List Piece) → row_words (items_row item xs tail) ≡ separated marks.Comma (map print (map of xs)) ++ row_words tail
+pub print-items : {A B : Type 0} (item : A → List Lexeme) (of : A → B) (print : B → List Word) → PrintsItem item of print → (xs : List A) (tail : List Lexeme) → row_words (items_row item xs tail) ≡ separated marks.Comma (map print (map of xs)) ++ row_words tail
 print-items item of print h [] tail = refl
 print-items item of print h (x ∷ xs) tail = h x (more_row item xs tail) ∙ ap (λ ws. print (of x) ++ ws) (print-more item of print h xs tail) ∙ sym (append_assoc (print (of x)) (behind marks.Comma (map print (map of xs))) (row_words tail))
 
@@ -62,7 +62,7 @@ print-operand (Name x) = shapes.print-Name x
 print-names : PrintsItem name_row (λ x. e.Name x) print_expr
 print-names x tail = ap (λ ws. ws ++ row_words tail) (sym (shapes.print-Name x))
 
-operand-tail : (x : PlainOperand) (tail : List Piece) → row_words (operand_row x ++ tail) ≡ row_words (operand_row x) ++ row_words tail
+operand-tail : (x : PlainOperand) (tail : List Lexeme) → row_words (operand_row x ++ tail) ≡ row_words (operand_row x) ++ row_words tail
 operand-tail (Integer digits) tail = refl
 operand-tail (Truth b) tail = refl
 operand-tail (Text spelling) tail = refl

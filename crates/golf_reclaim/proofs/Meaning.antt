@@ -14,7 +14,7 @@ use Rattle.golf_model.specs.Collecting.{retained}
 use Rattle.golf_model.specs.Futures.{Numbered}
 use Rattle.golf_model.specs.Graph.{Least}
 use Rattle.golf_model.specs.Living.{Node, LiveRoot, LiveStep, Live, has_object, has_goroutine, live_list, live_objects, is_dead, dead}
-use Rattle.golf_model.specs.Plain.{PlainGoroutine}
+use Rattle.golf_model.specs.Views.{GoroutineView}
 use Rattle.golf_model.specs.Presence.{IsWhole}
 use Rattle.golf_model.specs.Reaching.{reach, sources}
 use Rattle.golf_model.specs.Refs.{has_finaliser}
@@ -47,7 +47,7 @@ module _ (s : State) (n : Numbered s) (w : IsWhole s) where
   pub awake-flags : (m : Marked) → MarksLeast (live_parts s) m → m.awake ≡ map (λ e. has_goroutine (live_list s) e.0) (sleeping s)
   awake-flags m h =
       let count = length-map (sleeping s) (sleeper_of s.objects) in
-      flags-are (λ (e : ℕ × PlainGoroutine). has_goroutine (live_list s) e.0) (sleeping s) m.awake (h.awake_count ∙ count) (λ k e at.
+      flags-are (λ (e : ℕ × GoroutineView). has_goroutine (live_list s) e.0) (sleeping s) m.awake (h.awake_count ∙ count) (λ k e at.
       let a = (live-graph s n w).goroutines k e.0 (e.1, at) in
       let i = h.awake k (subst (λ (c : ℕ). k < c) (sym count) (slice_get_within (sleeping s) k e at)) in
       let place = place-is s n w k in
@@ -90,29 +90,29 @@ dead_test live g false z = elim (g == 0) as (λ b. g == 0 ≡ b → (not b && no
 dead-asleep : (s : State) → map (λ e. e.0) (filter (λ e. not (has_goroutine (live_list s) e.0)) (sleeping s)) ≡ dead s
 dead-asleep s =
     let live = live_list s in
-    ap (map (λ (e : ℕ × PlainGoroutine). e.0))
-    (filter-both (λ (e : ℕ × PlainGoroutine). not (has_goroutine live e.0)) (λ (e : ℕ × PlainGoroutine). not (is_awake e.0 e.1)) s.goroutines
-    ∙ filter-same (λ (e : ℕ × PlainGoroutine). not (is_awake e.0 e.1) && not (has_goroutine live e.0)) (λ (e : ℕ × PlainGoroutine). is_dead live e.0 e.1) s.goroutines
-    (Every-from (λ (e : ℕ × PlainGoroutine). (not (is_awake e.0 e.1) && not (has_goroutine live e.0)) ≡ is_dead live e.0 e.1) s.goroutines (λ e i. dead_test live e.0 (is_running e.1.mode) (zero-live s))))
+    ap (map (λ (e : ℕ × GoroutineView). e.0))
+    (filter-both (λ (e : ℕ × GoroutineView). not (has_goroutine live e.0)) (λ (e : ℕ × GoroutineView). not (is_awake e.0 e.1)) s.goroutines
+    ∙ filter-same (λ (e : ℕ × GoroutineView). not (is_awake e.0 e.1) && not (has_goroutine live e.0)) (λ (e : ℕ × GoroutineView). is_dead live e.0 e.1) s.goroutines
+    (Every-from (λ (e : ℕ × GoroutineView). (not (is_awake e.0 e.1) && not (has_goroutine live e.0)) ≡ is_dead live e.0 e.1) s.goroutines (λ e i. dead_test live e.0 (is_running e.1.mode) (zero-live s))))
     ∙ keys_where-filter (is_dead live) s.goroutines
 
 -- the goroutine of a sleeper
-abbrev goroutine_of : ℕ × PlainGoroutine → GoroutineId
+abbrev goroutine_of : ℕ × GoroutineView → GoroutineId
 goroutine_of e = record { 0 = e.0 }
 
-sleepers-goroutines : (objects : List (ℕ × Object)) (es : List (ℕ × PlainGoroutine)) → map (λ (x : Sleeper). x.goroutine) (map (sleeper_of objects) es) ≡ map goroutine_of es
+sleepers-goroutines : (objects : List (ℕ × Object)) (es : List (ℕ × GoroutineView)) → map (λ (x : Sleeper). x.goroutine) (map (sleeper_of objects) es) ≡ map goroutine_of es
 sleepers-goroutines objects [] = refl
 sleepers-goroutines objects (e ∷ es) = ap (λ (l : List GoroutineId). goroutine_of e ∷ l) (sleepers-goroutines objects es)
 
-numbers-goroutines : (es : List (ℕ × PlainGoroutine)) → numbers (map goroutine_of es) ≡ map (λ e. e.0) es
+numbers-goroutines : (es : List (ℕ × GoroutineView)) → numbers (map goroutine_of es) ≡ map (λ e. e.0) es
 numbers-goroutines [] = refl
 numbers-goroutines (e ∷ es) = ap (λ (l : List ℕ). e.0 ∷ l) (numbers-goroutines es)
 
 pub dead-flags : (s : State) (n : Numbered s) (w : IsWhole s) (m : Marked) → MarksLeast (live_parts s) m → numbers (unflagged m.awake (map (λ x. x.goroutine) (live_parts s).sleepers)) ≡ dead s
 dead-flags s n w m h =
-    let has : ℕ × PlainGoroutine → Bool = λ e. has_goroutine (live_list s) e.0 in
+    let has : ℕ × GoroutineView → Bool = λ e. has_goroutine (live_list s) e.0 in
     ap (λ (l : List Bool). numbers (unflagged l (map (λ (x : Sleeper). x.goroutine) (live_parts s).sleepers))) (awake-flags s n w m h)
     ∙ ap (λ (l : List GoroutineId). numbers (unflagged (map has (sleeping s)) l)) (sleepers-goroutines s.objects (sleeping s))
     ∙ ap numbers (unflagged-filter has goroutine_of (sleeping s))
-    ∙ numbers-goroutines (filter (λ (e : ℕ × PlainGoroutine). not (has_goroutine (live_list s) e.0)) (sleeping s))
+    ∙ numbers-goroutines (filter (λ (e : ℕ × GoroutineView). not (has_goroutine (live_list s) e.0)) (sleeping s))
     ∙ dead-asleep s

@@ -2,8 +2,6 @@
 #![tactic(auto)]
 
 mod collection;
-#[cfg(test)]
-mod fixture;
 mod marking;
 mod reported;
 

@@ -9,7 +9,7 @@ use Rattle.golf_data.specs.declared.code.Instr.{Instr}
 use Rattle.golf_data.specs.declared.code.Line.{Line}
 use Rattle.golf_data.specs.declared.goroutine.Ending.{Ending}
 use Rattle.golf_data.specs.declared.goroutine.Leaving.{Leaving}
-use Rattle.golf_model.specs.Plain.{PlainFrame, PlainGoroutine}
+use Rattle.golf_model.specs.Views.{FrameView, GoroutineView}
 use Rattle.golf_model.specs.State.{State, can_run, not_empty, runnable, ending_of, ending}
 use Rattle.golf_model.specs.Changes.{become, apply_all}
 use Rattle.golf_model.specs.Acting.{standing, next}
@@ -99,27 +99,27 @@ unrecorded (Some x) b e = cc
 
 module _ (code : Code) (s : State) (choice : ℕ) (goes : ending s ≡ None) where
   -- whoever runs on keeps the program from ending
-  become-goes : (g : ℕ) (r : PlainGoroutine) (q : PlainGoroutine) → find g s.goroutines ≡ Some r → can_run s.queue g q ≡ true → ending (become g q s) ≡ None
+  become-goes : (g : ℕ) (r : GoroutineView) (q : GoroutineView) → find g s.goroutines ≡ Some r → can_run s.queue g q ≡ true → ending (become g q s) ≡ None
   become-goes g r q e h =
       let there = In-keys_where (can_run s.queue) (put g q s.goroutines) g q (Entry-put_same g q s.goroutines r (Entry-find g s.goroutines r e)) h in
       ap (ending_of s.recorded) (member-there (keys_where (can_run s.queue) (put g q s.goroutines)) g there) ∙ ap (λ o. ending_of o true) (unrecorded s.recorded (not_empty (runnable s)) goes)
 
-  at-line : (g : ℕ) (r : PlainGoroutine) (f : PlainFrame) (callers : List PlainFrame) (m : Option Line) → find g s.goroutines ≡ Some r → line_collects m ≡ true → ending (apply_all (performs code g r f callers choice s m) s) ≡ None
+  at-line : (g : ℕ) (r : GoroutineView) (f : FrameView) (callers : List FrameView) (m : Option Line) → find g s.goroutines ≡ Some r → line_collects m ≡ true → ending (apply_all (performs code g r f callers choice s m) s) ≡ None
   at-line g r f callers None e h = cc
   at-line g r f callers (Some l) e h =
       subst (λ i. ending (apply_all (performs code g r f callers choice s (Some (record { instr = i; line = l.line }))) s) ≡ None) (sym (only-collect l.instr h))
       (become-goes g r (standing (acting g r f callers l.line) (next f f.operands)) e (runs (not (g == 0)) (not_empty s.queue)))
 
-  at-frame : (g : ℕ) (r : PlainGoroutine) (f : PlainFrame) (callers : List PlainFrame) (m : Leaving) → find g s.goroutines ≡ Some r → frame_collects code f m ≡ true → ending (apply_all (frame_changes code g r f callers choice s m) s) ≡ None
+  at-frame : (g : ℕ) (r : GoroutineView) (f : FrameView) (callers : List FrameView) (m : Leaving) → find g s.goroutines ≡ Some r → frame_collects code f m ≡ true → ending (apply_all (frame_changes code g r f callers choice s m) s) ≡ None
   at-frame g r f callers Leaving.No e h = at-line g r f callers (line_at code f.function f.at) e h
   at-frame g r f callers (Leaving.Returning v) e h = cc
   at-frame g r f callers (Leaving.Unwinding x) e h = cc
 
-  at-frames : (g : ℕ) (r : PlainGoroutine) (fs : List PlainFrame) → find g s.goroutines ≡ Some r → frames_collect code fs ≡ true → ending (apply_all (goroutine_changes code g r choice s fs) s) ≡ None
+  at-frames : (g : ℕ) (r : GoroutineView) (fs : List FrameView) → find g s.goroutines ≡ Some r → frames_collect code fs ≡ true → ending (apply_all (goroutine_changes code g r choice s fs) s) ≡ None
   at-frames g r [] e h = cc
   at-frames g r (f ∷ fs) e h = at-frame g r f fs f.leaving e h
 
-  at-goroutine : (g : ℕ) (m : Option PlainGoroutine) → find g s.goroutines ≡ m → goroutine_collects code m ≡ true → ending (apply_all (turn_of code g choice s m) s) ≡ None
+  at-goroutine : (g : ℕ) (m : Option GoroutineView) → find g s.goroutines ≡ m → goroutine_collects code m ≡ true → ending (apply_all (turn_of code g choice s m) s) ≡ None
   at-goroutine g None e h = cc
   at-goroutine g (Some r) e h = at-frames g r r.frames e h
 

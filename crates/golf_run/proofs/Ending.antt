@@ -10,7 +10,7 @@ use Rattle.golf_data.specs.declared.report.Report.{Report}
 use Rattle.golf_data.specs.Built.{IsBuilt}
 use Rattle.golf_model.specs.State.{State, start, ending}
 use Rattle.golf_model.specs.Turn.{step}
-use Rattle.golf_model.specs.Collecting.{plain_collect, sets}
+use Rattle.golf_model.specs.Collecting.{plain_collect, sets_finalisers}
 use Rattle.golf_model.specs.Running.{Event, has_ended, wants_collection, run, stops_by}
 use Rattle.golf_model.specs.Reporting.{reports_from, new_book}
 use Rattle.golf_texts.specs.declared.status.Status.{Status}
@@ -42,7 +42,7 @@ out-begins code k l =
 pub err-begins : (code : Code) (k : ℕ) → k ≤ TURNS → Begins (reports_text (reports_to code k)) (err_of code)
 unfolding err_of
 err-begins code k l =
-    let later = Rattle.golf_model.specs.Reporting.reports_from false (sets code) (book_to code k) (stops_by plain_collect code (at code k) (rest code k l)) in
+    let later = Rattle.golf_model.specs.Reporting.reports_from false (sets_finalisers code) (book_to code k) (stops_by plain_collect code (at code k) (rest code k l)) in
     let end = last_line code.texts TURNS (ending (last_of code)) in
     (reports_text later ++ end, ap (λ rs. reports_text rs ++ end) (reports-from code k l) ∙ ap (λ t. t ++ end) (texts-append (reports_to code k) later) ∙ append_assoc (reports_text (reports_to code k)) (reports_text later) end)
 
@@ -99,8 +99,8 @@ module _ (code : Code) (k : ℕ) (state : State) (ledger : Book) (reported : Boo
 
     reports-are : reports_of code ≡ reports_to code k
     reports-are = elim over [
-      | inl e ↦ reports-from code k l ∙ ap (λ ps. reports_to code k ++ Rattle.golf_model.specs.Reporting.reports_from false (sets code) (book_to code k) ps) (ended-stops code (rest code k l) (at code k) e) ∙ append-nil (reports_to code k)
-      | inr e ↦ reports-from code k l ∙ ap (λ es. reports_to code k ++ Rattle.golf_model.specs.Reporting.reports_from false (sets code) (book_to code k) (stops_by plain_collect code (at code k) es)) (no-more e) ∙ append-nil (reports_to code k)
+      | inl e ↦ reports-from code k l ∙ ap (λ ps. reports_to code k ++ Rattle.golf_model.specs.Reporting.reports_from false (sets_finalisers code) (book_to code k) ps) (ended-stops code (rest code k l) (at code k) e) ∙ append-nil (reports_to code k)
+      | inr e ↦ reports-from code k l ∙ ap (λ es. reports_to code k ++ Rattle.golf_model.specs.Reporting.reports_from false (sets_finalisers code) (book_to code k) (stops_by plain_collect code (at code k) es)) (no-more e) ∙ append-nil (reports_to code k)
     ]
 
     ending-is : ending (last_of code) ≡ ending state

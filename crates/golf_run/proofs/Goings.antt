@@ -10,7 +10,7 @@ use Rattle.golf_data.specs.declared.report.Report.{Report}
 use Rattle.golf_data.specs.Built.{IsBuilt}
 use Rattle.golf_model.specs.State.{State, start, ending}
 use Rattle.golf_model.specs.Turn.{step}
-use Rattle.golf_model.specs.Collecting.{plain_collect, sets}
+use Rattle.golf_model.specs.Collecting.{plain_collect, sets_finalisers}
 use Rattle.golf_model.specs.Running.{Event, has_ended, wants_collection, collected_if, happens_in, stop_in, stop_if}
 use Rattle.golf_model.specs.Reporting.{report, book_after, reports_from, new_book}
 use Rattle.golf_model.specs.Presence.{IsWhole}
@@ -77,14 +77,14 @@ module _ (code : Code) (built : IsBuilt code) (k : ℕ) (state : State) (goes : 
   bare true = collect-bare (step code (at code k) k) (step-bare code (built-sets code built) (rotate_from 0 k) k)
   bare false = refl
 
-  -- the collection behind the turn changes nothing
+  -- the collection after the turn changes nothing
   pub turned : at code (k + 1) ≡ step code (at code k) k
   turned = at-next code k ∙ ap (λ b. happens_in plain_collect code b (at code k) (Event.Turn k)) going ∙ bare (wants_collection code (at code k) k)
 
   stepped : at code (k + 1) ≡ prefixed printed (step code state k)
   stepped = turned ∙ ap (λ s. step code s k) same ∙ step-prefixed printed code state k
 
-  -- what the turn printed stands behind what was printed before
+  -- what the turn printed stands after what was printed before
   pub grown : (at code (k + 1)).output ≡ (at code k).output ++ (step code state k).output
   grown = ap (λ (s : State). s.output) stepped
 
@@ -110,9 +110,9 @@ module _ (code : Code) (built : IsBuilt code) (k : ℕ) (state : State) (goes : 
       let w = (at code (k + 1)).output in
       let state_is : p ≡ prefixed w t = sym turned ∙ same-next in (
         reports-next code k (p ∷ []) (stops-are true e)
-            ∙ ap (λ r. reports_to code k ++ r ∷ []) (ap (λ b. report false (sets code) b p) (sym is) ∙ ap (report false (sets code) book) state_is ∙ report-prefixed w book t (sets code)),
+            ∙ ap (λ r. reports_to code k ++ r ∷ []) (ap (λ b. report false (sets_finalisers code) b p) (sym is) ∙ ap (report false (sets_finalisers code) book) state_is ∙ report-prefixed w book t (sets_finalisers code)),
         book-next code k (p ∷ []) (stops-are true e)
-            ∙ ap (λ b. book_after false (sets code) b p) (sym is) ∙ ap (book_after false (sets code) book) state_is ∙ book-prefixed w book t (sets code),
+            ∙ ap (λ b. book_after false (sets_finalisers code) b p) (sym is) ∙ ap (book_after false (sets_finalisers code) book) state_is ∙ book-prefixed w book t (sets_finalisers code),
       )
 
   -- numbers and references are in order

@@ -5,7 +5,7 @@ use Rattle.golf_data.specs.declared.report.Book.{Book}
 use Rattle.golf_data.specs.declared.report.Report.{Report}
 use Rattle.golf_model.specs.State.{State, start}
 use Rattle.golf_model.specs.Turn.{step}
-use Rattle.golf_model.specs.Collecting.{plain_collect, sets}
+use Rattle.golf_model.specs.Collecting.{plain_collect, sets_finalisers}
 use Rattle.golf_model.specs.Running.{Event, has_ended, wants_collection, happens, happens_in, run, stop_in, stop_if, stops_by, stops}
 use Rattle.golf_model.specs.Reporting.{report, book_after, reports_from, book_of, new_book}
 use Rattle.golf_texts.specs.declared.status.TheConstants.{TURNS}
@@ -30,13 +30,13 @@ stops-append code (e ∷ es) fs s =
     ap (λ ps. stop_in plain_collect code (has_ended s) s e ++ ps) (stops-append code es fs (happens code s e))
     ∙ sym (append_assoc (stop_in plain_collect code (has_ended s) s e) (stops_by plain_collect code (happens code s e) es) (stops_by plain_collect code (run code s (e ∷ es)) fs))
 
-reports-append : (may_set : Bool) (ps qs : List State) (book : Book) → reports_from false may_set book (ps ++ qs) ≡ reports_from false may_set book ps ++ reports_from false may_set (books may_set book ps) qs
-reports-append may_set [] qs book = refl
-reports-append may_set (p ∷ ps) qs book = ap (λ rs. report false may_set book p ∷ rs) (reports-append may_set ps qs (book_after false may_set book p))
+reports-append : (sets_finalisers : Bool) (ps qs : List State) (book : Book) → reports_from false sets_finalisers book (ps ++ qs) ≡ reports_from false sets_finalisers book ps ++ reports_from false sets_finalisers (books sets_finalisers book ps) qs
+reports-append sets_finalisers [] qs book = refl
+reports-append sets_finalisers (p ∷ ps) qs book = ap (λ rs. report false sets_finalisers book p ∷ rs) (reports-append sets_finalisers ps qs (book_after false sets_finalisers book p))
 
-books-append : (may_set : Bool) (ps qs : List State) (book : Book) → books may_set book (ps ++ qs) ≡ books may_set (books may_set book ps) qs
-books-append may_set [] qs book = refl
-books-append may_set (p ∷ ps) qs book = books-append may_set ps qs (book_after false may_set book p)
+books-append : (sets_finalisers : Bool) (ps qs : List State) (book : Book) → books sets_finalisers book (ps ++ qs) ≡ books sets_finalisers (books sets_finalisers book ps) qs
+books-append sets_finalisers [] qs book = refl
+books-append sets_finalisers (p ∷ ps) qs book = books-append sets_finalisers ps qs (book_after false sets_finalisers book p)
 
 pub texts-append : (rs qs : List Report) → reports_text (rs ++ qs) ≡ reports_text rs ++ reports_text qs
 texts-append [] qs = refl
@@ -68,17 +68,17 @@ module _ (code : Code) (k : ℕ) where
       ap (stops code) one-turn ∙ stops-append code (rotate_from 0 k) (Event.Turn k ∷ []) (start code)
       ∙ ap (λ ps. stops code (rotate_from 0 k) ++ ps) (append-nil _)
 
--- what a collection that comes behind the others adds
+-- what a collection that comes after the others adds
 module _ (code : Code) (k : ℕ) (ps : List State) (added : stops_to code (k + 1) ≡ stops_to code k ++ ps) where
-  pub reports-next : reports_to code (k + 1) ≡ reports_to code k ++ reports_from false (sets code) (book_to code k) ps
+  pub reports-next : reports_to code (k + 1) ≡ reports_to code k ++ reports_from false (sets_finalisers code) (book_to code k) ps
   unfolding reports_to book_to
-  reports-next = ap (reports_from false (sets code) new_book) added ∙ reports-append (sets code) (stops_to code k) ps new_book
+  reports-next = ap (reports_from false (sets_finalisers code) new_book) added ∙ reports-append (sets_finalisers code) (stops_to code k) ps new_book
 
-  pub book-next : book_to code (k + 1) ≡ books (sets code) (book_to code k) ps
+  pub book-next : book_to code (k + 1) ≡ books (sets_finalisers code) (book_to code k) ps
   unfolding book_to
-  book-next = ap (books (sets code) new_book) added ∙ books-append (sets code) (stops_to code k) ps new_book
+  book-next = ap (books (sets_finalisers code) new_book) added ∙ books-append (sets_finalisers code) (stops_to code k) ps new_book
 
--- the whole run, behind so many of its turns
+-- the whole run, after so many of its turns
 module _ (code : Code) (k : ℕ) (within : k ≤ TURNS) where
   events-split : events ≡ rotate_from 0 k ++ rotate_from (0 + k) (TURNS - k)
   unfolding events
@@ -91,12 +91,12 @@ module _ (code : Code) (k : ℕ) (within : k ≤ TURNS) where
   unfolding last_of at
   last-from = ap (run code (start code)) events-split ∙ run-append code (rotate_from 0 k) rest (start code)
 
-  pub reports-from : reports_of code ≡ reports_to code k ++ reports_from false (sets code) (book_to code k) (stops_by plain_collect code (at code k) rest)
+  pub reports-from : reports_of code ≡ reports_to code k ++ reports_from false (sets_finalisers code) (book_to code k) (stops_by plain_collect code (at code k) rest)
   unfolding reports_of reports_to book_to stops_to at
   reports-from =
-      ap (λ es. book_of (stops code es) false (sets code)) events-split
-      ∙ ap (λ ps. book_of ps false (sets code)) (stops-append code (rotate_from 0 k) rest (start code))
-      ∙ reports-append (sets code) (stops code (rotate_from 0 k)) (stops_by plain_collect code (run code (start code) (rotate_from 0 k)) rest) new_book
+      ap (λ es. book_of (stops code es) false (sets_finalisers code)) events-split
+      ∙ ap (λ ps. book_of ps false (sets_finalisers code)) (stops-append code (rotate_from 0 k) rest (start code))
+      ∙ reports-append (sets_finalisers code) (stops code (rotate_from 0 k)) (stops_by plain_collect code (run code (start code) (rotate_from 0 k)) rest) new_book
 
 -- a state with an ending stays
 pub ended-run : (code : Code) (es : List Event) (s : State) → has_ended s ≡ true → run code s es ≡ s

@@ -1,15 +1,11 @@
 -- What a turn tells.
 use Rattle.std.proofs.Common.{◌≡◌, ℕ, Bool, true, false, Option, Some, None, ◌⊎◌, inl, inr, refl, sym, ap, ◌∙◌}
-use Rattle.std.specs.Prelude.{is_some, option_and_then, slice_get}
+use Rattle.std.specs.Prelude.{is_some}
 use Rattle.golf_data.specs.declared.code.Code.{Code}
 use Rattle.golf_data.specs.declared.goroutine.Ending.{Ending}
 use Rattle.golf_model.specs.State.{State, ending}
 use Rattle.golf_model.specs.Turn.{step}
 use Rattle.golf_model.specs.Running.{wants_collection}
-use Rattle.golf_data.specs.declared.code.Function.{Function}
-use Rattle.golf_data.specs.Built.{IsBuiltLine, IsBuiltFunction, IsBuilt}
-use Rattle.golf_model.specs.Turn.{line_at}
-use Rattle.golf_machine.specs.Built.{HasBuiltLines}
 use Rattle.golf_machine.specs.Turns.{turned_of}
 use Rattle.golf_machine.specs.declared.turning.Turned.{Turned}
 use Rattle.golf_machine.specs.declared.turning.Turned.TheVariants as t
@@ -42,14 +38,6 @@ quiet-by turned None false n h ends = refl
 pub quiet-turn : (turned : Turned) (code : Code) (s after : State) (k : ℕ) → (turned ≡ t.WantsCollection → ⊥) → after ≡ step code s k → ending s ≡ None → turned ≡ turned_of (ending after) (wants_collection code s k) → wants_collection code s k ≡ false
 quiet-turn turned code s after k n is goes h =
     quiet-by turned (ending after) (wants_collection code s k) n h (λ e f. silent-end code s k (wants_collection code s k) e refl goes (sym (ap ending is) ∙ f))
-
--- the lines of code that is built
-lines-built : (o : Option Function) (j : ℕ) → IsBuiltFunction o → IsBuiltLine (option_and_then (λ (f : Function). slice_get f.body j) o)
-lines-built None j h = tt
-lines-built (Some f) j h = h j
-
-pub built-lines : (code : Code) → IsBuilt code → HasBuiltLines code
-built-lines code h = λ f j. lines-built (slice_get code.functions f) j (h f)
 
 pub other-turn : (turned : Turned) → (turned ≡ t.Went) ⊎ ((x : Ending) × (turned ≡ t.Ended x)) → turned ≡ t.WantsCollection → ⊥
 other-turn turned (inl e) h = let f : t.Went ≡ t.WantsCollection = sym e ∙ h in cc

@@ -5,7 +5,7 @@ use Rattle.golf_data.specs.declared.code.Code.{Code}
 use Rattle.golf_data.specs.declared.report.Book.{Book}
 use Rattle.golf_data.specs.declared.report.Report.{Report}
 use Rattle.golf_model.specs.State.{State, start}
-use Rattle.golf_model.specs.Collecting.{sets}
+use Rattle.golf_model.specs.Collecting.{sets_finalisers}
 use Rattle.golf_model.specs.Running.{run, stops}
 use Rattle.golf_model.specs.Reporting.{book_after, book_of, new_book}
 use Rattle.golf_texts.specs.Texts.{reports_text}
@@ -23,15 +23,15 @@ stops_to code k = stops code (rotate_from 0 k)
 
 -- their reports
 unfoldable pub reports_to : Code → ℕ → List Report
-reports_to code k = book_of (stops_to code k) false (sets code)
+reports_to code k = book_of (stops_to code k) false (sets_finalisers code)
 
--- a book, and these collections behind it
+-- a book, and these collections after it
 abbrev pub books : Bool → Book → List State → Book
-books may_set book [] = book
-books may_set book (p ∷ ps) = books may_set (book_after false may_set book p) ps
+books sets_finalisers book [] = book
+books sets_finalisers book (p ∷ ps) = books sets_finalisers (book_after false sets_finalisers book p) ps
 
 unfoldable pub book_to : Code → ℕ → Book
-book_to code k = books (sets code) new_book (stops_to code k)
+book_to code k = books (sets_finalisers code) new_book (stops_to code k)
 
 -- the state is that of the plain machine but for what was printed, and that was written; the reports were written, and the book has them
 pub record IsUnderWay (code : Code) (k : ℕ) (state : State) (ledger : Book) (reported : Bool) (old now : Sinks) : Type 0 where

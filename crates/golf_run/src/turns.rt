@@ -67,7 +67,7 @@ fn status_by(reported: bool, ending: Option<Ending>) -> Status
 }
 
 /// Runs the code by the schedule `rotate`, and answers how the program ends. What a turn prints is
-/// written to `out` behind it, the report of a collection to `err` behind that, and at the end the
+/// written to `out` after it, the report of a collection to `err` after that, and at the end the
 /// last line. The gate is handed to each marking.
 pub fn run<R: Threads + Sync, O: Sink, E: Sink, G: Gate + Sync>(
     rt: &R,

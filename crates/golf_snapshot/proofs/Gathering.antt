@@ -7,11 +7,11 @@ use Rattle.golf_data.specs.declared.value.Object.{Object}
 use Rattle.golf_data.specs.declared.value.Value.{Value}
 use Rattle.golf_data.specs.declared.goroutine.Deferred.{Deferred}
 use Rattle.golf_data.specs.declared.goroutine.Wait.{Wait}
-use Rattle.golf_model.specs.Plain.{PlainFrame, PlainGoroutine}
+use Rattle.golf_model.specs.Views.{FrameView, GoroutineView}
 use Rattle.golf_model.specs.Values.{value_refs, refs}
 use Rattle.golf_model.specs.Refs.{object_refs, deferred_refs, frame_refs, frames_refs, waited, wait_refs, goroutine_refs, queue_refs, refs_if, refs_where, goroutine_refs_where}
 use Rattle.golf_data.specs.declared.goroutine.Queued.{Queued}
-use Rattle.golf_heap.specs.Numbered.{rank}
+use Rattle.golf_heap.specs.Objects.{rank}
 use Rattle.golf_snapshot.specs.Parts.{ranks, is_awake, awake_refs, sleeper_of}
 use Rattle.golf_snapshot.specs.Stepping.{sleepers_of}
 
@@ -74,13 +74,13 @@ module _ (objects : List (ℕ × Object)) where
   pub deferred-cons : (d : Deferred) (ds : List Deferred) → DeferredNodes (d ∷ ds) ≡ ValuesNodes d.arguments ++ DeferredNodes ds
   deferred-cons d ds = ranks-append (refs d.arguments) (deferred_refs ds)
 
-  abbrev pub FrameNodes : PlainFrame → List ℕ
+  abbrev pub FrameNodes : FrameView → List ℕ
   FrameNodes f = ranks objects (frame_refs f)
 
-  abbrev pub FramesNodes : List PlainFrame → List ℕ
+  abbrev pub FramesNodes : List FrameView → List ℕ
   FramesNodes fs = ranks objects (frames_refs fs)
 
-  pub frames-cons : (f : PlainFrame) (fs : List PlainFrame) → FramesNodes (f ∷ fs) ≡ FrameNodes f ++ FramesNodes fs
+  pub frames-cons : (f : FrameView) (fs : List FrameView) → FramesNodes (f ∷ fs) ≡ FrameNodes f ++ FramesNodes fs
   frames-cons f fs = ranks-append (frame_refs f) (frames_refs fs)
 
   abbrev pub WaitNodes : Wait → List ℕ
@@ -103,18 +103,18 @@ module _ (objects : List (ℕ × Object)) where
   QueueNodes qs = ranks objects (queue_refs qs)
 
   -- those that are live at once, and those that pass a test
-  abbrev pub AwakeNodes : List (ℕ × PlainGoroutine) → List ℕ
+  abbrev pub AwakeNodes : List (ℕ × GoroutineView) → List ℕ
   AwakeNodes es = ranks objects (awake_refs es)
 
-  pub awake-append : (xs ys : List (ℕ × PlainGoroutine)) → AwakeNodes (xs ++ ys) ≡ AwakeNodes xs ++ AwakeNodes ys
+  pub awake-append : (xs ys : List (ℕ × GoroutineView)) → AwakeNodes (xs ++ ys) ≡ AwakeNodes xs ++ AwakeNodes ys
   awake-append xs ys =
       gather-append (λ e. ranks objects (refs_if (is_awake e.0 e.1) (goroutine_refs e.1))) AwakeNodes refl
       (λ e es. ranks-append (refs_if (is_awake e.0 e.1) (goroutine_refs e.1)) (awake_refs es)) xs ys
 
-  abbrev pub TestedNodes : (ℕ → Bool) → List (ℕ × PlainGoroutine) → List ℕ
+  abbrev pub TestedNodes : (ℕ → Bool) → List (ℕ × GoroutineView) → List ℕ
   TestedNodes test es = ranks objects (goroutine_refs_where test es)
 
-  pub tested-append : (test : ℕ → Bool) (xs ys : List (ℕ × PlainGoroutine)) → TestedNodes test (xs ++ ys) ≡ TestedNodes test xs ++ TestedNodes test ys
+  pub tested-append : (test : ℕ → Bool) (xs ys : List (ℕ × GoroutineView)) → TestedNodes test (xs ++ ys) ≡ TestedNodes test xs ++ TestedNodes test ys
   tested-append test xs ys =
       gather-append (λ e. ranks objects (refs_if (test e.0) (goroutine_refs e.1))) (TestedNodes test) refl
       (λ e es. ranks-append (refs_if (test e.0) (goroutine_refs e.1)) (goroutine_refs_where test es)) xs ys
@@ -127,12 +127,12 @@ module _ (objects : List (ℕ × Object)) where
       gather-append (λ e. ranks objects (refs_if (test e.0) (object_refs e.1))) (TestedObjects test) refl
       (λ e es. ranks-append (refs_if (test e.0) (object_refs e.1)) (refs_where test es)) xs ys
 
-  pub sleepers-append : (xs ys : List (ℕ × PlainGoroutine)) → sleepers_of objects (xs ++ ys) ≡ sleepers_of objects xs ++ sleepers_of objects ys
+  pub sleepers-append : (xs ys : List (ℕ × GoroutineView)) → sleepers_of objects (xs ++ ys) ≡ sleepers_of objects xs ++ sleepers_of objects ys
   sleepers-append xs ys =
-      ap (map (sleeper_of objects)) (filter-append (λ (e : ℕ × PlainGoroutine). not (is_awake e.0 e.1)) xs ys)
+      ap (map (sleeper_of objects)) (filter-append (λ (e : ℕ × GoroutineView). not (is_awake e.0 e.1)) xs ys)
       ∙ map-append (sleeper_of objects) (filter (λ e. not (is_awake e.0 e.1)) xs) (filter (λ e. not (is_awake e.0 e.1)) ys)
 
-  -- four pieces behind one another are one
+  -- four pieces one after another are one
   pub four-pieces : (old a b c d : List ℕ) (xs ys zs ws : List ℕ) → a ≡ old ++ ranks objects xs → b ≡ a ++ ranks objects ys → c ≡ b ++ ranks objects zs → d ≡ c ++ ranks objects ws → d ≡ old ++ ranks objects (xs ++ (ys ++ (zs ++ ws)))
   four-pieces old a b c d xs ys zs ws p q r s =
       s ∙ ap (λ l. l ++ ranks objects ws) (r ∙ ap (λ l. l ++ ranks objects zs) (q ∙ ap (λ l. l ++ ranks objects ys) p))
@@ -145,6 +145,6 @@ module _ (objects : List (ℕ × Object)) where
   pub two-pieces : (old a b : List ℕ) (xs ys : List ℕ) → a ≡ old ++ ranks objects xs → b ≡ a ++ ranks objects ys → b ≡ old ++ ranks objects (xs ++ ys)
   two-pieces old a b xs ys p q = q ∙ ap (λ l. l ++ ranks objects ys) p ∙ append_assoc old (ranks objects xs) (ranks objects ys) ∙ ap (λ l. old ++ l) (sym (ranks-append xs ys))
 
--- nothing is behind the end
+-- nothing is after the end
 pub past-end : {X : Type 0} (old : List ℕ) (G : List X → List ℕ) (xs : List X) (n : ℕ) → G [] ≡ [] → length xs ≤ n → old ≡ old ++ G (reverse (drop n xs))
 past-end old G xs n nil h = sym (append-nil old) ∙ ap (λ l. old ++ l) (sym (ap (λ ys. G (reverse ys)) (drop_all n xs h) ∙ nil))

@@ -8,7 +8,7 @@ use Rattle.golf_theory.proofs.Lists.{Every-from, Every-at, Every-map}
 use Rattle.golf_theory.proofs.MapEntries.{Every-Entry}
 use Rattle.golf_base.specs.declared.ids.ObjectId.{ObjectId}
 use Rattle.golf_data.specs.declared.value.Object.{Object}
-use Rattle.golf_model.specs.Plain.{PlainGoroutine}
+use Rattle.golf_model.specs.Views.{GoroutineView}
 use Rattle.golf_model.specs.Waiting.{waits_of}
 use Rattle.golf_model.specs.State.{State}
 use Rattle.golf_model.specs.Refs.{object_refs, goroutine_refs, waited, has_finaliser}
@@ -18,7 +18,7 @@ use Rattle.golf_model.specs.Presence.{Present, IsWhole}
 use Rattle.golf_model.specs.Futures.{Numbered}
 use Rattle.golf_model.specs.declared.graph.GraphParts.{GraphParts}
 use Rattle.golf_model.specs.declared.graph.Sleeper.{Sleeper}
-use Rattle.golf_heap.specs.Numbered.{rank}
+use Rattle.golf_heap.specs.Objects.{rank}
 use Rattle.golf_snapshot.specs.Parts.{ranks, number_of, row_of, live_roots, sleeping, sleeper_of, parts_of, live_parts, retained_parts}
 use Rattle.golf_snapshot.proofs.LiveSound.{rank-entry, root-live, waited-refs}
 use Rattle.golf_snapshot.proofs.RetainedLaw.{source-present}
@@ -69,7 +69,7 @@ module _ (s : State) (n : Numbered s) (w : IsWhole s) where
         references = references;
       }
 
-  waited-there : (r : PlainGoroutine) → Every (Present s) (goroutine_refs r) → Every (Present s) (waited (waits_of r.mode))
+  waited-there : (r : GoroutineView) → Every (Present s) (goroutine_refs r) → Every (Present s) (waited (waits_of r.mode))
   waited-there r a = Every-from (Present s) (waited (waits_of r.mode)) (λ o m. Every-at (Present s) (goroutine_refs r) o a (waited-refs s n w r o m))
 
   pub live-in_range : (sleepers : List Sleeper) → length s.objects + length sleepers < 4294967296 → sleepers ≡ map (sleeper_of s.objects) (sleeping s) → IsInRange (live_parts s)
@@ -78,10 +78,10 @@ module _ (s : State) (n : Numbered s) (w : IsWhole s) where
       in-range (live_roots s) those (subst (λ (l : List Sleeper). length s.objects + length l < 4294967296) same few)
       (Every-from (Present s) (live_roots s) (λ o m. (root-live s n w o m).1))
       (Every-map (λ (x : Sleeper). AreNodes (live_parts s) x.waits) (sleeper_of s.objects) (sleeping s)
-      (Every-from (λ (e : ℕ × PlainGoroutine). AreNodes (live_parts s) (ranks s.objects (waited (waits_of e.1.mode)))) (sleeping s)
+      (Every-from (λ (e : ℕ × GoroutineView). AreNodes (live_parts s) (ranks s.objects (waited (waits_of e.1.mode)))) (sleeping s)
       (λ e i. nodes-are (live_roots s) those (waited (waits_of e.1.mode)) (waited-there e.1 (w.goroutines e.0 e.1 (sleeping-entry s e i).0)))))
       (Every-map (λ (x : Sleeper). AreNodes (live_parts s) x.references) (sleeper_of s.objects) (sleeping s)
-      (Every-from (λ (e : ℕ × PlainGoroutine). AreNodes (live_parts s) (ranks s.objects (goroutine_refs e.1))) (sleeping s)
+      (Every-from (λ (e : ℕ × GoroutineView). AreNodes (live_parts s) (ranks s.objects (goroutine_refs e.1))) (sleeping s)
       (λ e i. nodes-are (live_roots s) those (goroutine_refs e.1) (w.goroutines e.0 e.1 (sleeping-entry s e i).0))))
 
   pub retained-in_range : (gone : List ℕ) (sleepers : List Sleeper) → length s.objects + length sleepers < 4294967296 → sleepers ≡ [] → IsInRange (retained_parts s gone)

@@ -6,4 +6,3 @@ pub mod LiveSound
 pub mod LiveComplete
 pub mod RetainedLaw
 pub mod InRange
-pub mod StuckStates

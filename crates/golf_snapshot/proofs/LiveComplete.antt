@@ -8,7 +8,7 @@ use Rattle.golf_theory.proofs.MapFinds.{Entry-one}
 use Rattle.golf_theory.proofs.Derivations.{Reached-root, Reached-step, Reached-least}
 use Rattle.golf_theory.proofs.Tests.{is_in-from}
 use Rattle.golf_data.specs.declared.value.Object.{Object}
-use Rattle.golf_model.specs.Plain.{PlainGoroutine}
+use Rattle.golf_model.specs.Views.{GoroutineView}
 use Rattle.golf_model.specs.Values.{refs}
 use Rattle.golf_model.specs.Waiting.{waits_of}
 use Rattle.golf_model.specs.State.{State, is_running}
@@ -18,7 +18,7 @@ use Rattle.golf_model.specs.Graph.{Justifies, Least}
 use Rattle.golf_model.specs.Presence.{Present, IsWhole}
 use Rattle.golf_model.specs.Futures.{Numbered}
 use Rattle.golf_model.proofs.Agreeing.{refs_where-complete}
-use Rattle.golf_heap.specs.Numbered.{rank}
+use Rattle.golf_heap.specs.Objects.{rank}
 use Rattle.golf_snapshot.specs.Parts.{ranks, is_awake, awake_refs, live_roots, sleeping, live_parts}
 use Rattle.golf_snapshot.specs.Stands.{LivesAlike, LiveGraph}
 use Rattle.golf_snapshot.proofs.Ranking.{Entry-at, at-rank, rank-at}
@@ -40,12 +40,12 @@ module _ (s : State) (n : Numbered s) (w : IsWhole s) where
   -- where it has a place, that is in the least closed set
   abbrev pub Shown : Node → Type 0
   Shown (Node.AnObject o) = (x : Object) → Entry s.objects o x → Least (live_parts s) (rank o s.objects)
-  Shown (Node.AGoroutine g) = (j : ℕ) (r : PlainGoroutine) → slice_get (sleeping s) j ≡ Some (g, r) → Least (live_parts s) (length s.objects + j)
+  Shown (Node.AGoroutine g) = (j : ℕ) (r : GoroutineView) → slice_get (sleeping s) j ≡ Some (g, r) → Least (live_parts s) (length s.objects + j)
 
   from-root : (o : ℕ) → In o (live_roots s) → Least (live_parts s) (rank o s.objects)
   from-root o i = Reached-root (λ q. In q (live_parts s).roots) (Justifies (live_parts s)) (rank o s.objects) (In-map (λ k. rank k s.objects) o (live_roots s) i)
 
-  asleep : (j g : ℕ) (r : PlainGoroutine) → slice_get (sleeping s) j ≡ Some (g, r) → Entry s.goroutines g r × (is_awake g r ≡ false)
+  asleep : (j g : ℕ) (r : GoroutineView) → slice_get (sleeping s) j ≡ Some (g, r) → Entry s.goroutines g r × (is_awake g r ≡ false)
   asleep j g r f = sleeping-entry s (g, r) (In-slice_get (sleeping s) j (g, r) f)
 
   shown-root : (x : Node) → LiveRoot s x → Shown x
@@ -57,7 +57,7 @@ module _ (s : State) (n : Numbered s) (w : IsWhole s) where
   shown-root _ (LiveRoot.Running g r e t) = λ j q f.
       let a = asleep j g q f in
       let same = Entry-one s.goroutines g r q n.goroutines_rise e a.0 in
-      absurd (both-ways (is_awake g q) (subst (λ (m : PlainGoroutine). is_awake g m ≡ true) same (runs-awake (is_running r.mode) (g == 0) t)) a.1)
+      absurd (both-ways (is_awake g q) (subst (λ (m : GoroutineView). is_awake g m ≡ true) same (runs-awake (is_running r.mode) (g == 0) t)) a.1)
   shown-root _ LiveRoot.FinaliserGoroutine = λ j q f. absurd (both-ways (is_awake 0 q) (zero-awake (is_running q.mode)) (asleep j 0 q f).1)
 
   justified : (q p : ℕ) → Least (live_parts s) q → Justifies (live_parts s) q p → Least (live_parts s) p
@@ -66,7 +66,7 @@ module _ (s : State) (n : Numbered s) (w : IsWhole s) where
   ranked : (o : ℕ) (os : List ℕ) → In o os → In (rank o s.objects) (ranks s.objects os)
   ranked o os i = In-map (λ k. rank k s.objects) o os i
 
-  by-reference : (g o : ℕ) (r : PlainGoroutine) (b : Bool) → is_awake g r ≡ b → Entry s.goroutines g r → In o (goroutine_refs r) → Shown (Node.AGoroutine g) → Least (live_parts s) (rank o s.objects)
+  by-reference : (g o : ℕ) (r : GoroutineView) (b : Bool) → is_awake g r ≡ b → Entry s.goroutines g r → In o (goroutine_refs r) → Shown (Node.AGoroutine g) → Least (live_parts s) (rank o s.objects)
   by-reference g o r true a e i h = from-root o (In-right o (refs s.globals) _ (In-right o (queue_refs s.queue) _ (In-left o (awake_refs s.goroutines) _ (awake-complete s.goroutines o g r e a i))))
   by-reference g o r false a e i h =
       let t = asleep-place s g r e a in
@@ -82,7 +82,7 @@ module _ (s : State) (n : Numbered s) (w : IsWhole s) where
       let a = asleep j g q f in
       let same = Entry-one s.goroutines g r q n.goroutines_rise e a.0 in
       let there = Entry-keys s.objects o (Every-at (Present s) (goroutine_refs r) o (w.goroutines g r e) (waited-refs s n w r o i)) in
-      let v = subst (λ (m : PlainGoroutine). In o (waited (waits_of m.mode))) same i in
+      let v = subst (λ (m : GoroutineView). In o (waited (waits_of m.mode))) same i in
       justified (rank o s.objects) (length s.objects + j) (h there.0 there.1)
       (Justifies.wakes j (sym (place-is s n w j)) (subst (In (rank o s.objects)) (sym (waits-at s n w j g q f)) (ranked o (waited (waits_of q.mode)) v)))
 

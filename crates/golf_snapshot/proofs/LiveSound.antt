@@ -11,7 +11,7 @@ use Rattle.golf_theory.proofs.MapEntries.{Entry-keys}
 use Rattle.golf_theory.proofs.Derivations.{Reached-root, Reached-step, Reached-least}
 use Rattle.golf_data.specs.declared.value.Object.{Object}
 use Rattle.golf_data.specs.declared.goroutine.Wait.{Wait}
-use Rattle.golf_model.specs.Plain.{PlainGoroutine}
+use Rattle.golf_model.specs.Views.{GoroutineView}
 use Rattle.golf_model.specs.Values.{value_refs, refs}
 use Rattle.golf_model.specs.Waiting.{waits_of}
 use Rattle.golf_model.specs.State.{State, is_running}
@@ -23,7 +23,7 @@ use Rattle.golf_model.specs.Futures.{Numbered}
 use Rattle.golf_model.specs.declared.graph.Sleeper.{Sleeper}
 use Rattle.golf_model.proofs.Agreeing.{refs_where-sound}
 use Rattle.golf_theory.proofs.Tests.{In-from}
-use Rattle.golf_heap.specs.Numbered.{rank}
+use Rattle.golf_heap.specs.Objects.{rank}
 use Rattle.golf_snapshot.specs.Parts.{ranks, is_awake, awake_refs, live_roots, sleeping, sleeper_of, live_parts}
 use Rattle.golf_snapshot.proofs.Ranking.{Entry-at, at-rank, rank-at, cases_at, row-at, no_row-at, same-key}
 use Rattle.golf_snapshot.proofs.Roots.{awake-sound, sleeping-entry}
@@ -31,7 +31,7 @@ use Rattle.golf_snapshot.proofs.Roots.{awake-sound, sleeping-entry}
 -- what a place stands for
 pub data Stands (s : State) : ℕ → Node → Type 0 where
   AsObject : (k o : ℕ) (x : Object) → slice_get s.objects k ≡ Some (o, x) → Stands s k (Node.AnObject o)
-  AsSleeper : (j g : ℕ) (r : PlainGoroutine) → slice_get (sleeping s) j ≡ Some (g, r) → Stands s (length s.objects + j) (Node.AGoroutine g)
+  AsSleeper : (j g : ℕ) (r : GoroutineView) → slice_get (sleeping s) j ≡ Some (g, r) → Stands s (length s.objects + j) (Node.AGoroutine g)
 
 waited-in : (ws : List Wait) (o : ℕ) → In o (waited ws) → In o (wait_refs ws)
 waited-in [] o h = absurd h
@@ -55,7 +55,7 @@ module _ (s : State) (n : Numbered s) (w : IsWhole s) where
       subst StandsLive (sym r.1) (object-live r.0 (Every-at (Present s) os r.0 there r.2) (live r.0 r.2))
 
   -- the awake ones are live
-  awake-live : (g : ℕ) (r : PlainGoroutine) → Entry s.goroutines g r → is_awake g r ≡ true → Live s (Node.AGoroutine g)
+  awake-live : (g : ℕ) (r : GoroutineView) → Entry s.goroutines g r → is_awake g r ≡ true → Live s (Node.AGoroutine g)
   awake-live g r e a = elim (is_running r.mode) as (λ b. is_running r.mode ≡ b → (b || (g == 0)) ≡ true → Live s (Node.AGoroutine g)) [
     | true ↦ λ t u. Reached-root (LiveRoot s) (LiveStep s) (Node.AGoroutine g) (LiveRoot.Running g r e t)
     | false ↦ λ t u. subst (λ k. Live s (Node.AGoroutine k)) (sym (eqb-true g 0 u)) (Reached-root (LiveRoot s) (LiveStep s) (Node.AGoroutine 0) LiveRoot.FinaliserGoroutine)
@@ -84,7 +84,7 @@ module _ (s : State) (n : Numbered s) (w : IsWhole s) where
   place-is j = ap (λ k. k + j) (length-map s.objects (λ (d : ℕ × Object). ranks s.objects (object_refs d.1)))
 
   -- what is waited on is referred to
-  pub waited-refs : (r : PlainGoroutine) (o : ℕ) → In o (waited (waits_of r.mode)) → In o (goroutine_refs r)
+  pub waited-refs : (r : GoroutineView) (o : ℕ) → In o (waited (waits_of r.mode)) → In o (goroutine_refs r)
   waited-refs r o i = In-right o (frames_refs r.frames) (wait_refs (waits_of r.mode)) (waited-in (waits_of r.mode) o i)
 
   pub children-at : (from o : ℕ) (x : Object) → slice_get s.objects from ≡ Some (o, x) → children_of (live_parts s) from ≡ ranks s.objects (object_refs x)
@@ -93,16 +93,16 @@ module _ (s : State) (n : Numbered s) (w : IsWhole s) where
   no_children-at : (from : ℕ) → slice_get s.objects from ≡ None → children_of (live_parts s) from ≡ []
   no_children-at from e = no_row-at (λ (d : ℕ × Object). ranks s.objects (object_refs d.1)) s.objects from e
 
-  pub sleeper-at : (j g : ℕ) (r : PlainGoroutine) → slice_get (sleeping s) j ≡ Some (g, r) → slice_get (live_parts s).sleepers j ≡ Some (sleeper_of s.objects (g, r))
+  pub sleeper-at : (j g : ℕ) (r : GoroutineView) → slice_get (sleeping s) j ≡ Some (g, r) → slice_get (live_parts s).sleepers j ≡ Some (sleeper_of s.objects (g, r))
   sleeper-at j g r e = slice_get-map (sleeper_of s.objects) (sleeping s) j ∙ ap (option_map (sleeper_of s.objects)) e
 
   no_sleeper-at : (j : ℕ) → slice_get (sleeping s) j ≡ None → slice_get (live_parts s).sleepers j ≡ None
   no_sleeper-at j e = slice_get-map (sleeper_of s.objects) (sleeping s) j ∙ ap (option_map (sleeper_of s.objects)) e
 
-  pub waits-at : (j g : ℕ) (r : PlainGoroutine) → slice_get (sleeping s) j ≡ Some (g, r) → sleeper_waits (live_parts s) j ≡ ranks s.objects (waited (waits_of r.mode))
+  pub waits-at : (j g : ℕ) (r : GoroutineView) → slice_get (sleeping s) j ≡ Some (g, r) → sleeper_waits (live_parts s) j ≡ ranks s.objects (waited (waits_of r.mode))
   waits-at j g r e = ap (λ (m : Option Sleeper). unwrap_or (option_map (λ x. x.waits) m) []) (sleeper-at j g r e)
 
-  pub references-at : (j g : ℕ) (r : PlainGoroutine) → slice_get (sleeping s) j ≡ Some (g, r) → sleeper_references (live_parts s) j ≡ ranks s.objects (goroutine_refs r)
+  pub references-at : (j g : ℕ) (r : GoroutineView) → slice_get (sleeping s) j ≡ Some (g, r) → sleeper_references (live_parts s) j ≡ ranks s.objects (goroutine_refs r)
   references-at j g r e = ap (λ (m : Option Sleeper). unwrap_or (option_map (λ x. x.references) m) []) (sleeper-at j g r e)
 
   no_waits-at : (j : ℕ) → slice_get (sleeping s) j ≡ None → sleeper_waits (live_parts s) j ≡ []
@@ -117,7 +117,7 @@ module _ (s : State) (n : Numbered s) (w : IsWhole s) where
   node-live _ o x e (_, Stands.AsSleeper j g r f, l) = let t = slice_get_within s.objects (length s.objects + j) (o, x) e in absurd (omega (arith, t))
 
   -- a place that stands for a sleeper
-  place-live : (k j g : ℕ) (r : PlainGoroutine) → k ≡ length s.objects + j → slice_get (sleeping s) j ≡ Some (g, r) → StandsLive k → Live s (Node.AGoroutine g)
+  place-live : (k j g : ℕ) (r : GoroutineView) → k ≡ length s.objects + j → slice_get (sleeping s) j ≡ Some (g, r) → StandsLive k → Live s (Node.AGoroutine g)
   place-live _ j g r p e (_, Stands.AsObject k o x f, l) = let t = slice_get_within s.objects k (o, x) f in absurd (omega (arith, t, p))
   place-live _ j g r p e (_, Stands.AsSleeper i h q f, l) =
       let same : i ≡ j = omega (arith, p) in
@@ -135,7 +135,7 @@ module _ (s : State) (n : Numbered s) (w : IsWhole s) where
       by_child (inr t) = absurd (subst (In p) (no_children-at q t) i)
   step-live q p h (Justifies.wakes j e i) = by_wait (cases_at (sleeping s) j)
     where
-      by_wait : ((x : ℕ × PlainGoroutine) × (slice_get (sleeping s) j ≡ Some x)) ⊎ (slice_get (sleeping s) j ≡ None) → StandsLive p
+      by_wait : ((x : ℕ × GoroutineView) × (slice_get (sleeping s) j ≡ Some x)) ⊎ (slice_get (sleeping s) j ≡ None) → StandsLive p
       by_wait (inl ((g, r), t)) =
           let a = sleeping-entry s (g, r) (In-slice_get (sleeping s) j (g, r) t) in
           let b = In-map_back (λ o. rank o s.objects) q (waited (waits_of r.mode)) (subst (In q) (waits-at j g r t) i) in
@@ -147,7 +147,7 @@ module _ (s : State) (n : Numbered s) (w : IsWhole s) where
       by_wait (inr t) = absurd (subst (In q) (no_waits-at j t) i)
   step-live q p h (Justifies.refers j e i) = by_reference (cases_at (sleeping s) j)
     where
-      by_reference : ((x : ℕ × PlainGoroutine) × (slice_get (sleeping s) j ≡ Some x)) ⊎ (slice_get (sleeping s) j ≡ None) → StandsLive p
+      by_reference : ((x : ℕ × GoroutineView) × (slice_get (sleeping s) j ≡ Some x)) ⊎ (slice_get (sleeping s) j ≡ None) → StandsLive p
       by_reference (inl ((g, r), t)) =
           let a = sleeping-entry s (g, r) (In-slice_get (sleeping s) j (g, r) t) in
           let l = place-live q j g r (e ∙ place-is j) t h in
@@ -165,5 +165,5 @@ module _ (s : State) (n : Numbered s) (w : IsWhole s) where
   pub least-object : (k o : ℕ) (x : Object) → slice_get s.objects k ≡ Some (o, x) → Least (live_parts s) k → Live s (Node.AnObject o)
   least-object k o x e h = node-live k o x e (least-live k h)
 
-  pub least-goroutine : (j g : ℕ) (r : PlainGoroutine) → slice_get (sleeping s) j ≡ Some (g, r) → Least (live_parts s) (length s.objects + j) → Live s (Node.AGoroutine g)
+  pub least-goroutine : (j g : ℕ) (r : GoroutineView) → slice_get (sleeping s) j ≡ Some (g, r) → Least (live_parts s) (length s.objects + j) → Live s (Node.AGoroutine g)
   least-goroutine j g r e h = place-live (length s.objects + j) j g r refl e (least-live (length s.objects + j) h)

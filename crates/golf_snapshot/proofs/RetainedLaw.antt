@@ -13,7 +13,7 @@ use Rattle.golf_model.specs.Reaching.{RefersTo, Reach, sources}
 use Rattle.golf_model.specs.Graph.{Justifies, Least, children_of}
 use Rattle.golf_model.specs.Presence.{Present, IsWhole}
 use Rattle.golf_model.specs.Futures.{Numbered}
-use Rattle.golf_heap.specs.Numbered.{rank}
+use Rattle.golf_heap.specs.Objects.{rank}
 use Rattle.golf_snapshot.specs.Parts.{ranks, retained_parts}
 use Rattle.golf_snapshot.specs.Stands.{IsObject, RetainedGraph}
 use Rattle.golf_snapshot.proofs.Ranking.{Entry-at, at-rank, rank-at, cases_at, row-at, no_row-at, same-key}

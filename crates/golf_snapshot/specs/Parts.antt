@@ -3,8 +3,8 @@ use Rattle.std.specs.Prelude.{ℕ, Bool, not, ◌&&◌, ◌||◌, List, [], ◌�
 use Rattle.golf_base.specs.declared.ids.ObjectId.{ObjectId}
 use Rattle.golf_base.specs.declared.ids.GoroutineId.{GoroutineId}
 use Rattle.golf_data.specs.declared.value.Object.{Object}
-use Rattle.golf_heap.specs.Numbered.{rank}
-use Rattle.golf_model.specs.Plain.{PlainGoroutine}
+use Rattle.golf_heap.specs.Objects.{rank}
+use Rattle.golf_model.specs.Views.{GoroutineView}
 use Rattle.golf_model.specs.Values.{refs}
 use Rattle.golf_model.specs.Waiting.{waits_of}
 use Rattle.golf_model.specs.State.{State, is_running}
@@ -18,11 +18,11 @@ abbrev pub ranks : List (ℕ × Object) → List ℕ → List ℕ
 ranks objects os = map (λ o. rank o objects) os
 
 -- who is live at once: what runs, and goroutine 0
-abbrev pub is_awake : ℕ → PlainGoroutine → Bool
+abbrev pub is_awake : ℕ → GoroutineView → Bool
 is_awake g r = is_running r.mode || (g == 0)
 
 -- the references of those goroutines
-abbrev pub awake_refs : List (ℕ × PlainGoroutine) → List ℕ
+abbrev pub awake_refs : List (ℕ × GoroutineView) → List ℕ
 awake_refs [] = []
 awake_refs (e ∷ es) = refs_if (is_awake e.0 e.1) (goroutine_refs e.1) ++ awake_refs es
 
@@ -31,10 +31,10 @@ abbrev pub live_roots : State → List ℕ
 live_roots s = refs s.globals ++ (queue_refs s.queue ++ (awake_refs s.goroutines ++ refs_where (has_finaliser s) s.objects))
 
 -- the goroutines that a live object awakens, in rising order
-abbrev pub sleeping : State → List (ℕ × PlainGoroutine)
+abbrev pub sleeping : State → List (ℕ × GoroutineView)
 sleeping s = filter (λ e. not (is_awake e.0 e.1)) s.goroutines
 
-abbrev pub sleeper_of : List (ℕ × Object) → ℕ × PlainGoroutine → Sleeper
+abbrev pub sleeper_of : List (ℕ × Object) → ℕ × GoroutineView → Sleeper
 sleeper_of objects e = record {
   goroutine = record { 0 = e.0 };
   waits = ranks objects (waited (waits_of e.1.mode));

@@ -1,7 +1,7 @@
 -- What the places of a state's graph stand for.
 use Rattle.std.specs.Prelude.{◌≡◌, ℕ, ◌+◌, List, length, Option, Some, slice_get, ◌↔◌}
 use Rattle.golf_data.specs.declared.value.Object.{Object}
-use Rattle.golf_model.specs.Plain.{PlainGoroutine}
+use Rattle.golf_model.specs.Views.{GoroutineView}
 use Rattle.golf_model.specs.State.{State}
 use Rattle.golf_model.specs.Reaching.{Reach, sources}
 use Rattle.golf_model.specs.Living.{Node, Live}
@@ -16,7 +16,7 @@ IsObject s k o = (x : Object) × (slice_get s.objects k ≡ Some (o, x))
 
 -- the goroutine of a sleeper
 abbrev pub IsSleeper : State → ℕ → ℕ → Type 0
-IsSleeper s j g = (r : PlainGoroutine) × (slice_get (sleeping s) j ≡ Some (g, r))
+IsSleeper s j g = (r : GoroutineView) × (slice_get (sleeping s) j ≡ Some (g, r))
 
 -- a node is in the least closed set where its object is live, and a sleeper where its goroutine is
 pub record LivesAlike (s : State) : Type 0 where

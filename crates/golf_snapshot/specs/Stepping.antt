@@ -1,7 +1,7 @@
 -- The entries of a map, one number after another.
 use Rattle.std.specs.Prelude.{ℕ, Bool, not, List, [], ◌∷◌, map, filter, Option, Some, None}
 use Rattle.golf_data.specs.declared.value.Object.{Object}
-use Rattle.golf_model.specs.Plain.{PlainGoroutine}
+use Rattle.golf_model.specs.Views.{GoroutineView}
 use Rattle.golf_model.specs.Refs.{object_refs}
 use Rattle.golf_model.specs.declared.graph.Sleeper.{Sleeper}
 use Rattle.golf_snapshot.specs.Parts.{is_awake, sleeper_of}
@@ -17,5 +17,5 @@ refs_at None = []
 refs_at (Some x) = object_refs x
 
 -- the sleepers among these goroutines
-abbrev pub sleepers_of : List (ℕ × Object) → List (ℕ × PlainGoroutine) → List Sleeper
+abbrev pub sleepers_of : List (ℕ × Object) → List (ℕ × GoroutineView) → List Sleeper
 sleepers_of objects es = map (sleeper_of objects) (filter (λ e. not (is_awake e.0 e.1)) es)

@@ -3,7 +3,7 @@
 ghost use Rattle.std.specs.Prelude.{◌≡◌, ◌++◌, IfOk, OnOk, map, not};
 ghost use Rattle.golf_theory.specs.Maps.{find};
 ghost use Rattle.golf_theory.specs.Membership.{is_in};
-ghost use Rattle.golf_model.specs.Plain.{plain_goroutine};
+ghost use Rattle.golf_model.specs.Views.{goroutine_view};
 ghost use Rattle.golf_model.specs.Refs.{queue_refs, goroutine_refs_where};
 ghost use Rattle.golf_snapshot.specs.Parts.{ranks, is_awake, awake_refs, sleeping, sleeper_of};
 ghost use Rattle.golf_snapshot.specs.Stepping.{entry_at, sleepers_of};
@@ -103,7 +103,7 @@ fn is_among(g: GoroutineId, goroutines: &[GoroutineId]) -> bool
 
 // Whether a goroutine is live at once: it runs, or is goroutine 0.
 fn is_awake(g: GoroutineId, goroutine: &Goroutine) -> bool
-    ensures { result ≡ is_awake g.0 (plain_goroutine goroutine.now) }
+    ensures { result ≡ is_awake g.0 (goroutine_view goroutine.now) }
 {
     match goroutine.mode {
         Mode::Running => true,
@@ -153,7 +153,7 @@ fn sleeper_of(
     g: GoroutineId,
     goroutine: &Goroutine,
 ) -> Result<Sleeper, Memory>
-    ensures { IfOk result (λ sleeper. sleeper ≡ sleeper_of heap.now.objects (g.0, plain_goroutine goroutine.now)) }
+    ensures { IfOk result (λ sleeper. sleeper ≡ sleeper_of heap.now.objects (g.0, goroutine_view goroutine.now)) }
 {
     let mut waits = List::new(alloc);
     add_waited(heap, &mut waits, waits_of(&goroutine.mode))?;

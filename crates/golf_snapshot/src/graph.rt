@@ -92,37 +92,3 @@ fn parts_of(
         sleepers,
     })
 }
-
-#[cfg(test)]
-mod tests {
-    use super::*;
-    use crate::fixture::stuck_state;
-    use std::test::Fail;
-
-    #[test]
-    fn a_stuck_goroutine_is_a_sleeper(rt: HostRuntime) -> Result<(), Fail> {
-        let state = stuck_state(rt.alloc())?;
-        let graph = live_graph(rt.alloc(), &state)?;
-        assert_eq!(rt; graph.nodes(), 1);
-        assert_eq!(rt; graph.sleepers(), 1);
-        assert!(rt; graph.roots().is_empty());
-        for sleeper in 0..graph.sleepers() {
-            assert_eq!(rt; graph.goroutine_of(sleeper), GoroutineId(2));
-            assert_eq!(rt; graph.waits(sleeper), [0].as_slice());
-            assert_eq!(rt; graph.references(sleeper), [0].as_slice());
-        }
-        Ok(())
-    }
-
-    #[test]
-    fn what_a_removed_goroutine_refers_to_is_no_source(rt: HostRuntime) -> Result<(), Fail> {
-        let state = stuck_state(rt.alloc())?;
-        let all = retained_graph(rt.alloc(), &state, &[])?;
-        assert_eq!(rt; all.sleepers(), 0);
-        assert_eq!(rt; all.roots(), [0].as_slice());
-        let others = retained_graph(rt.alloc(), &state, &[GoroutineId(2)])?;
-        assert_eq!(rt; others.nodes(), 1);
-        assert!(rt; others.roots().is_empty());
-        Ok(())
-    }
-}

@@ -1,8 +1,6 @@
 //! The dense graph of a state, which a collection marks.
 #![tactic(auto)]
 
-#[cfg(test)]
-mod fixture;
 mod goroutines;
 mod graph;
 mod laws;

@@ -3,7 +3,7 @@
 ghost use Rattle.std.specs.Prelude.{◌≡◌, ◌++◌, OnOk, reverse};
 ghost use Rattle.golf_model.specs.Values.{value_refs, refs};
 ghost use Rattle.golf_model.specs.Refs.{deferred_refs, leaving_refs, frame_refs, frames_refs, waited, wait_refs, goroutine_refs};
-ghost use Rattle.golf_model.specs.Plain.{plain_frame, plain_frames, plain_goroutine};
+ghost use Rattle.golf_model.specs.Views.{frame_view, frame_views, goroutine_view};
 ghost use Rattle.golf_model.specs.Waiting.{waits_of};
 ghost use Rattle.golf_snapshot.specs.Parts.{ranks};
 
@@ -67,7 +67,7 @@ fn add_leaving(heap: &Heap, nodes: &mut List<u32>, leaving: Leaving) -> Result<(
 
 // Adds the nodes of a frame: of all its slots, operands and deferred calls, and of what it returns.
 fn add_frame(heap: &Heap, nodes: &mut List<u32>, frame: &Frame) -> Result<(), Memory>
-    ensures { OnOk result (nodes.new ≡ nodes.old ++ ranks heap.now.objects (frame_refs (plain_frame frame.now))) }
+    ensures { OnOk result (nodes.new ≡ nodes.old ++ ranks heap.now.objects (frame_refs (frame_view frame.now))) }
 {
     add_values(heap, nodes, frame.slots.as_slice())?;
     add_values_back(heap, nodes, frame.operands.as_slice())?;
@@ -77,7 +77,7 @@ fn add_frame(heap: &Heap, nodes: &mut List<u32>, frame: &Frame) -> Result<(), Me
 
 // Adds the nodes of frames, the innermost one first.
 fn add_frames(heap: &Heap, nodes: &mut List<u32>, frames: &[Frame]) -> Result<(), Memory>
-    ensures { OnOk result (nodes.new ≡ nodes.old ++ ranks heap.now.objects (frames_refs (plain_frames frames.now))) }
+    ensures { OnOk result (nodes.new ≡ nodes.old ++ ranks heap.now.objects (frames_refs (frame_views frames.now))) }
 {
     for at in (0..frames.len()).rev() {
         add_frame(heap, nodes, &frames[at])?;
@@ -122,7 +122,7 @@ pub(crate) fn add_goroutine(
     nodes: &mut List<u32>,
     goroutine: &Goroutine,
 ) -> Result<(), Memory>
-    ensures { OnOk result (nodes.new ≡ nodes.old ++ ranks heap.now.objects (goroutine_refs (plain_goroutine goroutine.now))) }
+    ensures { OnOk result (nodes.new ≡ nodes.old ++ ranks heap.now.objects (goroutine_refs (goroutine_view goroutine.now))) }
 {
     add_frames(heap, nodes, goroutine.frames.as_slice())?;
     add_waits(heap, nodes, waits_of(&goroutine.mode))

@@ -13,10 +13,10 @@ use Rattle.golf_theory.specs.Stored.{entries, placed, without}
 use Rattle.golf_theory.proofs.MapFinds.{cases_find, Entry-above, find-Entry}
 use Rattle.golf_theory.proofs.MapKeys.{keys_where-same, keys_where-add, keys_where-put_out, keys_where-put_same, keys_where-only}
 use Rattle.golf_theory.proofs.Placing.{Rises-entries, entries-push, entries-set, entries-clear, find-entries, at-entries, keys_where-put_in, put_below}
-use Rattle.golf_model.specs.Plain.{PlainGoroutine, plain_goroutine}
+use Rattle.golf_model.specs.Views.{GoroutineView, goroutine_view}
 use Rattle.golf_model.specs.State.{State, is_running, not_empty, can_run}
 use Rattle.golf_model.specs.Changes.{behind_first}
-use Rattle.golf_state.specs.Looked.{is_running_in}
+use Rattle.golf_state.specs.Looked.{is_running_in, is_blocked_in}
 use Rattle.golf_state.specs.Places.{plain_place, plain_places, plain_entries, running_of, is_idle, starts_idle}
 use Rattle.golf_state.specs.declared.places.Place.{Place}
 
@@ -38,10 +38,10 @@ module _ {X : Type 0} where
 
 -- ---- what is found
 
-pub found : (gs : List Place) (g : ℕ) (v : PlainGoroutine) → slice_get (plain_places gs) g ≡ Some (Some v) → find g (plain_entries gs) ≡ Some v
+pub found : (gs : List Place) (g : ℕ) (v : GoroutineView) → slice_get (plain_places gs) g ≡ Some (Some v) → find g (plain_entries gs) ≡ Some v
 found gs g v h = let z : g ≡ 0 + g = omega arith in ap (λ n. find n (plain_entries gs)) z ∙ find-entries 0 (plain_places gs) g v h
 
-at_found : (gs : List Place) (g : ℕ) (v : PlainGoroutine) → find g (plain_entries gs) ≡ Some v → slice_get (plain_places gs) g ≡ Some (Some v)
+at_found : (gs : List Place) (g : ℕ) (v : GoroutineView) → find g (plain_entries gs) ≡ Some v → slice_get (plain_places gs) g ≡ Some (Some v)
 at_found gs g v h = let z : 0 + g ≡ g = omega arith in at-entries 0 (plain_places gs) g v (ap (λ n. find n (plain_entries gs)) z ∙ h)
 
 pub absent : (gs : List Place) (g : ℕ) → slice_get (plain_places gs) g ≡ Some None → find g (plain_entries gs) ≡ None
@@ -57,31 +57,31 @@ beyond gs g l =
 pub place-at : (gs : List Place) (g : ℕ) (p : Place) → g < length gs → p ≡ get_or gs g p → slice_get (plain_places gs) g ≡ Some (plain_place p)
 place-at gs g p l h = slice_get-map plain_place gs g ∙ ap (option_map plain_place) (slice_get_read gs (length gs) g p refl l h)
 
-pub present : (p : Place) → p.present ≡ true → plain_place p ≡ Some (plain_goroutine p.goroutine)
-present p h = ap (λ b. cond b (Some (plain_goroutine p.goroutine)) None) h
+pub present : (p : Place) → p.present ≡ true → plain_place p ≡ Some (goroutine_view p.goroutine)
+present p h = ap (λ b. cond b (Some (goroutine_view p.goroutine)) None) h
 
 pub missing : (p : Place) → p.present ≡ false → plain_place p ≡ None
-missing p h = ap (λ b. cond b (Some (plain_goroutine p.goroutine)) None) h
+missing p h = ap (λ b. cond b (Some (goroutine_view p.goroutine)) None) h
 
-pub found-at : (gs : List Place) (g : ℕ) (p : Place) → g < length gs → p ≡ get_or gs g p → p.present ≡ true → find g (plain_entries gs) ≡ Some (plain_goroutine p.goroutine)
-found-at gs g p l h t = found gs g (plain_goroutine p.goroutine) (place-at gs g p l h ∙ ap Some (present p t))
+pub found-at : (gs : List Place) (g : ℕ) (p : Place) → g < length gs → p ≡ get_or gs g p → p.present ≡ true → find g (plain_entries gs) ≡ Some (goroutine_view p.goroutine)
+found-at gs g p l h t = found gs g (goroutine_view p.goroutine) (place-at gs g p l h ∙ ap Some (present p t))
 
 pub absent-at : (gs : List Place) (g : ℕ) (p : Place) → g < length gs → p ≡ get_or gs g p → p.present ≡ false → find g (plain_entries gs) ≡ None
 absent-at gs g p l h t = absent gs g (place-at gs g p l h ∙ ap Some (missing p t))
 
 -- what is found is present
-pub place-found : (gs : List Place) (g : ℕ) (v : PlainGoroutine) → find g (plain_entries gs) ≡ Some v → g < length gs
+pub place-found : (gs : List Place) (g : ℕ) (v : GoroutineView) → find g (plain_entries gs) ≡ Some v → g < length gs
 place-found gs g v h =
     let l = slice_get_within (plain_places gs) g (Some v) (at_found gs g v h) in
     omega (arith, length-map gs plain_place)
 
-shown : (p : Place) (v : PlainGoroutine) → plain_place p ≡ Some v → (p.present ≡ true) × (plain_goroutine p.goroutine ≡ v)
-shown p v e = elim p.present as (λ b. cond b (Some (plain_goroutine p.goroutine)) None ≡ Some v → (b ≡ true) × (plain_goroutine p.goroutine ≡ v)) [
+shown : (p : Place) (v : GoroutineView) → plain_place p ≡ Some v → (p.present ≡ true) × (goroutine_view p.goroutine ≡ v)
+shown p v e = elim p.present as (λ b. cond b (Some (goroutine_view p.goroutine)) None ≡ Some v → (b ≡ true) × (goroutine_view p.goroutine ≡ v)) [
   | true ↦ λ i. (refl, cc)
   | false ↦ λ i. cc
 ] e
 
-pub read-found : (gs : List Place) (g : ℕ) (p : Place) (v : PlainGoroutine) → find g (plain_entries gs) ≡ Some v → p ≡ get_or gs g p → (p.present ≡ true) × (plain_goroutine p.goroutine ≡ v)
+pub read-found : (gs : List Place) (g : ℕ) (p : Place) (v : GoroutineView) → find g (plain_entries gs) ≡ Some v → p ≡ get_or gs g p → (p.present ≡ true) × (goroutine_view p.goroutine ≡ v)
 read-found gs g p v f h =
     let a = at_found gs g v f in
     let b = place-at gs g p (place-found gs g v f) h in
@@ -89,11 +89,11 @@ read-found gs g p v f h =
 
 -- ---- changes
 
-pub set-at : (gs : List Place) (g : ℕ) (p q : Place) (v : PlainGoroutine) → g < length gs → p ≡ get_or gs g p → p.present ≡ true → plain_place q ≡ Some v → plain_entries (slice_set gs g q) ≡ put g v (plain_entries gs)
+pub set-at : (gs : List Place) (g : ℕ) (p q : Place) (v : GoroutineView) → g < length gs → p ≡ get_or gs g p → p.present ≡ true → plain_place q ≡ Some v → plain_entries (slice_set gs g q) ≡ put g v (plain_entries gs)
 set-at gs g p q v l h t e =
     let z : 0 + g ≡ g = omega arith in
     ap (entries 0) (map-set plain_place gs g q ∙ ap (slice_set (plain_places gs) g) e)
-    ∙ entries-set 0 (plain_places gs) g v (plain_goroutine p.goroutine) (place-at gs g p l h ∙ ap Some (present p t))
+    ∙ entries-set 0 (plain_places gs) g v (goroutine_view p.goroutine) (place-at gs g p l h ∙ ap Some (present p t))
     ∙ ap (λ n. put n v (plain_entries gs)) z
 
 pub clear-at : (gs : List Place) (g : ℕ) (q : Place) → plain_place q ≡ None → plain_entries (slice_set gs g q) ≡ only (λ h. not (h == g)) (plain_entries gs)
@@ -103,10 +103,10 @@ clear-at gs g q e =
     ∙ entries-clear 0 (plain_places gs) g
     ∙ ap (λ n. only (λ h. not (h == n)) (plain_entries gs)) z
 
-pub push-at : (gs : List Place) (q : Place) (v : PlainGoroutine) → plain_place q ≡ Some v → plain_entries (gs ++ q ∷ []) ≡ add (length gs) v (plain_entries gs)
+pub push-at : (gs : List Place) (q : Place) (v : GoroutineView) → plain_place q ≡ Some v → plain_entries (gs ++ q ∷ []) ≡ add (length gs) v (plain_entries gs)
 push-at gs q v e =
     let n : 0 + length (plain_places gs) ≡ length gs = omega (arith, length-map gs plain_place) in
-    ap (entries 0) (map-append plain_place gs (q ∷ []) ∙ ap (λ (p : Option PlainGoroutine). plain_places gs ++ p ∷ []) e)
+    ap (entries 0) (map-append plain_place gs (q ∷ []) ∙ ap (λ (p : Option GoroutineView). plain_places gs ++ p ∷ []) e)
     ∙ entries-push 0 (plain_places gs) v
     ∙ ap (λ k. add k v (plain_entries gs)) n
 
@@ -121,38 +121,38 @@ set-same gs g p h = ap (slice_set gs g) h ∙ set-get_or gs g p
 
 -- ---- those that run
 
-pub runs-blocked : (gs : List Place) (g : ℕ) (v : PlainGoroutine) → is_running v.mode ≡ false → without g (running_of (plain_entries gs)) ≡ running_of (put g v (plain_entries gs))
+pub runs-blocked : (gs : List Place) (g : ℕ) (v : GoroutineView) → is_running v.mode ≡ false → without g (running_of (plain_entries gs)) ≡ running_of (put g v (plain_entries gs))
 runs-blocked gs g v b = sym (keys_where-put_out (λ g r. is_running r.mode) g v (plain_entries gs) b)
 
-pub runs-woken : (gs : List Place) (g : ℕ) (old v : PlainGoroutine) → find g (plain_entries gs) ≡ Some old → is_running old.mode ≡ false → is_running v.mode ≡ true
+pub runs-woken : (gs : List Place) (g : ℕ) (old v : GoroutineView) → find g (plain_entries gs) ≡ Some old → is_running old.mode ≡ false → is_running v.mode ≡ true
     → placed g (running_of (plain_entries gs)) ≡ running_of (put g v (plain_entries gs))
 runs-woken gs g old v f a b = sym (keys_where-put_in (λ g r. is_running r.mode) g v 0 (plain_entries gs) old (Rises-entries 0 (plain_places gs)) f a b)
 
-pub runs-same : (gs : List Place) (g : ℕ) (old v : PlainGoroutine) → find g (plain_entries gs) ≡ Some old → is_running old.mode ≡ is_running v.mode → running_of (plain_entries gs) ≡ running_of (put g v (plain_entries gs))
+pub runs-same : (gs : List Place) (g : ℕ) (old v : GoroutineView) → find g (plain_entries gs) ≡ Some old → is_running old.mode ≡ is_running v.mode → running_of (plain_entries gs) ≡ running_of (put g v (plain_entries gs))
 runs-same gs g old v f e =
     sym (keys_where-put_same (λ g r. is_running r.mode) g v (plain_entries gs) (λ x i.
     let same = find-Entry (plain_entries gs) g x (Rises-entries 0 (plain_places gs)) i in
     let is : x ≡ old = cc in
-    ap (λ (r : PlainGoroutine). is_running r.mode) is ∙ e))
+    ap (λ (r : GoroutineView). is_running r.mode) is ∙ e))
 
 pub runs-left : (gs : List Place) (g : ℕ) → without g (running_of (plain_entries gs)) ≡ running_of (only (λ h. not (h == g)) (plain_entries gs))
 runs-left gs g = sym (keys_where-only (λ g r. is_running r.mode) (λ h. not (h == g)) (plain_entries gs))
 
-pub runs-spawned : (gs : List Place) (v : PlainGoroutine) → is_running v.mode ≡ true → running_of (plain_entries gs) ++ length gs ∷ [] ≡ running_of (add (length gs) v (plain_entries gs))
+pub runs-spawned : (gs : List Place) (v : GoroutineView) → is_running v.mode ≡ true → running_of (plain_entries gs) ++ length gs ∷ [] ≡ running_of (add (length gs) v (plain_entries gs))
 runs-spawned gs v b = sym (keys_where-add (λ g r. is_running r.mode) (length gs) v (plain_entries gs) b)
 
 -- ---- goroutine 0
 
-above : (queue : List Queued) (g : ℕ) (r : PlainGoroutine) → 1 ≤ g → can_run queue g r ≡ is_running r.mode
+above : (queue : List Queued) (g : ℕ) (r : GoroutineView) → 1 ≤ g → can_run queue g r ≡ is_running r.mode
 above queue g r l =
     ap (λ b. is_running r.mode && (not b || (not_empty r.frames || not_empty queue))) (ne_eqb g 0 (λ e. omega arith))
     ∙ elim (is_running r.mode) as (λ b. (b && true) ≡ b) [ true ↦ refl | false ↦ refl ]
 
-runs_above : (queue : List Queued) (ps : List (Option PlainGoroutine)) → keys_where (can_run queue) (entries 1 ps) ≡ running_of (entries 1 ps)
+runs_above : (queue : List Queued) (ps : List (Option GoroutineView)) → keys_where (can_run queue) (entries 1 ps) ≡ running_of (entries 1 ps)
 runs_above queue ps = keys_where-same (can_run queue) (λ g r. is_running r.mode) (entries 1 ps) (λ k x i. above queue k x (Entry-above 1 (entries 1 ps) k x (Rises-entries 1 ps) i))
 
 -- where goroutine 0 has nothing to do, it runs by its mode alone, and is the first
-pub runs-idle : (queue : List Queued) (ps : List (Option PlainGoroutine)) → (not (not_empty queue) && starts_idle ps) ≡ true → behind_first (running_of (entries 0 ps)) ≡ keys_where (can_run queue) (entries 0 ps)
+pub runs-idle : (queue : List Queued) (ps : List (Option GoroutineView)) → (not (not_empty queue) && starts_idle ps) ≡ true → behind_first (running_of (entries 0 ps)) ≡ keys_where (can_run queue) (entries 0 ps)
 runs-idle queue [] i = refl
 runs-idle queue (None ∷ ps) i = elim (not_empty queue) as (λ q. (not q && false) ≡ true → behind_first (running_of (entries 1 ps)) ≡ keys_where (can_run queue) (entries 1 ps)) [ true ↦ λ i. cc | false ↦ λ i. cc ] i
 runs-idle queue (Some r ∷ ps) i = idle (is_running r.mode) (not_empty r.frames) (not_empty queue) i
@@ -164,7 +164,7 @@ runs-idle queue (Some r ∷ ps) i = idle (is_running r.mode) (not_empty r.frames
     idle false c false i = cc
 
 -- else those that run are all
-pub runs-busy : (queue : List Queued) (ps : List (Option PlainGoroutine)) → (not (not_empty queue) && starts_idle ps) ≡ false → running_of (entries 0 ps) ≡ keys_where (can_run queue) (entries 0 ps)
+pub runs-busy : (queue : List Queued) (ps : List (Option GoroutineView)) → (not (not_empty queue) && starts_idle ps) ≡ false → running_of (entries 0 ps) ≡ keys_where (can_run queue) (entries 0 ps)
 runs-busy queue [] i = refl
 runs-busy queue (None ∷ ps) i = sym (runs_above queue ps)
 runs-busy queue (Some r ∷ ps) i = busy (is_running r.mode) (not_empty r.frames) (not_empty queue) i
@@ -177,10 +177,10 @@ runs-busy queue (Some r ∷ ps) i = busy (is_running r.mode) (not_empty r.frames
 
 -- ---- what is read
 
-pub found-read : (gs xs : List Place) (g : ℕ) (p : Bor Place) → xs ≡ gs → IsItemAt xs g (Some p) → p.now.present ≡ true → Some (plain_goroutine p.now.goroutine) ≡ find g (plain_entries gs)
+pub found-read : (gs xs : List Place) (g : ℕ) (p : Bor Place) → xs ≡ gs → IsItemAt xs g (Some p) → p.now.present ≡ true → Some (goroutine_view p.now.goroutine) ≡ find g (plain_entries gs)
 found-read gs xs g p e h t =
     let at = slice_get_read xs (length xs) g p.now refl (ltb-true g (length xs) (sym h.0)) h.1 in
-    sym (found gs g (plain_goroutine p.now.goroutine) (slice_get-map plain_place gs g ∙ ap (λ (ys : List Place). option_map plain_place (slice_get ys g)) (sym e) ∙ ap (option_map plain_place) at ∙ ap Some (present p.now t)))
+    sym (found gs g (goroutine_view p.now.goroutine) (slice_get-map plain_place gs g ∙ ap (λ (ys : List Place). option_map plain_place (slice_get ys g)) (sym e) ∙ ap (option_map plain_place) at ∙ ap Some (present p.now t)))
 
 pub absent-read : (gs xs : List Place) (g : ℕ) (p : Bor Place) → xs ≡ gs → IsItemAt xs g (Some p) → p.now.present ≡ false → None ≡ find g (plain_entries gs)
 absent-read gs xs g p e h t =
@@ -191,16 +191,27 @@ pub beyond-read : (gs xs : List Place) (g : ℕ) → xs ≡ gs → IsItemAt xs g
 beyond-read gs xs g e h = let l = ltb-false g (length xs) (sym h.0) in let n = ap length e in sym (beyond gs g (omega arith))
 
 -- a goroutine that runs is there
-pub running-found : (gs : List Place) (g : ℕ) → is_running_in (find g (plain_entries gs)) ≡ true → (v : PlainGoroutine) × (find g (plain_entries gs) ≡ Some v) × (is_running v.mode ≡ true)
+pub running-found : (gs : List Place) (g : ℕ) → is_running_in (find g (plain_entries gs)) ≡ true → (v : GoroutineView) × (find g (plain_entries gs) ≡ Some v) × (is_running v.mode ≡ true)
 running-found gs g h = elim (cases_find g (plain_entries gs)) [
   | inl e ↦ cc (ap is_running_in (sym e) ∙ h)
   | inr r ↦ (r.0, r.1, ap is_running_in (sym r.1) ∙ h)
 ]
 
+-- and so is one that is blocked
+pub blocked-found : (gs : List Place) (g : ℕ) → is_blocked_in (find g (plain_entries gs)) ≡ true → (v : GoroutineView) × (find g (plain_entries gs) ≡ Some v) × (is_running v.mode ≡ false)
+blocked-found gs g h = elim (cases_find g (plain_entries gs)) [
+  | inl e ↦ cc (ap is_blocked_in (sym e) ∙ h)
+  | inr r ↦ (r.0, r.1, not-true (is_running r.0.mode) (ap is_blocked_in (sym r.1) ∙ h))
+]
+  where
+    not-true : (b : Bool) → not b ≡ true → b ≡ false
+    not-true true t = cc
+    not-true false t = refl
+
 -- ---- the state after a change of a place
 
 module _ (s : State) (gs : List Place) (g : ℕ) where
-  pub set-state : (p q : Place) (v : PlainGoroutine) → g < length gs → p ≡ get_or gs g p → p.present ≡ true → plain_place q ≡ Some v
+  pub set-state : (p q : Place) (v : GoroutineView) → g < length gs → p ≡ get_or gs g p → p.present ≡ true → plain_place q ≡ Some v
       → ◌≡◌ {A = State} (record s { goroutines = plain_entries (slice_set gs g q); next_goroutine = length (slice_set gs g q) }) (record s { goroutines = put g v (plain_entries gs); next_goroutine = length gs })
   set-state p q v l h t e =
       let a = set-at gs g p q v l h t e in
@@ -222,7 +233,7 @@ module _ (s : State) (gs : List Place) (g : ℕ) where
       let b = length-set gs g q in
       λ i. record s { goroutines = a i; next_goroutine = b i }
 
-pub push-state : (s : State) (gs hs : List Place) (q : Place) (v : PlainGoroutine) → hs ≡ gs ++ q ∷ [] → plain_place q ≡ Some v
+pub push-state : (s : State) (gs hs : List Place) (q : Place) (v : GoroutineView) → hs ≡ gs ++ q ∷ [] → plain_place q ≡ Some v
     → ◌≡◌ {A = State} (record s { goroutines = plain_entries hs; next_goroutine = length hs }) (record s { goroutines = add (length gs) v (plain_entries gs); next_goroutine = length gs + 1 })
 push-state s gs hs q v is e =
     let a = ap plain_entries is ∙ push-at gs q v e in

@@ -5,12 +5,12 @@ use Rattle.std.proofs.lemmas.Bool.{cases_lt, true≢false}
 use Rattle.std.proofs.lemmas.List.{take_more, take_all, set_at, length-take-le, reverse-append, length-reverse, length-map, drop_at, drop_all, take-append-drop, length-drop, set-append_left}
 use Rattle.std.proofs.lemmas.Option.{slice_get_within, get_or_from_slice_get}
 use Rattle.golf_data.specs.declared.goroutine.Frame.{Frame}
-use Rattle.golf_model.specs.Plain.{PlainFrame, plain_frame, plain_frames}
+use Rattle.golf_model.specs.Views.{FrameView, frame_view, frame_views}
 use Rattle.golf_model.specs.State.{not_empty}
 use Rattle.golf_model.specs.Waking.{on_top}
 use Rattle.golf_model.specs.Calls.{handed_back}
 use Rattle.golf_data.specs.declared.value.Value.{Value}
-use Rattle.golf_model.proofs.PlainForms.{reverse-push, plain_frames-push}
+use Rattle.golf_model.proofs.ViewForms.{reverse-push, frame_views-push}
 use Rattle.golf_state.specs.Going.{given_back, handed}
 
 module _ {X : Type 0} where
@@ -54,31 +54,31 @@ slice_get-append (x ∷ xs) ys zero l = refl
 slice_get-append (x ∷ xs) ys (suc i) l = slice_get-append xs ys i (omega arith)
 
 -- a change of the last frame is one of the frame on top
-pub top_changed : (fs : List Frame) (f w : Frame) (change : PlainFrame → PlainFrame) → slice_get fs (length fs - 1) ≡ Some f → plain_frame w ≡ change (plain_frame f)
-    → plain_frames (slice_set fs (length fs - 1) w) ≡ on_top change (plain_frames fs)
+pub top_changed : (fs : List Frame) (f w : Frame) (change : FrameView → FrameView) → slice_get fs (length fs - 1) ≡ Some f → frame_view w ≡ change (frame_view f)
+    → frame_views (slice_set fs (length fs - 1) w) ≡ on_top change (frame_views fs)
 top_changed fs f w change h e =
     let below = take (length fs - 1) fs in
-    ap plain_frames (set_last fs f w h) ∙ plain_frames-push below w ∙ ap (λ (x : PlainFrame). x ∷ plain_frames below) e
-    ∙ sym (ap (λ (gs : List Frame). on_top change (plain_frames gs)) (split_last fs f h) ∙ ap (on_top change) (plain_frames-push below f))
+    ap frame_views (set_last fs f w h) ∙ frame_views-push below w ∙ ap (λ (x : FrameView). x ∷ frame_views below) e
+    ∙ sym (ap (λ (gs : List Frame). on_top change (frame_views gs)) (split_last fs f h) ∙ ap (on_top change) (frame_views-push below f))
 
 -- a last frame whose plain form stays changes nothing
-pub top_same : (fs : List Frame) (f w : Frame) → slice_get fs (length fs - 1) ≡ Some f → plain_frame w ≡ plain_frame f → plain_frames (slice_set fs (length fs - 1) w) ≡ plain_frames fs
+pub top_same : (fs : List Frame) (f w : Frame) → slice_get fs (length fs - 1) ≡ Some f → frame_view w ≡ frame_view f → frame_views (slice_set fs (length fs - 1) w) ≡ frame_views fs
 top_same fs f w h e =
     let below = take (length fs - 1) fs in
-    ap plain_frames (set_last fs f w h) ∙ plain_frames-push below w ∙ ap (λ (x : PlainFrame). x ∷ plain_frames below) e
-    ∙ sym (ap plain_frames (split_last fs f h) ∙ plain_frames-push below f)
+    ap frame_views (set_last fs f w h) ∙ frame_views-push below w ∙ ap (λ (x : FrameView). x ∷ frame_views below) e
+    ∙ sym (ap frame_views (split_last fs f h) ∙ frame_views-push below f)
 
 -- whether there is a frame
-pub no_frames : (b : Bool) (fs : List Frame) → (IsTrue b ↔ (fs ≡ [])) → b ≡ not (not_empty (plain_frames fs))
+pub no_frames : (b : Bool) (fs : List Frame) → (IsTrue b ↔ (fs ≡ [])) → b ≡ not (not_empty (frame_views fs))
 no_frames b [] h = h.1 refl
 no_frames true (f ∷ fs) h = cc (h.0 refl)
 no_frames false (f ∷ fs) h =
-    let n = length-reverse (map plain_frame (f ∷ fs)) in
-    sym (ap not (not_empty-cons (plain_frames (f ∷ fs)) (omega arith)))
+    let n = length-reverse (map frame_view (f ∷ fs)) in
+    sym (ap not (not_empty-cons (frame_views (f ∷ fs)) (omega arith)))
 
 -- without a frame nothing changes on top
-pub no_top : (fs : List Frame) (change : PlainFrame → PlainFrame) → fs ≡ [] → plain_frames fs ≡ on_top change (plain_frames fs)
-no_top fs change e = ap plain_frames e ∙ sym (ap (λ (gs : List Frame). on_top change (plain_frames gs)) e)
+pub no_top : (fs : List Frame) (change : FrameView → FrameView) → fs ≡ [] → frame_views fs ≡ on_top change (frame_views fs)
+no_top fs change e = ap frame_views e ∙ sym (ap (λ (gs : List Frame). on_top change (frame_views gs)) e)
 
 -- ---- operands
 
@@ -95,64 +95,64 @@ module _ {X : Type 0} (os ts : List X) (n : ℕ) (kept : ts ≡ take (length os 
 -- ---- a frame more
 
 -- under a new frame the one below it changes
-pub below_changed : (fs gs : List Frame) (n : ℕ) (new f w : Frame) (change : PlainFrame → PlainFrame) → n ≡ length fs → 0 < n → gs ≡ fs ++ new ∷ [] → slice_get gs (n - 1) ≡ Some f → plain_frame w ≡ change (plain_frame f)
-    → plain_frames (slice_set gs (n - 1) w) ≡ plain_frame new ∷ on_top change (plain_frames fs)
+pub below_changed : (fs gs : List Frame) (n : ℕ) (new f w : Frame) (change : FrameView → FrameView) → n ≡ length fs → 0 < n → gs ≡ fs ++ new ∷ [] → slice_get gs (n - 1) ≡ Some f → frame_view w ≡ change (frame_view f)
+    → frame_views (slice_set gs (n - 1) w) ≡ frame_view new ∷ on_top change (frame_views fs)
 below_changed fs gs n new f w change same l more at e =
     let i = length fs - 1 in
     let here : n - 1 ≡ i = ap (λ k. k - 1) same in
     let was : slice_get fs i ≡ Some f = sym (slice_get-append fs (new ∷ []) i (omega arith)) ∙ ap (λ (xs : List Frame). slice_get xs i) (sym more) ∙ ap (slice_get gs) (sym here) ∙ at in
-    ap (λ k. plain_frames (slice_set gs k w)) here
-    ∙ ap (λ (xs : List Frame). plain_frames (slice_set xs i w)) more
-    ∙ ap plain_frames (set-append_left fs (new ∷ []) i w (omega arith))
-    ∙ plain_frames-push (slice_set fs i w) new
-    ∙ ap (λ (xs : List PlainFrame). plain_frame new ∷ xs) (top_changed fs f w change was e)
+    ap (λ k. frame_views (slice_set gs k w)) here
+    ∙ ap (λ (xs : List Frame). frame_views (slice_set xs i w)) more
+    ∙ ap frame_views (set-append_left fs (new ∷ []) i w (omega arith))
+    ∙ frame_views-push (slice_set fs i w) new
+    ∙ ap (λ (xs : List FrameView). frame_view new ∷ xs) (top_changed fs f w change was e)
 
 -- a frame less
-pub without_last : (fs gs : List Frame) (f : Frame) → fs ≡ gs ++ f ∷ [] → plain_frames fs ≡ plain_frame f ∷ plain_frames gs
-without_last fs gs f e = ap plain_frames e ∙ plain_frames-push gs f
+pub without_last : (fs gs : List Frame) (f : Frame) → fs ≡ gs ++ f ∷ [] → frame_views fs ≡ frame_view f ∷ frame_views gs
+without_last fs gs f e = ap frame_views e ∙ frame_views-push gs f
 
 -- ---- the value of a frame
 
-pub handed_none : (v : Value) (fs : List Frame) → length fs < 2 → plain_frames fs ≡ handed v (plain_frames fs)
+pub handed_none : (v : Value) (fs : List Frame) → length fs < 2 → frame_views fs ≡ handed v (frame_views fs)
 handed_none v [] l = refl
 handed_none v (f ∷ []) l = refl
 handed_none v (f ∷ g ∷ fs) l = absurd (omega arith)
 
-same_top : (d : Bool) (v : Value) (fs : List PlainFrame) → d ≡ true → fs ≡ on_top (handed_back d (Some v)) fs
+same_top : (d : Bool) (v : Value) (fs : List FrameView) → d ≡ true → fs ≡ on_top (handed_back d (Some v)) fs
 same_top d v [] e = refl
 same_top d v (f ∷ fs) e = ap (λ (b : Bool). handed_back b (Some v) f ∷ fs) (sym e)
 
-pub handed_nowhere : (v : Value) (fs : List Frame) (t : Frame) → slice_get fs (length fs - 1) ≡ Some t → t.discards ≡ true → plain_frames fs ≡ handed v (plain_frames fs)
+pub handed_nowhere : (v : Value) (fs : List Frame) (t : Frame) → slice_get fs (length fs - 1) ≡ Some t → t.discards ≡ true → frame_views fs ≡ handed v (frame_views fs)
 handed_nowhere v fs t at d =
     let below = take (length fs - 1) fs in
     let parts = without_last fs below t (split_last fs t at) in
-    parts ∙ ap (λ (xs : List PlainFrame). plain_frame t ∷ xs) (same_top t.discards v (plain_frames below) d) ∙ sym (ap (handed v) parts)
+    parts ∙ ap (λ (xs : List FrameView). frame_view t ∷ xs) (same_top t.discards v (frame_views below) d) ∙ sym (ap (handed v) parts)
 
 -- the caller's frame changes
-pub caller_changed : (fs : List Frame) (t f w : Frame) (n : ℕ) (change : PlainFrame → PlainFrame) → n ≡ length fs → 2 ≤ n → slice_get fs (length fs - 1) ≡ Some t → slice_get fs (n - 2) ≡ Some f → plain_frame w ≡ change (plain_frame f)
-    → plain_frames (slice_set fs (n - 2) w) ≡ plain_frame t ∷ on_top change (plain_frames (take (length fs - 1) fs))
+pub caller_changed : (fs : List Frame) (t f w : Frame) (n : ℕ) (change : FrameView → FrameView) → n ≡ length fs → 2 ≤ n → slice_get fs (length fs - 1) ≡ Some t → slice_get fs (n - 2) ≡ Some f → frame_view w ≡ change (frame_view f)
+    → frame_views (slice_set fs (n - 2) w) ≡ frame_view t ∷ on_top change (frame_views (take (length fs - 1) fs))
 caller_changed fs t f w n change same l top at e =
     let below = take (length fs - 1) fs in
     let size = length-take-le (length fs - 1) fs (omega arith) in
     let one : n - 2 ≡ n - 1 - 1 = omega arith in
-    ap (λ k. plain_frames (slice_set fs k w)) one
+    ap (λ k. frame_views (slice_set fs k w)) one
     ∙ below_changed below fs (n - 1) t f w change (omega arith) (omega arith) (split_last fs t top) (ap (slice_get fs) (sym one) ∙ at) e
 
-pub handed_to : (v : Value) (fs : List Frame) (t f w : Frame) (n : ℕ) → n ≡ length fs → 2 ≤ n → slice_get fs (length fs - 1) ≡ Some t → t.discards ≡ false → slice_get fs (n - 2) ≡ Some f → plain_frame w ≡ given_back v (plain_frame f)
-    → plain_frames (slice_set fs (n - 2) w) ≡ handed v (plain_frames fs)
+pub handed_to : (v : Value) (fs : List Frame) (t f w : Frame) (n : ℕ) → n ≡ length fs → 2 ≤ n → slice_get fs (length fs - 1) ≡ Some t → t.discards ≡ false → slice_get fs (n - 2) ≡ Some f → frame_view w ≡ given_back v (frame_view f)
+    → frame_views (slice_set fs (n - 2) w) ≡ handed v (frame_views fs)
 handed_to v fs t f w n same l top d at e =
     let below = take (length fs - 1) fs in
     caller_changed fs t f w n (given_back v) same l top at e
-    ∙ ap (λ (b : Bool). plain_frame t ∷ on_top (handed_back b (Some v)) (plain_frames below)) (sym d)
+    ∙ ap (λ (b : Bool). frame_view t ∷ on_top (handed_back b (Some v)) (frame_views below)) (sym d)
     ∙ sym (ap (handed v) (without_last fs below t (split_last fs t top)))
 
-same_on_top : (fs : List PlainFrame) → on_top (λ f. f) fs ≡ fs
+same_on_top : (fs : List FrameView) → on_top (λ f. f) fs ≡ fs
 same_on_top [] = refl
 same_on_top (f ∷ fs) = refl
 
-pub handed_not : (fs : List Frame) (t f w : Frame) (n : ℕ) → n ≡ length fs → 2 ≤ n → slice_get fs (length fs - 1) ≡ Some t → slice_get fs (n - 2) ≡ Some f → plain_frame w ≡ plain_frame f → plain_frames (slice_set fs (n - 2) w) ≡ plain_frames fs
+pub handed_not : (fs : List Frame) (t f w : Frame) (n : ℕ) → n ≡ length fs → 2 ≤ n → slice_get fs (length fs - 1) ≡ Some t → slice_get fs (n - 2) ≡ Some f → frame_view w ≡ frame_view f → frame_views (slice_set fs (n - 2) w) ≡ frame_views fs
 handed_not fs t f w n same l top at e =
     let below = take (length fs - 1) fs in
     caller_changed fs t f w n (λ g. g) same l top at e
-    ∙ ap (λ (xs : List PlainFrame). plain_frame t ∷ xs) (same_on_top (plain_frames below))
+    ∙ ap (λ (xs : List FrameView). frame_view t ∷ xs) (same_on_top (frame_views below))
     ∙ sym (without_last fs below t (split_last fs t top))

@@ -2,18 +2,18 @@
 use Rattle.std.specs.Prelude.{◌≡◌, ℕ, ◌+◌, List, [], ◌∷◌, Option, Some, None}
 use Rattle.golf_theory.specs.Maps.{find}
 use Rattle.golf_data.specs.declared.goroutine.Mode.{Mode}
-use Rattle.golf_model.specs.Plain.{PlainFrame, PlainGoroutine}
+use Rattle.golf_model.specs.Views.{FrameView, GoroutineView}
 use Rattle.golf_model.specs.State.{State}
 use Rattle.golf_model.specs.Changes.{Change, apply_all}
 use Rattle.golf_model.specs.Acting.{Actor}
 use Rattle.golf_model.specs.Turn.{acting}
 
 -- the changes of a goroutine with these frames, at an instruction of this line; without a frame none
-abbrev pub does_in : (Actor → List Change) → ℕ → ℕ → PlainGoroutine → List PlainFrame → List Change
+abbrev pub does_in : (Actor → List Change) → ℕ → ℕ → GoroutineView → List FrameView → List Change
 does_in act g line r [] = []
 does_in act g line r (f ∷ callers) = act (acting g r f callers line)
 
-abbrev pub does_by : (Actor → List Change) → ℕ → ℕ → Option PlainGoroutine → List Change
+abbrev pub does_by : (Actor → List Change) → ℕ → ℕ → Option GoroutineView → List Change
 does_by act g line None = []
 does_by act g line (Some r) = does_in act g line r r.frames
 
@@ -23,14 +23,14 @@ does act g line s = apply_all (does_by act g line (find g s.goroutines)) s
 
 -- the goroutine runs, and its innermost frame is at the instruction before this place
 pub record Stands (g after : ℕ) (s : State) : Type 0 where
-  pub frame : PlainFrame
-  pub callers : List PlainFrame
+  pub frame : FrameView
+  pub callers : List FrameView
   pub started : ℕ
   pub found : find g s.goroutines ≡ Some (record { frames = frame ∷ callers; mode = Mode.Running; started = started })
   pub next : after ≡ frame.at + 1
 
 -- the goroutine runs with these frames
 pub record Runs (g : ℕ) (s : State) : Type 0 where
-  pub frames : List PlainFrame
+  pub frames : List FrameView
   pub started : ℕ
   pub found : find g s.goroutines ≡ Some (record { frames = frames; mode = Mode.Running; started = started })

@@ -6,7 +6,7 @@ use Rattle.golf_data.specs.declared.goroutine.Frame.{Frame}
 use Rattle.golf_data.specs.contracts.goroutine.Frame.{the_row as frame_row}
 use Rattle.golf_data.specs.declared.value.Object.{Object}
 use Rattle.golf_data.specs.contracts.value.Object.{the_row as object_row}
-use Rattle.golf_model.specs.Plain.{plain_frames}
+use Rattle.golf_model.specs.Views.{frame_views}
 use Rattle.golf_model.specs.State.{State}
 use Rattle.golf_model.specs.Changes.{replace}
 use Rattle.golf_state.specs.contracts.state.State.{the_row as state_row}
@@ -14,7 +14,7 @@ use Rattle.golf_state.specs.Looked.{reframed}
 
 -- the goroutine ends with the last frames behind the loan
 abbrev pub LendsFrames : MutBor State → ℕ → MutBor (List Frame) → Fml
-LendsFrames s g r = Lends state_row (list_row frame_row) s r (λ w. reframed g (plain_frames w) s.now)
+LendsFrames s g r = Lends state_row (list_row frame_row) s r (λ w. reframed g (frame_views w) s.now)
 
 -- the object ends as the last value behind the loan
 abbrev pub LendsObject : MutBor State → ℕ → MutBor Object → Fml

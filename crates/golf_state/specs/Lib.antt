@@ -9,3 +9,9 @@ pub mod Inside
 pub mod Going
 pub mod Doing
 pub mod Operands
+pub mod Roominess
+pub mod Wakening
+pub mod Ready
+pub mod Woken
+pub mod Outcomes
+pub mod Handing

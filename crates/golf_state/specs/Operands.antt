@@ -1,11 +1,11 @@
 -- The operands of a goroutine's innermost frame, the top one first.
 use Rattle.std.specs.Prelude.{ℕ, List, [], ◌∷◌, Option, Some, None}
 use Rattle.golf_data.specs.declared.value.Value.{Value}
-use Rattle.golf_model.specs.Plain.{PlainFrame}
+use Rattle.golf_model.specs.Views.{FrameView}
 use Rattle.golf_model.specs.State.{State}
 use Rattle.golf_state.specs.Looked.{frames_of}
 
-abbrev pub top_operands : List PlainFrame → List Value
+abbrev pub top_operands : List FrameView → List Value
 top_operands [] = []
 top_operands (f ∷ fs) = f.operands
 
@@ -18,3 +18,10 @@ abbrev pub two_of : List Value → Option (Value × Value)
 two_of [] = None
 two_of (y ∷ []) = None
 two_of (y ∷ x ∷ rest) = Some (x, y)
+
+-- the top three, the top one third
+abbrev pub three_of : List Value → Option (Value × Value × Value)
+three_of [] = None
+three_of (z ∷ []) = None
+three_of (z ∷ y ∷ []) = None
+three_of (z ∷ y ∷ x ∷ rest) = Some (x, y, z)

@@ -1,39 +1,39 @@
 //! Frames that are entered and left.
 
 ghost use Rattle.std.specs.Prelude.{◌≡◌, ◌∷◌, [], OnOk, OnErr};
-ghost use Rattle.golf_model.specs.Plain.{plain_frame, plain_frames};
+ghost use Rattle.golf_model.specs.Views.{frame_view, frame_views};
 ghost use Rattle.golf_model.specs.Changes.{behind_first};
 ghost use Rattle.golf_model.specs.Waking.{unwinding, on_top};
 ghost use Rattle.golf_state.specs.Going.{went, undeferred, returned, given_back, handed};
 
-use crate::frames::{move_past, unwind};
+use crate::frames::{advance_frame, unwind};
 use golf_base::{List, Memory};
 use golf_data::{Fault, Frame, Value};
 
 /// A frame is entered by a call: the caller goes on at a place, without so many of its operands.
 pub fn enter(frames: &mut List<Frame>, frame: Frame, after: u32, taken: usize) -> Result<(), Memory>
-    ensures ok { OnOk result (plain_frames frames.new ≡ plain_frame frame ∷ on_top (went after taken []) (plain_frames frames.old)) }
-    ensures err { OnErr result (plain_frames frames.new ≡ plain_frames frames.old) }
+    ensures ok { OnOk result (frame_views frames.new ≡ frame_view frame ∷ on_top (went after taken []) (frame_views frames.old)) }
+    ensures err { OnErr result (frame_views frames.new ≡ frame_views frames.old) }
 {
     let count = frames.len();
     frames.push(frame)?;
     if count > 0 {
-        move_past(frames.item_mut(count - 1), after, taken);
+        advance_frame(frames.item_mut(count - 1), after, taken);
     }
     Ok(())
 }
 
 // The latest deferred call is gone.
 fn take_deferred(frame: &mut Frame)
-    ensures { plain_frame frame.new ≡ undeferred (plain_frame frame.old) }
+    ensures { frame_view frame.new ≡ undeferred (frame_view frame.old) }
 {
     frame.deferred.pop();
 }
 
 /// A frame is entered by the latest deferred call of the innermost one, which is taken off its list.
 pub fn enter_deferred(frames: &mut List<Frame>, frame: Frame) -> Result<(), Memory>
-    ensures ok { OnOk result (plain_frames frames.new ≡ plain_frame frame ∷ on_top undeferred (plain_frames frames.old)) }
-    ensures err { OnErr result (plain_frames frames.new ≡ plain_frames frames.old) }
+    ensures ok { OnOk result (frame_views frames.new ≡ frame_view frame ∷ on_top undeferred (frame_views frames.old)) }
+    ensures err { OnErr result (frame_views frames.new ≡ frame_views frames.old) }
 {
     let count = frames.len();
     frames.push(frame)?;
@@ -45,16 +45,16 @@ pub fn enter_deferred(frames: &mut List<Frame>, frame: Frame) -> Result<(), Memo
 
 // Adds an operand.
 fn add_operand(frame: &mut Frame, value: Value) -> Result<(), Memory>
-    ensures ok { OnOk result (plain_frame frame.new ≡ given_back value (plain_frame frame.old)) }
-    ensures err { OnErr result (plain_frame frame.new ≡ plain_frame frame.old) }
+    ensures ok { OnOk result (frame_view frame.new ≡ given_back value (frame_view frame.old)) }
+    ensures err { OnErr result (frame_view frame.new ≡ frame_view frame.old) }
 {
     frame.operands.push(value)
 }
 
 // The value of the innermost frame goes to its caller, unless it goes nowhere.
 fn hand_back(frames: &mut List<Frame>, value: Value) -> Result<(), Memory>
-    ensures ok { OnOk result (plain_frames frames.new ≡ handed value (plain_frames frames.old)) }
-    ensures err { OnErr result (plain_frames frames.new ≡ plain_frames frames.old) }
+    ensures ok { OnOk result (frame_views frames.new ≡ handed value (frame_views frames.old)) }
+    ensures err { OnErr result (frame_views frames.new ≡ frame_views frames.old) }
 {
     let count = frames.len();
     if count < 2 || frames.as_slice()[count - 1].discards {
@@ -65,8 +65,8 @@ fn hand_back(frames: &mut List<Frame>, value: Value) -> Result<(), Memory>
 
 /// The innermost frame is gone by returning: its value goes to its caller.
 pub fn return_frame(frames: &mut List<Frame>, value: Option<Value>) -> Result<(), Memory>
-    ensures ok { OnOk result (plain_frames frames.new ≡ returned value (plain_frames frames.old)) }
-    ensures err { OnErr result (plain_frames frames.new ≡ plain_frames frames.old) }
+    ensures ok { OnOk result (frame_views frames.new ≡ returned value (frame_views frames.old)) }
+    ensures err { OnErr result (frame_views frames.new ≡ frame_views frames.old) }
 {
     if let Some(value) = value {
         hand_back(frames, value)?;
@@ -77,7 +77,7 @@ pub fn return_frame(frames: &mut List<Frame>, value: Option<Value>) -> Result<()
 
 /// The innermost frame is gone by unwinding: its caller unwinds.
 pub fn unwind_caller(frames: &mut List<Frame>, fault: Fault)
-    ensures { plain_frames frames.new ≡ on_top (unwinding fault) (behind_first (plain_frames frames.old)) }
+    ensures { frame_views frames.new ≡ on_top (unwinding fault) (behind_first (frame_views frames.old)) }
 {
     frames.pop();
     unwind(frames, fault);

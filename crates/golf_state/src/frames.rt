@@ -1,22 +1,26 @@
 //! The innermost frame of a goroutine, and how it goes on.
 
-ghost use Rattle.std.specs.Prelude.{◌≡◌, ◌<◌, [], length, OnOk, OnErr, Some, slice_get, slice_set, ◌-◌};
+ghost use Rattle.std.specs.Prelude.{◌≡◌, ◌<◌, ◌≤◌, ◌-◌, ◌++◌, [], length, reverse, OnOk, OnErr, Some, slice_get, slice_set};
 ghost use Rattle.std.specs.Borrow.{sem};
-ghost use Rattle.golf_model.specs.Plain.{plain_frame, plain_frames, plain_goroutine};
-ghost use Rattle.golf_model.specs.Waking.{resumed, resumed_frame, unwinding, on_top};
-ghost use Rattle.golf_state.specs.Looked.{passed_on, values_of};
-ghost use Rattle.golf_state.specs.Going.{went, exchanged, stored, has_returned};
+ghost use Rattle.golf_model.specs.Views.{frame_view, frame_views, goroutine_view};
+ghost use Rattle.golf_model.specs.Waking.{resumed_frame, unwinding, on_top};
+ghost use Rattle.golf_state.specs.Looked.{advanced, values_of};
+ghost use Rattle.golf_state.specs.Going.{went, exchanged, stored, has_returned, has_deferred};
+ghost use Rattle.golf_state.specs.Roominess.{HasRoom};
+ghost use Rattle.golf_state.specs.Wakening.{wakened};
 ghost use Rattle.golf_state.specs.LendingTop.{LendsTop};
 
-use golf_base::{List, Memory};
-use golf_data::{Fault, Frame, Goroutine, Leaving, Mode, Value, Wait};
+use golf_base::{List, Memory, Room};
+use golf_data::{Deferred, Fault, Frame, Goroutine, Leaving, Mode, Value, Wait};
 
-/// What a goroutine is given that goes on: no value, one, or a value and whether it was sent.
+/// What a goroutine is given that goes on: no value, one, a value and whether it was sent, or two
+/// values.
 #[derive(Clone, Copy, Debug, PartialEq, Eq)]
 pub enum Given {
     Nothing,
     One(Value),
     Two(Value, bool),
+    Both(Value, Value),
 }
 
 /// Lends the innermost frame, the last one.
@@ -29,40 +33,72 @@ pub fn top_mut(frames: &mut List<Frame>) -> &mut Frame
     frames.item_mut(at)
 }
 
-// The frame goes on at a place, with these values in place of so many operands.
-fn move_on(frame: &mut Frame, after: u32, taken: usize, given: Given) -> Result<(), Memory>
-    ensures ok { OnOk result (plain_frame frame.new ≡ went after taken (values_of given) (plain_frame frame.old)) }
-    ensures err { OnErr result (plain_frame frame.new ≡ plain_frame frame.old) }
+// Puts the values on top of the operands, for which there is room.
+fn give(operands: &mut Room<Value>, given: Given)
+    requires { 2 ≤ operands.old.spare }
+    ensures { reverse operands.new.items ≡ values_of given ++ reverse operands.old.items }
 {
-    frame.operands.reserve(2)?;
-    let keep = frame.operands.len().saturating_sub(taken);
-    frame.operands.truncate(keep);
-    frame.at = after;
     match given {
         Given::Nothing => {}
-        Given::One(value) => frame.operands.push_ready(value),
+        Given::One(value) => operands.push_ready(value),
         Given::Two(value, sent) => {
-            frame.operands.push_ready(value);
-            frame.operands.push_ready(Value::Bool(sent));
+            operands.push_ready(value);
+            operands.push_ready(Value::Bool(sent));
+        }
+        Given::Both(first, second) => {
+            operands.push_ready(first);
+            operands.push_ready(second);
         }
     }
+}
+
+// The frame goes on at a place, without so many of its operands, and has room for two more.
+fn settle_frame(frame: &mut Frame, after: u32, taken: usize) -> Result<(), Memory>
+    ensures ok { OnOk result (frame_view frame.new ≡ went after taken [] (frame_view frame.old)) }
+    ensures room { OnOk result (2 ≤ frame.new.operands.spare) }
+    ensures kept { frame.old.operands.spare ≤ frame.new.operands.spare }
+    ensures err { OnErr result (frame_view frame.new ≡ frame_view frame.old) }
+{
+    frame.operands.reserve(2)?;
+    advance_frame(frame, after, taken);
+    Ok(())
+}
+
+// The frame goes on at a place, with these values in place of so many operands.
+fn advance_frame_with(
+    frame: &mut Frame,
+    after: u32,
+    taken: usize,
+    given: Given,
+) -> Result<(), Memory>
+    ensures ok { OnOk result (frame_view frame.new ≡ went after taken (values_of given) (frame_view frame.old)) }
+    ensures err { OnErr result (frame_view frame.new ≡ frame_view frame.old) }
+{
+    settle_frame(frame, after, taken)?;
+    give(&mut frame.operands, given);
     Ok(())
 }
 
 /// The innermost frame goes on at a place, with these values in place of so many operands.
-pub fn go_on(frames: &mut List<Frame>, after: u32, taken: usize, given: Given) -> Result<(), Memory>
-    ensures ok { OnOk result (plain_frames frames.new ≡ on_top (went after taken (values_of given)) (plain_frames frames.old)) }
-    ensures err { OnErr result (plain_frames frames.new ≡ plain_frames frames.old) }
+pub fn advance_with(
+    frames: &mut List<Frame>,
+    after: u32,
+    taken: usize,
+    given: Given,
+) -> Result<(), Memory>
+    ensures ok { OnOk result (frame_views frames.new ≡ on_top (went after taken (values_of given)) (frame_views frames.old)) }
+    ensures err { OnErr result (frame_views frames.new ≡ frame_views frames.old) }
 {
     if !frames.is_empty() {
-        move_on(top_mut(frames), after, taken, given)?;
+        advance_frame_with(top_mut(frames), after, taken, given)?;
     }
     Ok(())
 }
 
 /// The frame goes on at a place, without so many of its operands.
-pub fn move_past(frame: &mut Frame, after: u32, taken: usize)
-    ensures { plain_frame frame.new ≡ went after taken [] (plain_frame frame.old) }
+pub fn advance_frame(frame: &mut Frame, after: u32, taken: usize)
+    ensures frame { frame_view frame.new ≡ went after taken [] (frame_view frame.old) }
+    ensures room { frame.old.operands.spare ≤ frame.new.operands.spare }
 {
     let keep = frame.operands.len().saturating_sub(taken);
     frame.operands.truncate(keep);
@@ -70,17 +106,17 @@ pub fn move_past(frame: &mut Frame, after: u32, taken: usize)
 }
 
 /// The innermost frame goes on at a place, without so many of its operands.
-pub fn pass(frames: &mut List<Frame>, after: u32, taken: usize)
-    ensures { plain_frames frames.new ≡ on_top (went after taken []) (plain_frames frames.old) }
+pub fn advance(frames: &mut List<Frame>, after: u32, taken: usize)
+    ensures { frame_views frames.new ≡ on_top (went after taken []) (frame_views frames.old) }
 {
     if !frames.is_empty() {
-        move_past(top_mut(frames), after, taken);
+        advance_frame(top_mut(frames), after, taken);
     }
 }
 
 // The last operand becomes this one, where there is one, and the frame goes on at a place.
 fn exchange_last(frame: &mut Frame, after: u32, value: Value)
-    ensures { plain_frame frame.new ≡ exchanged after value (plain_frame frame.old) }
+    ensures { frame_view frame.new ≡ exchanged after value (frame_view frame.old) }
 {
     if let Some(_) = frame.operands.pop() {
         frame.operands.push_ready(value);
@@ -91,7 +127,7 @@ fn exchange_last(frame: &mut Frame, after: u32, value: Value)
 /// The last operand of the innermost frame becomes this one, where there is one, and the frame goes
 /// on at a place.
 pub fn exchange(frames: &mut List<Frame>, after: u32, value: Value)
-    ensures { plain_frames frames.new ≡ on_top (exchanged after value) (plain_frames frames.old) }
+    ensures { frame_views frames.new ≡ on_top (exchanged after value) (frame_views frames.old) }
 {
     if !frames.is_empty() {
         exchange_last(top_mut(frames), after, value);
@@ -100,7 +136,7 @@ pub fn exchange(frames: &mut List<Frame>, after: u32, value: Value)
 
 // Stores the last operand in a slot, where both are there, and goes on at a place.
 fn store_last(frame: &mut Frame, after: u32, slot: u32)
-    ensures { plain_frame frame.new ≡ stored after slot (plain_frame frame.old) }
+    ensures { frame_view frame.new ≡ stored after slot (frame_view frame.old) }
 {
     if slot as usize >= frame.slots.len() {
         return;
@@ -114,7 +150,7 @@ fn store_last(frame: &mut Frame, after: u32, slot: u32)
 /// Stores the last operand of the innermost frame in a slot, where both are there, and goes on at a
 /// place.
 pub fn store(frames: &mut List<Frame>, after: u32, slot: u32)
-    ensures { plain_frames frames.new ≡ on_top (stored after slot) (plain_frames frames.old) }
+    ensures { frame_views frames.new ≡ on_top (stored after slot) (frame_views frames.old) }
 {
     if !frames.is_empty() {
         store_last(top_mut(frames), after, slot);
@@ -123,7 +159,7 @@ pub fn store(frames: &mut List<Frame>, after: u32, slot: u32)
 
 // Unwinding begins.
 fn unwind_frame(frame: &mut Frame, fault: Fault)
-    ensures { plain_frame frame.new ≡ unwinding fault (plain_frame frame.old) }
+    ensures { frame_view frame.new ≡ unwinding fault (frame_view frame.old) }
 {
     frame.operands.clear();
     frame.leaving = Leaving::Unwinding(fault);
@@ -131,7 +167,7 @@ fn unwind_frame(frame: &mut Frame, fault: Fault)
 
 /// The innermost frame unwinds.
 pub fn unwind(frames: &mut List<Frame>, fault: Fault)
-    ensures { plain_frames frames.new ≡ on_top (unwinding fault) (plain_frames frames.old) }
+    ensures { frame_views frames.new ≡ on_top (unwinding fault) (frame_views frames.old) }
 {
     if !frames.is_empty() {
         unwind_frame(top_mut(frames), fault);
@@ -139,46 +175,103 @@ pub fn unwind(frames: &mut List<Frame>, fault: Fault)
 }
 
 // Returning begins.
-fn return_in(frame: &mut Frame, after: u32)
-    ensures { plain_frame frame.new ≡ has_returned after (plain_frame frame.old) }
+fn return_in(frame: &mut Frame, after: u32, taken: usize, value: Option<Value>)
+    ensures { frame_view frame.new ≡ has_returned after taken value (frame_view frame.old) }
 {
-    frame.leaving = Leaving::Returning(None);
-    frame.at = after;
+    advance_frame(frame, after, taken);
+    frame.leaving = Leaving::Returning(value);
 }
 
-/// The innermost frame returns without a value, and stands at a place behind its return.
-pub fn begin_return(frames: &mut List<Frame>, after: u32)
-    ensures { plain_frames frames.new ≡ on_top (has_returned after) (plain_frames frames.old) }
+/// The innermost frame returns with a value, where it has one, and stands at a place behind its
+/// return, without so many of its operands.
+pub fn begin_return(frames: &mut List<Frame>, after: u32, taken: usize, value: Option<Value>)
+    ensures { frame_views frames.new ≡ on_top (has_returned after taken value) (frame_views frames.old) }
 {
     if !frames.is_empty() {
-        return_in(top_mut(frames), after);
+        return_in(top_mut(frames), after, taken, value);
     }
 }
 
-/// The goroutine goes on where its wait says, with these values on top of its operands.
-pub fn resume(goroutine: &mut Goroutine, wait: Wait, given: Given) -> Result<(), Memory>
-    ensures ok { OnOk result (plain_goroutine goroutine.new ≡ resumed wait (values_of given) (plain_goroutine goroutine.old)) }
-    ensures err { OnErr result (plain_goroutine goroutine.new ≡ plain_goroutine goroutine.old) }
+// A call is deferred, and the frame goes on at a place, without so many of its operands.
+fn defer_in(frame: &mut Frame, after: u32, taken: usize, deferred: Deferred) -> Result<(), Memory>
+    ensures ok { OnOk result (frame_view frame.new ≡ has_deferred after taken deferred (frame_view frame.old)) }
+    ensures err { OnErr result (frame_view frame.new ≡ frame_view frame.old) }
 {
-    if !goroutine.frames.is_empty() {
-        resume_frame(top_mut(&mut goroutine.frames), wait, given)?;
-    }
-    goroutine.mode = Mode::Running;
+    frame.deferred.push(deferred)?;
+    advance_frame(frame, after, taken);
     Ok(())
 }
 
-// Puts the values on top of the operands, and goes on where the wait says.
-fn resume_frame(frame: &mut Frame, wait: Wait, given: Given) -> Result<(), Memory>
-    ensures ok { OnOk result (plain_frame frame.new ≡ resumed_frame wait (values_of given) (plain_frame frame.old)) }
-    ensures err { OnErr result (plain_frame frame.new ≡ plain_frame frame.old) }
+/// The innermost frame defers a call, and goes on at a place, without so many of its operands.
+pub fn defer(
+    frames: &mut List<Frame>,
+    after: u32,
+    taken: usize,
+    deferred: Deferred,
+) -> Result<(), Memory>
+    ensures ok { OnOk result (frame_views frames.new ≡ on_top (has_deferred after taken deferred) (frame_views frames.old)) }
+    ensures err { OnErr result (frame_views frames.new ≡ frame_views frames.old) }
 {
-    let at = wait.target.unwrap_or(frame.at);
-    move_on(frame, at, 0, given)
+    if !frames.is_empty() {
+        defer_in(top_mut(frames), after, taken, deferred)?;
+    }
+    Ok(())
 }
 
-/// The goroutine's innermost frame goes on at a place, without so many of its operands.
-pub fn pass_on(goroutine: &mut Goroutine, after: u32, taken: usize)
-    ensures { plain_goroutine goroutine.new ≡ passed_on after taken (plain_goroutine goroutine.old) }
+/// The goroutine's innermost frame goes on at a place, without so many of its operands, and has
+/// room for two more.
+pub fn settle(goroutine: &mut Goroutine, after: u32, taken: usize) -> Result<(), Memory>
+    ensures ok { OnOk result (goroutine_view goroutine.new ≡ advanced after taken (goroutine_view goroutine.old)) }
+    ensures room { OnOk result (HasRoom goroutine.new.frames) }
+    ensures kept { HasRoom goroutine.old.frames → HasRoom goroutine.new.frames }
+    ensures err { OnErr result (goroutine_view goroutine.new ≡ goroutine_view goroutine.old) }
+    ensures mode { goroutine.new.mode ≡ goroutine.old.mode }
 {
-    pass(&mut goroutine.frames, after, taken);
+    if !goroutine.frames.is_empty() {
+        settle_frame(top_mut(&mut goroutine.frames), after, taken)?;
+    }
+    Ok(())
+}
+
+/// How a blocked goroutine goes on.
+#[derive(Clone, Copy, Debug, PartialEq, Eq)]
+pub enum Wakening {
+    /// Where it stands, without a value.
+    Released,
+    /// Where its wait says, with these values on top of its operands.
+    Served(Wait, Given),
+    /// Its innermost frame unwinds.
+    Unwound(Fault),
+}
+
+// Goes on where the wait says, with these values on top of the operands.
+fn resume_frame(frame: &mut Frame, wait: Wait, given: Given)
+    requires { 2 ≤ frame.old.operands.spare }
+    ensures { frame_view frame.new ≡ resumed_frame wait (values_of given) (frame_view frame.old) }
+{
+    frame.at = wait.target.unwrap_or(frame.at);
+    give(&mut frame.operands, given);
+}
+
+// The innermost frame goes on where the wait says, with these values on top of its operands.
+fn resume(frames: &mut List<Frame>, wait: Wait, given: Given)
+    requires { HasRoom frames.old }
+    ensures { frame_views frames.new ≡ on_top (resumed_frame wait (values_of given)) (frame_views frames.old) }
+{
+    if !frames.is_empty() {
+        resume_frame(top_mut(frames), wait, given);
+    }
+}
+
+/// The goroutine goes on. It takes no memory.
+pub fn waken(goroutine: &mut Goroutine, how: Wakening)
+    requires { HasRoom goroutine.old.frames }
+    ensures { goroutine_view goroutine.new ≡ wakened how (goroutine_view goroutine.old) }
+{
+    match how {
+        Wakening::Released => {}
+        Wakening::Served(wait, given) => resume(&mut goroutine.frames, wait, given),
+        Wakening::Unwound(fault) => unwind(&mut goroutine.frames, fault),
+    }
+    goroutine.mode = Mode::Running;
 }

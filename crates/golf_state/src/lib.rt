@@ -4,21 +4,31 @@
 //!   has ended. What it caches is the list of the goroutines that run.
 //! - `Waiting`, `Given`: a goroutine that waits on an object, and what it is given when it goes on.
 //! - `Acting`: a goroutine in its turn.
-//! - `go_on`, `enter`, `return_frame` and their kin: what becomes of a goroutine's frames.
+//! - `advance_with`, `enter`, `return_frame` and their kin: what becomes of a goroutine's frames.
 #![tactic(auto)]
 
 mod acting;
 mod calls;
+mod finalisers;
 mod frames;
 mod operands;
+mod outcome;
 mod places;
 mod rising;
 mod state;
 mod waiters;
+mod waking;
 
 pub use acting::Acting;
 pub use calls::{enter, enter_deferred, return_frame, unwind_caller};
-pub use frames::{Given, begin_return, exchange, go_on, pass, store, unwind};
-pub use operands::{last_operand, last_operands};
+pub use frames::{
+    Given, Wakening, advance, advance_with, begin_return, defer, exchange, store, unwind,
+};
+pub use operands::{last_operand, last_operands, last_three_operands};
+pub use outcome::{
+    Outcome, block_at, block_on, carry_out, fault, make_onto, make_over, one_wait, proceed,
+    proceed_with,
+};
 pub use state::State;
 pub use waiters::Waiting;
+pub use waking::{Waking, received};

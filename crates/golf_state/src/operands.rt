@@ -1,7 +1,7 @@
 //! The last operands of a goroutine's innermost frame.
 
 ghost use Rattle.std.specs.Prelude.{◌≡◌, slice_get, reverse};
-ghost use Rattle.golf_state.specs.Operands.{operands_of, two_of};
+ghost use Rattle.golf_state.specs.Operands.{operands_of, two_of, three_of};
 
 use crate::state::State;
 use golf_base::GoroutineId;
@@ -25,6 +25,17 @@ fn last_two(items: &[Value]) -> Option<(Value, Value)>
     Some((items[count - 2], items[count - 1]))
 }
 
+// The last three items, the last one third.
+fn last_three(items: &[Value]) -> Option<(Value, Value, Value)>
+    ensures { result ≡ three_of (reverse items.now) }
+{
+    let count = items.len();
+    if count < 3 {
+        return None;
+    }
+    Some((items[count - 3], items[count - 2], items[count - 1]))
+}
+
 /// The last operand of a goroutine's innermost frame, where there is one.
 pub fn last_operand(state: &State, g: GoroutineId) -> Option<Value>
     ensures { result ≡ slice_get (operands_of g.0 state.now) 0 }
@@ -39,4 +50,13 @@ pub fn last_operands(state: &State, g: GoroutineId) -> Option<(Value, Value)>
 {
     let frame = state.frame(g)?;
     last_two(frame.operands.as_slice())
+}
+
+/// The last three operands of a goroutine's innermost frame, the last one third, where there are
+/// three.
+pub fn last_three_operands(state: &State, g: GoroutineId) -> Option<(Value, Value, Value)>
+    ensures { result ≡ three_of (operands_of g.0 state.now) }
+{
+    let frame = state.frame(g)?;
+    last_three(frame.operands.as_slice())
 }

@@ -1,23 +1,27 @@
 //! The state: what it tells, and the changes that a turn is made of.
 
-ghost use Rattle.std.specs.Prelude.{◌≡◌, ◌<◌, ◌≤◌, ◌^◌, ◌+◌, ◌-◌, ℕ, [], ◌∷◌, length, map, true, false, Some, None, IfOk, OnOk, OnErr, IsSome, IfSome, option_map, slice_get};
+ghost use Rattle.std.specs.Prelude.{◌≡◌, ◌<◌, ◌≤◌, ◌^◌, ◌+◌, ◌-◌, ◌↔◌, IsTrue, ℕ, [], ◌∷◌, ◌++◌, length, vec_capacity, map, true, false, Some, None, IfOk, OnOk, OnErr, IsSome, IfSome, option_map, slice_get};
 ghost use Rattle.std.specs.Borrow.{sem};
 ghost use Rattle.golf_theory.specs.Maps.{find, keys, Rises, IsRising};
 ghost use Rattle.golf_data.specs.declared.goroutine.Mode.{Mode};
-ghost use Rattle.golf_model.specs.Plain.{PlainGoroutine, plain_frame, plain_frames, plain_goroutine};
+ghost use Rattle.golf_model.specs.Views.{GoroutineView, frame_view, frame_views, goroutine_view};
 ghost use Rattle.golf_model.specs.State.{runnable, ending, is_running};
 ghost use Rattle.golf_model.specs.Waiting.{first};
-ghost use Rattle.golf_model.specs.Waking.{resumed};
-ghost use Rattle.golf_model.specs.Changes.{make, replace, become, block, spawn, leave, finish, take_queued, output as printed};
-ghost use Rattle.golf_heap.specs.Numbered.{Numbered};
-ghost use Rattle.golf_state.specs.Looked.{looked_up, runs, frames_of, reframed, passed_on, values_of, opening};
+ghost use Rattle.golf_model.specs.ReadersWriters.{readers_next};
+ghost use Rattle.golf_model.specs.Changes.{make, replace, set_global, become, block, spawn, leave, finish, set_finaliser, clear_finaliser, take_queued, output as printed, wake_all, pass_on, move_wait};
+ghost use Rattle.golf_heap.specs.Objects.{NumberedObjects};
+ghost use Rattle.golf_state.specs.Looked.{looked_up, runs, is_blocked, frames_of, reframed, advanced, opening};
+ghost use Rattle.golf_state.specs.Wakening.{wakened};
+ghost use Rattle.golf_state.specs.Woken.{waking_of};
 ghost use Rattle.golf_state.specs.Waited.{waiting_of};
 ghost use Rattle.golf_state.specs.Lending.{LendsFrames, LendsObject};
 
-use crate::frames::{Given, pass_on, resume};
-use crate::places::{Place, has_no_call, is_running, place_of};
+use crate::finalisers::{function_of, put_finaliser, take_finaliser};
+use crate::frames::{Wakening, settle, waken};
+use crate::places::{Place, has_no_call, list_running, place_of};
 use crate::rising::{add_last, behind_first, leave_out, put_in};
-use crate::waiters::{Waiting, first_waiter};
+use crate::waiters::{Waiting, first_waiter, move_mode};
+use crate::waking::{Waking, readers_next, wake_places};
 use golf_base::{GoroutineId, List, Memory, ObjectId};
 use golf_data::{Ending, Frame, Goroutine, Mode, Object, Queued, Side, Value, Wait, WaitKind};
 use golf_heap::Heap;
@@ -29,11 +33,10 @@ use std::marker::Model;
 ///
 /// A call that answers `Memory` leaves it unchanged. Where objects, goroutines or tickets have used
 /// up their numbers, the answer is `Memory` too.
-#[derive(Debug, Drop)]
 pub struct State {
     globals: List<Value>,
     heap: Heap,
-    finalisers: List<(u32, u32)>,
+    finalisers: Vec<(u32, u32)>,
     goroutines: Vec<Place>,
     present: Vec<GoroutineId>,
     running: Vec<GoroutineId>,
@@ -55,6 +58,24 @@ impl Model for State {
     ghost invariant = { IsCached };
 }
 
+// Written out once here, so that no other crate goes through the fields where it lets a state go.
+impl Drop for State {
+    fn drop(self) {
+        let State {
+            globals: _,
+            heap: _,
+            finalisers: _,
+            goroutines: _,
+            present: _,
+            running: _,
+            queue: _,
+            output: _,
+            next_ticket: _,
+            recorded: _,
+        } = self;
+    }
+}
+
 impl State {
     /// The state without an object in which goroutine 1, started at this line, runs with these
     /// frames, and goroutine 0 has none.
@@ -64,7 +85,7 @@ impl State {
         frames: List<Frame>,
         line: u32,
     ) -> Result<State, Memory>
-        ensures { IfOk result (λ state. state ≡ opening globals (plain_frames frames) line) }
+        ensures { IfOk result (λ state. state ≡ opening globals (frame_views frames) line) }
     {
         let mut goroutines = Vec::new(alloc);
         goroutines.push(place_of(List::new(alloc), 0))?;
@@ -74,7 +95,7 @@ impl State {
         Ok(State {
             globals,
             heap: Heap::new(alloc),
-            finalisers: List::new(alloc),
+            finalisers: Vec::new(alloc),
             goroutines,
             present,
             running,
@@ -120,7 +141,7 @@ impl State {
 
     /// The goroutine of this number, where it has not ended.
     pub fn goroutine(&self, g: GoroutineId) -> Option<&Goroutine>
-        ensures { option_map (λ r. plain_goroutine r.now) result ≡ find g.0 self.now.goroutines }
+        ensures { option_map (λ r. goroutine_view r.now) result ≡ find g.0 self.now.goroutines }
     {
         let place = self.goroutines.get(g.0 as usize)?;
         if place.present {
@@ -132,7 +153,7 @@ impl State {
 
     /// The innermost frame of a goroutine, where it has not ended and has one.
     pub fn frame(&self, g: GoroutineId) -> Option<&Frame>
-        ensures { option_map (λ f. plain_frame f.now) result ≡ slice_get (frames_of g.0 self.now) 0 }
+        ensures { option_map (λ f. frame_view f.now) result ≡ slice_get (frames_of g.0 self.now) 0 }
     {
         let goroutine = self.goroutine(g)?;
         goroutine.frames.as_slice().last()
@@ -180,6 +201,7 @@ impl State {
     pub fn first_waiter(&self, object: ObjectId, side: Side) -> Option<Waiting>
         ensures first { result ≡ option_map waiting_of (first object.0 side self.now.goroutines) }
         ensures blocked { IfSome (first object.0 side self.now.goroutines) (λ w. find w.number self.now.goroutines ≡ Some w.goroutine × is_running w.goroutine.mode ≡ false) }
+        ensures rises { IsRising self.now.goroutines }
     {
         first_waiter(
             self.goroutines.as_slice(),
@@ -207,6 +229,13 @@ impl State {
         self.heap.make(object)
     }
 
+    /// Puts an object in the place of the one of this number, where it is there.
+    pub fn replace(&mut self, object: ObjectId, with: Object)
+        ensures { self.new ≡ replace object.0 with self.old }
+    {
+        self.heap.put(object, with);
+    }
+
     /// Lends an object, to be changed or replaced.
     pub fn object_mut(&mut self, object: ObjectId) -> &mut Object
         requires { IsSome (find object.0 self.old.objects) }
@@ -223,8 +252,9 @@ impl State {
     pub fn frames_mut(&mut self, g: GoroutineId) -> &mut List<Frame>
         requires { runs g.0 self.old ≡ true }
         ensures* writes_back { sem 𝓛 (LendsFrames self.entry g.0 result) }
-        ensures value { plain_frames result.now ≡ frames_of g.0 self.old }
+        ensures value { frame_views result.now ≡ frames_of g.0 self.old }
         ensures same { reframed g.0 (frames_of g.0 self.old) self.old ≡ self.old }
+        ensures rises { IsRising self.old.goroutines }
     {
         let place = &mut self.goroutines[g.0 as usize];
         let goroutine = &mut place.goroutine;
@@ -234,13 +264,14 @@ impl State {
     /// Starts a goroutine with this frame, at this line.
     pub fn spawn(&mut self, frames: List<Frame>, line: u32) -> Result<GoroutineId, Memory>
         ensures number { IfOk result (λ g. g.0 ≡ self.old.next_goroutine) }
-        ensures ok { OnOk result (self.new ≡ spawn (record { frames = plain_frames frames; mode = Mode.Running; started = line }) self.old) }
+        ensures ok { OnOk result (self.new ≡ spawn (record { frames = frame_views frames; mode = Mode.Running; started = line }) self.old) }
         ensures err { OnErr result (self.new ≡ self.old) }
     {
         let number = u32::try_from(self.goroutines.len()).map_err(|_| Memory)?;
         let g = GoroutineId(number);
+        let more = (self.goroutines.len() + 2).saturating_sub(self.running.len());
         self.present.reserve(1)?;
-        self.running.reserve(1)?;
+        self.running.reserve(more)?;
         self.goroutines.push(place_of(frames, line))?;
         add_last(&mut self.present, g);
         add_last(&mut self.running, g);
@@ -248,7 +279,7 @@ impl State {
     }
 
     /// The goroutine blocks, with the next ticket. Its innermost frame goes on at a place without so
-    /// many of its operands.
+    /// many of its operands, and gets room for two more, so that it is woken without memory.
     pub fn block(
         &mut self,
         g: GoroutineId,
@@ -258,7 +289,7 @@ impl State {
         after: u32,
         taken: usize,
     ) -> Result<(), Memory>
-        ensures ok { OnOk result (self.new ≡ looked_up g.0 (λ r. block g.0 kind line waits (passed_on after taken r)) self.old) }
+        ensures ok { OnOk result (self.new ≡ looked_up g.0 (λ r. block g.0 kind line waits (advanced after taken r)) self.old) }
         ensures err { OnErr result (self.new ≡ self.old) }
     {
         let ticket = self.next_ticket;
@@ -268,7 +299,7 @@ impl State {
         }
         let place = &mut self.goroutines[g.0 as usize];
         if place.present {
-            pass_on(&mut place.goroutine, after, taken);
+            settle(&mut place.goroutine, after, taken)?;
             place.goroutine.mode = Mode::Blocked {
                 kind,
                 line,
@@ -281,24 +312,74 @@ impl State {
         Ok(())
     }
 
-    /// The goroutine goes on where its wait says, with these values on top of its operands.
-    pub fn wake(&mut self, g: GoroutineId, wait: Wait, given: Given) -> Result<(), Memory>
-        ensures ok { OnOk result (self.new ≡ looked_up g.0 (λ r. become g.0 (resumed wait (values_of given) r)) self.old) }
-        ensures err { OnErr result (self.new ≡ self.old) }
+    /// The blocked goroutine goes on. It takes no memory.
+    pub fn wake(&mut self, g: GoroutineId, how: Wakening)
+        requires { is_blocked g.0 self.old ≡ true }
+        ensures { self.new ≡ looked_up g.0 (λ r. become g.0 (wakened how r)) self.old }
     {
-        if g.0 as usize >= self.goroutines.len() {
-            return Ok(());
-        }
-        self.running.reserve(1)?;
         let place = &mut self.goroutines[g.0 as usize];
-        if place.present {
-            let ran = is_running(&place.goroutine.mode);
-            resume(&mut place.goroutine, wait, given)?;
-            if !ran {
-                put_in(&mut self.running, g);
+        waken(&mut place.goroutine, how);
+        put_in(&mut self.running, g);
+    }
+
+    /// All goroutines that wait on the object go on, as far as they are woken. It takes no memory.
+    pub fn wake_all(&mut self, object: ObjectId, how: Waking)
+        ensures { self.new ≡ wake_all object.0 (waking_of how) self.old }
+    {
+        wake_places(&mut self.goroutines, object, how);
+        list_running(self.goroutines.as_slice(), &mut self.running);
+    }
+
+    /// How many readers of a reader and writer mutex are served: those with a ticket below this
+    /// one, or all.
+    pub fn readers_next(&self, object: ObjectId, below: Option<u64>) -> usize
+        ensures count { result ≡ readers_next below object.0 self.now.goroutines }
+        ensures few { result ≤ 2 ^ 32 }
+    {
+        readers_next(self.goroutines.as_slice(), object, below)
+    }
+
+    // The one wait of a blocked goroutine becomes a wait for the mutex, with the next ticket.
+    fn move_wait(&mut self, g: GoroutineId, mutex: ObjectId)
+        requires blocked { is_blocked g.0 self.old ≡ true }
+        requires tickets { self.old.next_ticket + 1 < 2 ^ 64 }
+        ensures { self.new ≡ looked_up g.0 (move_wait g.0 mutex.0) self.old }
+    {
+        let place = &mut self.goroutines[g.0 as usize];
+        move_mode(&mut place.goroutine.mode, mutex, self.next_ticket);
+        self.next_ticket += 1;
+    }
+
+    /// The blocked goroutine is passed on from a condition to its mutex: an unlocked one becomes
+    /// locked and the goroutine runs; a locked one is what it waits for from now on, with the next
+    /// ticket. It takes no memory.
+    pub fn pass_on(&mut self, g: GoroutineId, mutex: ObjectId)
+        requires blocked { is_blocked g.0 self.old ≡ true }
+        requires tickets { self.old.next_ticket + 1 < 2 ^ 64 }
+        ensures { self.new ≡ pass_on g.0 mutex.0 (find g.0 self.old.goroutines) (find mutex.0 self.old.objects) self.old }
+    {
+        match self.heap.get(mutex) {
+            Some(Object::Mutex(false)) => {
+                self.heap.put(mutex, Object::Mutex(true));
+                self.wake(g, Wakening::Released);
             }
+            Some(Object::Mutex(true)) => self.move_wait(g, mutex),
+            Some(Object::Struct(_)) => {}
+            Some(Object::Slice(_)) => {}
+            Some(Object::Chan(_)) => {}
+            Some(Object::Group(_)) => {}
+            Some(Object::Rw(_)) => {}
+            Some(Object::Cond(_)) => {}
+            None => {}
         }
-        Ok(())
+    }
+
+    /// Whether there are tickets enough for all goroutines to take another.
+    pub fn has_tickets(&self) -> bool
+        ensures { IsTrue result ↔ (self.now.next_ticket + length self.now.goroutines < 2 ^ 64) }
+    {
+        let count = self.present.len() as u64;
+        self.next_ticket.checked_add(count).is_some()
     }
 
     /// The goroutine has ended.
@@ -323,6 +404,46 @@ impl State {
         ensures { self.new ≡ finish ending self.old }
     {
         self.recorded = Some(ending);
+    }
+
+    /// A global becomes this value, where it is there.
+    pub fn set_global(&mut self, global: u32, value: Value)
+        ensures { self.new ≡ set_global global value self.old }
+    {
+        if (global as usize) < self.globals.len() {
+            self.globals.set(global as usize, value);
+        }
+    }
+
+    /// The function becomes the finaliser of the object, which has none.
+    pub fn set_finaliser(&mut self, object: ObjectId, function: u32) -> Result<(), Memory>
+        requires { find object.0 self.old.finalisers ≡ None }
+        ensures ok { OnOk result (self.new ≡ set_finaliser object.0 function self.old) }
+        ensures err { OnErr result (self.new ≡ self.old) }
+    {
+        put_finaliser(&mut self.finalisers, object.0, function)
+    }
+
+    /// The object has no finaliser from now on.
+    pub fn clear_finaliser(&mut self, object: ObjectId)
+        ensures { self.new ≡ clear_finaliser object.0 self.old }
+    {
+        take_finaliser(&mut self.finalisers, object.0);
+    }
+
+    /// Finalisers are to be called, behind those that are to be called already.
+    pub fn enqueue(&mut self, entries: &[Queued]) -> Result<(), Memory>
+        ensures ok { OnOk result (self.new ≡ record self.old { queue = self.old.queue ++ entries.now }) }
+        ensures err { OnErr result (self.new ≡ self.old) }
+    {
+        self.queue.extend_from_slice(entries)
+    }
+
+    /// The goroutine is taken away by a collection.
+    pub fn remove(&mut self, g: GoroutineId)
+        ensures { self.new ≡ leave g.0 self.old }
+    {
+        self.leave(g);
     }
 
     /// Takes the next finaliser that is to be called.
@@ -352,24 +473,14 @@ impl State {
     }
 }
 
-// Goroutines 0 and 1.
+// Goroutines 0 and 1, with room for one more.
 fn first_two(alloc: Global) -> Result<Vec<GoroutineId>, Memory>
-    ensures { IfOk result (λ goroutines. map (λ g. g.0) goroutines.items ≡ 0 ∷ 1 ∷ []) }
+    ensures both { IfOk result (λ goroutines. map (λ g. g.0) goroutines.items ≡ 0 ∷ 1 ∷ []) }
+    ensures room { IfOk result (λ goroutines. 2 < vec_capacity goroutines) }
 {
     let mut goroutines = Vec::new(alloc);
+    goroutines.reserve(3)?;
     goroutines.push(GoroutineId(0))?;
     goroutines.push(GoroutineId(1))?;
     Ok(goroutines)
-}
-
-// The function at an object's number.
-fn function_of(finalisers: &[(u32, u32)], object: u32) -> Option<u32>
-    ensures { result ≡ find object finalisers.now }
-{
-    for (of, function) in finalisers {
-        if *of == object {
-            return Some(*function);
-        }
-    }
-    None
 }

@@ -3,25 +3,20 @@
 ghost use Rattle.std.specs.Prelude.{◌≡◌, ◌==◌, ◌&&◌, Some, None, map, option_map};
 ghost use Rattle.golf_theory.specs.Maps.{keys};
 ghost use Rattle.golf_model.specs.Waiting.{side_number, same_side, wait_for, first};
+ghost use Rattle.golf_model.specs.Changes.{moved, moved_waits};
 ghost use Rattle.golf_state.specs.Places.{plain_place, plain_entries};
-ghost use Rattle.golf_state.specs.Seen.{seen_of, sooner, waiter_in};
+ghost use Rattle.golf_state.specs.Seen.{sooner, waiter_in};
 ghost use Rattle.golf_state.specs.Waited.{waiting_of};
 
 use crate::places::Place;
-use golf_base::{GoroutineId, ObjectId};
+use golf_base::{GoroutineId, List, ObjectId};
 use golf_data::{Mode, Side, Wait};
 
-/// A goroutine that waits on an object, with its first fitting wait.
+/// A goroutine that waits on an object, with its first fitting wait, and its ticket.
 #[derive(Clone, Copy, Debug, PartialEq, Eq)]
 pub struct Waiting {
     pub goroutine: GoroutineId,
     pub wait: Wait,
-}
-
-/// A waiting goroutine with its ticket.
-#[derive(Clone, Copy, Debug, PartialEq, Eq)]
-pub struct Seen {
-    pub waiting: Waiting,
     pub ticket: u64,
 }
 
@@ -46,8 +41,8 @@ fn fits(wait: &Wait, object: ObjectId, side: Side) -> bool
     wait.object.0 == object.0 && side_number(wait.side) == side_number(side)
 }
 
-// The first wait on the object with that side.
-fn wait_for(waits: &[Wait], object: ObjectId, side: Side) -> Option<Wait>
+/// The first wait on the object with that side.
+pub fn wait_for(waits: &[Wait], object: ObjectId, side: Side) -> Option<Wait>
     ensures { result ≡ wait_for object.0 side waits.now }
 {
     for wait in waits {
@@ -59,8 +54,8 @@ fn wait_for(waits: &[Wait], object: ObjectId, side: Side) -> Option<Wait>
 }
 
 // The goroutine at a place as a waiter, where it is one.
-fn waiter_in(g: GoroutineId, place: &Place, object: ObjectId, side: Side) -> Option<Seen>
-    ensures { result ≡ option_map seen_of (waiter_in g.0 object.0 side (plain_place place.now)) }
+fn waiter_in(g: GoroutineId, place: &Place, object: ObjectId, side: Side) -> Option<Waiting>
+    ensures { result ≡ option_map waiting_of (waiter_in g.0 object.0 side (plain_place place.now)) }
 {
     if !place.present {
         return None;
@@ -69,8 +64,9 @@ fn waiter_in(g: GoroutineId, place: &Place, object: ObjectId, side: Side) -> Opt
         Mode::Running => None,
         Mode::Blocked { waits, ticket, .. } => {
             let wait = wait_for(waits.as_slice(), object, side)?;
-            Some(Seen {
-                waiting: Waiting { goroutine: g, wait },
+            Some(Waiting {
+                goroutine: g,
+                wait,
                 ticket: *ticket,
             })
         }
@@ -78,7 +74,7 @@ fn waiter_in(g: GoroutineId, place: &Place, object: ObjectId, side: Side) -> Opt
 }
 
 // The one with the earlier ticket.
-fn sooner(seen: Option<Seen>, other: Option<Seen>) -> Option<Seen>
+fn sooner(seen: Option<Waiting>, other: Option<Waiting>) -> Option<Waiting>
     ensures { result ≡ sooner seen other }
 {
     match (seen, other) {
@@ -106,8 +102,35 @@ pub fn first_waiter(
         let g = present[at];
         best = sooner(waiter_in(g, &places[g.0 as usize], object, side), best);
     }
-    match best {
-        Some(seen) => Some(seen.waiting),
-        None => None,
+    best
+}
+
+// The first wait becomes one for the mutex, and the others are gone.
+fn move_waits(waits: &mut List<Wait>, mutex: ObjectId)
+    ensures { waits.new ≡ moved_waits mutex.0 waits.old }
+{
+    waits.truncate(1);
+    if let Some(wait) = waits.as_slice().first().copied() {
+        let moved = Wait {
+            object: mutex,
+            side: Side::Lock,
+            value: wait.value,
+            target: wait.target,
+            with_ok: wait.with_ok,
+        };
+        waits.set(0, moved);
+    }
+}
+
+/// A blocked goroutine waits for the mutex from now on, with this ticket.
+pub fn move_mode(mode: &mut Mode, mutex: ObjectId, with_ticket: u64)
+    ensures { mode.new ≡ moved mutex.0 with_ticket mode.old }
+{
+    match mode {
+        Mode::Running => {}
+        Mode::Blocked { waits, ticket, .. } => {
+            move_waits(waits, mutex);
+            *ticket = with_ticket;
+        }
     }
 }

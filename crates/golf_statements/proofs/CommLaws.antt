@@ -78,9 +78,9 @@ pub comm-sound : (ts : List Token) (x : Communication × List Token) → comm_at
 unfolding comm_at simple_at
 comm-sound ts x e = at (assigned_at ts) refl e
   where
-    plain : (us : List Token) → us ≡ ts → (simple_at false us >>= λ y. comm_of y.0.kind >>= λ c. Some (c, y.1)) ≡ Some x → IsComm us x
-    plain [] p f = cc
-    plain (t ∷ us) p f =
+    without_name : (us : List Token) → us ≡ ts → (simple_at false us >>= λ y. comm_of y.0.kind >>= λ c. Some (c, y.1)) ≡ Some x → IsComm us x
+    without_name [] p f = cc
+    without_name (t ∷ us) p f =
         let a = bind_some (simple_at false (t ∷ us)) (λ y. comm_of y.0.kind >>= λ c. Some (c, y.1)) x f in
         let b = bind_some (kind_at false (t ∷ us)) (λ y. Some (record { line = t.line; kind = y.0 }, y.1)) a.0 a.1 in
         let k = kind-sound false (t ∷ us) b.0 b.1 in
@@ -90,7 +90,7 @@ comm-sound ts x e = at (assigned_at ts) refl e
         subst (IsComm (t ∷ us)) (ap (λ q. (d.0, q)) same.1 ∙ some-same (d.0, a.0.1) x d.2) r
 
     at : (o : Option (List ℕ × List Token)) → assigned_at ts ≡ o → comm_by ts o ≡ Some x → IsComm ts x
-    at None q f = plain ts refl f
+    at None q f = without_name ts refl f
     at (Some n) q f =
         let w = front ts n q in
         let a = bind_some (after marks.Arrow n.1) (λ us. expr_at (Prefixed false) us >>= λ c. Some (comm.Assign n.0 c.0, c.1)) x f in
@@ -102,23 +102,23 @@ comm-sound ts x e = at (assigned_at ts) refl e
         })
 
 -- no `=` stands behind a name in front
-abbrev PlainName : Option (List ℕ × List Token) → Type 0
-PlainName None = Unit {0}
-PlainName (Some n) = after marks.Assign n.1 ≡ None
+abbrev NameNotAssigning : Option (List ℕ × List Token) → Type 0
+NameNotAssigning None = Unit {0}
+NameNotAssigning (Some n) = after marks.Assign n.1 ≡ None
 
-abbrev Plain : List Token → Type 0
-Plain ts = PlainName (name_at ts)
+abbrev NotAssigning : List Token → Type 0
+NotAssigning ts = NameNotAssigning (name_at ts)
 
-abbrev BeginsPlain : Expr → Type 0
-BeginsPlain e = (ts rest : List Token) → Spelt (print_expr e) ts rest → after marks.Assign rest ≡ None → Plain ts
+abbrev BeginsNotAssigning : Expr → Type 0
+BeginsNotAssigning e = (ts rest : List Token) → Spelt (print_expr e) ts rest → after marks.Assign rest ≡ None → NotAssigning ts
 
-other-first : {ws : List Word} {ts rest : List Token} (k : TokenKind) → ((us : List Token) → name_of k us ≡ None) → Spelt (words.word k ∷ ws) ts rest → Plain ts
-other-first k other h = let f = first h in subst PlainName (sym (ap name_at f.2 ∙ ap (λ q. name_of q f.1) f.3 ∙ other f.1)) tt
+other-first : {ws : List Word} {ts rest : List Token} (k : TokenKind) → ((us : List Token) → name_of k us ≡ None) → Spelt (words.word k ∷ ws) ts rest → NotAssigning ts
+other-first k other h = let f = first h in subst NameNotAssigning (sym (ap name_at f.2 ∙ ap (λ q. name_of q f.1) f.3 ∙ other f.1)) tt
 
-name-first : {ws : List Word} {ts rest : List Token} (n : List ℕ) → Spelt (words.name n ∷ ws) ts rest → ((us : List Token) → Spelt ws us rest → after marks.Assign us ≡ None) → Plain ts
-name-first n h k = let f = behind-name n h in subst PlainName (sym f.1) (k f.0 f.2)
+name-first : {ws : List Word} {ts rest : List Token} (n : List ℕ) → Spelt (words.name n ∷ ws) ts rest → ((us : List Token) → Spelt ws us rest → after marks.Assign us ≡ None) → NotAssigning ts
+name-first n h k = let f = behind-name n h in subst NameNotAssigning (sym f.1) (k f.0 f.2)
 
-begins-by : (e : Expr) (ws : List Word) → print_expr e ≡ ws → ((ts rest : List Token) → Spelt ws ts rest → after marks.Assign rest ≡ None → Plain ts) → BeginsPlain e
+begins-by : (e : Expr) (ws : List Word) → print_expr e ≡ ws → ((ts rest : List Token) → Spelt ws ts rest → after marks.Assign rest ≡ None → NotAssigning ts) → BeginsNotAssigning e
 begins-by e ws p k ts rest h d = k ts rest (subst (λ vs. Spelt vs ts rest) p h) d
 
 no-assign : (m : Mark) → ((us : List Token) → after_kind marks.Assign (kinds.Mark m) us ≡ None) → {ws : List Word} {ts rest : List Token} → Spelt (words.mark m ∷ ws) ts rest → after marks.Assign ts ≡ None
@@ -132,8 +132,8 @@ no-name : (o : UnaryOperator) (us : List Token) → name_of (kinds.Mark (unary_m
 no-name unary.Negate us = refl
 no-name _ us = refl
 
-begins : (e : Expr) → BeginsPlain e
-begins = shape.each BeginsPlain (λ x. Unit {0})
+begins : (e : Expr) → BeginsNotAssigning e
+begins = shape.each BeginsNotAssigning (λ x. Unit {0})
     (λ d. begins-by (ex.Integer d) _ (shape.print-Integer d) (λ ts rest h p. other-first (kinds.Integer d) (λ us. refl) h))
     (λ d. begins-by (ex.Text d) _ (shape.print-Text d) (λ ts rest h p. other-first (kinds.Text d) (λ us. refl) h))
     (λ n. begins-by (ex.Name n) _ (shape.print-Name n) (λ ts rest h p. name-first n h (λ us g. ap (after marks.Assign) (ends g) ∙ p)))
@@ -153,15 +153,15 @@ begins = shape.each BeginsPlain (λ x. Unit {0})
     (λ o a b ih jh. begins-by (ex.Binary o a b) _ (shape.print-Binary o a b) (λ ts rest h p. let w = split (print_expr a) _ h in ih ts w.0 w.1 (no-assign (binary_mark o) (no-operator o) w.2)))
     (λ n a ih. tt)
 
-not-assigned : (ts : List Token) → Plain ts → assigned_at ts ≡ None
+not-assigned : (ts : List Token) → NotAssigning ts → assigned_at ts ≡ None
 not-assigned ts p = at (name_at ts) p
   where
-    at : (o : Option (List ℕ × List Token)) → PlainName o → ◌≡◌ {A = Option (List ℕ × List Token)} (o >>= λ n. after marks.Assign n.1 >>= λ us. Some (n.0, us)) None
+    at : (o : Option (List ℕ × List Token)) → NameNotAssigning o → ◌≡◌ {A = Option (List ℕ × List Token)} (o >>= λ n. after marks.Assign n.1 >>= λ us. Some (n.0, us)) None
     at None p = refl
     at (Some n) p = ap (λ q. ◌>>=◌ {B = List ℕ × List Token} q (λ us. Some (n.0, us))) p
 
 -- a communication that is a simple statement
-by-simple : (k : SimpleKind) (c : Communication) (ts rest : List Token) → Plain ts → comm_of k ≡ Some c → (simple_form k).good ≡ true → Spelt (print_simple_kind k) ts rest → Stops rest → comm_at ts ≡ Some (c, rest)
+by-simple : (k : SimpleKind) (c : Communication) (ts rest : List Token) → NotAssigning ts → comm_of k ≡ Some c → (simple_form k).good ≡ true → Spelt (print_simple_kind k) ts rest → Stops rest → comm_at ts ≡ Some (c, rest)
 unfolding comm_at simple_at
 by-simple k c [] rest p is g h st = let u = unlined-kind k in absurd (subst (λ ws. Spelt ws [] rest) u.are h).are
 by-simple k c (t ∷ ts) rest p is g h st =

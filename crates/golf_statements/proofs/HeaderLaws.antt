@@ -24,7 +24,7 @@ use Rattle.golf_expressions.proofs.Plans.{bind_some}
 use Rattle.golf_expressions.proofs.Fronts.{some-same, and-true, Spelt, nothing, mark-then, keyword-then, name-then, join}
 use Rattle.golf_expressions.proofs.ExprSound.{expr-sound}
 use Rattle.golf_expressions.proofs.SimpleLines.{Unlined, unlined, on-line-back, on-line-some, IsSimpleAt, simple-sound}
-use Rattle.golf_statements.specs.HeaderReading.{expression_of, Test, test_by, test_at, names_behind, names_by, names_at, post_by, post_at, steps_by, steps_at, empty_by, first_by, plain_by, plain_at, header_by, header_at}
+use Rattle.golf_statements.specs.HeaderReading.{expression_of, Test, test_by, test_at, names_behind, names_by, names_at, post_by, post_at, steps_by, steps_at, empty_by, first_by, without_range_by, without_range_at, header_by, header_at}
 
 not-ampersand : (g a : Bool) → g ≡ true → a ≡ false → (g && not a) ≡ true
 not-ampersand g a p q = ap (λ x. x && not a) p ∙ ap not q
@@ -140,9 +140,9 @@ module _ (ts : List Token) (first : Option Simple) (firsts : List Token) (in_fro
       at None p f = post-sound None firsts x nothing refl f
       at (Some v) p f = let k = expr-sound true firsts v p in post-sound (Some v.0) v.1 x k.words (expr-good v.0 k.good k.clear) f
 
-plain-sound : (ts : List Token) (x : Header × List Token) → plain_at ts ≡ Some x → IsHeader ts x
-unfolding plain_at
-plain-sound ts x e = at (simple_at true ts) refl e
+without_range-sound : (ts : List Token) (x : Header × List Token) → without_range_at ts ≡ Some x → IsHeader ts x
+unfolding without_range_at
+without_range-sound ts x e = at (simple_at true ts) refl e
   where
     empty : (o : Option (List Token)) → after marks.Semicolon ts ≡ o → empty_by ts o ≡ Some x → IsHeader ts x
     empty None q f = subst (IsHeader ts) (some-same (headers.Forever, ts) x f) (record { words = nothing; good = refl })
@@ -155,7 +155,7 @@ plain-sound ts x e = at (simple_at true ts) refl e
         let r = alone ts us y b.0 k b.1 in
         subst (IsHeader ts) (some-same (headers.While b.0, us) x b.2) (record { words = r.0; good = r.1 })
 
-    at : (o : Option (Simple × List Token)) → simple_at true ts ≡ o → plain_by ts o ≡ Some x → IsHeader ts x
+    at : (o : Option (Simple × List Token)) → simple_at true ts ≡ o → without_range_by ts o ≡ Some x → IsHeader ts x
     at None p f = empty (after marks.Semicolon ts) refl f
     at (Some y) p f = begun y.0 y.1 (simple-sound true ts y p) (after marks.Semicolon y.1) refl f
 
@@ -164,7 +164,7 @@ unfolding header_at
 header-sound ts x e = at (names_at ts) refl e
   where
     at : (o : Option (RangeNames × List Token)) → names_at ts ≡ o → header_by ts o ≡ Some x → IsHeader ts x
-    at None p f = plain-sound ts x f
+    at None p f = without_range-sound ts x f
     at (Some n) p f =
         let b = bind_some (expr_at (Level true 1) n.1) (λ e. Some (headers.Range n.0 e.0, e.1)) x f in
         let v = expr-sound true n.1 b.0 b.1 in

@@ -29,9 +29,9 @@ use Rattle.golf_expressions.proofs.Fronts.{both, Spelt, split, first, ends, behi
 use Rattle.golf_expressions.proofs.ExprShapes as shape
 use Rattle.golf_expressions.proofs.ExprFronts.{then}
 use Rattle.golf_expressions.proofs.ExprComplete.{expr-complete}
-use Rattle.golf_expressions.proofs.SimpleLaws.{PlainName, Plain, begins}
+use Rattle.golf_expressions.proofs.SimpleLaws.{NameNotDefining, NotDefining, begins}
 use Rattle.golf_expressions.proofs.SimpleLines.{unlined, unlined-kind, on-line-then, on-line-back, on-line-some, simple-complete}
-use Rattle.golf_statements.specs.HeaderReading.{Test, test_by, test_at, names_behind, names_by, names_at, post_by, post_at, steps_by, steps_at, empty_by, first_by, plain_by, plain_at, header_by, header_at}
+use Rattle.golf_statements.specs.HeaderReading.{Test, test_by, test_at, names_behind, names_by, names_at, post_by, post_at, steps_by, steps_at, empty_by, first_by, without_range_by, without_range_at, header_by, header_at}
 use Rattle.golf_statements.proofs.Nothing.{semicolon, open_brace, Stops, stops, no-expr, no-simple}
 
 -- another kind of word in front than the word `range`
@@ -66,17 +66,17 @@ no-range = shape.each NoRange (λ x. Unit {0})
     (λ n a ih. tt)
 
 -- no names of a `range` where no name is in front of `:=` or a comma
-plain-names : (ts : List Token) → after_keyword keywords.Range ts ≡ None → Plain ts → names_at ts ≡ None
+no-range-names : (ts : List Token) → after_keyword keywords.Range ts ≡ None → NotDefining ts → names_at ts ≡ None
 unfolding names_at
-plain-names ts r p = ap (names_by ts) r ∙ at (name_at ts) p
+no-range-names ts r p = ap (names_by ts) r ∙ at (name_at ts) p
   where
-    at : (o : Option (List ℕ × List Token)) → PlainName o → (o >>= λ n. names_behind n.0 (after marks.Define n.1) (after marks.Comma n.1)) ≡ None
+    at : (o : Option (List ℕ × List Token)) → NameNotDefining o → (o >>= λ n. names_behind n.0 (after marks.Define n.1) (after marks.Comma n.1)) ≡ None
     at None p = refl
     at (Some n) p = ap (λ q. names_behind n.0 q (after marks.Comma n.1)) p.0 ∙ ap (λ q. names_behind n.0 None q) p.1
 
 -- an expression in front of what is neither of the two
 expr-names : (e : Expr) (ts mid : List Token) → Spelt (print_expr e) ts mid → after marks.Define mid ≡ None → after marks.Comma mid ≡ None → names_at ts ≡ None
-expr-names e ts mid h d c = plain-names ts (no-range e ts mid h) (begins e ts mid h d c)
+expr-names e ts mid h d c = no-range-names ts (no-range e ts mid h) (begins e ts mid h d c)
 
 mark-names : (e : Expr) (m : Mark) (ws : List Word) (ts rest : List Token) → ((us : List Token) → (after_kind marks.Define (kinds.Mark m) us ≡ None) × (after_kind marks.Comma (kinds.Mark m) us ≡ None)) → Spelt (print_expr e ++ words.mark m ∷ ws) ts rest → names_at ts ≡ None
 mark-names e m ws ts rest k h =
@@ -233,13 +233,13 @@ module _ (rest last : List Token) (ws : List Word) (brace : Spelt (words.mark ma
       )
 
   pub header-complete : (h : Header) (ts : List Token) → header_good h ≡ true → Spelt (print_header h) ts rest → header_at ts ≡ Some (h, rest)
-  unfolding header_at plain_at
+  unfolding header_at without_range_at
   header-complete headers.Forever ts g h =
-      ap header_at (ends h) ∙ ap (header_by rest) (no-names marks.OpenBrace brace) ∙ ap (plain_by rest) (no-simple true marks.OpenBrace open_brace brace)
+      ap header_at (ends h) ∙ ap (header_by rest) (no-names marks.OpenBrace brace) ∙ ap (without_range_by rest) (no-simple true marks.OpenBrace open_brace brace)
       ∙ ap (empty_by rest) (not-after marks.Semicolon (kinds.Mark marks.OpenBrace) (λ us. refl) brace)
   header-complete (headers.While e) ts g h =
       let a = alone-read e ts rest g h stopped in
-      ap (header_by ts) (expr-names e ts rest h stopped.ends.define stopped.ends.comma) ∙ ap (plain_by ts) a.1
+      ap (header_by ts) (expr-names e ts rest h stopped.ends.define stopped.ends.comma) ∙ ap (without_range_by ts) a.1
       ∙ ap (first_by (record { line = a.0; kind = s.Expression e }) rest) (not-after marks.Semicolon (kinds.Mark marks.OpenBrace) (λ us. refl) brace)
   header-complete (headers.Range n e) ts g h =
       let r = range-read n e ts h in
@@ -247,7 +247,7 @@ module _ (rest last : List Token) (ws : List Word) (brace : Spelt (words.mark ma
   header-complete (headers.Steps None test post) ts g h =
       let c = behind-mark marks.Semicolon h in
       let b = both (all_of header_expr test) (all_of post_simple post) g in
-      ap (header_by ts) (no-names marks.Semicolon h) ∙ ap (plain_by ts) (no-simple true marks.Semicolon semicolon h) ∙ ap (empty_by ts) c.1
+      ap (header_by ts) (no-names marks.Semicolon h) ∙ ap (without_range_by ts) (no-simple true marks.Semicolon semicolon h) ∙ ap (empty_by ts) c.1
       ∙ steps-read None test post c.0 b.0 b.1 c.2
   header-complete (headers.Steps (Some x) test post) ts g h =
       let w = split (print_simple x) (words.mark marks.Semicolon ∷ (optional print_expr test ++ words.mark marks.Semicolon ∷ optional print_simple post)) h in
@@ -255,5 +255,5 @@ module _ (rest last : List Token) (ws : List Word) (brace : Spelt (words.mark ma
       let a = both (header_simple x) (all_of header_expr test && all_of post_simple post) g in
       let b = both (all_of header_expr test) (all_of post_simple post) a.1 in
       let st = stops marks.Semicolon semicolon w.2 in
-      ap (header_by ts) (kind-names x.kind ts w.0 (kind-words x ts w.0 w.1) st) ∙ ap (plain_by ts) (simple-read x ts w.0 a.0 w.1 st) ∙ ap (first_by x w.0) c.1
+      ap (header_by ts) (kind-names x.kind ts w.0 (kind-words x ts w.0 w.1) st) ∙ ap (without_range_by ts) (simple-read x ts w.0 a.0 w.1 st) ∙ ap (first_by x w.0) c.1
       ∙ steps-read (Some x) test post c.0 b.0 b.1 c.2

@@ -25,15 +25,15 @@ use Rattle.golf_expressions.proofs.Plans.{Leaves}
 use Rattle.golf_statements.specs.CommReading.{comm_at}
 use Rattle.golf_statements.specs.HeaderReading.{Test, test_at, header_at}
 use Rattle.golf_statements.specs.StmtReading.{OfStmt, Body, Clauses, CaseBody, found, just, body, block, block_at, call_in, call_of, else_plan, if_plan, for_plan, kind_plan, body_behind, case_behind, begins_clause, clause_body, clause_plan, clauses_from, stmt_at}
-use Rattle.golf_statements.specs.declared.frames.Owner.{Owner}
-use Rattle.golf_statements.specs.declared.frames.Owner.TheVariants as owners
-use Rattle.golf_statements.specs.declared.frames.Select.{Select}
-use Rattle.golf_statements.specs.declared.frames.Head.{Head}
-use Rattle.golf_statements.specs.declared.frames.Frame.{Frame}
-use Rattle.golf_statements.specs.declared.frames.Frame.TheVariants as frames
-use Rattle.golf_statements.specs.declared.frames.Move.{Move}
-use Rattle.golf_statements.specs.declared.frames.Move.TheVariants as moves
-use Rattle.golf_statements.specs.Frames.{Found, moved, weight, move_at, owned, closed_at, body_at, grown, selected, clause_at, case_at, headed_by, headed_at, colon_at, selected_by, frame_at, waited, statements_in, statements_of}
+use Rattle.golf_statements.specs.declared.pending.Owner.{Owner}
+use Rattle.golf_statements.specs.declared.pending.Owner.TheVariants as owners
+use Rattle.golf_statements.specs.declared.pending.Select.{Select}
+use Rattle.golf_statements.specs.declared.pending.Head.{Head}
+use Rattle.golf_statements.specs.declared.pending.Pending.{Pending}
+use Rattle.golf_statements.specs.declared.pending.Pending.TheVariants as pendings
+use Rattle.golf_statements.specs.declared.pending.Move.{Move}
+use Rattle.golf_statements.specs.declared.pending.Move.TheVariants as moves
+use Rattle.golf_statements.specs.Moves.{Found, moved, weight, move_at, owned, closed_at, body_at, grown, selected, clause_at, case_at, headed_by, headed_at, colon_at, selected_by, pending_at, waited, statements_in, statements_of}
 use Rattle.golf_statements.proofs.StmtSteps.{stmt-is, stmt-leaves}
 
 bind-assoc : {A B C : Type 0} (o : Option A) (f : A → Option B) (g : B → Option C) → ((o >>= f) >>= g) ≡ (o >>= λ x. f x >>= g)
@@ -45,31 +45,31 @@ bind-same None f g k = refl
 bind-same (Some x) f g k = k x
 
 -- the last of those that wait goes on first
-pub waited-last : (fs : List Frame) (f : Frame) (o : Found) → waited (fs ++ f ∷ []) o ≡ waited fs (o >>= frame_at f)
+pub waited-last : (fs : List Pending) (f : Pending) (o : Found) → waited (fs ++ f ∷ []) o ≡ waited fs (o >>= pending_at f)
 waited-last [] f o = refl
-waited-last (g ∷ fs) f o = ap (λ q. q >>= frame_at g) (waited-last fs f o)
+waited-last (g ∷ fs) f o = ap (λ q. q >>= pending_at g) (waited-last fs f o)
 
 -- one move more
-pub went-found : (fs gs : List Frame) (f : Frame) (n : Move) (s : Stmt) (ts : List Token) (o r : Found) → waited fs (move_at n ts) ≡ r → n ≡ moves.Found s → fs ≡ gs ++ f ∷ [] → o ≡ frame_at f (s, ts) → waited gs o ≡ r
+pub went-found : (fs gs : List Pending) (f : Pending) (n : Move) (s : Stmt) (ts : List Token) (o r : Found) → waited fs (move_at n ts) ≡ r → n ≡ moves.Found s → fs ≡ gs ++ f ∷ [] → o ≡ pending_at f (s, ts) → waited gs o ≡ r
 went-found fs gs f n s ts o r i p q e =
-    ap (waited gs) e ∙ sym (waited-last gs f (Some (s, ts))) ∙ ap (λ (hs : List Frame). waited hs (Some (s, ts))) (sym q) ∙ ap (λ (m : Move). waited fs (move_at m ts)) (sym p) ∙ i
+    ap (waited gs) e ∙ sym (waited-last gs f (Some (s, ts))) ∙ ap (λ (hs : List Pending). waited hs (Some (s, ts))) (sym q) ∙ ap (λ (m : Move). waited fs (move_at m ts)) (sym p) ∙ i
 
-pub went-done : (fs : List Frame) (n : Move) (s : Stmt) (ts : List Token) (r : Found) → waited fs (move_at n ts) ≡ r → n ≡ moves.Found s → fs ≡ [] → Some (s, ts) ≡ r
-went-done fs n s ts r i p q = ap (λ (hs : List Frame). waited hs (Some (s, ts))) (sym q) ∙ ap (λ (m : Move). waited fs (move_at m ts)) (sym p) ∙ i
+pub went-done : (fs : List Pending) (n : Move) (s : Stmt) (ts : List Token) (r : Found) → waited fs (move_at n ts) ≡ r → n ≡ moves.Found s → fs ≡ [] → Some (s, ts) ≡ r
+went-done fs n s ts r i p q = ap (λ (hs : List Pending). waited hs (Some (s, ts))) (sym q) ∙ ap (λ (m : Move). waited fs (move_at m ts)) (sym p) ∙ i
 
-pub went-wait : (fs gs : List Frame) (f : Frame) (n : Move) (ts : List Token) (o r : Found) → waited fs (move_at n ts) ≡ r → n ≡ moves.Wait f → gs ≡ fs ++ f ∷ [] → o ≡ stmt_at OfStmt ts → waited gs o ≡ r
+pub went-wait : (fs gs : List Pending) (f : Pending) (n : Move) (ts : List Token) (o r : Found) → waited fs (move_at n ts) ≡ r → n ≡ moves.Wait f → gs ≡ fs ++ f ∷ [] → o ≡ stmt_at OfStmt ts → waited gs o ≡ r
 went-wait fs gs f n ts o r i p q e =
-    ap (waited gs) e ∙ ap (λ (hs : List Frame). waited hs (stmt_at OfStmt ts)) q ∙ waited-last fs f (stmt_at OfStmt ts) ∙ ap (λ (m : Move). waited fs (move_at m ts)) (sym p) ∙ i
+    ap (waited gs) e ∙ ap (λ (hs : List Pending). waited hs (stmt_at OfStmt ts)) q ∙ waited-last fs f (stmt_at OfStmt ts) ∙ ap (λ (m : Move). waited fs (move_at m ts)) (sym p) ∙ i
 
-pub went-on : (fs : List Frame) (n m : Move) (ts : List Token) (o r : Found) → waited fs (move_at n ts) ≡ r → n ≡ m → o ≡ move_at m ts → waited fs o ≡ r
+pub went-on : (fs : List Pending) (n m : Move) (ts : List Token) (o r : Found) → waited fs (move_at n ts) ≡ r → n ≡ m → o ≡ move_at m ts → waited fs o ≡ r
 went-on fs n m ts o r i p e = ap (waited fs) e ∙ ap (λ (k : Move). waited fs (move_at k ts)) (sym p) ∙ i
 
-pub waited-none : (fs : List Frame) → waited fs None ≡ None
+pub waited-none : (fs : List Pending) → waited fs None ≡ None
 waited-none [] = refl
-waited-none (g ∷ fs) = ap (λ q. q >>= frame_at g) (waited-none fs)
+waited-none (g ∷ fs) = ap (λ q. q >>= pending_at g) (waited-none fs)
 
 -- the rest of statements in braces
-pub body-goes : (o : Owner) (done : List Stmt) (ts : List Token) → (stmt_at (Body done) ts >>= closed_at o) ≡ (stmt_at OfStmt ts >>= frame_at (frames.Body o done))
+pub body-goes : (o : Owner) (done : List Stmt) (ts : List Token) → (stmt_at (Body done) ts >>= closed_at o) ≡ (stmt_at OfStmt ts >>= pending_at (pendings.Body o done))
 body-goes o done ts =
     ap (λ q. q >>= closed_at o) (stmt-is (Body done) ts)
     ∙ bind-assoc (stmt_at OfStmt ts) (λ s. run stmt_at (body_behind (done ++ s.0 ∷ []) s.1 (after marks.Semicolon s.1))) (closed_at o)
@@ -87,40 +87,40 @@ abbrev pub Next : Type 0
 Next = Option (Move × Bor (List Token))
 
 -- the same with what a move left under other names
-pub went-so : (fs gs : List Frame) (o q : Next) (r : Found) → gs ≡ fs → q ≡ o → waited fs (moved o) ≡ r → waited gs (moved q) ≡ r
-went-so fs gs o q r a b e = ap (λ (hs : List Frame). waited hs (moved q)) a ∙ ap (λ (x : Next). waited fs (moved x)) b ∙ e
+pub went-so : (fs gs : List Pending) (o q : Next) (r : Found) → gs ≡ fs → q ≡ o → waited fs (moved o) ≡ r → waited gs (moved q) ≡ r
+went-so fs gs o q r a b e = ap (λ (hs : List Pending). waited hs (moved q)) a ∙ ap (λ (x : Next). waited fs (moved x)) b ∙ e
 
 -- nothing is found where a move finds nothing
-pub went-nowhere : (fs : List Frame) (q : Next) (r : Found) → q ≡ None → waited fs (moved q) ≡ r → None ≡ r
+pub went-nowhere : (fs : List Pending) (q : Next) (r : Found) → q ≡ None → waited fs (moved q) ≡ r → None ≡ r
 went-nowhere fs q r n e = sym (waited-none fs) ∙ ap (λ (x : Next). waited fs (moved x)) (sym n) ∙ e
 
-pub went-further : (fs : List Frame) (q : Next) (m : Move) (b : Bor (List Token)) (r : Found) → q ≡ Some (m, b) → waited fs (moved q) ≡ r → waited fs (move_at m b.now) ≡ r
+pub went-further : (fs : List Pending) (q : Next) (m : Move) (b : Bor (List Token)) (r : Found) → q ≡ Some (m, b) → waited fs (moved q) ≡ r → waited fs (move_at m b.now) ≡ r
 went-further fs q m b r p e = ap (λ (x : Next). waited fs (moved x)) (sym p) ∙ e
 
 -- the measure falls
 pub less-than : (o q : Next) (m : Move) (b : Bor (List Token)) (bound : ℕ) → q ≡ Some (m, b) → q ≡ o → IfSome o (λ x. weight x.0 + 8 * length x.1.now < bound) → weight m + 8 * length b.now < bound
 less-than o q m b bound p e h = let P : Next → Type 0 = λ y. IfSome y (λ x. weight x.0 + 8 * length x.1.now < bound) in subst P (sym e ∙ p) h
 
-pub smaller-found : (fs gs ws : List Frame) (f : Frame) (n m : Move) (s : Stmt) (ts : List Token) (b : Bor (List Token)) → n ≡ moves.Found s → fs ≡ gs ++ f ∷ [] → ws ≡ gs → weight m + 8 * length b.now < 8 * length ts + 3 → weight m + 8 * length b.now + 3 * length ws < weight n + 8 * length ts + 3 * length fs
+pub smaller-found : (fs gs ws : List Pending) (f : Pending) (n m : Move) (s : Stmt) (ts : List Token) (b : Bor (List Token)) → n ≡ moves.Found s → fs ≡ gs ++ f ∷ [] → ws ≡ gs → weight m + 8 * length b.now < 8 * length ts + 3 → weight m + 8 * length b.now + 3 * length ws < weight n + 8 * length ts + 3 * length fs
 smaller-found fs gs ws f n m s ts b p q a l =
     let z : weight n ≡ 0 = ap weight p in
     let x : length fs ≡ length gs + 1 = ap length q ∙ length-append gs (f ∷ []) in
     let y : length ws ≡ length gs = ap length a in
     omega arith
 
-pub smaller-wait : (fs ws : List Frame) (f : Frame) (n m : Move) (ts : List Token) (b : Bor (List Token)) → n ≡ moves.Wait f → ws ≡ fs ++ f ∷ [] → weight m + 8 * length b.now < 8 * length ts → weight m + 8 * length b.now + 3 * length ws < weight n + 8 * length ts + 3 * length fs
+pub smaller-wait : (fs ws : List Pending) (f : Pending) (n m : Move) (ts : List Token) (b : Bor (List Token)) → n ≡ moves.Wait f → ws ≡ fs ++ f ∷ [] → weight m + 8 * length b.now < 8 * length ts → weight m + 8 * length b.now + 3 * length ws < weight n + 8 * length ts + 3 * length fs
 smaller-wait fs ws f n m ts b p q l =
     let z : weight n ≡ 4 = ap weight p in
     let x : length ws ≡ length fs + 1 = ap length q ∙ length-append fs (f ∷ []) in
     omega arith
 
-pub smaller-on : (fs ws : List Frame) (n m : Move) (ts : List Token) (b : Bor (List Token)) → weight n ≡ 1 → ws ≡ fs → weight m + 8 * length b.now < 8 * length ts → weight m + 8 * length b.now + 3 * length ws < weight n + 8 * length ts + 3 * length fs
+pub smaller-on : (fs ws : List Pending) (n m : Move) (ts : List Token) (b : Bor (List Token)) → weight n ≡ 1 → ws ≡ fs → weight m + 8 * length b.now < 8 * length ts → weight m + 8 * length b.now + 3 * length ws < weight n + 8 * length ts + 3 * length fs
 smaller-on fs ws n m ts b z a l = let y : length ws ≡ length fs = ap length a in omega arith
 
-pub body-next : (o : Owner) (done : List Stmt) (ts us : List Token) → Some us ≡ after marks.Semicolon ts → (stmt_at OfStmt us >>= frame_at (frames.Body o done)) ≡ body_at o done ts (after marks.Semicolon ts)
+pub body-next : (o : Owner) (done : List Stmt) (ts us : List Token) → Some us ≡ after marks.Semicolon ts → (stmt_at OfStmt us >>= pending_at (pendings.Body o done)) ≡ body_at o done ts (after marks.Semicolon ts)
 body-next o done ts us e = sym (body-goes o done us) ∙ ap (body_at o done ts) e
 
-pub body-begins : (o : Owner) (ts : List Token) → run stmt_at (body ts None (owned o)) ≡ (stmt_at OfStmt ts >>= frame_at (frames.Body o []))
+pub body-begins : (o : Owner) (ts : List Token) → run stmt_at (body ts None (owned o)) ≡ (stmt_at OfStmt ts >>= pending_at (pendings.Body o []))
 unfolding closed_at
 body-begins o ts = body-goes o [] ts
 
@@ -136,7 +136,7 @@ clause-then s h done ts g p e = ap (λ (x : Select). selected x ts) p ∙ sym (c
 abbrev more : Select → Head → List Stmt × List Token → Found
 more s h b = selected (grown s h b.0) b.1
 
-pub clause-goes : (s : Select) (h : Head) (done : List Stmt) (ts : List Token) → begins_clause ts ≡ false → clause_at s h done ts ≡ (stmt_at OfStmt ts >>= frame_at (frames.Clause s h done))
+pub clause-goes : (s : Select) (h : Head) (done : List Stmt) (ts : List Token) → begins_clause ts ≡ false → clause_at s h done ts ≡ (stmt_at OfStmt ts >>= pending_at (pendings.Clause s h done))
 unfolding clause_at
 clause-goes s h done ts e =
     ap (λ q. q >>= more s h) (stmt-is (CaseBody done) ts ∙ ap (λ b. run stmt_at (cond b (just done ts) (Ask OfStmt ts (λ s. case_behind (done ++ s.0 ∷ []) s.1 (after marks.Semicolon s.1))))) e)

@@ -78,16 +78,16 @@ abbrev pub first_by : Simple → List Token → Option (List Token) → Found
 first_by x ts (Some us) = steps_at (Some x) us
 first_by x ts None = expression_of x.kind >>= λ e. Some (headers.While e, ts)
 
-abbrev pub plain_by : List Token → Option (Simple × List Token) → Found
-plain_by ts None = empty_by ts (after marks.Semicolon ts)
-plain_by ts (Some x) = first_by x.0 x.1 (after marks.Semicolon x.1)
+abbrev pub without_range_by : List Token → Option (Simple × List Token) → Found
+without_range_by ts None = empty_by ts (after marks.Semicolon ts)
+without_range_by ts (Some x) = first_by x.0 x.1 (after marks.Semicolon x.1)
 
 -- a header without `range`
-unfoldable pub plain_at : List Token → Found
-plain_at ts = plain_by ts (simple_at true ts)
+unfoldable pub without_range_at : List Token → Found
+without_range_at ts = without_range_by ts (simple_at true ts)
 
 abbrev pub header_by : List Token → Option (RangeNames × List Token) → Found
-header_by ts None = plain_at ts
+header_by ts None = without_range_at ts
 header_by ts (Some n) = expr_at (Level true 1) n.1 >>= λ e. Some (headers.Range n.0 e.0, e.1)
 
 -- the header of a `for`

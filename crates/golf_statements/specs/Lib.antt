@@ -2,5 +2,5 @@ pub mod VarReading
 pub mod HeaderReading
 pub mod CommReading
 pub mod StmtReading
-pub mod Frames
+pub mod Moves
 pub mod Laws

@@ -1,21 +1,22 @@
 //! The clauses of `select`.
 
 ghost use Rattle.std.specs.Prelude.{◌≡◌, ◌+◌, ◌*◌, ◌<◌, ◌≤◌, length, IfOk, IfSome, Some};
-ghost use Rattle.golf_expressions.specs.Front.{after as after_of};
-ghost use Rattle.golf_statements.specs.StmtReading.{begins_clause as begins_clause_of};
-ghost use Rattle.golf_statements.specs.Frames.{grown as grown_of, selected, clause_at, case_at, headed_at, colon_at, selected_by, moved as moved_of, weight};
+ghost use Rattle.golf_expressions.specs.Front as front_spec;
+ghost use Rattle.golf_statements.specs.StmtReading as stmt_spec;
+ghost use Rattle.golf_statements.specs.Moves as moves_spec;
+ghost use Rattle.golf_statements.specs.Moves.{selected, clause_at, case_at, headed_at, colon_at, selected_by, weight};
 
 use crate::communications::comm_at;
-use crate::frames::{Frame, Head, Move, Select};
-use golf_base::{Boxed, List, Memory};
+use crate::pending::{Head, Move, Pending, Select};
+use golf_base::Memory;
 use golf_expressions::after;
-use golf_grammar::{Clause, Stmt};
+use golf_grammar::{Clause, OwnedClauses, OwnedStmt, OwnedStmts, Stmt};
 use golf_tokens::{Keyword, Mark, Token, TokenKind};
 use std::alloc::Global;
 
 // Whether a clause begins here.
 fn begins_clause(tokens: &[Token]) -> bool
-    ensures { result ≡ begins_clause_of tokens.now }
+    ensures { result ≡ stmt_spec.begins_clause tokens.now }
 {
     match tokens.split_first() {
         None => false,
@@ -29,8 +30,8 @@ fn begins_clause(tokens: &[Token]) -> bool
 }
 
 // The `select` with one clause more.
-fn grown(select: Select, head: Head, body: List<Stmt>) -> Result<Select, Memory>
-    ensures { IfOk result (λ s. s ≡ grown_of select head body) }
+fn grown(select: Select, head: Head, body: OwnedStmts) -> Result<Select, Memory>
+    ensures { IfOk result (λ s. s ≡ moves_spec.grown select head body) }
 {
     let Select {
         line,
@@ -43,7 +44,7 @@ fn grown(select: Select, head: Head, body: List<Stmt>) -> Result<Select, Memory>
     } = head;
     match communication {
         Some(communication) => {
-            clauses.push(Clause::Case(on, communication.into_inner(), body))?;
+            clauses.push(Clause::Case(on, communication, body.into_inner()))?;
             Ok(Select {
                 line,
                 has_default,
@@ -51,7 +52,7 @@ fn grown(select: Select, head: Head, body: List<Stmt>) -> Result<Select, Memory>
             })
         }
         None => {
-            clauses.push(Clause::Default(on, body))?;
+            clauses.push(Clause::Default(on, body.into_inner()))?;
             Ok(Select {
                 line,
                 has_default: true,
@@ -62,36 +63,36 @@ fn grown(select: Select, head: Head, body: List<Stmt>) -> Result<Select, Memory>
 }
 
 // The statement that a `select` with these clauses is.
-fn whole(select: Select) -> Stmt
+fn whole(select: Select) -> OwnedStmt
     ensures { result ≡ Stmt.Select select.line select.clauses }
 {
-    Stmt::Select(select.line, select.clauses)
+    OwnedStmt::new(Stmt::Select(select.line, select.clauses.into_inner()))
 }
 
 // The statements of a clause from here on: another clause begins, or a statement.
 fn clause_move(
     select: Select,
     head: Head,
-    done: List<Stmt>,
+    done: OwnedStmts,
     tokens: &[Token],
 ) -> Result<(Move, &[Token]), Memory>
-    ensures value { IfOk result (λ x. moved_of (Some x) ≡ clause_at select head done tokens.now) }
+    ensures value { IfOk result (λ x. moves_spec.moved (Some x) ≡ clause_at select head done tokens.now) }
     ensures less { IfOk result (λ x. weight x.0 + 8 * length x.1.now ≤ 8 * length tokens.now + 4) }
 {
     if begins_clause(tokens) {
         return Ok((Move::Clauses(grown(select, head, done)?), tokens));
     }
-    Ok((Move::Wait(Frame::Clause(select, head, done)), tokens))
+    Ok((Move::Wait(Pending::Clause(select, head, done)), tokens))
 }
 
 /// Behind a statement of a clause: a semicolon and more, or the brace that closes the `select`, which stays.
 pub fn case_move(
     select: Select,
     head: Head,
-    done: List<Stmt>,
+    done: OwnedStmts,
     tokens: &[Token],
 ) -> Result<Option<(Move, &[Token])>, Memory>
-    ensures value { IfOk result (λ o. moved_of o ≡ case_at select head done tokens.now (after_of Mark.Semicolon tokens.now)) }
+    ensures value { IfOk result (λ o. moves_spec.moved o ≡ case_at select head done tokens.now (front_spec.after Mark.Semicolon tokens.now)) }
     ensures less { IfOk result (λ o. IfSome o (λ x. weight x.0 + 8 * length x.1.now < 8 * length tokens.now + 3)) }
 {
     if let Some(next) = after(tokens, Mark::Semicolon) {
@@ -104,20 +105,20 @@ pub fn case_move(
 }
 
 // Behind the colon of a clause.
-#[tactic(auto, unfolding(crate::specs::Frames::headed_at))]
+#[tactic(auto, unfolding(crate::specs::Moves::headed_at))]
 fn headed_move(
     alloc: Global,
     select: Select,
     head: Head,
     tokens: &[Token],
 ) -> Result<(Move, &[Token]), Memory>
-    ensures value { IfOk result (λ x. moved_of (Some x) ≡ headed_at select head tokens.now) }
+    ensures value { IfOk result (λ x. moves_spec.moved (Some x) ≡ headed_at select head tokens.now) }
     ensures less { IfOk result (λ x. weight x.0 + 8 * length x.1.now ≤ 8 * length tokens.now + 4) }
 {
     match after(tokens, Mark::CloseBrace) {
-        None => clause_move(select, head, List::new(alloc), tokens),
+        None => clause_move(select, head, OwnedStmts::empty(alloc), tokens),
         Some(_) => Ok((
-            Move::Clauses(grown(select, head, List::new(alloc))?),
+            Move::Clauses(grown(select, head, OwnedStmts::empty(alloc))?),
             tokens,
         )),
     }
@@ -130,7 +131,7 @@ pub fn colon_move(
     head: Head,
     tokens: &[Token],
 ) -> Result<Option<(Move, &[Token])>, Memory>
-    ensures value { IfOk result (λ o. moved_of o ≡ colon_at select head tokens.now) }
+    ensures value { IfOk result (λ o. moves_spec.moved o ≡ colon_at select head tokens.now) }
     ensures less { IfOk result (λ o. IfSome o (λ x. weight x.0 + 8 * length x.1.now < 8 * length tokens.now)) }
 {
     match after(tokens, Mark::Colon) {
@@ -146,7 +147,7 @@ fn case_head(
     line: u32,
     tokens: &[Token],
 ) -> Result<Option<(Move, &[Token])>, Memory>
-    ensures value { IfOk result (λ o. moved_of o ≡ selected_by select line (TokenKind.Keyword Keyword.Case) tokens.now) }
+    ensures value { IfOk result (λ o. moves_spec.moved o ≡ selected_by select line (TokenKind.Keyword Keyword.Case) tokens.now) }
     ensures less { IfOk result (λ o. IfSome o (λ x. weight x.0 + 8 * length x.1.now ≤ 8 * length tokens.now)) }
 {
     match comm_at(alloc, tokens)? {
@@ -154,7 +155,7 @@ fn case_head(
         Some((communication, rest)) => {
             let head = Head {
                 line,
-                communication: Some(Boxed::new(alloc, communication)?),
+                communication: Some(communication),
             };
             Ok(Some((Move::Headed(select, head), rest)))
         }
@@ -163,7 +164,7 @@ fn case_head(
 
 // Behind `default`, which stands on this line.
 fn default_head(select: Select, line: u32, tokens: &[Token]) -> Option<(Move, &[Token])>
-    ensures value { moved_of result ≡ selected_by select line (TokenKind.Keyword Keyword.Default) tokens.now }
+    ensures value { moves_spec.moved result ≡ selected_by select line (TokenKind.Keyword Keyword.Default) tokens.now }
     ensures less { IfSome result (λ x. weight x.0 + 8 * length x.1.now ≤ 8 * length tokens.now + 1) }
 {
     if select.has_default {
@@ -184,7 +185,7 @@ fn keyword_clause<'a>(
     keyword: Keyword,
     behind: &'a [Token],
 ) -> Result<Option<(Move, &'a [Token])>, Memory>
-    ensures value { IfOk result (λ o. moved_of o ≡ selected_by select line (TokenKind.Keyword keyword) behind.now) }
+    ensures value { IfOk result (λ o. moves_spec.moved o ≡ selected_by select line (TokenKind.Keyword keyword) behind.now) }
     ensures less { IfOk result (λ o. IfSome o (λ x. weight x.0 + 8 * length x.1.now ≤ 8 * length behind.now + 1)) }
 {
     match keyword {
@@ -202,7 +203,7 @@ fn kind_clause<'a>(
     kind: &TokenKind,
     behind: &'a [Token],
 ) -> Result<Option<(Move, &'a [Token])>, Memory>
-    ensures value { IfOk result (λ o. moved_of o ≡ selected_by select line kind.now behind.now) }
+    ensures value { IfOk result (λ o. moves_spec.moved o ≡ selected_by select line kind.now behind.now) }
     ensures less { IfOk result (λ o. IfSome o (λ x. weight x.0 + 8 * length x.1.now ≤ 8 * length behind.now + 1)) }
 {
     match kind {
@@ -221,7 +222,7 @@ pub fn clauses_move(
     select: Select,
     tokens: &[Token],
 ) -> Result<Option<(Move, &[Token])>, Memory>
-    ensures value { IfOk result (λ o. moved_of o ≡ selected select tokens.now) }
+    ensures value { IfOk result (λ o. moves_spec.moved o ≡ selected select tokens.now) }
     ensures less { IfOk result (λ o. IfSome o (λ x. weight x.0 + 8 * length x.1.now < 8 * length tokens.now)) }
 {
     match tokens.split_first() {

@@ -2,22 +2,26 @@
 
 ghost use Rattle.std.specs.Prelude.{◌≡◌, ◌<◌, ◌≤◌, length, IfOk, IfSome, Some};
 ghost use Rattle.golf_expressions.specs.Front.{seen};
-ghost use Rattle.golf_statements.specs.CommReading.{channel_of as channel_of_of, comm_of as comm_of_of, assigned_at as assigned_at_of, assigned_seen, comm_by, comm_at as comm_at_of};
+ghost use Rattle.golf_statements.specs.CommReading as comm_spec;
+ghost use Rattle.golf_statements.specs.CommReading.{assigned_seen, comm_by};
 
 use golf_base::Memory;
-use golf_expressions::{after, copied, name_at, prefixed_at, simple_at};
-use golf_grammar::{Communication, Expr, Name, SimpleKind, UnaryOperator};
+use golf_expressions::{Place, after, copied, name_at, operand_at, simple_at};
+use golf_grammar::{
+    Communication, Expr, Name, OwnedCommunication, OwnedExpr, OwnedSimpleKind, SimpleKind,
+    UnaryOperator,
+};
 use golf_tokens::{Mark, Token};
 use std::alloc::Global;
 
 // The channel that an expression receives from.
 #[tactic(auto, using(crate::proofs::Channels::channel_steps))]
-fn channel_of(e: Expr) -> Option<Expr>
-    ensures { result ≡ channel_of_of e }
+fn channel_of(e: OwnedExpr) -> Option<OwnedExpr>
+    ensures { result ≡ comm_spec.channel_of e }
 {
-    match e {
+    match e.into_inner() {
         Expr::Unary(operator, inner) => match operator {
-            UnaryOperator::Receive => Some(inner.into_inner()),
+            UnaryOperator::Receive => Some(OwnedExpr::new(inner.into_inner())),
             UnaryOperator::Negate | UnaryOperator::Not => None,
         },
         Expr::Integer(_)
@@ -40,45 +44,45 @@ fn channel_of(e: Expr) -> Option<Expr>
 }
 
 // A receive.
-fn receive(e: Expr) -> Option<Communication>
-    ensures { result ≡ comm_of_of (SimpleKind.Expression e) }
+fn receive(e: OwnedExpr) -> Option<OwnedCommunication>
+    ensures { result ≡ comm_spec.comm_of (SimpleKind.Expression e) }
 {
     match channel_of(e) {
         None => None,
-        Some(channel) => Some(Communication::Receive(channel)),
+        Some(channel) => Some(OwnedCommunication::new(Communication::Receive(channel))),
     }
 }
 
 // A receive into a new name.
-fn define(name: Name, e: Expr) -> Option<Communication>
-    ensures { result ≡ comm_of_of (SimpleKind.Define name e) }
+fn define(name: Name, e: OwnedExpr) -> Option<OwnedCommunication>
+    ensures { result ≡ comm_spec.comm_of (SimpleKind.Define name e) }
 {
     match channel_of(e) {
         None => None,
-        Some(channel) => Some(Communication::Define(name, channel)),
+        Some(channel) => Some(OwnedCommunication::new(Communication::Define(name, channel))),
     }
 }
 
 // A send.
-fn send(channel: Expr, value: Expr) -> Option<Communication>
-    ensures { result ≡ comm_of_of (SimpleKind.Send channel value) }
+fn send(channel: OwnedExpr, value: OwnedExpr) -> Option<OwnedCommunication>
+    ensures { result ≡ comm_spec.comm_of (SimpleKind.Send channel value) }
 {
-    Some(Communication::Send(channel, value))
+    Some(OwnedCommunication::new(Communication::Send(channel, value)))
 }
 
 // A receive into two new names.
-fn define_received(name: Name, ok: Name, channel: Expr) -> Option<Communication>
-    ensures { result ≡ comm_of_of (SimpleKind.DefineReceived name ok channel) }
+fn define_received(name: Name, ok: Name, channel: OwnedExpr) -> Option<OwnedCommunication>
+    ensures { result ≡ comm_spec.comm_of (SimpleKind.DefineReceived name ok channel) }
 {
-    Some(Communication::DefineReceived(name, ok, channel))
+    Some(OwnedCommunication::new(Communication::DefineReceived(name, ok, channel)))
 }
 
 // The communication that a simple statement is that begins with names.
 #[tactic(auto, using(crate::proofs::Channels::kind_steps))]
-fn named(kind: SimpleKind) -> Option<Communication>
+fn named(kind: SimpleKind) -> Option<OwnedCommunication>
     requires no_expression { (e : _) → kind ≡ SimpleKind.Expression e → ⊥ }
     requires no_send { (c v : _) → kind ≡ SimpleKind.Send c v → ⊥ }
-    ensures { result ≡ comm_of_of kind }
+    ensures { result ≡ comm_spec.comm_of kind }
 {
     match kind {
         SimpleKind::Define(name, e) => define(name, e),
@@ -88,10 +92,10 @@ fn named(kind: SimpleKind) -> Option<Communication>
 }
 
 // The communication that a simple statement is.
-fn comm_of(kind: SimpleKind) -> Option<Communication>
-    ensures { result ≡ comm_of_of kind }
+fn comm_of(kind: OwnedSimpleKind) -> Option<OwnedCommunication>
+    ensures { result ≡ comm_spec.comm_of kind }
 {
-    match kind {
+    match kind.into_inner() {
         SimpleKind::Expression(e) => receive(e),
         SimpleKind::Send(channel, value) => send(channel, value),
         other => named(other),
@@ -100,7 +104,7 @@ fn comm_of(kind: SimpleKind) -> Option<Communication>
 
 // A name and the `=` behind it.
 fn assigned_at(tokens: &[Token]) -> Option<(&Name, &[Token])>
-    ensures value { assigned_seen result ≡ assigned_at_of tokens.now }
+    ensures value { assigned_seen result ≡ comm_spec.assigned_at tokens.now }
     ensures shorter { IfSome result (λ x. length x.1.now < length tokens.now) }
 {
     let (name, behind) = name_at(tokens)?;
@@ -113,31 +117,37 @@ fn received(
     alloc: Global,
     name: Name,
     tokens: &[Token],
-) -> Result<Option<(Communication, &[Token])>, Memory>
+) -> Result<Option<(OwnedCommunication, &[Token])>, Memory>
     ensures value { IfOk result (λ o. seen o ≡ comm_by tokens.now (Some (name, tokens.now))) }
     ensures shorter { IfOk result (λ o. IfSome o (λ x. length x.1.now ≤ length tokens.now)) }
 {
     let Some(arrow) = after(tokens, Mark::Arrow) else {
         return Ok(None)
     };
-    match prefixed_at(alloc, false, arrow)? {
+    match operand_at(alloc, arrow)? {
         None => Ok(None),
-        Some((channel, rest)) => Ok(Some((Communication::Assign(name, channel), rest))),
+        Some((channel, rest)) => Ok(Some((
+            OwnedCommunication::new(Communication::Assign(name, channel)),
+            rest,
+        ))),
     }
 }
 
 /// The communication at the front, and what follows it.
 #[tactic(auto, unfolding(crate::specs::CommReading::comm_at))]
-pub fn comm_at(alloc: Global, tokens: &[Token]) -> Result<Option<(Communication, &[Token])>, Memory>
-    ensures value { IfOk result (λ o. seen o ≡ comm_at_of tokens.now) }
+pub fn comm_at(
+    alloc: Global,
+    tokens: &[Token],
+) -> Result<Option<(OwnedCommunication, &[Token])>, Memory>
+    ensures value { IfOk result (λ o. seen o ≡ comm_spec.comm_at tokens.now) }
     ensures shorter { IfOk result (λ o. IfSome o (λ x. length x.1.now < length tokens.now)) }
 {
     if let Some((name, behind)) = assigned_at(tokens) {
         return received(alloc, copied(alloc, name)?, behind);
     }
-    match simple_at(alloc, false, tokens)? {
+    match simple_at(alloc, Place::Elsewhere, tokens)? {
         None => Ok(None),
-        Some((simple, rest)) => match comm_of(simple.kind) {
+        Some((simple, rest)) => match comm_of(simple.into_inner().kind) {
             None => Ok(None),
             Some(communication) => Ok(Some((communication, rest))),
         },

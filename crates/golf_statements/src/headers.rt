@@ -2,23 +2,27 @@
 
 ghost use Rattle.std.specs.Prelude.{◌≡◌, ◌<◌, ◌≤◌, length, IfOk, IfSome};
 ghost use Rattle.golf_grammar.specs.Simple.{simple_form};
-ghost use Rattle.golf_expressions.specs.Front.{after as after_of, seen};
-ghost use Rattle.golf_statements.specs.HeaderReading.{expression_of as expression_of_of, test_by, test_at as test_at_of, two_names as two_names_of, names_at as names_at_of, post_at as post_at_of, steps_at as steps_at_of, first_by, plain_at as plain_at_of, header_at as header_at_of};
+ghost use Rattle.golf_expressions.specs.Front as front_spec;
+ghost use Rattle.golf_expressions.specs.Front.{seen};
+ghost use Rattle.golf_statements.specs.HeaderReading as header_spec;
+ghost use Rattle.golf_statements.specs.HeaderReading.{test_by, first_by};
 
-use golf_base::{List, Memory};
-use golf_expressions::{after, after_keyword, copied, level_at, name_at, simple_at};
-use golf_grammar::{Expr, Header, Name, RangeNames, Simple, SimpleKind};
+use golf_base::Memory;
+use golf_expressions::{Place, after, after_keyword, copied, expression_at, name_at, simple_at};
+use golf_grammar::{
+    Header, Name, OwnedExpr, OwnedHeader, OwnedSimple, OwnedSimpleKind, RangeNames, SimpleKind,
+};
 use golf_tokens::{Keyword, Mark, Token};
 use std::alloc::Global;
 
 /// A condition, with the simple statement in front of it.
-type Test = (Option<Simple>, Expr);
+type Test = (Option<OwnedSimple>, OwnedExpr);
 
 // The expression that a simple statement is.
-fn expression_of(kind: SimpleKind) -> Option<Expr>
-    ensures { result ≡ expression_of_of kind }
+fn expression_of(kind: OwnedSimpleKind) -> Option<OwnedExpr>
+    ensures { result ≡ header_spec.expression_of kind }
 {
-    match kind {
+    match kind.into_inner() {
         SimpleKind::Expression(e) => Some(e),
         SimpleKind::Send(_, _)
         | SimpleKind::Increment(_)
@@ -50,19 +54,19 @@ fn defines(kind: &SimpleKind) -> bool
 // The condition behind the first simple statement of an `if`, or that statement itself.
 fn test_behind(
     alloc: Global,
-    first: Simple,
+    first: OwnedSimple,
     tokens: &[Token],
 ) -> Result<Option<(Test, &[Token])>, Memory>
-    ensures value { IfOk result (λ o. seen o ≡ test_by first tokens.now (after_of Mark.Semicolon tokens.now)) }
+    ensures value { IfOk result (λ o. seen o ≡ test_by first tokens.now (front_spec.after Mark.Semicolon tokens.now)) }
     ensures shorter { IfOk result (λ o. IfSome o (λ x. length x.1.now ≤ length tokens.now)) }
 {
     let Some(behind) = after(tokens, Mark::Semicolon) else {
-        return match expression_of(first.kind) {
+        return match expression_of(first.into_inner().kind) {
             None => Ok(None),
             Some(test) => Ok(Some(((None, test), tokens))),
         };
     };
-    match level_at(alloc, true, 1, behind)? {
+    match expression_at(alloc, Place::Header, behind)? {
         None => Ok(None),
         Some((test, rest)) => Ok(Some(((Some(first), test), rest))),
     }
@@ -71,10 +75,10 @@ fn test_behind(
 /// The header of an `if`: its condition, with the simple statement in front of it.
 #[tactic(auto, unfolding(crate::specs::HeaderReading::test_at))]
 pub fn test_at(alloc: Global, tokens: &[Token]) -> Result<Option<(Test, &[Token])>, Memory>
-    ensures value { IfOk result (λ o. seen o ≡ test_at_of tokens.now) }
+    ensures value { IfOk result (λ o. seen o ≡ header_spec.test_at tokens.now) }
     ensures shorter { IfOk result (λ o. IfSome o (λ x. length x.1.now < length tokens.now)) }
 {
-    match simple_at(alloc, true, tokens)? {
+    match simple_at(alloc, Place::Header, tokens)? {
         None => Ok(None),
         Some((first, behind)) => test_behind(alloc, first, behind),
     }
@@ -86,7 +90,7 @@ fn two_names(
     first: Name,
     tokens: &[Token],
 ) -> Result<Option<(RangeNames, &[Token])>, Memory>
-    ensures value { IfOk result (λ o. seen o ≡ two_names_of first tokens.now) }
+    ensures value { IfOk result (λ o. seen o ≡ header_spec.two_names first tokens.now) }
     ensures shorter { IfOk result (λ o. IfSome o (λ x. length x.1.now < length tokens.now)) }
 {
     let Some((second, behind)) = name_at(tokens) else {
@@ -104,7 +108,7 @@ fn two_names(
 // The names in front of a `range`, and what follows that word.
 #[tactic(auto, unfolding(crate::specs::HeaderReading::names_at))]
 fn names_at(alloc: Global, tokens: &[Token]) -> Result<Option<(RangeNames, &[Token])>, Memory>
-    ensures value { IfOk result (λ o. seen o ≡ names_at_of tokens.now) }
+    ensures value { IfOk result (λ o. seen o ≡ header_spec.names_at tokens.now) }
     ensures shorter { IfOk result (λ o. IfSome o (λ x. length x.1.now < length tokens.now)) }
 {
     if let Some(rest) = after_keyword(tokens, Keyword::Range) {
@@ -129,23 +133,26 @@ fn names_at(alloc: Global, tokens: &[Token]) -> Result<Option<(RangeNames, &[Tok
 #[tactic(auto, unfolding(crate::specs::HeaderReading::post_at))]
 fn post_at(
     alloc: Global,
-    first: Option<Simple>,
-    test: Option<Expr>,
+    first: Option<OwnedSimple>,
+    test: Option<OwnedExpr>,
     tokens: &[Token],
-) -> Result<Option<(Header, &[Token])>, Memory>
-    ensures value { IfOk result (λ o. seen o ≡ post_at_of first test tokens.now) }
+) -> Result<Option<(OwnedHeader, &[Token])>, Memory>
+    ensures value { IfOk result (λ o. seen o ≡ header_spec.post_at first test tokens.now) }
     ensures shorter { IfOk result (λ o. IfSome o (λ x. length x.1.now < length tokens.now)) }
 {
     let Some(behind) = after(tokens, Mark::Semicolon) else {
         return Ok(None)
     };
-    match simple_at(alloc, true, behind)? {
-        None => Ok(Some((Header::Steps(first, test, None), behind))),
+    match simple_at(alloc, Place::Header, behind)? {
+        None => Ok(Some((OwnedHeader::new(Header::Steps(first, test, None)), behind))),
         Some((post, rest)) => {
-            if defines(&post.kind) {
+            if defines(post.get().kind.get()) {
                 return Ok(None);
             }
-            Ok(Some((Header::Steps(first, test, Some(post)), rest)))
+            Ok(Some((
+                OwnedHeader::new(Header::Steps(first, test, Some(post))),
+                rest,
+            )))
         }
     }
 }
@@ -154,13 +161,13 @@ fn post_at(
 #[tactic(auto, unfolding(crate::specs::HeaderReading::steps_at))]
 fn steps_at(
     alloc: Global,
-    first: Option<Simple>,
+    first: Option<OwnedSimple>,
     tokens: &[Token],
-) -> Result<Option<(Header, &[Token])>, Memory>
-    ensures value { IfOk result (λ o. seen o ≡ steps_at_of first tokens.now) }
+) -> Result<Option<(OwnedHeader, &[Token])>, Memory>
+    ensures value { IfOk result (λ o. seen o ≡ header_spec.steps_at first tokens.now) }
     ensures shorter { IfOk result (λ o. IfSome o (λ x. length x.1.now < length tokens.now)) }
 {
-    match level_at(alloc, true, 1, tokens)? {
+    match expression_at(alloc, Place::Header, tokens)? {
         None => post_at(alloc, first, None, tokens),
         Some((test, behind)) => post_at(alloc, first, Some(test), behind),
     }
@@ -169,47 +176,50 @@ fn steps_at(
 // Behind the first simple statement of a header.
 fn first_behind(
     alloc: Global,
-    first: Simple,
+    first: OwnedSimple,
     tokens: &[Token],
-) -> Result<Option<(Header, &[Token])>, Memory>
-    ensures value { IfOk result (λ o. seen o ≡ first_by first tokens.now (after_of Mark.Semicolon tokens.now)) }
+) -> Result<Option<(OwnedHeader, &[Token])>, Memory>
+    ensures value { IfOk result (λ o. seen o ≡ first_by first tokens.now (front_spec.after Mark.Semicolon tokens.now)) }
     ensures shorter { IfOk result (λ o. IfSome o (λ x. length x.1.now ≤ length tokens.now)) }
 {
     if let Some(behind) = after(tokens, Mark::Semicolon) {
         return steps_at(alloc, Some(first), behind);
     }
-    match expression_of(first.kind) {
+    match expression_of(first.into_inner().kind) {
         None => Ok(None),
-        Some(test) => Ok(Some((Header::While(test), tokens))),
+        Some(test) => Ok(Some((OwnedHeader::new(Header::While(test)), tokens))),
     }
 }
 
 // A header without `range`.
-#[tactic(auto, unfolding(crate::specs::HeaderReading::plain_at))]
-fn plain_at(alloc: Global, tokens: &[Token]) -> Result<Option<(Header, &[Token])>, Memory>
-    ensures value { IfOk result (λ o. seen o ≡ plain_at_of tokens.now) }
+#[tactic(auto, unfolding(crate::specs::HeaderReading::without_range_at))]
+fn without_range_at(
+    alloc: Global,
+    tokens: &[Token],
+) -> Result<Option<(OwnedHeader, &[Token])>, Memory>
+    ensures value { IfOk result (λ o. seen o ≡ header_spec.without_range_at tokens.now) }
     ensures shorter { IfOk result (λ o. IfSome o (λ x. length x.1.now ≤ length tokens.now)) }
 {
-    if let Some((first, behind)) = simple_at(alloc, true, tokens)? {
+    if let Some((first, behind)) = simple_at(alloc, Place::Header, tokens)? {
         return first_behind(alloc, first, behind);
     }
     match after(tokens, Mark::Semicolon) {
-        None => Ok(Some((Header::Forever, tokens))),
+        None => Ok(Some((OwnedHeader::new(Header::Forever), tokens))),
         Some(behind) => steps_at(alloc, None, behind),
     }
 }
 
 /// The header of a `for`, up to its body.
 #[tactic(auto, unfolding(crate::specs::HeaderReading::header_at))]
-pub fn header_at(alloc: Global, tokens: &[Token]) -> Result<Option<(Header, &[Token])>, Memory>
-    ensures value { IfOk result (λ o. seen o ≡ header_at_of tokens.now) }
+pub fn header_at(alloc: Global, tokens: &[Token]) -> Result<Option<(OwnedHeader, &[Token])>, Memory>
+    ensures value { IfOk result (λ o. seen o ≡ header_spec.header_at tokens.now) }
     ensures shorter { IfOk result (λ o. IfSome o (λ x. length x.1.now ≤ length tokens.now)) }
 {
     let Some((names, behind)) = names_at(alloc, tokens)? else {
-        return plain_at(alloc, tokens)
+        return without_range_at(alloc, tokens)
     };
-    match level_at(alloc, true, 1, behind)? {
+    match expression_at(alloc, Place::Header, behind)? {
         None => Ok(None),
-        Some((over, rest)) => Ok(Some((Header::Range(names, over), rest))),
+        Some((over, rest)) => Ok(Some((OwnedHeader::new(Header::Range(names, over)), rest))),
     }
 }

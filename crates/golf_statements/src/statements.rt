@@ -2,23 +2,28 @@
 
 ghost use Rattle.std.specs.Prelude.{◌∷◌, ◌++◌, ◌≡◌, ◌+◌, ◌*◌, ◌<◌, ◌≤◌, [], length, IfOk, IfSome};
 ghost use Rattle.golf_expressions.specs.Plan.{run};
-ghost use Rattle.golf_expressions.specs.Front.{seen, after as after_of, after_keyword as after_keyword_of};
-ghost use Rattle.golf_statements.specs.StmtReading.{stmt_at as stmt_at_of, block_at as block_at_of, OfStmt, body, block, is_branch as is_branch_of, else_plan, if_plan, for_plan, select_plan, keyword_plan, kind_plan};
-ghost use Rattle.golf_statements.specs.Frames.{owned, closed_at, body_at, case_at, statements_of as statements_of_of, frame_at, moved as moved_of, move_at, weight};
+ghost use Rattle.golf_expressions.specs.Front as front_spec;
+ghost use Rattle.golf_expressions.specs.Front.{seen};
+ghost use Rattle.golf_statements.specs.StmtReading as stmt_spec;
+ghost use Rattle.golf_statements.specs.StmtReading.{OfStmt, body, block, else_plan, if_plan, for_plan, select_plan, keyword_plan, kind_plan};
+ghost use Rattle.golf_statements.specs.Moves as moves_spec;
+ghost use Rattle.golf_statements.specs.Moves.{owned, closed_at, body_at, case_at, pending_at, move_at, weight};
 
 use crate::clauses::{case_move, clauses_move, colon_move};
-use crate::frames::{Frame, Head, Move, Owner, Select};
 use crate::headers::{header_at, test_at};
-use crate::plain::{defer_at, go_at, return_at, simple_statement_at, variable_at};
-use golf_base::{Boxed, List, Memory};
+use crate::leaves::{defer_at, go_at, return_at, simple_statement_at, variable_at};
+use crate::pending::{Head, Move, Owner, Pending, Select};
+use golf_base::{List, Memory};
 use golf_expressions::{after, after_keyword};
-use golf_grammar::{Expr, Header, Simple, Stmt};
+use golf_grammar::{
+    OwnedClauses, OwnedExpr, OwnedHeader, OwnedSimple, OwnedStmt, OwnedStmts, Stmt,
+};
 use golf_tokens::{Keyword, Mark, Token, TokenKind};
 use std::alloc::Global;
 
 // Whether a statement begins here that may stand behind `else`.
 fn is_branch(tokens: &[Token]) -> bool
-    ensures { result ≡ is_branch_of tokens.now }
+    ensures { result ≡ stmt_spec.is_branch tokens.now }
 {
     match tokens.split_first() {
         None => false,
@@ -33,51 +38,63 @@ fn is_branch(tokens: &[Token]) -> bool
 // Behind the body of an `if`: `else` and a branch, or the end.
 fn else_move(
     line: u32,
-    first: Option<Simple>,
-    test: Expr,
-    done: List<Stmt>,
+    first: Option<OwnedSimple>,
+    test: OwnedExpr,
+    done: OwnedStmts,
     tokens: &[Token],
 ) -> Option<(Move, &[Token])>
-    ensures value { moved_of result ≡ run stmt_at_of (else_plan line (first, test) done tokens.now (after_keyword_of Keyword.Else tokens.now)) }
+    ensures value { moves_spec.moved result ≡ run stmt_spec.stmt_at (else_plan line (first, test) done tokens.now (front_spec.after_keyword Keyword.Else tokens.now)) }
     ensures less { IfSome result (λ x. weight x.0 + 8 * length x.1.now ≤ 8 * length tokens.now) }
 {
     let Some(behind) = after_keyword(tokens, Keyword::Else) else {
-        return Some((Move::Found(Stmt::If(line, first, test, done)), tokens))
+        return Some((
+            Move::Found(OwnedStmt::new(Stmt::If(line, first, test, done.into_inner()))),
+            tokens,
+        ))
     };
     if !is_branch(behind) {
         return None;
     }
-    Some((Move::Wait(Frame::Else(line, first, test, done)), behind))
+    Some((Move::Wait(Pending::Else(line, first, test, done)), behind))
 }
 
 // Behind the closing brace of statements.
-#[tactic(auto, unfolding(crate::specs::Frames::closed_at))]
-fn closed_move(owner: Owner, done: List<Stmt>, tokens: &[Token]) -> Option<(Move, &[Token])>
-    ensures value { moved_of result ≡ closed_at owner (done, tokens.now) }
+#[tactic(auto, unfolding(crate::specs::Moves::closed_at))]
+fn closed_move(owner: Owner, done: OwnedStmts, tokens: &[Token]) -> Option<(Move, &[Token])>
+    ensures value { moves_spec.moved result ≡ closed_at owner (done, tokens.now) }
     ensures less { IfSome result (λ x. weight x.0 + 8 * length x.1.now ≤ 8 * length tokens.now) }
 {
     match owner {
-        Owner::Block(line) => Some((Move::Found(Stmt::Block(line, done)), tokens)),
+        Owner::Block(line) => Some((
+            Move::Found(OwnedStmt::new(Stmt::Block(line, done.into_inner()))),
+            tokens,
+        )),
         Owner::If(line, first, test) => else_move(line, first, test, done, tokens),
-        Owner::For(line, header) => Some((Move::Found(Stmt::For(line, header, done)), tokens)),
+        Owner::For(line, header) => Some((
+            Move::Found(OwnedStmt::new(Stmt::For(line, header, done.into_inner()))),
+            tokens,
+        )),
     }
 }
 
 // Behind the opening brace of statements.
-#[tactic(auto, using(crate::proofs::Moves::body_steps), unfolding(crate::specs::Frames::closed_at))]
+#[tactic(auto, using(crate::proofs::Moves::body_steps), unfolding(crate::specs::Moves::closed_at))]
 fn opened_move(alloc: Global, owner: Owner, tokens: &[Token]) -> Option<(Move, &[Token])>
-    ensures value { moved_of result ≡ run stmt_at_of (body tokens.now (after_of Mark.CloseBrace tokens.now) (owned owner)) }
+    ensures value { moves_spec.moved result ≡ run stmt_spec.stmt_at (body tokens.now (front_spec.after Mark.CloseBrace tokens.now) (owned owner)) }
     ensures less { IfSome result (λ x. weight x.0 + 8 * length x.1.now ≤ 8 * length tokens.now + 4) }
 {
     match after(tokens, Mark::CloseBrace) {
-        None => Some((Move::Wait(Frame::Body(owner, List::new(alloc))), tokens)),
-        Some(rest) => closed_move(owner, List::new(alloc), rest),
+        None => Some((
+            Move::Wait(Pending::Body(owner, OwnedStmts::empty(alloc))),
+            tokens,
+        )),
+        Some(rest) => closed_move(owner, OwnedStmts::empty(alloc), rest),
     }
 }
 
 // Statements in braces.
 fn block_move(alloc: Global, owner: Owner, tokens: &[Token]) -> Option<(Move, &[Token])>
-    ensures value { moved_of result ≡ run stmt_at_of (block tokens.now (owned owner)) }
+    ensures value { moves_spec.moved result ≡ run stmt_spec.stmt_at (block tokens.now (owned owner)) }
     ensures less { IfSome result (λ x. weight x.0 + 8 * length x.1.now < 8 * length tokens.now) }
 {
     match after(tokens, Mark::OpenBrace) {
@@ -87,12 +104,12 @@ fn block_move(alloc: Global, owner: Owner, tokens: &[Token]) -> Option<(Move, &[
 }
 
 // Behind a statement in braces: a semicolon and more, or the closing brace.
-fn body_move(owner: Owner, done: List<Stmt>, tokens: &[Token]) -> Option<(Move, &[Token])>
-    ensures value { moved_of result ≡ body_at owner done tokens.now (after_of Mark.Semicolon tokens.now) }
+fn body_move(owner: Owner, done: OwnedStmts, tokens: &[Token]) -> Option<(Move, &[Token])>
+    ensures value { moves_spec.moved result ≡ body_at owner done tokens.now (front_spec.after Mark.Semicolon tokens.now) }
     ensures less { IfSome result (λ x. weight x.0 + 8 * length x.1.now < 8 * length tokens.now) }
 {
     if let Some(next) = after(tokens, Mark::Semicolon) {
-        return Some((Move::Wait(Frame::Body(owner, done)), next));
+        return Some((Move::Wait(Pending::Body(owner, done)), next));
     }
     match after(tokens, Mark::CloseBrace) {
         None => None,
@@ -101,7 +118,7 @@ fn body_move(owner: Owner, done: List<Stmt>, tokens: &[Token]) -> Option<(Move, 
 }
 
 // The `if` with this first statement and this test.
-fn if_owner(line: u32, tested: (Option<Simple>, Expr)) -> Owner
+fn if_owner(line: u32, tested: (Option<OwnedSimple>, OwnedExpr)) -> Owner
     ensures { result ≡ Owner.If line tested.0 tested.1 }
 {
     let (first, test) = tested;
@@ -110,7 +127,7 @@ fn if_owner(line: u32, tested: (Option<Simple>, Expr)) -> Owner
 
 // Behind `if`.
 fn if_move(alloc: Global, line: u32, tokens: &[Token]) -> Result<Option<(Move, &[Token])>, Memory>
-    ensures value { IfOk result (λ o. moved_of o ≡ run stmt_at_of (if_plan line tokens.now)) }
+    ensures value { IfOk result (λ o. moves_spec.moved o ≡ run stmt_spec.stmt_at (if_plan line tokens.now)) }
     ensures less { IfOk result (λ o. IfSome o (λ x. weight x.0 + 8 * length x.1.now ≤ 8 * length tokens.now)) }
 {
     match test_at(alloc, tokens)? {
@@ -120,7 +137,7 @@ fn if_move(alloc: Global, line: u32, tokens: &[Token]) -> Result<Option<(Move, &
 }
 
 // The `for` with this header.
-fn for_owner(line: u32, header: Header) -> Owner
+fn for_owner(line: u32, header: OwnedHeader) -> Owner
     ensures { result ≡ Owner.For line header }
 {
     Owner::For(line, header)
@@ -128,7 +145,7 @@ fn for_owner(line: u32, header: Header) -> Owner
 
 // Behind `for`.
 fn for_move(alloc: Global, line: u32, tokens: &[Token]) -> Result<Option<(Move, &[Token])>, Memory>
-    ensures value { IfOk result (λ o. moved_of o ≡ run stmt_at_of (for_plan line tokens.now)) }
+    ensures value { IfOk result (λ o. moves_spec.moved o ≡ run stmt_spec.stmt_at (for_plan line tokens.now)) }
     ensures less { IfOk result (λ o. IfSome o (λ x. weight x.0 + 8 * length x.1.now ≤ 8 * length tokens.now)) }
 {
     match header_at(alloc, tokens)? {
@@ -138,16 +155,16 @@ fn for_move(alloc: Global, line: u32, tokens: &[Token]) -> Result<Option<(Move, 
 }
 
 // Behind `select`.
-#[tactic(auto, unfolding(crate::specs::Frames::selected))]
+#[tactic(auto, unfolding(crate::specs::Moves::selected))]
 fn select_move(alloc: Global, line: u32, tokens: &[Token]) -> Option<(Move, &[Token])>
-    ensures value { moved_of result ≡ run stmt_at_of (select_plan line tokens.now) }
+    ensures value { moves_spec.moved result ≡ run stmt_spec.stmt_at (select_plan line tokens.now) }
     ensures less { IfSome result (λ x. weight x.0 + 8 * length x.1.now ≤ 8 * length tokens.now) }
 {
     let behind = after(tokens, Mark::OpenBrace)?;
     let select = Select {
         line,
         has_default: false,
-        clauses: List::new(alloc),
+        clauses: OwnedClauses::empty(alloc),
     };
     Some((Move::Clauses(select), behind))
 }
@@ -161,7 +178,7 @@ fn keyword_move<'a>(
     tokens: &'a [Token],
 ) -> Result<Option<(Move, &'a [Token])>, Memory>
     requires shorter { length behind.now < length tokens.now }
-    ensures value { IfOk result (λ o. moved_of o ≡ run stmt_at_of (keyword_plan line keyword behind.now tokens.now)) }
+    ensures value { IfOk result (λ o. moves_spec.moved o ≡ run stmt_spec.stmt_at (keyword_plan line keyword behind.now tokens.now)) }
     ensures less { IfOk result (λ o. IfSome o (λ x. weight x.0 + 8 * length x.1.now < 8 * length tokens.now)) }
 {
     match keyword {
@@ -169,8 +186,8 @@ fn keyword_move<'a>(
         Keyword::Go => go_at(alloc, line, behind),
         Keyword::Defer => defer_at(alloc, line, behind),
         Keyword::Return => return_at(alloc, line, behind),
-        Keyword::Break => Ok(Some((Move::Found(Stmt::Break(line)), behind))),
-        Keyword::Continue => Ok(Some((Move::Found(Stmt::Continue(line)), behind))),
+        Keyword::Break => Ok(Some((Move::Found(OwnedStmt::new(Stmt::Break(line))), behind))),
+        Keyword::Continue => Ok(Some((Move::Found(OwnedStmt::new(Stmt::Continue(line))), behind))),
         Keyword::If => if_move(alloc, line, behind),
         Keyword::For => for_move(alloc, line, behind),
         Keyword::Select => Ok(select_move(alloc, line, behind)),
@@ -187,7 +204,7 @@ fn kind_move<'a>(
     tokens: &'a [Token],
 ) -> Result<Option<(Move, &'a [Token])>, Memory>
     requires shorter { length behind.now < length tokens.now }
-    ensures value { IfOk result (λ o. moved_of o ≡ run stmt_at_of (kind_plan line kind.now behind.now tokens.now)) }
+    ensures value { IfOk result (λ o. moves_spec.moved o ≡ run stmt_spec.stmt_at (kind_plan line kind.now behind.now tokens.now)) }
     ensures less { IfOk result (λ o. IfSome o (λ x. weight x.0 + 8 * length x.1.now < 8 * length tokens.now)) }
 {
     match kind {
@@ -204,7 +221,7 @@ fn kind_move<'a>(
 
 // The statement at the front.
 fn stmt_move(alloc: Global, tokens: &[Token]) -> Result<Option<(Move, &[Token])>, Memory>
-    ensures value { IfOk result (λ o. moved_of o ≡ stmt_at_of OfStmt tokens.now) }
+    ensures value { IfOk result (λ o. moves_spec.moved o ≡ stmt_spec.stmt_at OfStmt tokens.now) }
     ensures less { IfOk result (λ o. IfSome o (λ x. weight x.0 + 8 * length x.1.now < 8 * length tokens.now)) }
 {
     match tokens.split_first() {
@@ -217,18 +234,19 @@ fn stmt_move(alloc: Global, tokens: &[Token]) -> Result<Option<(Move, &[Token])>
 fn if_else(
     alloc: Global,
     line: u32,
-    first: Option<Simple>,
-    test: Expr,
-    done: List<Stmt>,
-    otherwise: Stmt,
-) -> Result<Stmt, Memory>
+    first: Option<OwnedSimple>,
+    test: OwnedExpr,
+    done: OwnedStmts,
+    otherwise: OwnedStmt,
+) -> Result<OwnedStmt, Memory>
     ensures { IfOk result (λ s. s ≡ Stmt.IfElse line first test done otherwise) }
 {
-    Ok(Stmt::IfElse(line, first, test, done, Boxed::new(alloc, otherwise)?))
+    let otherwise = otherwise.boxed(alloc)?;
+    Ok(OwnedStmt::new(Stmt::IfElse(line, first, test, done.into_inner(), otherwise)))
 }
 
 // The statements with one more.
-fn with_statement(done: List<Stmt>, found: Stmt) -> Result<List<Stmt>, Memory>
+fn with_statement(done: OwnedStmts, found: OwnedStmt) -> Result<OwnedStmts, Memory>
     ensures { IfOk result (λ all. all ≡ done ++ found ∷ []) }
 {
     let mut all = done;
@@ -237,26 +255,26 @@ fn with_statement(done: List<Stmt>, found: Stmt) -> Result<List<Stmt>, Memory>
 }
 
 // Statements in braces, behind one more of them.
-fn body_frame(
+fn resume_body(
     owner: Owner,
-    done: List<Stmt>,
-    found: Stmt,
+    done: OwnedStmts,
+    found: OwnedStmt,
     tokens: &[Token],
 ) -> Result<Option<(Move, &[Token])>, Memory>
-    ensures value { IfOk result (λ o. moved_of o ≡ frame_at (Frame.Body owner done) (found, tokens.now)) }
+    ensures value { IfOk result (λ o. moves_spec.moved o ≡ pending_at (Pending.Body owner done) (found, tokens.now)) }
     ensures less { IfOk result (λ o. IfSome o (λ x. weight x.0 + 8 * length x.1.now < 8 * length tokens.now)) }
 {
     Ok(body_move(owner, with_statement(done, found)?, tokens))
 }
 
 // An `if`, behind the statement that its `else` has.
-fn else_frame(
+fn resume_else(
     alloc: Global,
     line: u32,
-    first: Option<Simple>,
-    test: Expr,
-    done: List<Stmt>,
-    found: Stmt,
+    first: Option<OwnedSimple>,
+    test: OwnedExpr,
+    done: OwnedStmts,
+    found: OwnedStmt,
 ) -> Result<Move, Memory>
     ensures { IfOk result (λ m. m ≡ Move.Found (Stmt.IfElse line first test done found)) }
 {
@@ -264,55 +282,55 @@ fn else_frame(
 }
 
 // A clause of a `select`, behind one more statement.
-fn clause_frame(
+fn resume_clause(
     select: Select,
     head: Head,
-    done: List<Stmt>,
-    found: Stmt,
+    done: OwnedStmts,
+    found: OwnedStmt,
     tokens: &[Token],
 ) -> Result<Option<(Move, &[Token])>, Memory>
-    ensures value { IfOk result (λ o. moved_of o ≡ frame_at (Frame.Clause select head done) (found, tokens.now)) }
+    ensures value { IfOk result (λ o. moves_spec.moved o ≡ pending_at (Pending.Clause select head done) (found, tokens.now)) }
     ensures less { IfOk result (λ o. IfSome o (λ x. weight x.0 + 8 * length x.1.now < 8 * length tokens.now + 3)) }
 {
     case_move(select, head, with_statement(done, found)?, tokens)
 }
 
 // What waits goes on with the statement that it waited for.
-fn frame_move(
+fn resume(
     alloc: Global,
-    frame: Frame,
-    found: Stmt,
+    pending: Pending,
+    found: OwnedStmt,
     tokens: &[Token],
 ) -> Result<Option<(Move, &[Token])>, Memory>
-    ensures value { IfOk result (λ o. moved_of o ≡ frame_at frame (found, tokens.now)) }
+    ensures value { IfOk result (λ o. moves_spec.moved o ≡ pending_at pending (found, tokens.now)) }
     ensures less { IfOk result (λ o. IfSome o (λ x. weight x.0 + 8 * length x.1.now < 8 * length tokens.now + 3)) }
 {
-    match frame {
-        Frame::Body(owner, done) => body_frame(owner, done, found, tokens),
-        Frame::Else(line, first, test, done) => {
-            let whole = else_frame(alloc, line, first, test, done, found)?;
+    match pending {
+        Pending::Body(owner, done) => resume_body(owner, done, found, tokens),
+        Pending::Else(line, first, test, done) => {
+            let whole = resume_else(alloc, line, first, test, done, found)?;
             Ok(Some((whole, tokens)))
         }
-        Frame::Clause(select, head, done) => clause_frame(select, head, done, found, tokens),
+        Pending::Clause(select, head, done) => resume_clause(select, head, done, found, tokens),
     }
 }
 
 // All that is read from this on.
-fn read(alloc: Global, tokens: &[Token]) -> Result<Option<(Stmt, &[Token])>, Memory>
-    ensures value { IfOk result (λ o. seen o ≡ stmt_at_of OfStmt tokens.now) }
+fn read(alloc: Global, tokens: &[Token]) -> Result<Option<(OwnedStmt, &[Token])>, Memory>
+    ensures value { IfOk result (λ o. seen o ≡ stmt_spec.stmt_at OfStmt tokens.now) }
 {
-    let mut waiting: List<Frame> = List::new(alloc);
-    let mut now = Move::Ask;
+    let mut waiting: List<Pending> = List::new(alloc);
+    let mut now = Move::Seek;
     let mut rest = tokens;
     'moves: loop {
         let next = match now {
             Move::Found(found) => match waiting.pop() {
                 None => return Ok(Some((found, rest))),
-                Some(frame) => frame_move(alloc, frame, found, rest)?,
+                Some(pending) => resume(alloc, pending, found, rest)?,
             },
-            Move::Ask => stmt_move(alloc, rest)?,
-            Move::Wait(frame) => {
-                waiting.push(frame)?;
+            Move::Seek => stmt_move(alloc, rest)?,
+            Move::Wait(pending) => {
+                waiting.push(pending)?;
                 stmt_move(alloc, rest)?
             }
             Move::Clauses(select) => clauses_move(alloc, select, rest)?,
@@ -328,8 +346,8 @@ fn read(alloc: Global, tokens: &[Token]) -> Result<Option<(Stmt, &[Token])>, Mem
 
 /// The statement at the front, and what follows it.
 #[tactic(auto, using(crate::proofs::Moves::shorter_steps))]
-pub fn stmt_at(alloc: Global, tokens: &[Token]) -> Result<Option<(Stmt, &[Token])>, Memory>
-    ensures value { IfOk result (λ o. seen o ≡ stmt_at_of OfStmt tokens.now) }
+pub fn stmt_at(alloc: Global, tokens: &[Token]) -> Result<Option<(OwnedStmt, &[Token])>, Memory>
+    ensures value { IfOk result (λ o. seen o ≡ stmt_spec.stmt_at OfStmt tokens.now) }
     ensures shorter { IfOk result (λ o. IfSome o (λ x. length x.1.now < length tokens.now)) }
 {
     read(alloc, tokens)
@@ -337,11 +355,11 @@ pub fn stmt_at(alloc: Global, tokens: &[Token]) -> Result<Option<(Stmt, &[Token]
 
 // The statements of a block.
 #[tactic(auto, using(crate::proofs::Moves::block_steps))]
-fn statements_of(statement: Stmt) -> Option<List<Stmt>>
-    ensures { result ≡ statements_of_of statement }
+fn statements_of(statement: OwnedStmt) -> Option<OwnedStmts>
+    ensures { result ≡ moves_spec.statements_of statement }
 {
-    match statement {
-        Stmt::Block(_, statements) => Some(statements),
+    match statement.into_inner() {
+        Stmt::Block(_, statements) => Some(OwnedStmts::new(statements)),
         Stmt::Var(_)
         | Stmt::Simple(_)
         | Stmt::Go(_, _, _)
@@ -358,8 +376,8 @@ fn statements_of(statement: Stmt) -> Option<List<Stmt>>
 
 /// The statements in braces at the front, and what follows the closing brace.
 #[tactic(auto, using(crate::proofs::Moves::braces_steps))]
-pub fn block_at(alloc: Global, tokens: &[Token]) -> Result<Option<(List<Stmt>, &[Token])>, Memory>
-    ensures value { IfOk result (λ o. seen o ≡ block_at_of tokens.now) }
+pub fn block_at(alloc: Global, tokens: &[Token]) -> Result<Option<(OwnedStmts, &[Token])>, Memory>
+    ensures value { IfOk result (λ o. seen o ≡ stmt_spec.block_at tokens.now) }
     ensures shorter { IfOk result (λ o. IfSome o (λ x. length x.1.now < length tokens.now)) }
 {
     if after(tokens, Mark::OpenBrace).is_none() {

@@ -1,51 +1,59 @@
 //! Variables.
 
 ghost use Rattle.std.specs.Prelude.{◌≡◌, ◌<◌, ◌≤◌, length, IfOk, IfSome};
-ghost use Rattle.golf_expressions.specs.Front.{after as after_of, seen};
-ghost use Rattle.golf_statements.specs.VarReading.{content_at as content_at_of, typed_by, untyped as untyped_of, var_at as var_at_of};
+ghost use Rattle.golf_expressions.specs.Front as front_spec;
+ghost use Rattle.golf_expressions.specs.Front.{seen};
+ghost use Rattle.golf_statements.specs.VarReading as var_spec;
+ghost use Rattle.golf_statements.specs.VarReading.{typed_by};
 
 use golf_base::Memory;
-use golf_expressions::{after, copied, level_at, name_at, type_at};
-use golf_grammar::{TypeExpr, Var, VarContent};
+use golf_expressions::{Place, after, copied, expression_at, name_at, type_at};
+use golf_grammar::{OwnedType, OwnedVar, OwnedVarContent, Var, VarContent};
 use golf_tokens::{Mark, Token};
 use std::alloc::Global;
 
 // Behind a type: a value, or nothing.
 fn typed(
     alloc: Global,
-    of_type: TypeExpr,
+    of_type: OwnedType,
     tokens: &[Token],
-) -> Result<Option<(VarContent, &[Token])>, Memory>
-    ensures value { IfOk result (λ o. seen o ≡ typed_by of_type tokens.now (after_of Mark.Assign tokens.now)) }
+) -> Result<Option<(OwnedVarContent, &[Token])>, Memory>
+    ensures value { IfOk result (λ o. seen o ≡ typed_by of_type tokens.now (front_spec.after Mark.Assign tokens.now)) }
     ensures shorter { IfOk result (λ o. IfSome o (λ x. length x.1.now ≤ length tokens.now)) }
 {
     let Some(valued) = after(tokens, Mark::Assign) else {
-        return Ok(Some((VarContent::Zero(of_type), tokens)))
+        return Ok(Some((OwnedVarContent::new(VarContent::Zero(of_type)), tokens)))
     };
-    match level_at(alloc, false, 1, valued)? {
+    match expression_at(alloc, Place::Elsewhere, valued)? {
         None => Ok(None),
-        Some((value, rest)) => Ok(Some((VarContent::Typed(of_type, value), rest))),
+        Some((value, rest)) => Ok(Some((
+            OwnedVarContent::new(VarContent::Typed(of_type, value)),
+            rest,
+        ))),
     }
 }
 
 // `= value` behind a name.
-fn untyped(alloc: Global, tokens: &[Token]) -> Result<Option<(VarContent, &[Token])>, Memory>
-    ensures value { IfOk result (λ o. seen o ≡ untyped_of tokens.now) }
+fn untyped(alloc: Global, tokens: &[Token]) -> Result<Option<(OwnedVarContent, &[Token])>, Memory>
+    ensures value { IfOk result (λ o. seen o ≡ var_spec.untyped tokens.now) }
     ensures shorter { IfOk result (λ o. IfSome o (λ x. length x.1.now ≤ length tokens.now)) }
 {
     let Some(valued) = after(tokens, Mark::Assign) else {
         return Ok(None)
     };
-    match level_at(alloc, false, 1, valued)? {
+    match expression_at(alloc, Place::Elsewhere, valued)? {
         None => Ok(None),
-        Some((value, rest)) => Ok(Some((VarContent::Untyped(value), rest))),
+        Some((value, rest)) => Ok(Some((OwnedVarContent::new(VarContent::Untyped(value)), rest))),
     }
 }
 
 // What stands behind the name of a variable.
 #[tactic(auto, unfolding(crate::specs::VarReading::content_at))]
-fn content_at(alloc: Global, tokens: &[Token]) -> Result<Option<(VarContent, &[Token])>, Memory>
-    ensures value { IfOk result (λ o. seen o ≡ content_at_of tokens.now) }
+fn content_at(
+    alloc: Global,
+    tokens: &[Token],
+) -> Result<Option<(OwnedVarContent, &[Token])>, Memory>
+    ensures value { IfOk result (λ o. seen o ≡ var_spec.content_at tokens.now) }
     ensures shorter { IfOk result (λ o. IfSome o (λ x. length x.1.now ≤ length tokens.now)) }
 {
     match type_at(alloc, tokens)? {
@@ -56,8 +64,12 @@ fn content_at(alloc: Global, tokens: &[Token]) -> Result<Option<(VarContent, &[T
 
 /// The variable behind a `var`, which stands on this line, and what follows it.
 #[tactic(auto, unfolding(crate::specs::VarReading::var_at))]
-pub fn var_at(alloc: Global, line: u32, tokens: &[Token]) -> Result<Option<(Var, &[Token])>, Memory>
-    ensures value { IfOk result (λ o. seen o ≡ var_at_of line tokens.now) }
+pub fn var_at(
+    alloc: Global,
+    line: u32,
+    tokens: &[Token],
+) -> Result<Option<(OwnedVar, &[Token])>, Memory>
+    ensures value { IfOk result (λ o. seen o ≡ var_spec.var_at line tokens.now) }
     ensures shorter { IfOk result (λ o. IfSome o (λ x. length x.1.now < length tokens.now)) }
 {
     let Some((name, behind)) = name_at(tokens) else {
@@ -67,11 +79,11 @@ pub fn var_at(alloc: Global, line: u32, tokens: &[Token]) -> Result<Option<(Var,
     match content_at(alloc, behind)? {
         None => Ok(None),
         Some((content, rest)) => Ok(Some((
-            Var {
+            OwnedVar::new(Var {
                 line,
                 name,
                 content,
-            },
+            }),
             rest,
         ))),
     }

@@ -11,7 +11,7 @@ use Rattle.golf_grammar.specs.Words as words
 use Rattle.golf_grammar.specs.Words.{Word, closed, Spells}
 use Rattle.golf_grammar.specs.Declarations.{package_words, print_import, print_decl, print_file, decl_good}
 use Rattle.golf_grammar.specs.Pieces.{before_piece, depth_behind, ends_piece, pieces, BeginsOn, IsWhole, BreaksOn, FileBreaksOn}
-use Rattle.golf_grammar.specs.Reads.{no_counts, is_affordable, first_costly, ReadsTokens, BrokenOn, FaultOn}
+use Rattle.golf_grammar.specs.Reads.{no_counts, is_affordable, first_too_complex, ReadsTokens, BrokenOn, FaultOn}
 use Rattle.golf_expressions.proofs.Fronts.{both, and-true}
 use Rattle.golf_pieces.specs.Cut.{Cut}
 use Rattle.golf_pieces.specs.Laws.{Ended, DeclPieces, ImportPieces, FilePieces}
@@ -164,12 +164,12 @@ costs-true false o c e = absurd (never (sym c.1 ∙ e))
     never : {n : ℕ} → ◌≡◌ {A = Option ℕ} (Some n) None → ⊥
     never q = cc
 
-reads-cheaply : (ts : List Token) (f : File) → ReadsTokens ts f → first_costly no_counts ts ≡ None
-reads-cheaply ts f r = costs-none (is_affordable no_counts (map (λ w. w.kind) (print_file f))) (first_costly no_counts ts) (costs-same (print_file f) ts no_counts r.prints) r.form.cost
+reads-cheaply : (ts : List Token) (f : File) → ReadsTokens ts f → first_too_complex no_counts ts ≡ None
+reads-cheaply ts f r = costs-none (is_affordable no_counts (map (λ w. w.kind) (print_file f))) (first_too_complex no_counts ts) (costs-same (print_file f) ts no_counts r.prints) r.form.cost
 
 -- the answers
-pub costly : (ts : List Token) (line : ℕ) → first_costly no_counts ts ≡ Some line → Parsed ts (Err (faults.At line))
-costly ts line e = (λ f r. never (sym e ∙ reads-cheaply ts f r), subst (λ o. FaultOn o ts line) (sym e) refl)
+pub too_complex : (ts : List Token) (line : ℕ) → first_too_complex no_counts ts ≡ Some line → Parsed ts (Err (faults.At line))
+too_complex ts line e = (λ f r. never (sym e ∙ reads-cheaply ts f r), subst (λ o. FaultOn o ts line) (sym e) refl)
   where
     never : ◌≡◌ {A = Option ℕ} (Some line) None → ⊥
     never q = cc
@@ -181,19 +181,19 @@ broken-on : (ts : List Token) (line : ℕ) → FileBreaksOn (pieces 0 ts) line �
 broken-on [] line b = absurd b
 broken-on (t ∷ ts) line b = b
 
-broken : (ts : List Token) (line : ℕ) → first_costly no_counts ts ≡ None → FileBreaksOn (pieces 0 ts) line → Parsed ts (Err (faults.At line))
+broken : (ts : List Token) (line : ℕ) → first_too_complex no_counts ts ≡ None → FileBreaksOn (pieces 0 ts) line → Parsed ts (Err (faults.At line))
 broken ts line c b = (unread ts line b, subst (λ o. FaultOn o ts line) (sym c) (broken-on ts line b))
 
-pub no-package : (ts p rest : List Token) (line : ℕ) → first_costly no_counts ts ≡ None → Cut ts p rest → is_package p ≡ false → FirstLine p line → Parsed ts (Err (faults.At line))
+pub no-package : (ts p rest : List Token) (line : ℕ) → first_too_complex no_counts ts ≡ None → Cut ts p rest → is_package p ≡ false → FirstLine p line → Parsed ts (Err (faults.At line))
 no-package ts p rest line c cut other f =
     broken ts line c (subst (λ ps. FileBreaksOn ps line) (sym cut.pieces) (inl (λ k. true-no-false (sym (package-read p k) ∙ other), first-begins ts p rest line cut f)))
 
-no-decls : (ts p rest left : List Token) (is : List Import) (line : ℕ) → first_costly no_counts ts ≡ None → Cut ts p rest → is_package p ≡ true → Imported rest is left → Declared left (Err (faults.At line)) → Parsed ts (Err (faults.At line))
+no-decls : (ts p rest left : List Token) (is : List Import) (line : ℕ) → first_too_complex no_counts ts ≡ None → Cut ts p rest → is_package p ≡ true → Imported rest is left → Declared left (Err (faults.At line)) → Parsed ts (Err (faults.At line))
 no-decls ts p rest left is line c cut main i b =
     broken ts line c (subst (λ ps. FileBreaksOn ps line) (sym cut.pieces)
     (inr (package-found p main, behind-imports is rest left line i.words (not-declared (pieces 0 left) line i.over b))))
 
-pub not-read : (ts p rest left : List Token) (is : List Import) (fault : SyntaxFault) → first_costly no_counts ts ≡ None → Cut ts p rest → is_package p ≡ true → Imported rest is left → Declared left (Err fault) → Parsed ts (Err fault)
+pub not-read : (ts p rest left : List Token) (is : List Import) (fault : SyntaxFault) → first_too_complex no_counts ts ≡ None → Cut ts p rest → is_package p ≡ true → Imported rest is left → Declared left (Err fault) → Parsed ts (Err fault)
 not-read ts p rest left is (faults.At line) c cut main i b = no-decls ts p rest left is line c cut main i b
 not-read ts p rest left is faults.Memory c cut main i b = tt
 
@@ -205,14 +205,14 @@ prints ts p rest left is ds cut main i k =
     join package_words (closed (map print_import is) ++ closed (map print_decl ds)) ts rest [] (subst (λ us. Spells package_words us rest) (sym cut.whole) (longer package_words p [] rest (package-found p main)))
     (join (closed (map print_import is)) (closed (map print_decl ds)) rest left [] i.words k.0)
 
-pub all-read : (ts p rest left : List Token) (is : List Import) (ds : List Decl) → first_costly no_counts ts ≡ None → Cut ts p rest → is_package p ≡ true → Imported rest is left → Declared left (Ok ds) → Parsed ts (Ok (file is ds))
+pub all-read : (ts p rest left : List Token) (is : List Import) (ds : List Decl) → first_too_complex no_counts ts ≡ None → Cut ts p rest → is_package p ≡ true → Imported rest is left → Declared left (Ok ds) → Parsed ts (Ok (file is ds))
 all-read ts p rest left is ds c cut main i k =
     let spelt = prints ts p rest left is ds cut main i k in
     record {
       prints = spelt;
       form = record {
         good = k.1;
-        cost = costs-true (is_affordable no_counts (map (λ w. w.kind) (print_file (file is ds)))) (first_costly no_counts ts) (costs-same (print_file (file is ds)) ts no_counts spelt) c;
+        cost = costs-true (is_affordable no_counts (map (λ w. w.kind) (print_file (file is ds)))) (first_too_complex no_counts ts) (costs-same (print_file (file is ds)) ts no_counts spelt) c;
       };
     }
 

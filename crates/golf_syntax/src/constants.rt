@@ -2,7 +2,7 @@
 
 ghost use Rattle.std.specs.Prelude.{◌≡◌, ◌<◌, ◌≤◌, length, IfOk, IfSome};
 ghost use Rattle.golf_expressions.specs.Front.{seen};
-ghost use Rattle.golf_syntax.specs.DeclReading.{const_at as const_at_of, const_of as const_of_of, named_const as named_const_of, negative_at as negative_at_of};
+ghost use Rattle.golf_syntax.specs.DeclReading as decl_spec;
 
 use golf_base::{List, Memory};
 use golf_expressions::copied;
@@ -12,7 +12,7 @@ use std::alloc::Global;
 
 // An integer behind a `-`.
 fn negative_at(alloc: Global, tokens: &[Token]) -> Result<Option<(Const, &[Token])>, Memory>
-    ensures value { IfOk result (λ o. seen o ≡ negative_at_of tokens.now) }
+    ensures value { IfOk result (λ o. seen o ≡ decl_spec.negative_at tokens.now) }
     ensures shorter { IfOk result (λ o. IfSome o (λ x. length x.1.now ≤ length tokens.now)) }
 {
     match tokens.split_first() {
@@ -26,7 +26,7 @@ fn negative_at(alloc: Global, tokens: &[Token]) -> Result<Option<(Const, &[Token
 
 // `true` or `false`.
 fn named_const<'a>(name: &List<u8>, rest: &'a [Token]) -> Option<(Const, &'a [Token])>
-    ensures value { seen result ≡ named_const_of name.now rest.now }
+    ensures value { seen result ≡ decl_spec.named_const name.now rest.now }
     ensures shorter { IfSome result (λ x. length x.1.now ≤ length rest.now) }
 {
     if name.as_slice() == b"true".as_slice() {
@@ -43,7 +43,7 @@ fn const_of<'a>(
     kind: &TokenKind,
     rest: &'a [Token],
 ) -> Result<Option<(Const, &'a [Token])>, Memory>
-    ensures value { IfOk result (λ o. seen o ≡ const_of_of kind.now rest.now) }
+    ensures value { IfOk result (λ o. seen o ≡ decl_spec.const_of kind.now rest.now) }
     ensures shorter { IfOk result (λ o. IfSome o (λ x. length x.1.now ≤ length rest.now)) }
 {
     match kind {
@@ -58,7 +58,7 @@ fn const_of<'a>(
 /// The value of a constant, and what follows it.
 #[tactic(auto, unfolding(crate::specs::DeclReading::const_at))]
 pub fn const_at(alloc: Global, tokens: &[Token]) -> Result<Option<(Const, &[Token])>, Memory>
-    ensures value { IfOk result (λ o. seen o ≡ const_at_of tokens.now) }
+    ensures value { IfOk result (λ o. seen o ≡ decl_spec.const_at tokens.now) }
     ensures shorter { IfOk result (λ o. IfSome o (λ x. length x.1.now < length tokens.now)) }
 {
     match tokens.split_first() {

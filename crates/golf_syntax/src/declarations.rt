@@ -1,15 +1,18 @@
 //! Declarations.
 
 ghost use Rattle.std.specs.Prelude.{◌≡◌, ◌<◌, ◌≤◌, length, IfOk, IfSome, Some};
-ghost use Rattle.golf_expressions.specs.Front.{after as after_of, seen};
-ghost use Rattle.golf_expressions.specs.TypeReading.{OfType, type_at as type_at_of};
-ghost use Rattle.golf_syntax.specs.DeclReading.{const_decl as const_decl_of, decl_at as decl_at_of, decl_from as decl_from_of, decl_kind as decl_kind_of, func_at as func_at_of, func_behind as func_behind_of, func_named as func_named_of, receiver_by, result_by, struct_decl as struct_decl_of};
+ghost use Rattle.golf_expressions.specs.Front as front_spec;
+ghost use Rattle.golf_expressions.specs.Front.{seen};
+ghost use Rattle.golf_expressions.specs.TypeReading as type_spec;
+ghost use Rattle.golf_expressions.specs.TypeReading.{OfType};
+ghost use Rattle.golf_syntax.specs.DeclReading as decl_spec;
+ghost use Rattle.golf_syntax.specs.DeclReading.{receiver_by, result_by};
 
 use crate::constants::const_at;
 use crate::fields::fields_at;
 use golf_base::{List, Memory};
 use golf_expressions::{after, after_keyword, copied, name_at, type_at};
-use golf_grammar::{Decl, Field, Func, Name, Receiver, TypeExpr};
+use golf_grammar::{Decl, Field, Func, Name, OwnedDecl, OwnedType, Receiver};
 use golf_statements::{block_at, var_at};
 use golf_tokens::{Keyword, Mark, Token, TokenKind};
 use std::alloc::Global;
@@ -19,8 +22,8 @@ fn const_decl(
     alloc: Global,
     line: u32,
     tokens: &[Token],
-) -> Result<Option<(Decl, &[Token])>, Memory>
-    ensures value { IfOk result (λ o. seen o ≡ const_decl_of line tokens.now) }
+) -> Result<Option<(OwnedDecl, &[Token])>, Memory>
+    ensures value { IfOk result (λ o. seen o ≡ decl_spec.const_decl line tokens.now) }
     ensures shorter { IfOk result (λ o. IfSome o (λ x. length x.1.now < length tokens.now)) }
 {
     let Some((name, behind)) = name_at(tokens) else {
@@ -32,7 +35,7 @@ fn const_decl(
     let name = copied(alloc, name)?;
     match const_at(alloc, valued)? {
         None => Ok(None),
-        Some((value, rest)) => Ok(Some((Decl::Const(line, name, value), rest))),
+        Some((value, rest)) => Ok(Some((OwnedDecl::new(Decl::Const(line, name, value)), rest))),
     }
 }
 
@@ -41,8 +44,8 @@ fn struct_decl(
     alloc: Global,
     line: u32,
     tokens: &[Token],
-) -> Result<Option<(Decl, &[Token])>, Memory>
-    ensures value { IfOk result (λ o. seen o ≡ struct_decl_of line tokens.now) }
+) -> Result<Option<(OwnedDecl, &[Token])>, Memory>
+    ensures value { IfOk result (λ o. seen o ≡ decl_spec.struct_decl line tokens.now) }
     ensures shorter { IfOk result (λ o. IfSome o (λ x. length x.1.now < length tokens.now)) }
 {
     let Some((name, behind)) = name_at(tokens) else {
@@ -57,7 +60,7 @@ fn struct_decl(
     let name = copied(alloc, name)?;
     match fields_at(alloc, Mark::Semicolon, Mark::CloseBrace, inside)? {
         None => Ok(None),
-        Some((fields, rest)) => Ok(Some((Decl::Struct(line, name, fields), rest))),
+        Some((fields, rest)) => Ok(Some((OwnedDecl::new(Decl::Struct(line, name, fields)), rest))),
     }
 }
 
@@ -91,7 +94,7 @@ fn receiver_at(
     alloc: Global,
     tokens: &[Token],
 ) -> Result<Option<(Option<Receiver>, &[Token])>, Memory>
-    ensures value { IfOk result (λ o. seen o ≡ receiver_by tokens.now (after_of Mark.OpenParen tokens.now)) }
+    ensures value { IfOk result (λ o. seen o ≡ receiver_by tokens.now (front_spec.after Mark.OpenParen tokens.now)) }
     ensures shorter { IfOk result (λ o. IfSome o (λ x. length x.1.now ≤ length tokens.now)) }
 {
     match after(tokens, Mark::OpenParen) {
@@ -101,8 +104,8 @@ fn receiver_at(
 }
 
 // A result type, or none.
-fn result_at(alloc: Global, tokens: &[Token]) -> Result<(Option<TypeExpr>, &[Token]), Memory>
-    ensures value { IfOk result (λ x. (x.0, x.1.now) ≡ result_by tokens.now (type_at_of OfType tokens.now)) }
+fn result_at(alloc: Global, tokens: &[Token]) -> Result<(Option<OwnedType>, &[Token]), Memory>
+    ensures value { IfOk result (λ x. (x.0, x.1.now) ≡ result_by tokens.now (type_spec.type_at OfType tokens.now)) }
     ensures shorter { IfOk result (λ x. length x.1.now ≤ length tokens.now) }
 {
     match type_at(alloc, tokens)? {
@@ -119,22 +122,22 @@ fn func_behind(
     name: Name,
     parameters: List<Field>,
     tokens: &[Token],
-) -> Result<Option<(Decl, &[Token])>, Memory>
-    ensures value { IfOk result (λ o. seen o ≡ func_behind_of line receiver name parameters (result_by tokens.now (type_at_of OfType tokens.now))) }
+) -> Result<Option<(OwnedDecl, &[Token])>, Memory>
+    ensures value { IfOk result (λ o. seen o ≡ decl_spec.func_behind line receiver name parameters (result_by tokens.now (type_spec.type_at OfType tokens.now))) }
     ensures shorter { IfOk result (λ o. IfSome o (λ x. length x.1.now < length tokens.now)) }
 {
     let (result, behind) = result_at(alloc, tokens)?;
     match block_at(alloc, behind)? {
         None => Ok(None),
         Some((body, rest)) => Ok(Some((
-            Decl::Func(Func {
+            OwnedDecl::new(Decl::Func(Func {
                 line,
                 receiver,
                 name,
                 parameters,
                 result,
-                body,
-            }),
+                body: body.into_inner(),
+            })),
             rest,
         ))),
     }
@@ -146,8 +149,8 @@ fn func_named(
     line: u32,
     receiver: Option<Receiver>,
     tokens: &[Token],
-) -> Result<Option<(Decl, &[Token])>, Memory>
-    ensures value { IfOk result (λ o. seen o ≡ func_named_of line receiver tokens.now) }
+) -> Result<Option<(OwnedDecl, &[Token])>, Memory>
+    ensures value { IfOk result (λ o. seen o ≡ decl_spec.func_named line receiver tokens.now) }
     ensures shorter { IfOk result (λ o. IfSome o (λ x. length x.1.now < length tokens.now)) }
 {
     let Some((name, behind)) = name_at(tokens) else {
@@ -165,8 +168,12 @@ fn func_named(
 
 // A function behind its word, which stands on this line.
 #[tactic(auto, unfolding(crate::specs::DeclReading::func_at))]
-fn func_at(alloc: Global, line: u32, tokens: &[Token]) -> Result<Option<(Decl, &[Token])>, Memory>
-    ensures value { IfOk result (λ o. seen o ≡ func_at_of line tokens.now) }
+fn func_at(
+    alloc: Global,
+    line: u32,
+    tokens: &[Token],
+) -> Result<Option<(OwnedDecl, &[Token])>, Memory>
+    ensures value { IfOk result (λ o. seen o ≡ decl_spec.func_at line tokens.now) }
     ensures shorter { IfOk result (λ o. IfSome o (λ x. length x.1.now < length tokens.now)) }
 {
     match receiver_at(alloc, tokens)? {
@@ -176,13 +183,17 @@ fn func_at(alloc: Global, line: u32, tokens: &[Token]) -> Result<Option<(Decl, &
 }
 
 // A variable behind its word, which stands on this line.
-fn var_decl(alloc: Global, line: u32, tokens: &[Token]) -> Result<Option<(Decl, &[Token])>, Memory>
-    ensures value { IfOk result (λ o. seen o ≡ decl_from_of line Keyword.Var tokens.now) }
+fn var_decl(
+    alloc: Global,
+    line: u32,
+    tokens: &[Token],
+) -> Result<Option<(OwnedDecl, &[Token])>, Memory>
+    ensures value { IfOk result (λ o. seen o ≡ decl_spec.decl_from line Keyword.Var tokens.now) }
     ensures shorter { IfOk result (λ o. IfSome o (λ x. length x.1.now < length tokens.now)) }
 {
     match var_at(alloc, line, tokens)? {
         None => Ok(None),
-        Some((variable, rest)) => Ok(Some((Decl::Var(variable), rest))),
+        Some((variable, rest)) => Ok(Some((OwnedDecl::new(Decl::Var(variable)), rest))),
     }
 }
 
@@ -192,8 +203,8 @@ fn decl_from(
     line: u32,
     word: Keyword,
     tokens: &[Token],
-) -> Result<Option<(Decl, &[Token])>, Memory>
-    ensures value { IfOk result (λ o. seen o ≡ decl_from_of line word tokens.now) }
+) -> Result<Option<(OwnedDecl, &[Token])>, Memory>
+    ensures value { IfOk result (λ o. seen o ≡ decl_spec.decl_from line word tokens.now) }
     ensures shorter { IfOk result (λ o. IfSome o (λ x. length x.1.now < length tokens.now)) }
 {
     match word {
@@ -207,8 +218,8 @@ fn decl_from(
 
 /// The declaration at the front, and what follows it.
 #[tactic(auto, unfolding(crate::specs::DeclReading::decl_at))]
-pub fn decl_at(alloc: Global, tokens: &[Token]) -> Result<Option<(Decl, &[Token])>, Memory>
-    ensures value { IfOk result (λ o. seen o ≡ decl_at_of tokens.now) }
+pub fn decl_at(alloc: Global, tokens: &[Token]) -> Result<Option<(OwnedDecl, &[Token])>, Memory>
+    ensures value { IfOk result (λ o. seen o ≡ decl_spec.decl_at tokens.now) }
     ensures shorter { IfOk result (λ o. IfSome o (λ x. length x.1.now < length tokens.now)) }
 {
     match tokens.split_first() {

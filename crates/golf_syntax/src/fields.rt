@@ -3,7 +3,7 @@
 ghost use Rattle.std.specs.Prelude.{◌≡◌, ◌<◌, ◌≤◌, length, IfOk, IfSome};
 ghost use Rattle.golf_expressions.specs.Front.{seen};
 ghost use Rattle.golf_syntax.specs.Many.{list_at};
-ghost use Rattle.golf_syntax.specs.DeclReading.{field_at as field_at_of, names_at as names_at_of};
+ghost use Rattle.golf_syntax.specs.DeclReading as decl_spec;
 
 use golf_base::{List, Memory};
 use golf_expressions::{after, copied, name_at, type_at};
@@ -13,7 +13,7 @@ use std::alloc::Global;
 
 // More names, each behind a comma.
 fn names_at(alloc: Global, tokens: &[Token]) -> Result<Option<(List<Name>, &[Token])>, Memory>
-    ensures value { IfOk result (λ o. seen o ≡ names_at_of tokens.now) }
+    ensures value { IfOk result (λ o. seen o ≡ decl_spec.names_at tokens.now) }
     ensures shorter { IfOk result (λ o. IfSome o (λ x. length x.1.now ≤ length tokens.now)) }
 {
     let mut names = List::new(alloc);
@@ -33,7 +33,7 @@ fn names_at(alloc: Global, tokens: &[Token]) -> Result<Option<(List<Name>, &[Tok
 /// Names that share a type, and what follows them.
 #[tactic(auto, unfolding(crate::specs::DeclReading::field_at))]
 pub fn field_at(alloc: Global, tokens: &[Token]) -> Result<Option<(Field, &[Token])>, Memory>
-    ensures value { IfOk result (λ o. seen o ≡ field_at_of tokens.now) }
+    ensures value { IfOk result (λ o. seen o ≡ decl_spec.field_at tokens.now) }
     ensures shorter { IfOk result (λ o. IfSome o (λ x. length x.1.now < length tokens.now)) }
 {
     let Some((first, behind)) = name_at(tokens) else {
@@ -63,7 +63,7 @@ pub fn fields_at(
     close: Mark,
     tokens: &[Token],
 ) -> Result<Option<(List<Field>, &[Token])>, Memory>
-    ensures value { IfOk result (λ o. seen o ≡ list_at field_at_of separator close tokens.now) }
+    ensures value { IfOk result (λ o. seen o ≡ list_at decl_spec.field_at separator close tokens.now) }
     ensures shorter { IfOk result (λ o. IfSome o (λ x. length x.1.now < length tokens.now)) }
 {
     let mut fields = List::new(alloc);

@@ -1,9 +1,10 @@
 //! Imports.
 
 ghost use Rattle.std.specs.Prelude.{◌≡◌, ◌<◌, ◌≤◌, length, IfOk, IfSome};
-ghost use Rattle.golf_expressions.specs.Front.{after as after_of, seen};
+ghost use Rattle.golf_expressions.specs.Front as front_spec;
+ghost use Rattle.golf_expressions.specs.Front.{seen};
 ghost use Rattle.golf_syntax.specs.Many.{list_at};
-ghost use Rattle.golf_syntax.specs.DeclReading.{import_at as import_at_of, text_at as text_at_of};
+ghost use Rattle.golf_syntax.specs.DeclReading as decl_spec;
 
 use golf_base::{List, Memory};
 use golf_expressions::{after, copied};
@@ -13,7 +14,7 @@ use std::alloc::Global;
 
 // The path of an import.
 fn text_at(alloc: Global, tokens: &[Token]) -> Result<Option<(List<u8>, &[Token])>, Memory>
-    ensures value { IfOk result (λ o. seen o ≡ text_at_of tokens.now) }
+    ensures value { IfOk result (λ o. seen o ≡ decl_spec.text_at tokens.now) }
     ensures shorter { IfOk result (λ o. IfSome o (λ x. length x.1.now < length tokens.now)) }
 {
     match tokens.split_first() {
@@ -27,7 +28,7 @@ fn text_at(alloc: Global, tokens: &[Token]) -> Result<Option<(List<u8>, &[Token]
 
 // Paths with semicolons between, up to the parenthesis that closes them.
 fn texts_at(alloc: Global, tokens: &[Token]) -> Result<Option<(List<List<u8>>, &[Token])>, Memory>
-    ensures value { IfOk result (λ o. seen o ≡ list_at text_at_of Mark.Semicolon Mark.CloseParen tokens.now) }
+    ensures value { IfOk result (λ o. seen o ≡ list_at decl_spec.text_at Mark.Semicolon Mark.CloseParen tokens.now) }
     ensures shorter { IfOk result (λ o. IfSome o (λ x. length x.1.now < length tokens.now)) }
 {
     let mut paths = List::new(alloc);
@@ -57,7 +58,7 @@ pub fn import_at(
     line: u32,
     tokens: &[Token],
 ) -> Result<Option<(Import, &[Token])>, Memory>
-    ensures value { IfOk result (λ o. seen o ≡ import_at_of line tokens.now) }
+    ensures value { IfOk result (λ o. seen o ≡ decl_spec.import_at line tokens.now) }
     ensures shorter { IfOk result (λ o. IfSome o (λ x. length x.1.now < length tokens.now)) }
 {
     match after(tokens, Mark::OpenParen) {

@@ -1,15 +1,16 @@
 //! Reads a file from its tokens, piece by piece.
 
 ghost use Rattle.std.specs.Prelude.{◌≡◌, List, IfOk};
-ghost use Rattle.golf_syntax.specs.PieceReading.{decl_of as decl_of_of, import_by_word, import_of as import_of_of, is_end as is_end_of, is_package as is_package_of};
+ghost use Rattle.golf_syntax.specs.PieceReading as piece_spec;
+ghost use Rattle.golf_syntax.specs.PieceReading.{import_by_word};
 ghost use Rattle.golf_syntax.specs.Parses.{Accepts, Declared, FirstLine, Imported, Parsed, Refuses};
 
 use crate::declarations::decl_at;
 use crate::imports::import_at;
 use golf_base::{List, Memory};
 use golf_expressions::{after, after_keyword, name_at};
-use golf_grammar::{Decl, File, Import};
-use golf_pieces::{first_costly, front_piece};
+use golf_grammar::{File, Import, OwnedDecl, OwnedDecls};
+use golf_pieces::{first_too_complex, front_piece};
 use golf_tokens::{Keyword, Mark, Token, TokenKind};
 use std::alloc::Global;
 
@@ -35,7 +36,7 @@ impl From<Memory> for SyntaxFault {
 
 // Whether a semicolon stands here, and nothing behind it.
 fn is_end(tokens: &[Token]) -> bool
-    ensures { result ≡ is_end_of tokens.now }
+    ensures { result ≡ piece_spec.is_end tokens.now }
 {
     match after(tokens, Mark::Semicolon) {
         None => false,
@@ -45,7 +46,7 @@ fn is_end(tokens: &[Token]) -> bool
 
 // Whether the piece names the package.
 fn is_package(piece: &[Token]) -> bool
-    ensures { result ≡ is_package_of piece.now }
+    ensures { result ≡ piece_spec.is_package piece.now }
 {
     let Some(named) = after_keyword(piece, Keyword::Package) else {
         return false
@@ -72,7 +73,7 @@ fn import_behind(alloc: Global, line: u32, tokens: &[Token]) -> Result<Option<Im
 
 // The import that the piece is.
 fn import_of(alloc: Global, piece: &[Token]) -> Result<Option<Import>, Memory>
-    ensures { IfOk result (λ o. o ≡ import_of_of piece.now) }
+    ensures { IfOk result (λ o. o ≡ piece_spec.import_of piece.now) }
 {
     match piece.split_first() {
         None => Ok(None),
@@ -84,8 +85,8 @@ fn import_of(alloc: Global, piece: &[Token]) -> Result<Option<Import>, Memory>
 }
 
 // The declaration that the piece is.
-fn decl_of(alloc: Global, piece: &[Token]) -> Result<Option<Decl>, Memory>
-    ensures { IfOk result (λ o. o ≡ decl_of_of piece.now) }
+fn decl_of(alloc: Global, piece: &[Token]) -> Result<Option<OwnedDecl>, Memory>
+    ensures { IfOk result (λ o. o ≡ piece_spec.decl_of piece.now) }
 {
     match decl_at(alloc, piece)? {
         None => Ok(None),
@@ -126,10 +127,10 @@ fn imports_of(alloc: Global, tokens: &[Token]) -> Result<(List<Import>, &[Token]
 }
 
 // The declarations that all pieces are.
-fn declarations_of(alloc: Global, tokens: &[Token]) -> Result<List<Decl>, SyntaxFault>
+fn declarations_of(alloc: Global, tokens: &[Token]) -> Result<OwnedDecls, SyntaxFault>
     ensures { Declared tokens.now result }
 {
-    let mut declarations = List::new(alloc);
+    let mut declarations = OwnedDecls::empty(alloc);
     let mut left = tokens;
     'pieces: loop {
         let Some((piece, rest)) = front_piece(left) else {
@@ -149,7 +150,7 @@ fn declarations_of(alloc: Global, tokens: &[Token]) -> Result<List<Decl>, Syntax
 fn file_of(alloc: Global, tokens: &[Token]) -> Result<File, SyntaxFault>
     ensures { Parsed tokens.now result }
 {
-    if let Some(line) = first_costly(alloc, tokens)? {
+    if let Some(line) = first_too_complex(alloc, tokens)? {
         return Err(SyntaxFault::At { line });
     }
     let Some((package, rest)) = front_piece(tokens) else {
@@ -165,7 +166,7 @@ fn file_of(alloc: Global, tokens: &[Token]) -> Result<File, SyntaxFault>
         Err(fault) => Err(fault),
         Ok(declarations) => Ok(File {
             imports,
-            declarations,
+            declarations: declarations.into_inner(),
         }),
     }
 }

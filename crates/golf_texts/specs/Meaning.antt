@@ -5,7 +5,7 @@ use Rattle.golf_data.specs.declared.goroutine.Ending.{Ending}
 use Rattle.golf_data.specs.declared.report.Entry.{Entry}
 use Rattle.golf_data.specs.declared.report.Report.{Report}
 use Rattle.golf_model.specs.State.{State, start, ending}
-use Rattle.golf_model.specs.Collecting.{sets}
+use Rattle.golf_model.specs.Collecting.{sets_finalisers}
 use Rattle.golf_model.specs.Running.{Event, run, stops}
 use Rattle.golf_model.specs.Reporting.{book_of}
 use Rattle.golf_texts.specs.declared.status.Status.{Status}
@@ -21,7 +21,7 @@ rotate_from k (suc n) = Event.Turn k ∷ rotate_from (k + 1) n
 unfoldable pub events : List Event
 events = rotate_from 0 TURNS
 
--- the state behind them, of the machine that frees and reclaims nothing
+-- the state after them, of the machine that frees and reclaims nothing
 unfoldable pub last_of : Code → State
 last_of code = run code (start code) events
 
@@ -31,7 +31,7 @@ out_of code = (last_of code).output
 
 -- the reports of its collections
 unfoldable pub reports_of : Code → List Report
-reports_of code = book_of (stops code events) false (sets code)
+reports_of code = book_of (stops code events) false (sets_finalisers code)
 
 -- the reports, and how the run ended
 unfoldable pub err_of : Code → List ℕ

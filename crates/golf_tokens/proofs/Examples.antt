@@ -6,7 +6,7 @@ use Rattle.golf_tokens.specs.declared.token.TokenKind.{TokenKind}
 use Rattle.golf_tokens.specs.declared.token.TokenKind.TheVariants.{Name, Integer, Mark}
 use Rattle.golf_tokens.specs.declared.token.Mark.TheVariants as marks
 use Rattle.golf_tokens.specs.Spelling.{is_word, is_integer, Itself, Newline, Quote, parts_text, parts_bytes}
-use Rattle.golf_tokens.specs.Pieces.{Class, Piece, Blank, LineComment, GeneralComment, Of, has_end}
+use Rattle.golf_tokens.specs.Lexemes.{Class, Lexeme, Blank, LineComment, GeneralComment, Of, has_end}
 use Rattle.golf_tokens.specs.Semicolons.{tokens_of, without_optional}
 use Rattle.golf_tokens.specs.Cost.{costs}
 
@@ -16,8 +16,8 @@ at line kind = record { kind = kind; line = line }
 x : TokenKind
 x = Name (codes "x")
 
-piece : Class → List ℕ → Piece
-piece class bytes = record { class = class; bytes = bytes }
+lexeme : Class → List ℕ → Lexeme
+lexeme class bytes = record { class = class; bytes = bytes }
 
 integers : is_integer (codes "0") ≡ true
 integers = refl
@@ -42,13 +42,13 @@ ends : has_end (codes "a*/b") ≡ true
 ends = refl
 
 -- `x`, a comment over two lines, `1`: the semicolons have the lines of their tokens
-inserts : tokens_of (piece (Of x) (codes "x") ∷ piece GeneralComment (codes "/*\n*/") ∷ piece (Of (Integer (codes "1"))) (codes "1") ∷ []) ≡ at 1 x ∷ at 1 (Mark marks.Semicolon) ∷ at 2 (Integer (codes "1")) ∷ at 2 (Mark marks.Semicolon) ∷ []
-unfolding at x piece
+inserts : tokens_of (lexeme (Of x) (codes "x") ∷ lexeme GeneralComment (codes "/*\n*/") ∷ lexeme (Of (Integer (codes "1"))) (codes "1") ∷ []) ≡ at 1 x ∷ at 1 (Mark marks.Semicolon) ∷ at 2 (Integer (codes "1")) ∷ at 2 (Mark marks.Semicolon) ∷ []
+unfolding at x lexeme
 inserts = refl
 
 -- `x`, a blank, a line comment, a newline, `.`: no semicolon behind the point
-inserts_none : tokens_of (piece (Of x) (codes "x") ∷ piece Blank (codes " ") ∷ piece LineComment (codes "//") ∷ piece Blank (codes "\n") ∷ piece (Of (Mark marks.Dot)) (codes ".") ∷ []) ≡ at 1 x ∷ at 1 (Mark marks.Semicolon) ∷ at 2 (Mark marks.Dot) ∷ []
-unfolding at x piece
+inserts_none : tokens_of (lexeme (Of x) (codes "x") ∷ lexeme Blank (codes " ") ∷ lexeme LineComment (codes "//") ∷ lexeme Blank (codes "\n") ∷ lexeme (Of (Mark marks.Dot)) (codes ".") ∷ []) ≡ at 1 x ∷ at 1 (Mark marks.Semicolon) ∷ at 2 (Mark marks.Dot) ∷ []
+unfolding at x lexeme
 inserts_none = refl
 
 -- of `x;;}` one `;` stays, and `[x,]` keeps its comma

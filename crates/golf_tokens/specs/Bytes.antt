@@ -18,8 +18,8 @@ abbrev pub is_blank : ℕ → Bool
 is_blank b = nat_eq b 32 || nat_eq b 9 || nat_eq b 13 || nat_eq b 10
 
 -- it stands for itself between the quotes of a string: all but NUL, newline, quote and backslash
-abbrev pub is_plain : ℕ → Bool
-is_plain b = not (nat_eq b 0 || nat_eq b 10 || nat_eq b 34 || nat_eq b 92)
+abbrev pub is_ordinary : ℕ → Bool
+is_ordinary b = not (nat_eq b 0 || nat_eq b 10 || nat_eq b 34 || nat_eq b 92)
 
 -- how many newlines there are
 abbrev pub newlines : List ℕ → ℕ

@@ -3,15 +3,15 @@ use Rattle.std.specs.Prelude.{◌≡◌, ℕ, suc, ◌+◌, ◌<◌, ◌≤◌, 
 use Rattle.std.specs.List.{list_all}
 use Rattle.golf_tokens.specs.declared.token.Token.{Token}
 use Rattle.golf_tokens.specs.Bytes.{newlines}
-use Rattle.golf_tokens.specs.Pieces.{Piece, pieces_text, Cut}
+use Rattle.golf_tokens.specs.Lexemes.{Lexeme, lexemes_text, Cut}
 use Rattle.golf_tokens.specs.Semicolons.{tokens_of}
 
--- the bytes are pieces, and the tokens are those of the pieces
+-- the bytes are lexemes, and the tokens are those of the lexemes
 pub record Lexes (bytes : List ℕ) (tokens : List Token) : Type 0 where
-  pub pieces : List Piece
-  pub cut : Cut pieces
-  pub text : bytes ≡ pieces_text pieces
-  pub are : tokens ≡ tokens_of pieces
+  pub lexemes : List Lexeme
+  pub cut : Cut lexemes
+  pub text : bytes ≡ lexemes_text lexemes
+  pub are : tokens ≡ tokens_of lexemes
 
 -- some text that lexes begins with the bytes
 pub record Begins (bytes : List ℕ) : Type 0 where

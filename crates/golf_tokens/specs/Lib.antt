@@ -1,6 +1,6 @@
 pub mod Bytes
 pub mod Spelling
-pub mod Pieces
+pub mod Lexemes
 pub mod Semicolons
 pub mod Lexes
 pub mod Cost

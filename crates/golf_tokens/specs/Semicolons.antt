@@ -1,4 +1,4 @@
--- The tokens of pieces, with the semicolons that newlines stand for (Go specification, "Semicolons").
+-- The tokens of lexemes, with the semicolons that newlines stand for (Go specification, "Semicolons").
 use Rattle.std.specs.Prelude.{ℕ, ◌+◌, Bool, true, false, ◌&&◌, nat_eq, cond, List, [], ◌∷◌, ◌++◌}
 use Rattle.golf_tokens.specs.declared.token.Token.{Token}
 use Rattle.golf_tokens.specs.declared.token.TokenKind.{TokenKind}
@@ -6,8 +6,8 @@ use Rattle.golf_tokens.specs.declared.token.TokenKind.TheVariants.{Name, Integer
 use Rattle.golf_tokens.specs.declared.token.Keyword.TheVariants.{Break, Continue, Return}
 use Rattle.golf_tokens.specs.declared.token.Mark.TheVariants.{Increment, Decrement, CloseParen, CloseBracket, CloseBrace, Semicolon, Comma}
 use Rattle.golf_tokens.specs.Bytes.{newlines}
-use Rattle.golf_tokens.specs.Pieces.{Class, Piece}
-use Rattle.golf_tokens.specs.Pieces as pieces
+use Rattle.golf_tokens.specs.Lexemes.{Class, Lexeme}
+use Rattle.golf_tokens.specs.Lexemes as lexemes
 
 -- a token, or a newline
 pub data Item : Type 0 where
@@ -19,14 +19,14 @@ abbrev pub newline_in : List ℕ → List Item
 newline_in bytes = cond (nat_eq (newlines bytes) 0) [] (Newline ∷ [])
 
 -- a general comment that holds a newline counts as one
-abbrev pub piece_items : ℕ → Class → List ℕ → List Item
-piece_items line (pieces.Of kind) bytes = Of (record { kind = kind; line = line }) ∷ []
-piece_items line _ bytes = newline_in bytes
+abbrev pub lexeme_items : ℕ → Class → List ℕ → List Item
+lexeme_items line (lexemes.Of kind) bytes = Of (record { kind = kind; line = line }) ∷ []
+lexeme_items line _ bytes = newline_in bytes
 
--- tokens with their lines and newlines, of pieces that begin on this line
-abbrev pub items : ℕ → List Piece → List Item
+-- tokens with their lines and newlines, of lexemes that begin on this line
+abbrev pub items : ℕ → List Lexeme → List Item
 items line [] = []
-items line (p ∷ ps) = piece_items line p.class p.bytes ++ items (line + newlines p.bytes) ps
+items line (p ∷ ps) = lexeme_items line p.class p.bytes ++ items (line + newlines p.bytes) ps
 
 -- a newline behind it stands for a semicolon, as behind those of Go's tokens that end statements here
 abbrev pub may_end : TokenKind → Bool
@@ -82,6 +82,6 @@ without_optional [] = []
 without_optional (token ∷ rest) =
     cond (is_separator token.kind && closes rest) (without_optional rest) (token ∷ without_optional rest)
 
--- the tokens of the pieces of a file
-abbrev pub tokens_of : List Piece → List Token
-tokens_of pieces = without_optional (inserted (items 1 pieces))
+-- the tokens of the lexemes of a file
+abbrev pub tokens_of : List Lexeme → List Token
+tokens_of lexemes = without_optional (inserted (items 1 lexemes))

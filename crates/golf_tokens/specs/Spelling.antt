@@ -7,7 +7,7 @@ use Rattle.golf_tokens.specs.declared.token.Keyword.{Keyword}
 use Rattle.golf_tokens.specs.declared.token.Keyword.TheVariants as keywords
 use Rattle.golf_tokens.specs.declared.token.Mark.{Mark}
 use Rattle.golf_tokens.specs.declared.token.Mark.TheVariants as marks
-use Rattle.golf_tokens.specs.Bytes.{is_letter, is_digit, is_word_byte, is_plain}
+use Rattle.golf_tokens.specs.Bytes.{is_letter, is_digit, is_word_byte, is_ordinary}
 
 -- Go specification, "Keywords"
 abbrev pub keyword_text : Keyword → List ℕ
@@ -110,7 +110,7 @@ part_byte Backslash = 92
 part_byte Quote = 34
 
 abbrev pub is_part : Part → Bool
-is_part (Itself b) = is_plain b
+is_part (Itself b) = is_ordinary b
 is_part _ = true
 
 -- parts, one after the other

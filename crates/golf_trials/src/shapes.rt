@@ -100,7 +100,7 @@ fn link(next: &mut List<Option<u32>>, from: u32, to: u32) {
     }
 }
 
-// For each node the one behind it in this order.
+// For each node the one after it in this order.
 fn next_nodes(alloc: Global, order: &[u32]) -> Result<List<Option<u32>>, GraphFault> {
     let mut next = List::new(alloc);
     next.extend_with(order.len(), None)?;

@@ -1,14 +1,13 @@
 -- Buffers, closing, and who is served first.
-use Rattle.std.specs.Prelude.{◌≡◌, ℕ, List, [], ◌∷◌, ◌++◌, Some, None, refl}
+use Rattle.std.specs.Prelude.{◌≡◌, List, [], ◌∷◌, ◌++◌, Some, None, refl}
 use Rattle.std.specs.Fmt.{digits}
 use Rattle.golf_data.specs.declared.code.Code.{Code}
 use Rattle.golf_data.specs.declared.code.Instr.{Instr}
-use Rattle.golf_data.specs.declared.code.SelectCase.{SelectCase}
 use Rattle.golf_data.specs.declared.code.CaseKind.{CaseKind}
 use Rattle.golf_data.specs.declared.goroutine.Ending.{Ending}
 use Rattle.golf_data.specs.declared.goroutine.PanicKind.{PanicKind}
-use Rattle.golf_model.specs.State.{ending}
-use Rattle.golf_model.proofs.Examples.Writing.{function, push, new_channel, code_with, lowest, second, third, after}
+use Rattle.golf_model.specs.State.{runnable, ending}
+use Rattle.golf_model.proofs.Examples.Writing.{function, push, new_channel, code_with, lowest, second, third, after, case, panicked}
 
 -- function 1 receives from its channel and prints the value with its own number
 abbrev racing : Code
@@ -74,15 +73,17 @@ pub closed_on_receiver : (after (closing (Instr.Load 0 ∷ Instr.ReceiveOk ∷ I
 unfolding digits
 closed_on_receiver = refl
 
+-- a close wakes all who wait
+pub closed_on_both : runnable (after (code_with [] (function 0 1 1 (new_channel 0 ++ (Instr.Store 0 ∷ Instr.Load 0 ∷ Instr.Go 1 1 ∷ Instr.Load 0 ∷ Instr.Go 1 1 ∷ Instr.Load 0 ∷ Instr.Close ∷ Instr.Return ∷ [])) ∷ function 1 1 11 (Instr.Load 0 ∷ Instr.Receive ∷ Instr.Return ∷ []) ∷ []))
+    (lowest 7 ++ (second 2 ++ (second 2 ++ lowest 2)))) ≡ 1 ∷ 2 ∷ 3 ∷ []
+closed_on_both = refl
+
 -- a sender panics at its own line
-pub closed_on_sender : ending (after (closing (Instr.Load 0 ∷ push 5 ∷ Instr.Send ∷ Instr.Return ∷ [])) (lowest 4 ++ (second 3 ++ (lowest 1 ++ second 1)))) ≡ Some (Ending.Panicked PanicKind.SendClosed (record { 0 = 2 }) 13)
+pub closed_on_sender : ending (after (closing (Instr.Load 0 ∷ push 5 ∷ Instr.Send ∷ Instr.Return ∷ [])) (lowest 4 ++ (second 3 ++ (lowest 1 ++ second 1)))) ≡ Some (panicked PanicKind.SendClosed 2 13)
 closed_on_sender = refl
 
-abbrev case : CaseKind → ℕ → SelectCase
-case kind target = record { kind = kind; target = target }
-
 -- a `select` that both sends and receives there goes by its first case: as a sender
-pub closed_on_send_first : ending (after (closing (Instr.Load 0 ∷ push 5 ∷ Instr.Load 0 ∷ Instr.Select (case CaseKind.Send 4 ∷ case CaseKind.Take 5 ∷ []) None ∷ Instr.Return ∷ Instr.Print 1 ∷ Instr.Return ∷ [])) (lowest 4 ++ (second 4 ++ (lowest 1 ++ second 1)))) ≡ Some (Ending.Panicked PanicKind.SendClosed (record { 0 = 2 }) 14)
+pub closed_on_send_first : ending (after (closing (Instr.Load 0 ∷ push 5 ∷ Instr.Load 0 ∷ Instr.Select (case CaseKind.Send 4 ∷ case CaseKind.Take 5 ∷ []) None ∷ Instr.Return ∷ Instr.Print 1 ∷ Instr.Return ∷ [])) (lowest 4 ++ (second 4 ++ (lowest 1 ++ second 1)))) ≡ Some (panicked PanicKind.SendClosed 2 14)
 closed_on_send_first = refl
 
 -- or as a receiver
@@ -91,17 +92,17 @@ unfolding digits
 closed_on_receive_first = refl
 
 -- a send on a closed channel panics, in a `select` too
-pub send_on_closed : ending (after (code_with [] (function 0 0 1 (new_channel 1 ++ (Instr.Dup ∷ Instr.Close ∷ push 1 ∷ Instr.Send ∷ [])) ∷ [])) (lowest 7)) ≡ Some (Ending.Panicked PanicKind.SendClosed (record { 0 = 1 }) 6)
+pub send_on_closed : ending (after (code_with [] (function 0 0 1 (new_channel 1 ++ (Instr.Dup ∷ Instr.Close ∷ push 1 ∷ Instr.Send ∷ [])) ∷ [])) (lowest 7)) ≡ Some (panicked PanicKind.SendClosed 1 6)
 send_on_closed = refl
 
-pub select_on_closed : ending (after (code_with [] (function 0 0 1 (new_channel 0 ++ (Instr.Dup ∷ Instr.Close ∷ push 1 ∷ Instr.Select (case CaseKind.Send 6 ∷ []) (Some 6) ∷ Instr.Return ∷ [])) ∷ [])) (lowest 7)) ≡ Some (Ending.Panicked PanicKind.SendClosed (record { 0 = 1 }) 6)
+pub select_on_closed : ending (after (code_with [] (function 0 0 1 (new_channel 0 ++ (Instr.Dup ∷ Instr.Close ∷ push 1 ∷ Instr.Select (case CaseKind.Send 6 ∷ []) (Some 6) ∷ Instr.Return ∷ [])) ∷ [])) (lowest 7)) ≡ Some (panicked PanicKind.SendClosed 1 6)
 select_on_closed = refl
 
 -- a channel cannot be closed twice, and nil not at all
-pub closed_twice : ending (after (code_with [] (function 0 0 1 (new_channel 0 ++ (Instr.Dup ∷ Instr.Close ∷ Instr.Close ∷ [])) ∷ [])) (lowest 6)) ≡ Some (Ending.Panicked PanicKind.CloseClosed (record { 0 = 1 }) 5)
+pub closed_twice : ending (after (code_with [] (function 0 0 1 (new_channel 0 ++ (Instr.Dup ∷ Instr.Close ∷ Instr.Close ∷ [])) ∷ [])) (lowest 6)) ≡ Some (panicked PanicKind.CloseClosed 1 5)
 closed_twice = refl
 
-pub closed_nil : ending (after (code_with [] (function 0 0 1 (Instr.Nil ∷ Instr.Close ∷ []) ∷ [])) (lowest 3)) ≡ Some (Ending.Panicked PanicKind.CloseNil (record { 0 = 1 }) 2)
+pub closed_nil : ending (after (code_with [] (function 0 0 1 (Instr.Nil ∷ Instr.Close ∷ []) ∷ [])) (lowest 3)) ≡ Some (panicked PanicKind.CloseNil 1 2)
 closed_nil = refl
 
 -- a receive from nil blocks for ever

@@ -1,16 +1,19 @@
 -- Finalisers: queued, run and cleared.
 use Rattle.golf_data.specs.declared.value.Value.{Value}
 use Rattle.std.specs.Prelude.{◌++◌}
-use Rattle.std.specs.Prelude.{◌≡◌, false, List, [], ◌∷◌, Some, None, refl}
+use Rattle.std.specs.Prelude.{◌≡◌, false, List, [], ◌∷◌, Some, refl}
 use Rattle.std.specs.Fmt.{digits}
 use Rattle.golf_data.specs.declared.code.Code.{Code}
 use Rattle.golf_data.specs.declared.code.Instr.{Instr}
 use Rattle.golf_data.specs.declared.goroutine.Ending.{Ending}
+use Rattle.golf_data.specs.declared.goroutine.Mode.{Mode}
+use Rattle.golf_data.specs.declared.goroutine.PanicKind.{PanicKind}
+use Rattle.golf_data.specs.declared.goroutine.WaitKind.{WaitKind}
 use Rattle.golf_model.specs.State.{runnable, ending, start}
 use Rattle.golf_model.specs.Reaching.{reach}
-use Rattle.golf_model.specs.Living.{live_list}
+use Rattle.golf_model.specs.Living.{live_list, dead}
 use Rattle.golf_model.specs.Running.{finaliser_calls}
-use Rattle.golf_model.proofs.Examples.Writing.{second, function, push, code_with, turns, lowest, after, reports, quiet}
+use Rattle.golf_model.proofs.Examples.Writing.{second, function, push, code_with, straight, turns, lowest, after, panicked, mode_of, reports, quiet}
 
 -- function 0 makes a struct, gives it function 1 as its finaliser, drops it and collects
 abbrev dropping : List Instr → Code
@@ -84,12 +87,44 @@ pub cleared_is_not_queued : (after cleared (lowest 5)).queue ≡ []
 unfolding reach
 cleared_is_not_queued = refl
 
--- nil has none to clear, and a second finaliser is a fatal error
+-- nil has none to clear, and cannot be given one
 pub nil_is_cleared : ending (after (code_with [] (function 0 0 1 (Instr.Nil ∷ Instr.ClearFinalizer ∷ Instr.Return ∷ []) ∷ [])) (lowest 3)) ≡ Some Ending.Returned
 nil_is_cleared = refl
 
-pub set_twice : ending (after (dropping (Instr.Dup ∷ Instr.SetFinalizer 1 ∷ [])) (lowest 2)) ≡ None
+pub set_on_nil : ending (after (straight (Instr.Nil ∷ Instr.SetFinalizer 0 ∷ [])) (lowest 3)) ≡ Some (panicked PanicKind.NilPointer 1 2)
+set_on_nil = refl
+
+-- a second finaliser is a fatal error, but not where the first was cleared
+abbrev twice : List Instr → Code
+twice more = straight (Instr.NewStruct 0 ∷ Instr.Dup ∷ Instr.SetFinalizer 0 ∷ more)
+
+pub set_twice : ending (after (twice (Instr.Dup ∷ Instr.SetFinalizer 0 ∷ [])) (lowest 5)) ≡ Some (panicked PanicKind.FinalizerSet 1 5)
 set_twice = refl
+
+pub set_after_clearing : (after (twice (Instr.Dup ∷ Instr.ClearFinalizer ∷ Instr.Dup ∷ Instr.SetFinalizer 0 ∷ [])) (lowest 7)).finalisers ≡ (1, 0) ∷ []
+set_after_clearing = refl
+
+-- a finaliser that panics ends the program, and one that blocks for ever holds the next one up; goroutine 0 is never dead
+abbrev doing : List Instr → Code
+doing finaliser =
+    code_with []
+    (function 0 0 1 (Instr.NewStruct 0 ∷ Instr.SetFinalizer 1 ∷ Instr.NewStruct 0 ∷ Instr.SetFinalizer 1 ∷ Instr.Collect ∷ Instr.Return ∷ []) ∷ function 1 1 11 finaliser ∷ [])
+
+pub finaliser_panics : ending (after (doing (Instr.Nil ∷ Instr.Lock ∷ [])) (lowest 9)) ≡ Some (panicked PanicKind.NilPointer 0 12)
+unfolding reach
+finaliser_panics = refl
+
+pub finaliser_blocks : mode_of 0 (after (doing (Instr.Nil ∷ Instr.Receive ∷ Instr.Return ∷ [])) (lowest 8)) ≡ Some (Mode.Blocked WaitKind.ReceiveNil 12 [] 0)
+unfolding reach
+finaliser_blocks = refl
+
+pub next_one_waits : (after (doing (Instr.Nil ∷ Instr.Receive ∷ Instr.Return ∷ [])) (lowest 8)).queue ≡ record { object = record { 0 = 2 }; function = 1 } ∷ []
+unfolding reach
+next_one_waits = refl
+
+pub goroutine_0_is_live : dead (after (doing (Instr.Nil ∷ Instr.Receive ∷ Instr.Return ∷ [])) (lowest 8)) ≡ []
+unfolding reach live_list
+goroutine_0_is_live = refl
 
 -- an object in a global stays
 abbrev in_global : Code

@@ -7,14 +7,13 @@ use Rattle.golf_data.specs.declared.value.Value.{Value}
 use Rattle.golf_data.specs.declared.value.Object.{Object}
 use Rattle.golf_data.specs.declared.code.Code.{Code}
 use Rattle.golf_data.specs.declared.code.Instr.{Instr}
-use Rattle.golf_data.specs.declared.code.SelectCase.{SelectCase}
 use Rattle.golf_data.specs.declared.code.CaseKind.{CaseKind}
 use Rattle.golf_data.specs.declared.goroutine.WaitKind.{WaitKind}
 use Rattle.golf_data.specs.declared.report.Entry.{Entry}
 use Rattle.golf_model.specs.Reaching.{reach}
 use Rattle.golf_model.specs.Living.{live_list}
 use Rattle.golf_model.specs.Reporting.{real_run, real_reports}
-use Rattle.golf_model.proofs.Examples.Writing.{after, function, push, new_channel, code_with, turns, lowest, second, third, reports, quiet}
+use Rattle.golf_model.proofs.Examples.Writing.{after, function, push, new_channel, code_with, turns, lowest, second, third, reports, quiet, case}
 
 -- the goroutine is blocked as this, at this line, and was started at that one
 abbrev entry : ℕ → WaitKind → ℕ → ℕ → Entry
@@ -99,9 +98,6 @@ pub cycle_is_taken_back : reports cycle cycle_turns true ≡
     ∷ quiet 2 0 0 ∷ []
 unfolding reach live_list
 cycle_is_taken_back = refl
-
-abbrev case : CaseKind → ℕ → SelectCase
-case kind target = record { kind = kind; target = target }
 
 -- a `select` with one live channel
 abbrev selecting : Code

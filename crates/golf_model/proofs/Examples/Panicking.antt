@@ -1,13 +1,12 @@
 -- Deferred calls, returns and panics.
-use Rattle.std.specs.Prelude.{◌≡◌, [], ◌∷◌, Some, refl, negsuc, map, option_map}
+use Rattle.std.specs.Prelude.{◌≡◌, [], ◌∷◌, Some, refl, negsuc, map, option_map, replicate}
 use Rattle.std.specs.Fmt.{digits}
 use Rattle.golf_theory.specs.Maps.{find}
 use Rattle.golf_data.specs.declared.code.Code.{Code}
 use Rattle.golf_data.specs.declared.code.Instr.{Instr}
-use Rattle.golf_data.specs.declared.goroutine.Ending.{Ending}
 use Rattle.golf_data.specs.declared.goroutine.PanicKind.{PanicKind}
 use Rattle.golf_model.specs.State.{ending}
-use Rattle.golf_model.proofs.Examples.Writing.{function, number, push, code_with, lowest, after}
+use Rattle.golf_model.proofs.Examples.Writing.{function, number, push, code_with, straight, lowest, after, panicked}
 
 -- function 0 defers functions 1 and 2 and calls function 3, which divides by zero
 abbrev deferring : Code
@@ -35,7 +34,7 @@ calling = code_with [] (function 0 0 1 (push 1 ∷ Instr.Defer 0 0 ∷ Instr.Cal
 pub caller_unwinds : option_map (λ r. map (λ f. f.operands) r.frames) (find 1 (after calling (lowest 6)).goroutines) ≡ Some ([] ∷ [])
 caller_unwinds = refl
 
-pub panic_ends : ending (after deferring (lowest 16)) ≡ Some (Ending.Panicked PanicKind.DivideByZero (record { 0 = 1 }) 33)
+pub panic_ends : ending (after deferring (lowest 16)) ≡ Some (panicked PanicKind.DivideByZero 1 33)
 panic_ends = refl
 
 -- a return runs the deferred calls, and then its value goes to the caller; theirs goes nowhere
@@ -62,12 +61,25 @@ replacing =
     ∷ function 0 0 11 (Instr.Nil ∷ Instr.Field 0 ∷ Instr.Return ∷ [])
     ∷ [])
 
-pub later_panic_counts : ending (after replacing (lowest 8)) ≡ Some (Ending.Panicked PanicKind.NilPointer (record { 0 = 1 }) 12)
+pub later_panic_counts : ending (after replacing (lowest 8)) ≡ Some (panicked PanicKind.NilPointer 1 12)
 later_panic_counts = refl
+
+-- a panic with its own text
+pub panic_with_text : ending (after (record (straight (Instr.Text 1 ∷ Instr.Panic ∷ [])) { texts = [] ∷ (104 ∷ 105 ∷ []) ∷ [] }) (lowest 3)) ≡ Some (panicked (PanicKind.Custom 1) 1 2)
+panic_with_text = refl
+
+-- nil where an object is wanted panics
+pub nil_pointers : map (λ i. ending (after (straight (Instr.Nil ∷ i ∷ [])) (lowest 3)))
+    (Instr.Field 0 ∷ Instr.Lock ∷ Instr.Unlock ∷ Instr.GroupWait ∷ Instr.RwLock ∷ Instr.RwUnlock ∷ Instr.ReadLock ∷ Instr.ReadUnlock ∷ Instr.CondMutex ∷ Instr.CondWait ∷ Instr.CondSignal ∷ Instr.CondBroadcast ∷ Instr.SetFinalizer 0 ∷ [])
+    ≡ replicate 13 (Some (panicked PanicKind.NilPointer 1 2))
+nil_pointers = refl
+
+pub nil_pointers_with_operand : map (λ i. ending (after (straight (Instr.Nil ∷ push 1 ∷ i ∷ [])) (lowest 4))) (Instr.SetField 0 ∷ Instr.GroupAdd ∷ []) ≡ replicate 2 (Some (panicked PanicKind.NilPointer 1 3))
+nil_pointers_with_operand = refl
 
 -- an index that is out of range panics with it
 abbrev indexing : Code
 indexing = code_with [] (function 0 0 1 (push 2 ∷ Instr.NewSlice (number 0) ∷ Instr.Int (negsuc 0) ∷ Instr.Index ∷ []) ∷ [])
 
-pub index_panics : ending (after indexing (lowest 5)) ≡ Some (Ending.Panicked (PanicKind.Index (negsuc 0) 2) (record { 0 = 1 }) 4)
+pub index_panics : ending (after indexing (lowest 5)) ≡ Some (panicked (PanicKind.Index (negsuc 0) 2) 1 4)
 index_panics = refl

@@ -3,18 +3,14 @@ use Rattle.std.specs.Prelude.{option_map}
 use Rattle.golf_theory.specs.Maps.{find}
 use Rattle.golf_model.specs.Waiting.{waits_of, send_wait}
 use Rattle.golf_model.proofs.Examples.Writing.{number}
-use Rattle.std.specs.Prelude.{◌≡◌, ℕ, [], ◌∷◌, ◌++◌, Some, None, refl}
+use Rattle.std.specs.Prelude.{◌≡◌, ℕ, List, [], ◌∷◌, ◌++◌, Some, None, refl}
 use Rattle.std.specs.Fmt.{digits}
 use Rattle.golf_data.specs.declared.code.Code.{Code}
 use Rattle.golf_data.specs.declared.code.Instr.{Instr}
-use Rattle.golf_data.specs.declared.code.SelectCase.{SelectCase}
 use Rattle.golf_data.specs.declared.code.CaseKind.{CaseKind}
 use Rattle.golf_data.specs.declared.goroutine.Ending.{Ending}
-use Rattle.golf_model.specs.State.{ending}
-use Rattle.golf_model.proofs.Examples.Writing.{function, push, new_channel, code_with, lowest, second, after}
-
-abbrev case : CaseKind → ℕ → SelectCase
-case kind target = record { kind = kind; target = target }
+use Rattle.golf_model.specs.State.{runnable, ending}
+use Rattle.golf_model.proofs.Examples.Writing.{function, push, new_channel, code_with, lowest, second, after, case}
 
 -- both cases are ready, and print 10 and 20
 abbrev both : Code
@@ -66,6 +62,48 @@ waiting =
 pub select_is_served : (after waiting (lowest 4 ++ (second 4 ++ (lowest 2 ++ second 2)))).output ≡ 56 ∷ 10 ∷ 54 ∷ 10 ∷ []
 unfolding digits
 select_is_served = refl
+
+-- goroutine 2 is blocked sending 8, goroutine 3 is blocked receiving, and goroutine 4 can run beside goroutine 1, which selects
+abbrev meeting : Code
+meeting =
+    code_with []
+    (function 0 2 1 (new_channel 0 ++ (Instr.Store 0 ∷ (new_channel 0 ++ (Instr.Store 1 ∷ Instr.Load 0 ∷ Instr.Go 1 1 ∷ Instr.Load 1 ∷ Instr.Go 2 1 ∷ Instr.Go 3 0 ∷ Instr.Load 0 ∷ Instr.Load 1 ∷ push 5 ∷ Instr.Select (case CaseKind.Take 15 ∷ case CaseKind.Send 17 ∷ []) None ∷ Instr.Print 1 ∷ Instr.Return ∷ push 3 ∷ Instr.Print 1 ∷ Instr.Return ∷ []))))
+    ∷ function 1 1 31 (Instr.Load 0 ∷ push 8 ∷ Instr.Send ∷ Instr.Return ∷ [])
+    ∷ function 1 1 41 (Instr.Load 0 ∷ Instr.Receive ∷ Instr.Print 1 ∷ Instr.Return ∷ [])
+    ∷ function 0 0 51 (Instr.Return ∷ [])
+    ∷ [])
+
+abbrev both_blocked : List ℕ
+both_blocked = lowest 11 ++ (second 3 ++ (second 2 ++ lowest 3))
+
+-- of turns that are goroutine 1's, the next number takes the next ready case
+pub meets_blocked_sender : (after meeting (both_blocked ++ (0 ∷ lowest 1))).output ≡ 56 ∷ 10 ∷ []
+unfolding digits
+meets_blocked_sender = refl
+
+pub meets_blocked_receiver : (after meeting (both_blocked ++ (2 ∷ second 1))).output ≡ 53 ∷ 10 ∷ []
+unfolding digits
+meets_blocked_receiver = refl
+
+pub round_with_two : (after meeting (both_blocked ++ (4 ∷ lowest 1))).output ≡ 56 ∷ 10 ∷ []
+unfolding digits
+round_with_two = refl
+
+-- the numbers between are those of goroutine 4
+pub turn_of_the_other : runnable (after meeting (both_blocked ++ (3 ∷ []))) ≡ 1 ∷ []
+turn_of_the_other = refl
+
+-- a blocked `v, ok := <-c` is given what is sent and true, and the zero value and false by a close
+abbrev asking : Code
+asking =
+    code_with []
+    (function 0 1 1 (new_channel 0 ++ (Instr.Store 0 ∷ Instr.Load 0 ∷ Instr.Go 1 1 ∷ Instr.Load 0 ∷ push 7 ∷ Instr.Send ∷ Instr.Load 0 ∷ Instr.Close ∷ Instr.Return ∷ []))
+    ∷ function 1 1 21 (Instr.Load 0 ∷ Instr.Select (case CaseKind.TakeOk 3 ∷ []) None ∷ Instr.Return ∷ Instr.Print 2 ∷ Instr.Jump 0 ∷ [])
+    ∷ [])
+
+pub value_and_ok : (after asking (lowest 5 ++ (second 2 ++ (lowest 3 ++ (second 4 ++ (lowest 2 ++ second 1)))))).output ≡ 55 ∷ 32 ∷ 116 ∷ 114 ∷ 117 ∷ 101 ∷ 10 ∷ 48 ∷ 32 ∷ 102 ∷ 97 ∷ 108 ∷ 115 ∷ 101 ∷ 10 ∷ []
+unfolding digits
+value_and_ok = refl
 
 -- a `select` without cases blocks for ever
 pub no_cases : ending (after (code_with [] (function 0 0 1 (Instr.Select [] None ∷ []) ∷ [])) (lowest 1)) ≡ Some Ending.Asleep

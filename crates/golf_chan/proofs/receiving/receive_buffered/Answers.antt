@@ -1,32 +1,55 @@
-use Rattle.std.proofs.Common.{◌≡◌, List, [], ◌∷◌, Some, refl, sym, ap, ◌∙◌}
+use Rattle.std.proofs.Common.{◌≡◌, ℕ, Bool, true, false, ap, ◌∙◌, refl, sym, arith, [], ◌∷◌, ◌++◌, drop, List, Option, Some, None}
+use Rattle.std.proofs.lemmas.Grind.{common_steps}
 use Rattle.golf_data.specs.declared.goroutine.Side.{Side}
-use Rattle.golf_model.specs.Waiting.{first}
-use Rattle.golf_model.specs.Waking.{on_top}
-use Rattle.golf_model.specs.Changes.{replace}
-use Rattle.golf_state.specs.Going.{exchanged}
-use Rattle.golf_state.proofs.Doings.{runs-is}
-use Rattle.golf_chan.proofs.Serving.{served-from, stands-woken, stands-replaced}
-use Rattle.golf_chan.proofs.Passing.{receives-shifted, full-channel}
+use Rattle.golf_data.specs.declared.value.Object.{Object}
+use Rattle.golf_data.specs.declared.value.Value.{Value}
+use Rattle.golf_data.specs.declared.value.Channel.{Channel}
+use Rattle.golf_theory.specs.Maps.{find, put}
+use Rattle.golf_model.specs.State.{State}
+use Rattle.golf_model.specs.Changes.{Change, apply_all, replace}
+use Rattle.golf_model.specs.Acting.{Actor, stands}
+use Rattle.golf_model.specs.Waiting.{Waiter, first}
+use Rattle.golf_state.specs.Going.{went}
+use Rattle.golf_state.specs.Looked.{values_of}
+use Rattle.golf_state.specs.declared.waiters.Waiting.{Waiting}
+use Rattle.golf_state.specs.declared.frames.Wakening.TheVariants as k
+use Rattle.golf_state.specs.declared.frames.Given.TheVariants as v
+use Rattle.golf_state.specs.Outcomes.{Comes}
+use Rattle.golf_state.proofs.Doings.{does-is}
+use Rattle.golf_state.proofs.Serving.{beside-put, served-from, served-blocked, served-woken}
+use Rattle.golf_chan.specs.Channels.{shifted, unbuffered}
+use Rattle.golf_chan.proofs.Buffers.{full-channel}
 use Rattle.golf_chan.proofs.receiving.receive_buffered.Goals as goal
 
-pub frames_mut-requires : goal.frames_mut-requires
-frames_mut-requires c =
+pub wake-requires : goal.wake-requires
+wake-requires c =
     let s = c.args.state.now in
     let g = c.args.acting.goroutine.0 in
-    let n = c.args.acting.after in
     let x = c.in-Some.waiting in
+    let t = replace c.args.object.0 c.take_first.new.object c.proceed_with.new.state in
     let m = first c.args.object.0 Side.Send s.goroutines in
-    let w = served-from s m x c.in-Some.ensures.first c.in-Some.ensures.blocked in
-    let st1 = stands-woken g n s c.requires.stands m x w [] c.wake.new.self c.in_ok-wake.ensures.ok in
-    runs-is g n (replace c.args.object.0 c.take_first.new.object c.wake.new.self) (stands-replaced g n c.wake.new.self st1 c.args.object.0 c.take_first.new.object)
+    let act : Actor → List Change = λ a. stands a (went c.args.receiving.target c.args.receiving.taken (values_of c.received-given.result) a.frame) in
+    let b = beside-put g c.args.acting.after s c.requires.stands t _ (ap (λ (t : State). t.goroutines) (c.in_ok-proceed_with.ensures.ok ∙ does-is g c.args.acting.after s c.requires.stands act c.args.acting.line)) in
+    served-blocked s m x (served-from s m x c.in-Some.ensures.first c.in-Some.ensures.blocked) t b
 
 pub returns-in-Some-clause-ok : goal.returns-in-Some-clause-ok
 returns-in-Some-clause-ok c =
     let s = c.args.state.now in
+    let g = c.args.acting.goroutine.0 in
+    let o = c.args.object.0 in
     let x = c.in-Some.waiting in
-    let m = first c.args.object.0 Side.Send s.goroutines in
+    let t = replace o c.take_first.new.object c.proceed_with.new.state in
+    let m = first o Side.Send s.goroutines in
+    let act : Actor → List Change = λ a. stands a (went c.args.receiving.target c.args.receiving.taken (values_of c.received-given.result) a.frame) in
+    let now = c.in_ok-proceed_with.ensures.ok ∙ does-is g c.args.acting.after s c.requires.stands act c.args.acting.line in
+    let b = beside-put g c.args.acting.after s c.requires.stands t _ (ap (λ (t : State). t.goroutines) now) in
     let w = served-from s m x c.in-Some.ensures.first c.in-Some.ensures.blocked in
-    let ch = full-channel c.args.value _ c.requires.buffered in
-    receives-shifted c.args.acting.goroutine.0 c.args.acting.after s c.requires.stands c.args.acting.line c.args.object.0 ch.0 ch.2 m x w [] c.wake.new.self c.in_ok-wake.ensures.ok
-    c.args.value ch.1 c.object_mut.result.now c.take_first.new.object _ refl c.requires.operand ch.3 refl c.object_mut.ensures.value c.take_first.ensures
-    (c.exchange.ensures ∙ ap (on_top (exchanged c.args.acting.after c.args.value)) c.frames_mut.ensures.value)
+    let e = c.wake.ensures ∙ served-woken s m x w t b (k.Served x.wait v.Nothing) in
+    let ch = full-channel c.args.value (find o s.objects) c.requires.buffered in
+    let was : Some c.object_mut.result.now ≡ Some (Object.Chan ch.0) = sym c.object_mut.ensures.value ∙ ap (λ (t : State). find o t.objects) now ∙ ch.2 in
+    let old : c.object_mut.result.now ≡ Object.Chan ch.0 = cc in
+    let new : c.take_first.new.object ≡ Object.Chan (record ch.0 { buffer = ch.1 ++ w.waiter.wait.value ∷ [] }) =
+    c.take_first.ensures ∙ ap (unbuffered (x.wait.value ∷ [])) old
+    ∙ ap (λ (bs : List Value). Object.Chan (record ch.0 { buffer = shifted (x.wait.value ∷ []) bs })) ch.3
+    ∙ ap (λ (y : Waiting). Object.Chan (record ch.0 { buffer = ch.1 ++ y.wait.value ∷ [] })) w.told in
+    grind (arith, common_steps, e, w.is, w.told, ch.2, ch.3, new)

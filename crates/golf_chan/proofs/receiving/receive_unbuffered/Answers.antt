@@ -1,29 +1,48 @@
-use Rattle.std.proofs.Common.{◌≡◌, List, [], Some, refl, sym, ap, ◌∙◌}
+use Rattle.std.proofs.Common.{◌≡◌, ℕ, Bool, true, false, ap, ◌∙◌, refl, sym, arith, [], ◌∷◌, ◌++◌, drop, List, Option, Some, None}
+use Rattle.std.proofs.lemmas.Grind.{common_steps}
 use Rattle.golf_data.specs.declared.goroutine.Side.{Side}
-use Rattle.golf_model.specs.Waiting.{first}
-use Rattle.golf_model.specs.Waking.{on_top}
-use Rattle.golf_state.specs.Going.{exchanged}
-use Rattle.golf_state.proofs.Doings.{runs-is}
-use Rattle.golf_chan.proofs.Serving.{served-from, stands-woken}
-use Rattle.golf_chan.proofs.Passing.{receives-served, empty-channel}
+use Rattle.golf_data.specs.declared.value.Object.{Object}
+use Rattle.golf_data.specs.declared.value.Value.{Value}
+use Rattle.golf_data.specs.declared.value.Channel.{Channel}
+use Rattle.golf_theory.specs.Maps.{find, put}
+use Rattle.golf_model.specs.State.{State}
+use Rattle.golf_model.specs.Changes.{Change, apply_all, replace}
+use Rattle.golf_model.specs.Acting.{Actor, stands}
+use Rattle.golf_model.specs.Waiting.{Waiter, first}
+use Rattle.golf_state.specs.Going.{went}
+use Rattle.golf_state.specs.Looked.{values_of}
+use Rattle.golf_state.specs.declared.waiters.Waiting.{Waiting}
+use Rattle.golf_state.specs.declared.frames.Wakening.TheVariants as k
+use Rattle.golf_state.specs.declared.frames.Given.TheVariants as v
+use Rattle.golf_state.specs.Outcomes.{Comes}
+use Rattle.golf_state.proofs.Doings.{does-is}
+use Rattle.golf_state.proofs.Serving.{beside-put, served-from, served-blocked, served-woken}
+use Rattle.golf_chan.proofs.Buffers.{empty-channel}
 use Rattle.golf_chan.proofs.receiving.receive_unbuffered.Goals as goal
 
-pub frames_mut-requires : goal.frames_mut-requires
-frames_mut-requires c =
+pub wake-requires : goal.wake-requires
+wake-requires c =
     let s = c.args.state.now in
+    let g = c.args.acting.goroutine.0 in
     let x = c.in-Some.waiting in
+    let t = c.proceed_with.new.state in
     let m = first c.args.object.0 Side.Send s.goroutines in
-    let w = served-from s m x c.in-Some.ensures.first c.in-Some.ensures.blocked in
-    runs-is c.args.acting.goroutine.0 c.args.acting.after c.wake.new.self
-    (stands-woken c.args.acting.goroutine.0 c.args.acting.after s c.requires.stands m x w [] c.wake.new.self c.in_ok-wake.ensures.ok)
+    let act : Actor → List Change = λ a. stands a (went c.args.receiving.target c.args.receiving.taken (values_of c.received-given.result) a.frame) in
+    let b = beside-put g c.args.acting.after s c.requires.stands t _ (ap (λ (t : State). t.goroutines) (c.in_ok-proceed_with.ensures.ok ∙ does-is g c.args.acting.after s c.requires.stands act c.args.acting.line)) in
+    served-blocked s m x (served-from s m x c.in-Some.ensures.first c.in-Some.ensures.blocked) t b
 
 pub returns-in-Some-clause-ok : goal.returns-in-Some-clause-ok
 returns-in-Some-clause-ok c =
     let s = c.args.state.now in
+    let g = c.args.acting.goroutine.0 in
+    let o = c.args.object.0 in
     let x = c.in-Some.waiting in
-    let m = first c.args.object.0 Side.Send s.goroutines in
+    let t = c.proceed_with.new.state in
+    let m = first o Side.Send s.goroutines in
+    let act : Actor → List Change = λ a. stands a (went c.args.receiving.target c.args.receiving.taken (values_of c.received-given.result) a.frame) in
+    let now = c.in_ok-proceed_with.ensures.ok ∙ does-is g c.args.acting.after s c.requires.stands act c.args.acting.line in
+    let b = beside-put g c.args.acting.after s c.requires.stands t _ (ap (λ (t : State). t.goroutines) now) in
     let w = served-from s m x c.in-Some.ensures.first c.in-Some.ensures.blocked in
-    let ch = empty-channel c.args.zero _ c.requires.empty in
-    receives-served c.args.acting.goroutine.0 c.args.acting.after s c.requires.stands c.args.acting.line c.args.object.0 ch.0 ch.1 m x w [] c.wake.new.self c.in_ok-wake.ensures.ok
-    _ refl c.requires.operand ch.2 refl
-    (c.exchange.ensures ∙ ap (on_top (exchanged c.args.acting.after c.in-Some.waiting.wait.value)) c.frames_mut.ensures.value)
+    let e = c.wake.ensures ∙ served-woken s m x w t b (k.Served x.wait v.Nothing) in
+    let ch = empty-channel c.args.zero (find o s.objects) c.requires.empty in
+    grind (arith, common_steps, e, w.is, w.told, ch.1, ch.2)

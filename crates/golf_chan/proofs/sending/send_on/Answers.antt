@@ -1,42 +1,53 @@
-use Rattle.std.proofs.Common.{◌≡◌, List, [], Some, refl, sym, ap, ◌∙◌}
-use Rattle.std.proofs.lemmas.Result.{err_from_is_err_and}
+use Rattle.std.proofs.Common.{◌≡◌, ℕ, Bool, true, false, ap, ◌∙◌, refl, sym, arith, [], ◌∷◌, ◌++◌, drop, List, Option, Some, None}
+use Rattle.std.proofs.lemmas.Grind.{common_steps}
 use Rattle.golf_data.specs.declared.goroutine.Side.{Side}
 use Rattle.golf_data.specs.declared.value.Object.{Object}
-use Rattle.golf_theory.specs.Maps.{put}
+use Rattle.golf_data.specs.declared.value.Value.{Value}
+use Rattle.golf_theory.specs.Maps.{find, put}
 use Rattle.golf_model.specs.State.{State}
-use Rattle.golf_model.specs.Waiting.{first}
-use Rattle.golf_state.specs.Looked.{values_of, frames_of}
+use Rattle.golf_model.specs.Changes.{Change, apply_all, replace}
+use Rattle.golf_model.specs.Acting.{Actor, stands}
+use Rattle.golf_model.specs.Waiting.{Waiter, first}
 use Rattle.golf_state.specs.Going.{went}
-use Rattle.golf_model.specs.Waking.{on_top}
-use Rattle.golf_state.proofs.Doings.{runs-is}
-use Rattle.golf_chan.proofs.Serving.{served-from, stands-woken, put-same}
-use Rattle.golf_chan.proofs.Passing.{sends-served}
+use Rattle.golf_state.specs.Looked.{values_of}
+use Rattle.golf_state.specs.declared.waiters.Waiting.{Waiting}
+use Rattle.golf_state.specs.declared.frames.Wakening.TheVariants as k
+use Rattle.golf_state.specs.declared.frames.Given.TheVariants as v
+use Rattle.golf_state.proofs.Doings.{does-is}
+use Rattle.golf_state.proofs.Serving.{beside-put, served-from, served-blocked, served-woken}
+use Rattle.std.proofs.lemmas.Result.{err_from_is_err_and}
+use Rattle.golf_state.proofs.PlaceLaws.{put-same}
 use Rattle.golf_chan.proofs.sending.send_on.Goals as goal
 
-pub frames_mut-requires-in-Some-first_waiter : goal.frames_mut-requires-in-Some-first_waiter
-frames_mut-requires-in-Some-first_waiter c =
+pub wake-requires : goal.wake-requires
+wake-requires c =
     let s = c.args.state.now in
+    let g = c.args.acting.goroutine.0 in
     let x = c.in-Some-first_waiter.waiting in
+    let t = c.proceed.new.state in
     let m = first c.args.object.0 Side.Receive s.goroutines in
-    let w = served-from s m x c.in-Some-first_waiter.ensures.first c.in-Some-first_waiter.ensures.blocked in
-    runs-is c.args.acting.goroutine.0 c.args.acting.after c.wake.new.self
-    (stands-woken c.args.acting.goroutine.0 c.args.acting.after s c.requires m x w (values_of c.received-given.result) c.wake.new.self c.in_ok-wake.ensures.ok)
+    let act : Actor → List Change = λ a. stands a (went c.args.target c.args.taken [] a.frame) in
+    let b = beside-put g c.args.acting.after s c.requires t _ (ap (λ (t : State). t.goroutines) (c.proceed.ensures ∙ does-is g c.args.acting.after s c.requires act c.args.acting.line)) in
+    served-blocked s m x (served-from s m x c.in-Some-first_waiter.ensures.first c.in-Some-first_waiter.ensures.blocked) t b
 
 pub returns-in-Some-first_waiter-clause-ok : goal.returns-in-Some-first_waiter-clause-ok
 returns-in-Some-first_waiter-clause-ok c =
     let s = c.args.state.now in
+    let g = c.args.acting.goroutine.0 in
     let x = c.in-Some-first_waiter.waiting in
+    let t = c.proceed.new.state in
     let m = first c.args.object.0 Side.Receive s.goroutines in
+    let act : Actor → List Change = λ a. stands a (went c.args.target c.args.taken [] a.frame) in
+    let b = beside-put g c.args.acting.after s c.requires t _ (ap (λ (t : State). t.goroutines) (c.proceed.ensures ∙ does-is g c.args.acting.after s c.requires act c.args.acting.line)) in
     let w = served-from s m x c.in-Some-first_waiter.ensures.first c.in-Some-first_waiter.ensures.blocked in
-    sends-served c.args.acting.goroutine.0 c.args.acting.after s c.requires c.args.acting.line c.args.object.0 c.in-Some.channel.now (sym c.in-Some.ensures) m x w (values_of c.received-given.result) c.wake.new.self c.in_ok-wake.ensures.ok
-    c.args.value _ refl c.if-channel.false c.received-given.ensures
-    (c.pass.ensures ∙ ap (on_top (went c.args.acting.after 2 [])) c.frames_mut-in-Some-first_waiter.ensures.value)
+    let e = c.wake.ensures ∙ served-woken s m x w t b (k.Served x.wait c.received-given.result) in
+    grind (arith, common_steps, e, w.is, w.told)
 
 pub returns-in_err-buffer-clause-err : goal.returns-in_err-buffer-clause-err
 returns-in_err-buffer-clause-err c =
     let s = c.args.state.now in
     let o = c.args.object.0 in
-    let p = err_from_is_err_and c.from_residual-in_err-buffer.result c.from_residual-in_err-buffer.ensures.1 in
+    let p = err_from_is_err_and c.from_residual.result c.from_residual.ensures.1 in
     rw p.1
     (ap (λ (x : Object). record s { objects = put o x s.objects }) c.in_err-buffer.ensures.err
     ∙ ap (λ es. record s { objects = es }) (put-same o 1 c.object_mut.result.now s.objects c.object_mut.ensures.rises c.object_mut.ensures.value))

@@ -1,7 +1,7 @@
 use Rattle.std.proofs.Common.{arith, ◌∙◌}
 use Rattle.std.proofs.Common.{length-set}
 use Rattle.golf_heap.specs.declared.places.Place.{Place}
-use Rattle.golf_heap.specs.Numbered.{kept}
+use Rattle.golf_heap.specs.Objects.{kept}
 use Rattle.golf_heap.proofs.Freeing.{closed_more, skipped_more}
 use Rattle.golf_heap.proofs.places.close_up.Goals as goal
 use Rattle.golf_heap.proofs.places.close_up.Goals.{then-keep-at, else-keep-at}

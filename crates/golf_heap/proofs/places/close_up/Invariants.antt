@@ -1,5 +1,5 @@
 use Rattle.std.proofs.Common.{◌≡◌, ◌≤◌, ◌++◌, length, take, drop}
-use Rattle.golf_heap.specs.Numbered.{kept}
+use Rattle.golf_heap.specs.Objects.{kept}
 use Rattle.golf_heap.proofs.places.close_up.Given as goal
 
 -- the kept places of those looked at stand in front

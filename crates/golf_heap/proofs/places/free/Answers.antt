@@ -3,7 +3,7 @@ use Rattle.std.specs.Prelude.{IsSome}
 use Rattle.slab.specs.Slab.{get}
 use Rattle.golf_data.specs.declared.value.Object.{Object}
 use Rattle.golf_heap.specs.declared.places.Place.{Place}
-use Rattle.golf_heap.specs.Numbered.{kept}
+use Rattle.golf_heap.specs.Objects.{kept}
 use Rattle.golf_heap.proofs.Order.{held-index}
 use Rattle.golf_heap.proofs.Freeing.{Spared, spared-less, spared-freed, gathered-kept, Holds-kept, kept_more, is-filled}
 use Rattle.golf_heap.proofs.places.free.Goals as goal

@@ -6,7 +6,7 @@ use Rattle.golf_tokens.specs.Bytes.{newlines}
 use Rattle.golf_tokens.specs.Lexes.{Lexes, IsFault}
 use Rattle.golf_lex.specs.declared.automaton.Growth.TheVariants.{To, Over, Fault}
 use Rattle.golf_lex.specs.Automaton.{growth, begun, is_complete, step_by}
-use Rattle.golf_lex.specs.Output.{with_pieces, finished}
+use Rattle.golf_lex.specs.Output.{with_lexemes, finished}
 use Rattle.golf_lex.specs.Scanning.{ended}
 use Rattle.golf_lex.proofs.Follows.{over-complete}
 use Rattle.golf_lex.proofs.Runs.{fault-at, fault-end}
@@ -15,7 +15,7 @@ use Rattle.golf_lex.proofs.Faults.{answers-fault, answers-accepts, answers-refus
 use Rattle.golf_lex.proofs.lexer.tokens.Goals as goal
 use Rattle.golf_lex.proofs.lexer.tokens.Goals.{in-To, in-Over+in-Some+in_ok-add-in-Over}
 
--- no piece begins with the byte that ends one
+-- no lexeme begins with the byte that ends one
 no-begin : (c : goal.Joined-output) → IsFault c.args.bytes.now c.loop-i.i
 no-begin c =
     let b = get_or c.args.bytes.now c.loop-i.i 0 in
@@ -68,8 +68,8 @@ loop-i-preserved c = elim c.match-extend.branch [
       let text = take (c.loop-i.i - c.loop-i.start) (drop c.loop-i.start bytes) in
       let over : growth c.loop-i.state b ≡ Over = sym c.extend.ensures ∙ w.in-Over.is in
       let fresh : begun b ≡ Some w.in-Some.next = sym w.begin.ensures ∙ w.in-Some.is in
-      let written : w.add.new.self ≡ with_pieces c.loop-i.output (ended c.loop-i.state text) = w.in_ok-add-in-Over.ensures in
-      let moved : (with_pieces c.loop-i.output (ended c.loop-i.state text)).line ≡ c.loop-i.output.line + newlines text = ended-line c.loop-i.output c.loop-i.state text (over-complete c.loop-i.state b over) in
+      let written : w.add.new.self ≡ with_lexemes c.loop-i.output (ended c.loop-i.state text) = w.in_ok-add-in-Over.ensures in
+      let moved : (with_lexemes c.loop-i.output (ended c.loop-i.state text)).line ≡ c.loop-i.output.line + newlines text = ended-line c.loop-i.output c.loop-i.state text (over-complete c.loop-i.state b over) in
       let few : newlines text ≤ length text = count_by-le-length (λ x. nat_eq x 10) text in
       let size : length text ≤ c.loop-i.i - c.loop-i.start = omega (arith, length-take (c.loop-i.i - c.loop-i.start) (drop c.loop-i.start bytes)) in
       let line_before : c.loop-i.output.line ≤ c.loop-i.start + 1 = c.loop-i.invariant.line in
@@ -82,7 +82,7 @@ loop-i-preserved c = elim c.match-extend.branch [
       }
 ]
 
--- the file ends within a piece
+-- the file ends within a lexeme
 cut-off : (c : goal.Joined-output-7) → IsFault c.args.bytes.now (length c.args.bytes.now)
 cut-off c = fault-end c.args.bytes.now c.loop-i.state (run-end c.args.bytes.now c.loop-i.i c.loop-i.state c.loop-i-test.false c.loop-i.invariant.ran) (sym c.is_complete.ensures ∙ c.if-not-is_complete.true)
 
@@ -99,7 +99,7 @@ lexed : (c : goal.In_ok-finish) → Lexes c.args.bytes.now c.in_ok-finish.field-
 lexed c =
     let bytes = c.args.bytes.now in
     let whole : is_complete c.loop-i.state ≡ true = sym c.is_complete.ensures ∙ c.if-not-is_complete.false in
-    let written : c.add-2.new.self ≡ with_pieces c.loop-i.output (ended c.loop-i.state (take (length bytes - c.loop-i.start) (drop c.loop-i.start bytes))) = c.in_ok-add.ensures in
+    let written : c.add-2.new.self ≡ with_lexemes c.loop-i.output (ended c.loop-i.state (take (length bytes - c.loop-i.start) (drop c.loop-i.start bytes))) = c.in_ok-add.ensures in
     let last : c.in_ok-finish.field-0 ≡ finished c.add-2.new.self = c.in_ok-finish.ensures in
     let read_all = sym (reads-end c.loop-i.output bytes c.loop-i.start c.loop-i.i c.loop-i.state c.loop-i-test.false whole) ∙ c.loop-i.invariant.reads in
     reads-lexes bytes c.in_ok-finish.field-0 (sym read_all ∙ sym (ap (λ o. Some (finished o)) written) ∙ sym (ap Some last))

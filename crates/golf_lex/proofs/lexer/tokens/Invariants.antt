@@ -5,7 +5,7 @@ use Rattle.golf_lex.specs.Automaton.{run}
 use Rattle.golf_lex.specs.Output.{empty, read}
 use Rattle.golf_lex.proofs.lexer.tokens.Given as goal
 
--- The automaton has run over the bytes so far, and what is written, the piece so far and the rest make the tokens.
+-- The automaton has run over the bytes so far, and what is written, the lexeme so far and the rest make the tokens.
 abbrev pub invariant-loop-i : goal.invariant-loop-i
 invariant-loop-i l = record {
   begun : l.start ≤ l.i;

@@ -5,7 +5,7 @@ use Rattle.std.proofs.lemmas.Result.{on_ok_weaker, on_err_weaker, err_from_is_er
 use Rattle.golf_data.specs.declared.goroutine.Frame.{Frame}
 use Rattle.golf_data.specs.declared.goroutine.Deferred.{Deferred}
 use Rattle.golf_data.specs.declared.goroutine.Mode.{Mode}
-use Rattle.golf_model.specs.Plain.{PlainFrame, PlainGoroutine, plain_frame, plain_frames}
+use Rattle.golf_model.specs.Views.{FrameView, GoroutineView, frame_view, frame_views}
 use Rattle.golf_model.specs.Waking.{on_top}
 use Rattle.golf_state.specs.Going.{went, undeferred, stored}
 use Rattle.golf_state.proofs.Doings.{runs-is, actor_of}
@@ -16,13 +16,13 @@ use Rattle.golf_machine.proofs.entering.begin_deferred.Goals as goal
 
 pub returns-then-depth-ge-MOST_FRAMES-clause-ok : goal.returns-then-depth-ge-MOST_FRAMES-clause-ok
 returns-then-depth-ge-MOST_FRAMES-clause-ok c =
-    deferred-full c.args.g.0 c.requires.0 c.args.state.now c.requires.1 c.args.line c.args.code.now c.in-Some.deferred.now c.in-Some.ensures (plain_frame c.in-Some-2.frame) c.overflow.new.state (ap (option_map plain_frame) (sym c.in-Some-2.is) ∙ c.in_ok-frame.ensures ∙ ap (λ (vs : List Value). call_frame c.args.code.now c.in-Some.deferred.now.function vs true) c.as_slice-arguments.ensures) (omega (arith, c.if-depth-ge-MOST_FRAMES.true, c.depth.ensures)) c.overflow.ensures
+    deferred-full c.args.g.0 c.requires.0 c.args.state.now c.requires.1 c.args.line c.args.code.now c.in-Some.deferred.now c.in-Some.ensures (frame_view c.in-Some-2.frame) c.overflow.new.state (ap (option_map frame_view) (sym c.in-Some-2.is) ∙ c.in_ok-frame.ensures ∙ ap (λ (vs : List Value). call_frame c.args.code.now c.in-Some.deferred.now.function vs true) c.as_slice-arguments.ensures) (omega (arith, c.if-depth-ge-MOST_FRAMES.true, c.depth.ensures)) c.overflow.ensures
 
 pub returns-clause-ok : goal.returns-clause-ok
 returns-clause-ok c =
     on_ok_weaker c.enter_deferred.result
-    (λ e. deferred-enter c.args.g.0 c.requires.0 c.args.state.now c.requires.1 c.args.line c.args.code.now c.in-Some.deferred.now c.in-Some.ensures (plain_frame c.in-Some-2.frame) (plain_frames c.enter_deferred.new.frames) (ap (option_map plain_frame) (sym c.in-Some-2.is) ∙ c.in_ok-frame.ensures ∙ ap (λ (vs : List Value). call_frame c.args.code.now c.in-Some.deferred.now.function vs true) c.as_slice-arguments.ensures) (omega (arith, c.if-depth-ge-MOST_FRAMES.false, c.depth.ensures))
-    (e ∙ ap (λ (fs : List PlainFrame). plain_frame c.in-Some-2.frame ∷ on_top undeferred fs) c.frames_mut.ensures.value))
+    (λ e. deferred-enter c.args.g.0 c.requires.0 c.args.state.now c.requires.1 c.args.line c.args.code.now c.in-Some.deferred.now c.in-Some.ensures (frame_view c.in-Some-2.frame) (frame_views c.enter_deferred.new.frames) (ap (option_map frame_view) (sym c.in-Some-2.is) ∙ c.in_ok-frame.ensures ∙ ap (λ (vs : List Value). call_frame c.args.code.now c.in-Some.deferred.now.function vs true) c.as_slice-arguments.ensures) (omega (arith, c.if-depth-ge-MOST_FRAMES.false, c.depth.ensures))
+    (e ∙ ap (λ (fs : List FrameView). frame_view c.in-Some-2.frame ∷ on_top undeferred fs) c.frames_mut.ensures.value))
     c.enter_deferred.ensures.ok
 
 pub returns-clause-err : goal.returns-clause-err

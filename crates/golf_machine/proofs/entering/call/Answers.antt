@@ -5,7 +5,7 @@ use Rattle.std.proofs.lemmas.Result.{on_ok_weaker, on_err_weaker, err_from_is_er
 use Rattle.golf_data.specs.declared.goroutine.Frame.{Frame}
 use Rattle.golf_data.specs.declared.goroutine.Deferred.{Deferred}
 use Rattle.golf_data.specs.declared.goroutine.Mode.{Mode}
-use Rattle.golf_model.specs.Plain.{PlainFrame, PlainGoroutine, plain_frame, plain_frames}
+use Rattle.golf_model.specs.Views.{FrameView, GoroutineView, frame_view, frame_views}
 use Rattle.golf_model.specs.Waking.{on_top}
 use Rattle.golf_state.specs.Going.{went, undeferred, stored}
 use Rattle.golf_state.proofs.Doings.{runs-is, actor_of}
@@ -16,17 +16,17 @@ pub returns-in_default-clause-ok : goal.returns-in_default-clause-ok
 returns-in_default-clause-ok c = calls-none c.args.acting.goroutine.0 c.args.acting.after c.args.state.now c.requires c.args.acting.line c.args.code.now c.args.number c.args.count (ap (option_map (λ vs. vs.now)) (sym c.in_default.is) ∙ c.last_values.ensures)
 
 pub returns-in_default-2-clause-ok : goal.returns-in_default-2-clause-ok
-returns-in_default-2-clause-ok c = calls-missing c.args.acting.goroutine.0 c.args.acting.after c.args.state.now c.requires c.args.acting.line c.args.code.now c.args.number c.args.count c.in-Some.arguments.now c.in-Some.ensures (ap (option_map plain_frame) (sym c.in_default-2.is) ∙ c.in_ok-frame.ensures)
+returns-in_default-2-clause-ok c = calls-missing c.args.acting.goroutine.0 c.args.acting.after c.args.state.now c.requires c.args.acting.line c.args.code.now c.args.number c.args.count c.in-Some.arguments.now c.in-Some.ensures (ap (option_map frame_view) (sym c.in_default-2.is) ∙ c.in_ok-frame.ensures)
 
 pub returns-then-depth-ge-MOST_FRAMES-clause-ok : goal.returns-then-depth-ge-MOST_FRAMES-clause-ok
 returns-then-depth-ge-MOST_FRAMES-clause-ok c =
-    calls-full c.args.acting.goroutine.0 c.args.acting.after c.args.state.now c.requires c.args.acting.line c.args.code.now c.args.number c.args.count c.in-Some.arguments.now c.in-Some.ensures (plain_frame c.in-Some-2.frame) c.overflow.new.state (ap (option_map plain_frame) (sym c.in-Some-2.is) ∙ c.in_ok-frame.ensures) (omega (arith, c.if-depth-ge-MOST_FRAMES.true, c.depth.ensures)) c.overflow.ensures
+    calls-full c.args.acting.goroutine.0 c.args.acting.after c.args.state.now c.requires c.args.acting.line c.args.code.now c.args.number c.args.count c.in-Some.arguments.now c.in-Some.ensures (frame_view c.in-Some-2.frame) c.overflow.new.state (ap (option_map frame_view) (sym c.in-Some-2.is) ∙ c.in_ok-frame.ensures) (omega (arith, c.if-depth-ge-MOST_FRAMES.true, c.depth.ensures)) c.overflow.ensures
 
 pub returns-clause-ok : goal.returns-clause-ok
 returns-clause-ok c =
     on_ok_weaker c.enter.result
-    (λ e. calls-enter c.args.acting.goroutine.0 c.args.acting.after c.args.state.now c.requires c.args.acting.line c.args.code.now c.args.number c.args.count c.in-Some.arguments.now c.in-Some.ensures (plain_frame c.in-Some-2.frame) (plain_frames c.enter.new.frames) (ap (option_map plain_frame) (sym c.in-Some-2.is) ∙ c.in_ok-frame.ensures) (omega (arith, c.if-depth-ge-MOST_FRAMES.false, c.depth.ensures))
-    (e ∙ ap (λ (fs : List PlainFrame). plain_frame c.in-Some-2.frame ∷ on_top (went c.args.acting.after c.args.count []) fs) c.frames_mut.ensures.value))
+    (λ e. calls-enter c.args.acting.goroutine.0 c.args.acting.after c.args.state.now c.requires c.args.acting.line c.args.code.now c.args.number c.args.count c.in-Some.arguments.now c.in-Some.ensures (frame_view c.in-Some-2.frame) (frame_views c.enter.new.frames) (ap (option_map frame_view) (sym c.in-Some-2.is) ∙ c.in_ok-frame.ensures) (omega (arith, c.if-depth-ge-MOST_FRAMES.false, c.depth.ensures))
+    (e ∙ ap (λ (fs : List FrameView). frame_view c.in-Some-2.frame ∷ on_top (went c.args.acting.after c.args.count []) fs) c.frames_mut.ensures.value))
     c.enter.ensures.ok
 
 pub returns-clause-err : goal.returns-clause-err

@@ -5,7 +5,7 @@ use Rattle.std.proofs.lemmas.Result.{on_ok_weaker, on_err_weaker, err_from_is_er
 use Rattle.golf_data.specs.declared.goroutine.Frame.{Frame}
 use Rattle.golf_data.specs.declared.goroutine.Deferred.{Deferred}
 use Rattle.golf_data.specs.declared.goroutine.Mode.{Mode}
-use Rattle.golf_model.specs.Plain.{PlainFrame, PlainGoroutine, plain_frame, plain_frames}
+use Rattle.golf_model.specs.Views.{FrameView, GoroutineView, frame_view, frame_views}
 use Rattle.golf_model.specs.Waking.{on_top}
 use Rattle.golf_state.specs.Going.{went, undeferred, stored}
 use Rattle.golf_state.proofs.Doings.{runs-is, actor_of}

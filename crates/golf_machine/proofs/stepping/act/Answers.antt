@@ -1,14 +1,14 @@
 use Rattle.std.proofs.Common.{◌≡◌, ℕ, ◌+◌, ◌<◌, ◌^◌, List, [], Some, sym, ap, ◌∙◌, arith}
 use Rattle.std.proofs.lemmas.Result.{on_ok_weaker}
 use Rattle.golf_data.specs.declared.goroutine.Mode.{Mode}
-use Rattle.golf_model.specs.Plain.{PlainFrame, PlainGoroutine, plain_frame}
+use Rattle.golf_model.specs.Views.{FrameView, GoroutineView, frame_view}
 use Rattle.golf_machine.proofs.Turns.{no_first, frames-are, stands-at, turn-is, place-fits}
 use Rattle.golf_machine.proofs.stepping.act.Goals as goal
 
 pub begin_queued-requires : goal.begin_queued-requires
 begin_queued-requires c =
     let r = c.requires.runs in
-    (r.started, r.found ∙ ap (λ (fs : List PlainFrame). let x : PlainGoroutine = record { frames = fs; mode = Mode.Running; started = r.started } in Some x) (sym (frames-are c.args.g.0 c.args.state.now r) ∙ no_first _ c.in_default.ensures))
+    (r.started, r.found ∙ ap (λ (fs : List FrameView). let x : GoroutineView = record { frames = fs; mode = Mode.Running; started = r.started } in Some x) (sym (frames-are c.args.g.0 c.args.state.now r) ∙ no_first _ c.in_default.ensures))
 
 pub overflow_add-acting : goal.overflow_add-acting
 overflow_add-acting c =
@@ -16,17 +16,17 @@ overflow_add-acting c =
     let l = place-fits c.args.code.now f.function f.at c.in-Some-line_at.line.now c.requires.places c.in-Some-line_at.ensures.line in
     omega (arith, l)
 
-pub perform-requires-clause-stands : goal.perform-requires-clause-stands
-perform-requires-clause-stands c = stands-at c.args.g.0 c.args.state.now c.requires.runs (plain_frame c.in-Some.frame.now) c.in-Some.ensures
+pub perform-requires : goal.perform-requires
+perform-requires c = stands-at c.args.g.0 c.args.state.now c.requires.runs (frame_view c.in-Some.frame.now) c.in-Some.ensures
 
 pub leave_returning-requires : goal.leave_returning-requires
-leave_returning-requires c = (c.in-Some.frame.now.at + 1, stands-at c.args.g.0 c.args.state.now c.requires.runs (plain_frame c.in-Some.frame.now) c.in-Some.ensures)
+leave_returning-requires c = (c.in-Some.frame.now.at + 1, stands-at c.args.g.0 c.args.state.now c.requires.runs (frame_view c.in-Some.frame.now) c.in-Some.ensures)
 
 pub leave_unwinding-requires : goal.leave_unwinding-requires
-leave_unwinding-requires c = (c.in-Some.frame.now.at + 1, stands-at c.args.g.0 c.args.state.now c.requires.runs (plain_frame c.in-Some.frame.now) c.in-Some.ensures)
+leave_unwinding-requires c = (c.in-Some.frame.now.at + 1, stands-at c.args.g.0 c.args.state.now c.requires.runs (frame_view c.in-Some.frame.now) c.in-Some.ensures)
 
 pub returns-in-Some-line_at-clause-ok : goal.returns-in-Some-line_at-clause-ok
 returns-in-Some-line_at-clause-ok c =
     on_ok_weaker c.perform.result
-    (λ h choice. h choice ∙ turn-is c.args.g.0 c.args.state.now c.requires.runs c.args.code.now (plain_frame c.in-Some.frame.now) c.in-Some.ensures c.in-Some-line_at.line.now choice c.in-No.is c.in-Some-line_at.ensures.line)
+    (λ h. h ∙ turn-is c.args.g.0 c.args.state.now c.requires.runs c.args.code.now (frame_view c.in-Some.frame.now) c.in-Some.ensures c.in-Some-line_at.line.now c.args.choice c.in-No.is c.in-Some-line_at.ensures.line)
     c.perform.ensures.ok

@@ -29,7 +29,7 @@ loop-marker-init c =
     let run = c.requires.run (length more) first (at_end ms more first _ is refl) in
     let hands : c.push_ready.new.self.items ≡ first.hand ∷ [] = c.push_ready.ensures.items ∙ ap (λ (l : List GreyHand). l ++ first.hand ∷ []) c.requires.hands.0 in
     record {
-      gathered = gathered_first c.args.marks ms more first is run.fits.scanner.seat run.fits.missed;
+      gathered = gathered_first c.args.marks ms more first is run.fits.scanner.seat run.fits.deferred;
       handed = subst (λ (l : List GreyHand). IsHandedOver ms more l) (sym hands) (handed_first ms more first is);
       idle = run.fits.idle;
       room = omega (arith, run.fits.scanner.room, ap length run.fits.idle);
@@ -46,7 +46,7 @@ pub note-requires : goal.note-requires
 note-requires c =
     let more = c.pop-in-loop-marker.new.self.items in
     let m = c.in-Some-pop.marker in
-    (c.requires.run (length more) m (last_in c.args.marks c.args.markers.items c.loop-marker.rest.items more m _ c.in-Some-pop.ensures.items c.loop-marker.invariant.gathered)).fits.missed
+    (c.requires.run (length more) m (last_in c.args.marks c.args.markers.items c.loop-marker.rest.items more m _ c.in-Some-pop.ensures.items c.loop-marker.invariant.gathered)).fits.deferred
     ∙ sym c.loop-marker.invariant.gathered.fits.todo
 
 pub loop-marker-preserved : goal.loop-marker-preserved

@@ -6,5 +6,5 @@ abbrev pub invariant-loop-place : goal.invariant-loop-place
 invariant-loop-place l = record {
   size : length l.todo.items ≡ length l.initial.todo.items;
   kept : (p : ℕ) → IsSet l.initial.todo.items p → IsSet l.todo.items p;
-  noted : (p : ℕ) → p < l.place → IsSet l.missed.items p → IsSet l.todo.items p;
+  noted : (p : ℕ) → p < l.place → IsSet l.deferred.items p → IsSet l.todo.items p;
 }

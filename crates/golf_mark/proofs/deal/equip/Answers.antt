@@ -24,7 +24,7 @@ loop-hand-preserved c =
     rw c.in_ok-push.ensures.items
     (equipped c.args.marks.now c.args.pool.now (length c.args.seats) c.loop-hand.seats c.pop-in-Some.new.self c.loop-hand.hands c.pop.new.self c.loop-hand.markers.items _
     c.loop-hand.invariant c.in-Some-pop.ensures c.in-Some.ensures
-    (omega (arith, c.in_ok-missed.ensures.len, c.in_ok-missed.missed.ok.0, c.requires.places)) (c.in_ok-reserve.ensures.items ∙ c.new-won.ensures.items)
+    (omega (arith, c.in_ok-deferred.ensures.len, c.in_ok-deferred.deferred.ok.0, c.requires.places)) (c.in_ok-reserve.ensures.items ∙ c.new-won.ensures.items)
     (omega (arith, c.in_ok-reserve.ensures.ok, c.max.ensures, c.requires.places)) c.requires.capacity)
 
 pub returns-clause-count : goal.returns-clause-count

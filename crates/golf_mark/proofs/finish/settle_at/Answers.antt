@@ -1,4 +1,4 @@
-use Rattle.std.proofs.Common.{◌∷◌, [], ◌∙◌, ℕ, List, refl, sym, subst}
+use Rattle.std.proofs.Common.{◌∷◌, [], ◌∙◌, ◌+◌, ℕ, List, refl, sym, subst}
 use Rattle.golf_theory.specs.Membership.{In}
 use Rattle.golf_theory.proofs.Lists.{In-push, In-left}
 use Rattle.golf_theory.proofs.Times.{none-times}
@@ -25,13 +25,13 @@ pub settle_won-requires-clause-won : goal.settle_won-requires-clause-won
 settle_won-requires-clause-won c =
     won_known c.args.marks.now (record { seat = c.is_marked.new.seat; won = c.args.scanner.now.won }) c.scan.new.scanner c.requires.idle.none c.scan.ensures.wins
 
-pub settle_won-requires-clause-covered : goal.settle_won-requires-clause-covered
-settle_won-requires-clause-covered c =
-    settled_at c.args.marks.now c.args.todo.now c.args.place c.args.scanner.now c.scan.new.scanner c.is_marked.new.seat c.requires.idle.none c.is_marked.ensures.claimed
+pub returns-clause-covered : goal.returns-clause-covered
+returns-clause-covered c =
+    c.settle_won.ensures.covered c.args.todo.now (c.args.place + 1) (settled_at c.args.marks.now c.args.todo.now c.args.place c.args.scanner.now c.scan.new.scanner c.is_marked.new.seat c.requires.idle.none c.is_marked.ensures.claimed
     (λ p h. subst (λ (l : List ℕ). In p l) (sym c.if-not-is_marked.ensures.known) (In-left p (known c.args.scanner.now.seat) (c.args.place ∷ []) h))
     c.scan.ensures.wins
     (subst (λ (d : GraphParts). IsScanned d (known c.scan.new.scanner.seat) c.args.place) (sym c.requires.graph) c.scan.ensures.scanned)
-    c.requires.covered
+    c.requires.covered)
 
 pub returns-clause-keeps : goal.returns-clause-keeps
 returns-clause-keeps c = record {

@@ -1,9 +1,10 @@
-use Rattle.std.proofs.Common.{◌<◌, ℕ, List, sym, subst}
+use Rattle.std.proofs.Common.{◌<◌, ◌⊎◌, ◌∙◌, ℕ, List, sym, subst}
 use Rattle.golf_theory.specs.Membership.{In}
 use Rattle.golf_theory.proofs.Lists.{In-push}
 use Rattle.golf_model.specs.declared.graph.GraphParts.{GraphParts}
 use Rattle.golf_marks.specs.Places.{place_count}
-use Rattle.golf_marks.specs.Seats.{known}
+use Rattle.golf_marks.specs.Seats.{graph_in, known}
+use Rattle.golf_mark.specs.Finishing.{IsPending}
 use Rattle.golf_mark.specs.Working.{IsScanned}
 use Rattle.golf_mark.proofs.Settling.{settles, settles_less}
 use Rattle.golf_mark.proofs.finish.settle_won.Goals as goal
@@ -23,5 +24,11 @@ loop-place-smaller c = settles_less c.args.marks.now c.in-Some.place c.loop-plac
 
 pub loop-place-preserved : goal.loop-place-preserved
 loop-place-preserved c =
-    settles c.args.marks.now c.args.todo.now c.args.from c.in-Some.place c.args.scanner.now c.loop-place.scanner c.scan.new.scanner c.pop.new.self c.in-Some.ensures.items c.scan.ensures.wins
+    settles c.args.marks.now c.in-Some.place c.args.scanner.now c.loop-place.scanner c.scan.new.scanner c.pop.new.self c.in-Some.ensures.items c.scan.ensures.wins
     (subst (λ (d : GraphParts). IsScanned d (known c.scan.new.scanner.seat) c.in-Some.place) (sym c.requires.graph) c.scan.ensures.scanned) c.loop-place.invariant
+
+pub returns-clause-covered : goal.returns-clause-covered
+returns-clause-covered c = λ todo from before p low h.
+    subst (λ (xs : List ℕ). IsScanned (graph_in c.args.marks.now) (known c.loop-place.scanner.seat) p ⊎ (In p xs ⊎ IsPending todo from p))
+    (c.in_default.ensures.items.0 ∙ sym c.in_default.ensures.items.1)
+    (c.loop-place.invariant.covered todo from before p low h)

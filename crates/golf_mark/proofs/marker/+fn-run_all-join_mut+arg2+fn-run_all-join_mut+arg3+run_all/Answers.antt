@@ -6,8 +6,8 @@ use Rattle.golf_mark.proofs.marker.+fn-run_all-join_mut+arg2+fn-run_all-join_mut
 
 pub returns : goal.returns
 returns g t c =
-    let marks = c.args.marks.now in
-    let pool = c.args.pool.now in
+    let marks = c.args.shared.now.marks.now in
+    let pool = c.args.shared.now.pool.now in
     let a = c.split_at_mut-front.result.0.now in
     let b = c.split_at_mut-front.result.1.now in
     let front : EachRuns marks pool a c.front-1.given.0 = search rules in

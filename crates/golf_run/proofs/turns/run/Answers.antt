@@ -16,7 +16,7 @@ use Rattle.golf_run.specs.Told.{told_text, names_any, noted, HasTold}
 use Rattle.golf_run.specs.HasRun.{sinks}
 use Rattle.golf_run.specs.UnderWay.{IsUnderWay}
 use Rattle.golf_run.proofs.Goings.{quiet, loud, emptied, sane-next, renamed}
-use Rattle.golf_run.proofs.Turning.{none-by, some-by, loud-turn, quiet-turn, other-turn, built-lines}
+use Rattle.golf_run.proofs.Turning.{none-by, some-by, loud-turn, quiet-turn, other-turn}
 use Rattle.golf_run.proofs.Ending.{fronts, out-broken, err-broken, whole, end-broken, wanting, broken, tell-stopped, begins}
 use Rattle.golf_run.proofs.turns.run.Goals as goal
 use Rattle.golf_run.proofs.turns.run.Goals.{else-loop-number-test, then-loop-number-test+then-is_some, in-WantsCollection+in_ok-found-in-WantsCollection, in-Went}
@@ -153,6 +153,3 @@ returns g c =
           (subst (λ t. Appends (g.E.Sink.written c.loop-number.err) (g.E.Sink.written c.write_all-2.new.sink) t) line c.in_ok-write_all-2.ensures.ok) (c.status_by.ensures ∙ ap (status_by c.loop-number.found) c.ending-ending.ensures),
       record { out = c.loop-number.invariant.steady.out; err = c.in_ok-write_all-2.ensures.cause.steady ∙ c.loop-number.invariant.steady.err },
     )
-
-pub turn-requires-clause-built : goal.turn-requires-clause-built
-turn-requires-clause-built g c = built-lines c.args.code.now c.requires.built

@@ -2,7 +2,7 @@ use Rattle.std.proofs.Common.{arith, ap, ◌∙◌, ◌++◌, ◌∷◌, [], Lis
 use Rattle.golf_data.specs.declared.value.Object.{Object}
 use Rattle.golf_model.specs.Refs.{has_finaliser}
 use Rattle.golf_snapshot.proofs.Stepping.{entry-of-key, map-next, map-done}
-use Rattle.golf_heap.specs.Numbered.{Numbered}
+use Rattle.golf_heap.specs.Objects.{NumberedObjects}
 use Rattle.golf_snapshot.proofs.nodes.finalised.Goals as goal
 
 pub loop-rank-preserved : goal.loop-rank-preserved
@@ -16,4 +16,4 @@ pub returns : goal.returns
 returns c =
     let s = c.args.state.now in
     map-done (λ (d : ℕ × Object). has_finaliser s d.0) c.heap-heap.result.now.objects c.loop-rank.rank c.loop-rank.flags (omega arith) c.loop-rank.invariant
-    ∙ ap (λ (h : Numbered). map (λ (d : ℕ × Object). has_finaliser s d.0) h.objects) c.heap-heap.ensures
+    ∙ ap (λ (h : NumberedObjects). map (λ (d : ℕ × Object). has_finaliser s d.0) h.objects) c.heap-heap.ensures

@@ -2,15 +2,15 @@ use Rattle.std.proofs.Common.{◌≡◌, ℕ, ◌<◌, List, [], ◌∷◌, ◌+
 use Rattle.std.specs.Prelude.{reverse, slice_get, slice_set}
 use Rattle.std.proofs.lemmas.Option.{slice_get-get_or}
 use Rattle.golf_data.specs.declared.value.Value.{Value}
-use Rattle.golf_model.specs.Plain.{PlainFrame, plain_frame}
-use Rattle.golf_model.proofs.PlainForms.{reverse-push}
+use Rattle.golf_model.specs.Views.{FrameView, frame_view}
+use Rattle.golf_model.proofs.ViewForms.{reverse-push}
 use Rattle.golf_state.specs.Going.{stored_in}
 use Rattle.golf_state.proofs.frames.store_last.Goals as goal
 
 pub returns-in-Some : goal.returns-in-Some
 returns-in-Some c =
     let f = c.args.frame.now in
-    let plain : PlainFrame = plain_frame f in
+    let plain : FrameView = frame_view f in
     let v = c.in-Some.value in
     let rest = c.pop.new.self.items in
     let i = c.args.slot in

@@ -10,8 +10,8 @@ use Rattle.golf_state.proofs.Rises.{at-number, without-there, without-absent}
 use Rattle.golf_state.proofs.rising.leave_out.Goals as goal
 use Rattle.golf_state.proofs.rising.leave_out.Goals.{else-at-len-via-then-at-len+else-index-g, else-at-len-via-else-at-len}
 
-pub returns-then-index-g : goal.returns-then-index-g
-returns-then-index-g c =
+pub returns-then-index-g-clause-others : goal.returns-then-index-g-clause-others
+returns-then-index-g-clause-others c =
     let xs = c.args.goroutines.now.items in
     let ns = numbers xs in
     let g = c.args.g.0 in
@@ -20,8 +20,8 @@ returns-then-index-g c =
     let here : slice_get ns (leading g ns) ≡ Some g = ap (slice_get ns) (sym at) ∙ at-number xs c.leading-at.result c.index.result.now within c.index.ensures ∙ ap Some c.if-index-g.true in
     ap numbers c.remove.ensures.items ∙ numbers-remove xs c.leading-at.result ∙ ap (remove ns) at ∙ sym (without-there 0 g ns c.requires here)
 
-pub returns-else-at-len : goal.returns-else-at-len
-returns-else-at-len c =
+pub returns-else-at-len-clause-others : goal.returns-else-at-len-clause-others
+returns-else-at-len-clause-others c =
     let xs = c.args.goroutines.now.items in
     let ns = numbers xs in
     let g = c.args.g.0 in

@@ -10,8 +10,8 @@ use Rattle.golf_state.proofs.rising.put_in.Goals as goal
 pub insert-requires : goal.insert-requires
 insert-requires c = omega (arith, c.leading-at.ensures.within, ap length c.as_slice.ensures.value, c.args.goroutines.now.ok.0)
 
-pub returns : goal.returns
-returns c =
+pub returns-clause-all : goal.returns-clause-all
+returns-clause-all c =
     let xs = c.args.goroutines.now.items in
     let ns = numbers xs in
     let g = c.args.g.0 in

@@ -3,8 +3,9 @@ use Rattle.std.specs.Prelude.{option_map}
 use Rattle.golf_base.specs.declared.ids.GoroutineId.{GoroutineId}
 use Rattle.golf_model.specs.Waiting.{Waiter, first}
 use Rattle.golf_state.specs.Places.{plain_place, plain_entries}
-use Rattle.golf_state.specs.Seen.{seen_of, sooner, waiter_in}
-use Rattle.golf_state.specs.declared.waiters.Seen.{Seen}
+use Rattle.golf_state.specs.Seen.{sooner, waiter_in}
+use Rattle.golf_state.specs.Waited.{waiting_of}
+use Rattle.golf_state.specs.declared.waiters.Waiting.{Waiting}
 use Rattle.golf_state.specs.declared.places.Place.{Place}
 use Rattle.golf_state.proofs.PlaceLaws.{place-found}
 use Rattle.golf_state.proofs.WaiterLaws.{no_one, read-back, listed-found, seen_more}
@@ -29,8 +30,8 @@ loop-at-preserved c =
     let p : Place = c.index-places-g.result in
     let read : p ≡ get_or gs g.0 p = c.index-places-g.is in
     let more = seen_more gs c.args.present.now at g c.args.object.0 c.args.side p c.requires within is read in
-    let rest : c.loop-at.best ≡ option_map seen_of (first c.args.object.0 c.args.side (drop (at + 1) (plain_entries gs))) = c.loop-at.invariant.best ∙ ap (λ (n : ℕ). option_map seen_of (first c.args.object.0 c.args.side (drop n (plain_entries gs)))) next in
+    let rest : c.loop-at.best ≡ option_map waiting_of (first c.args.object.0 c.args.side (drop (at + 1) (plain_entries gs))) = c.loop-at.invariant.best ∙ ap (λ (n : ℕ). option_map waiting_of (first c.args.object.0 c.args.side (drop n (plain_entries gs)))) next in
     record {
       within = omega (arith, c.loop-at.invariant.within);
-      best = c.sooner-best.ensures ∙ ap (λ (w : Option Seen). sooner w c.loop-at.best) c.waiter_in.ensures ∙ ap (sooner (option_map seen_of (waiter_in g.0 c.args.object.0 c.args.side (plain_place p)))) rest ∙ more;
+      best = c.sooner-best.ensures ∙ ap (λ (w : Option Waiting). sooner w c.loop-at.best) c.waiter_in.ensures ∙ ap (sooner (option_map waiting_of (waiter_in g.0 c.args.object.0 c.args.side (plain_place p)))) rest ∙ more;
     }

@@ -2,14 +2,14 @@ use Rattle.std.proofs.Common.{◌≡◌, ◌≤◌, drop, length}
 use Rattle.std.specs.Prelude.{option_map}
 use Rattle.golf_model.specs.Waiting.{first}
 use Rattle.golf_state.specs.Places.{plain_entries}
-use Rattle.golf_state.specs.Seen.{seen_of}
+use Rattle.golf_state.specs.Waited.{waiting_of}
 use Rattle.golf_state.proofs.waiters.first_waiter.Given as goal
 
 -- the first of those from `at` on
 abbrev pub invariant-loop-at : goal.invariant-loop-at
 invariant-loop-at l = record {
   within : l.at ≤ length l.present;
-  best : l.best ≡ option_map seen_of (first l.object.0 l.side (drop l.at (plain_entries l.places)));
+  best : l.best ≡ option_map waiting_of (first l.object.0 l.side (drop l.at (plain_entries l.places)));
 }
 
 abbrev pub decreases-loop-at : goal.decreases-loop-at

@@ -1,6 +1,6 @@
 use Rattle.std.proofs.Common.{◌≡◌, ◌+◌, ◌*◌, length}
 use Rattle.golf_statements.specs.StmtReading.{OfStmt, stmt_at}
-use Rattle.golf_statements.specs.Frames.{move_at, waited, weight}
+use Rattle.golf_statements.specs.Moves.{move_at, waited, weight}
 use Rattle.golf_statements.proofs.statements.read.Given as goal
 
 -- what waits goes on with what is read next

@@ -1,6 +1,6 @@
 use Rattle.std.proofs.Common.{◌≡◌, subst}
 use Rattle.std.specs.Prelude.{IfOk}
-use Rattle.golf_statements.specs.Frames.{Found, moved}
+use Rattle.golf_statements.specs.Moves.{Found, moved}
 use Rattle.golf_statements.proofs.Moves.{stmt-none, stmt-split}
 use Rattle.golf_statements.proofs.statements.stmt_move.Goals as goal
 

@@ -1,11 +1,13 @@
-use Rattle.std.proofs.Common.{◌≡◌, true, sym, ◌∙◌, arith}
+use Rattle.std.proofs.Common.{◌≡◌, true, sym, subst, ◌∙◌, arith}
+use Rattle.std.specs.Prelude.{Ok}
 use Rattle.std.proofs.lemmas.Grind.{common_steps}
+use Rattle.golf_syntax.specs.Parses.{Declared}
 use Rattle.golf_syntax.specs.PieceReading.{is_package}
-use Rattle.golf_syntax.proofs.FileLaws.{costly, not-read, all-read}
+use Rattle.golf_syntax.proofs.FileLaws.{too_complex, not-read, all-read}
 use Rattle.golf_syntax.proofs.parser.file_of.Goals as goal
 
 pub returns-in-Some : goal.returns-in-Some
-returns-in-Some c = costly c.args.tokens.now c.in-Some.line (sym c.in_ok-line.ensures ∙ c.in-Some.is)
+returns-in-Some c = too_complex c.args.tokens.now c.in-Some.line (sym c.in_ok-line.ensures ∙ c.in-Some.is)
 
 pub returns-in-Err : goal.returns-in-Err
 returns-in-Err c =
@@ -16,5 +18,5 @@ returns-in-Err c =
 pub returns-in-Ok : goal.returns-in-Ok
 returns-in-Ok c =
     let main : is_package c.in-Some-front_piece.package.now ≡ true = grind (arith, common_steps) in
-    all-read c.args.tokens.now c.in-Some-front_piece.package.now c.in-Some-front_piece.rest.now c.in_ok-imports.left.now c.in_ok-imports.imports c.in-Ok.declarations (sym c.in_ok-line.ensures ∙ c.in_default.is) c.in-Some-front_piece.ensures.value main
-    c.in_ok-imports.ensures c.in-Ok.ensures
+    all-read c.args.tokens.now c.in-Some-front_piece.package.now c.in-Some-front_piece.rest.now c.in_ok-imports.left.now c.in_ok-imports.imports c.into_inner.result (sym c.in_ok-line.ensures ∙ c.in_default.is) c.in-Some-front_piece.ensures.value main
+    c.in_ok-imports.ensures (subst (λ ds. Declared c.in_ok-imports.left.now (Ok ds)) (sym c.into_inner.ensures) c.in-Ok.ensures)

@@ -3,7 +3,7 @@ use Rattle.std.specs.Prelude.{IsSome, is_some}
 use Rattle.std.proofs.lemmas.Option.{slice_get_within}
 use Rattle.golf_data.specs.declared.value.Object.{Object}
 use Rattle.golf_theory.specs.Maps.{find, put}
-use Rattle.golf_heap.specs.Numbered.{Numbered, rank}
+use Rattle.golf_heap.specs.Objects.{NumberedObjects, rank}
 use Rattle.golf_heap.specs.Kept.{gathered, keyed}
 use Rattle.golf_heap.proofs.Gathering.{Rises-keyed}
 use Rattle.golf_heap.proofs.Finding.{present, placed, slot-of, there, found-at}
@@ -16,7 +16,7 @@ rank_of-at-requires c = rw c.as_slice.ensures.value (Rises-keyed c.self.inside.s
 pub index-requires : goal.index-requires
 index-requires c =
     let h = c.self.inside in
-    let some : IsSome (find c.args.id.0 (gathered h.slots h.places.items)) = ap (λ (s : Numbered). is_some (find c.args.id.0 s.objects)) c.self.view_is ∙ c.requires in
+    let some : IsSome (find c.args.id.0 (gathered h.slots h.places.items)) = ap (λ (s : NumberedObjects). is_some (find c.args.id.0 s.objects)) c.self.view_is ∙ c.requires in
     let p = present h.slots h.places.items c.args.id.0 c.rank_of-at.result (Rises-keyed h.slots 1 h.places.items c.self.invariant.numbers.rises) (rw c.as_slice.ensures.value at c.rank_of-at.ensures) some in
     let l = slice_get_within h.places.items c.rank_of-at.result p.0 p.1 in
     omega (arith, l, h.places.ok.0)
@@ -24,7 +24,7 @@ index-requires c =
 pub index_mut-slot-requires : goal.index_mut-slot-requires
 index_mut-slot-requires c =
     let h = c.self.inside in
-    let some : IsSome (find c.args.id.0 (gathered h.slots h.places.items)) = ap (λ (s : Numbered). is_some (find c.args.id.0 s.objects)) c.self.view_is ∙ c.requires in
+    let some : IsSome (find c.args.id.0 (gathered h.slots h.places.items)) = ap (λ (s : NumberedObjects). is_some (find c.args.id.0 s.objects)) c.self.view_is ∙ c.requires in
     let e : c.rank_of-at.result ≡ rank c.args.id.0 (keyed h.places.items) = rw c.as_slice.ensures.value at c.rank_of-at.ensures in
     let at = placed h.slots h.places.items c.args.id.0 c.rank_of-at.result c.index.result.now c.self.invariant.numbers.rises e some c.index.ensures in
     let x = slot-of h.slots h.places.items c.rank_of-at.result c.index.result.now c.self.invariant.held at.0 in
@@ -33,7 +33,7 @@ index_mut-slot-requires c =
 pub invariant_of-self-lent : goal.invariant_of-self-lent
 invariant_of-self-lent c =
     let h = c.self.inside in
-    let some : IsSome (find c.args.id.0 (gathered h.slots h.places.items)) = ap (λ (s : Numbered). is_some (find c.args.id.0 s.objects)) c.self.view_is ∙ c.requires in
+    let some : IsSome (find c.args.id.0 (gathered h.slots h.places.items)) = ap (λ (s : NumberedObjects). is_some (find c.args.id.0 s.objects)) c.self.view_is ∙ c.requires in
     let e : c.rank_of-at.result ≡ rank c.args.id.0 (keyed h.places.items) = rw c.as_slice.ensures.value at c.rank_of-at.ensures in
     let at = placed h.slots h.places.items c.args.id.0 c.rank_of-at.result c.index.result.now c.self.invariant.numbers.rises e some c.index.ensures in
     λ w. IsStored-written h.slots h.places.items h.last c.rank_of-at.result c.index.result.now c.index_mut-slot.result.now w c.self.invariant at.0 c.index_mut-slot.ensures.value
@@ -41,7 +41,7 @@ invariant_of-self-lent c =
 pub returns : goal.returns
 returns c =
     let h = c.self.inside in
-    let some : IsSome (find c.args.id.0 (gathered h.slots h.places.items)) = ap (λ (s : Numbered). is_some (find c.args.id.0 s.objects)) c.self.view_is ∙ c.requires in
+    let some : IsSome (find c.args.id.0 (gathered h.slots h.places.items)) = ap (λ (s : NumberedObjects). is_some (find c.args.id.0 s.objects)) c.self.view_is ∙ c.requires in
     let e : c.rank_of-at.result ≡ rank c.args.id.0 (keyed h.places.items) = rw c.as_slice.ensures.value at c.rank_of-at.ensures in
     let at = placed h.slots h.places.items c.args.id.0 c.rank_of-at.result c.index.result.now c.self.invariant.numbers.rises e some c.index.ensures in
     let key : Some c.index.result.now.key ≡ find c.args.id.0 (keyed h.places.items) = there c.args.id.0 c.rank_of-at.result h.places.items c.index.result.now (Rises-keyed h.slots 1 h.places.items c.self.invariant.numbers.rises) e at.0 at.1 in (

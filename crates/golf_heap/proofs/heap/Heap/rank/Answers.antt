@@ -1,5 +1,5 @@
 use Rattle.std.proofs.Common.{◌≡◌, ◌+◌, arith, ◌∙◌}
-use Rattle.golf_heap.specs.Numbered.{rank}
+use Rattle.golf_heap.specs.Objects.{rank}
 use Rattle.golf_heap.specs.Kept.{gathered}
 use Rattle.golf_heap.proofs.Ranks.{few, rank-within}
 use Rattle.golf_heap.proofs.Gathering.{Rises-keyed, rank-gathered}

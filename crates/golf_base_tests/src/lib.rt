@@ -1,0 +1,7 @@
+//! Tests of lists, boxes, sources and sinks.
+#![tactic(auto)]
+
+#[cfg(test)]
+mod lists;
+#[cfg(test)]
+mod streams;

@@ -1,0 +1,51 @@
+//! A close.
+
+ghost use Rattle.std.specs.Prelude.{◌≡◌, drop};
+ghost use Rattle.golf_theory.specs.Maps.{find};
+ghost use Rattle.golf_model.specs.Acting.{at_channel};
+ghost use Rattle.golf_model.specs.Channels.{closes, closes_open};
+ghost use Rattle.golf_state.specs.Doing.{does, Stands};
+ghost use Rattle.golf_state.specs.Outcomes.{Comes};
+
+use crate::channel::{channel_at, close_it};
+use golf_base::ObjectId;
+use golf_data::{PanicKind, Value};
+use golf_state::{Acting, Outcome, State, Waking, last_operand, proceed};
+
+// Closes a channel.
+fn close_at(state: &mut State, acting: Acting, object: ObjectId) -> Outcome
+    requires { Stands acting.goroutine.0 acting.after state.old }
+    ensures { Comes result (λ a. at_channel (closes_open a (drop 1 a.frame.operands) object.0) (find object.0 state.old.objects)) acting.goroutine.0 acting.line state.old state.new }
+{
+    let Some(channel) = channel_at(state, object) else {
+        return Outcome::Stuck;
+    };
+    if channel.closed {
+        return Outcome::Panic(PanicKind::CloseClosed);
+    }
+    let zero = channel.zero;
+    close_it(state.object_mut(object));
+    proceed(state, acting, acting.after, 1);
+    state.wake_all(object, Waking::Closing(zero));
+    Outcome::Done
+}
+
+/// The goroutine in its turn closes the channel that is its last operand: all who wait to receive
+/// get the zero value, and all who wait to send unwind. It panics on nil, and on a closed channel.
+/// It takes no memory.
+pub fn close(state: &mut State, acting: Acting) -> Outcome
+    requires { Stands acting.goroutine.0 acting.after state.old }
+    ensures { Comes result (λ a. closes a state.old) acting.goroutine.0 acting.line state.old state.new }
+{
+    let Some(channel) = last_operand(state, acting.goroutine) else {
+        return Outcome::Stuck;
+    };
+    match channel {
+        Value::Ref(object) => close_at(state, acting, object),
+        Value::Nil => Outcome::Panic(PanicKind::CloseNil),
+        Value::Int(_) => Outcome::Stuck,
+        Value::Bool(_) => Outcome::Stuck,
+        Value::Text(_) => Outcome::Stuck,
+        Value::Unit => Outcome::Stuck,
+    }
+}

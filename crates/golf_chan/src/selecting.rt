@@ -1,0 +1,142 @@
+//! A `select`.
+
+ghost use Rattle.std.specs.Prelude.{◌≡◌, Some, reverse, drop, IfOk, OnErr, option_map};
+ghost use Rattle.golf_model.specs.Selecting.{selects, selects_from, selects_none, proceeds, chosen};
+ghost use Rattle.golf_state.specs.Doing.{does, Stands};
+ghost use Rattle.golf_state.specs.Operands.{operands_of};
+ghost use Rattle.golf_state.specs.Outcomes.{Comes};
+ghost use Rattle.golf_chan.specs.Offers.{plain_offer, plain_offers};
+
+use crate::offers::{Offer, Offered, all_on_channels, offers_of, ready_of, select_kind, waits_of};
+use crate::receiving::{Receiving, receive_on};
+use crate::sending::send_on;
+use golf_base::{GoroutineId, Memory};
+use golf_data::{CaseKind, SelectCase, Value};
+use golf_state::{Acting, Outcome, State, block_at, proceed};
+use std::alloc::Global;
+
+// All operands of a goroutine's innermost frame, the last one on top.
+fn operands(state: &State, g: GoroutineId) -> &[Value]
+    ensures { reverse result.now ≡ operands_of g.0 state.now }
+{
+    match state.frame(g) {
+        Some(frame) => frame.operands.as_slice(),
+        None => &[],
+    }
+}
+
+// Of the ready cases, the one at this place, counted round.
+fn chosen(ready: &[Offer], choice: u64) -> Option<Offer>
+    ensures { option_map plain_offer result ≡ chosen choice (plain_offers ready.now) }
+{
+    if ready.is_empty() {
+        return None;
+    }
+    let at = choice % ready.len() as u64;
+    Some(ready[at as usize])
+}
+
+// A case is done as the operation alone would be, and the goroutine goes on at its target.
+fn take_case(
+    alloc: Global,
+    state: &mut State,
+    acting: Acting,
+    taken: usize,
+    offer: Offer,
+) -> Result<Outcome, Memory>
+    requires { Stands acting.goroutine.0 acting.after state.old }
+    ensures ok { IfOk result (λ outcome. Comes outcome (λ a. proceeds a (drop taken a.frame.operands) state.old (plain_offer offer)) acting.goroutine.0 acting.line state.old state.new) }
+    ensures err { OnErr result (state.new ≡ state.old) }
+{
+    let Value::Ref(object) = offer.channel else {
+        return Ok(Outcome::Stuck);
+    };
+    let (target, value) = (offer.target, offer.value);
+    match offer.kind {
+        CaseKind::Send => send_on(alloc, state, acting, target, taken, object, value),
+        CaseKind::Take => {
+            let receiving = Receiving {
+                target,
+                taken,
+                with_ok: false,
+            };
+            receive_on(alloc, state, acting, receiving, object)
+        }
+        CaseKind::TakeOk => {
+            let receiving = Receiving {
+                target,
+                taken,
+                with_ok: true,
+            };
+            receive_on(alloc, state, acting, receiving, object)
+        }
+    }
+}
+
+// With no case ready: `default`, else the goroutine blocks.
+fn take_none(
+    alloc: Global,
+    state: &mut State,
+    acting: Acting,
+    taken: usize,
+    offers: &[Offer],
+    otherwise: Option<u32>,
+) -> Result<Outcome, Memory>
+    requires { Stands acting.goroutine.0 acting.after state.old }
+    ensures ok { IfOk result (λ outcome. Comes outcome (λ a. selects_none a (drop taken a.frame.operands) (plain_offers offers.now) otherwise) acting.goroutine.0 acting.line state.old state.new) }
+    ensures err { OnErr result (state.new ≡ state.old) }
+{
+    if let Some(target) = otherwise {
+        proceed(state, acting, target, taken);
+        return Ok(Outcome::Done);
+    }
+    let waits = waits_of(alloc, offers)?;
+    let kind = select_kind(offers);
+    block_at(state, acting, acting.after, taken, kind, waits)?;
+    Ok(Outcome::Blocked)
+}
+
+// A `select` whose cases have their operands.
+fn select_from(
+    alloc: Global,
+    state: &mut State,
+    acting: Acting,
+    offered: &Offered,
+    otherwise: Option<u32>,
+    choice: u64,
+) -> Result<Outcome, Memory>
+    requires { Stands acting.goroutine.0 acting.after state.old }
+    ensures ok { IfOk result (λ outcome. Comes outcome (λ a. selects_from a state.old choice otherwise (Some (plain_offers offered.now.offers, drop offered.now.taken a.frame.operands))) acting.goroutine.0 acting.line state.old state.new) }
+    ensures err { OnErr result (state.new ≡ state.old) }
+{
+    let offers = offered.offers.as_slice();
+    if !all_on_channels(state, offers) {
+        return Ok(Outcome::Stuck);
+    }
+    let ready = ready_of(alloc, state, offers)?;
+    match chosen(ready.as_slice(), choice) {
+        Some(offer) => take_case(alloc, state, acting, offered.taken, offer),
+        None => take_none(alloc, state, acting, offered.taken, offers, otherwise),
+    }
+}
+
+/// The goroutine in its turn does one of the cases, whose operands it has: of those that would not
+/// block, in source order, the one at the place `choice`, counted round. With none ready it goes on
+/// at the target of `default`, where there is one, else it blocks on the channels of all cases.
+pub fn select(
+    alloc: Global,
+    state: &mut State,
+    acting: Acting,
+    cases: &[SelectCase],
+    otherwise: Option<u32>,
+    choice: u64,
+) -> Result<Outcome, Memory>
+    requires { Stands acting.goroutine.0 acting.after state.old }
+    ensures ok { IfOk result (λ outcome. Comes outcome (λ a. selects a state.old choice cases.now otherwise) acting.goroutine.0 acting.line state.old state.new) }
+    ensures err { OnErr result (state.new ≡ state.old) }
+{
+    match offers_of(alloc, cases, operands(state, acting.goroutine))? {
+        Some(offered) => select_from(alloc, state, acting, &offered, otherwise, choice),
+        None => Ok(Outcome::Stuck),
+    }
+}

@@ -1,0 +1,50 @@
+//! How a call that runs no file ends: a line on the second sink, and the status.
+
+ghost use Rattle.std.specs.Prelude.{◌≡◌, IfOk};
+ghost use Rattle.golf_command.specs.Ends.{EndsWith, Refuses, refusal_line, refusal_status as status_of_refusal};
+
+use golf_base::{List, Memory, Sink, write_all};
+use golf_reader::Refusal;
+use golf_texts::{NO_MEMORY, NOT_BUILT, Status, lexical_line, list_of, syntax_line};
+use std::alloc::Global;
+
+/// Writes a last line, and answers the status, or that the write failed.
+pub fn end<E: Sink>(err: &mut E, line: &[u8], status: Status) -> Status
+    ensures { EndsWith result status line.now (E.written err.old) (E.written err.new) (E.faults err.old) (E.faults err.new) }
+{
+    match write_all(err, line) {
+        Ok(()) => status,
+        Err(_) => Status::WriteFault,
+    }
+}
+
+// The line of a refusal.
+fn refusal_text(alloc: Global, refusal: Refusal) -> Result<List<u8>, Memory>
+    ensures { IfOk result (λ text. text ≡ refusal_line refusal) }
+{
+    match refusal {
+        Refusal::Lexical { line, byte } => lexical_line(alloc, line, byte),
+        Refusal::Syntax { line } => syntax_line(alloc, line),
+        Refusal::NotBuilt => list_of(alloc, NOT_BUILT),
+        Refusal::Memory => list_of(alloc, NO_MEMORY),
+    }
+}
+
+fn refusal_status(refusal: Refusal) -> Status
+    ensures { result ≡ status_of_refusal refusal }
+{
+    match refusal {
+        Refusal::Lexical { .. } | Refusal::Syntax { .. } | Refusal::NotBuilt => Status::Refused,
+        Refusal::Memory => Status::Memory,
+    }
+}
+
+/// Writes why a file is not run, and answers the status.
+pub(crate) fn refuse<E: Sink>(alloc: Global, err: &mut E, refusal: Refusal) -> Status
+    ensures { Refuses result refusal (E.written err.old) (E.written err.new) (E.faults err.old) (E.faults err.new) }
+{
+    match refusal_text(alloc, refusal) {
+        Ok(text) => end(err, text.as_slice(), refusal_status(refusal)),
+        Err(_) => end(err, NO_MEMORY, Status::Memory),
+    }
+}

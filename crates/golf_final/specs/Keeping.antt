@@ -1,0 +1,30 @@
+-- The keep rule on the graph of a state: a dead goroutine stays where its removal could let a finaliser run (profile).
+use Rattle.std.specs.Prelude.{◌≡◌, ◌<◌, ◌↔◌, ◌⊎◌, ℕ, Bool, true, List, length}
+use Rattle.golf_theory.specs.Membership.{In}
+use Rattle.golf_theory.specs.Reached.{Reached}
+use Rattle.golf_model.specs.declared.graph.GraphParts.{GraphParts}
+use Rattle.golf_model.specs.declared.graph.Marked.{Marked}
+use Rattle.golf_model.specs.Graph.{sleeper_count, children_of, sleeper_references}
+use Rattle.golf_marks.specs.Flags.{IsSet}
+
+-- a node has another one as a child
+abbrev pub HasChild : GraphParts → ℕ → ℕ → Type 0
+HasChild g from to = In to (children_of g from)
+
+-- what some nodes come to
+abbrev pub ComesTo : GraphParts → List ℕ → ℕ → Type 0
+ComesTo g starts = Reached (λ p. In p starts) (HasChild g)
+
+-- what keeps a dead goroutine that comes to it: a node with a finaliser, and a marked one where the code sets finalisers
+abbrev pub Prevents : GraphParts → List Bool → Bool → ℕ → Type 0
+Prevents g flags sets_finalisers p = IsSet g.finalised p ⊎ ((sets_finalisers ≡ true) × IsSet flags p)
+
+-- a sleeper that is not awake is kept where it comes to such a node
+abbrev pub IsKept : GraphParts → Marked → Bool → ℕ → Type 0
+IsKept g m sets_finalisers s =
+    (IsSet m.awake s → ⊥) × ((p : ℕ) × ComesTo g (sleeper_references g s) p × Prevents g m.flags sets_finalisers p)
+
+-- one flag a sleeper: whether it is kept
+pub record HasKept (g : GraphParts) (m : Marked) (sets_finalisers : Bool) (flags : List Bool) : Type 0 where
+  pub count : length flags ≡ sleeper_count g
+  pub kept : (s : ℕ) → s < sleeper_count g → IsSet flags s ↔ IsKept g m sets_finalisers s

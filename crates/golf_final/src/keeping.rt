@@ -1,0 +1,146 @@
+//! The keep rule, once for all sleepers.
+
+ghost use Rattle.std.specs.Prelude.{◌≡◌, ◌<◌, ◌↔◌, ℕ, IfOk, OnOk, IsTrue, length};
+ghost use Rattle.golf_theory.specs.Membership.{In};
+ghost use Rattle.golf_model.specs.Graph.{IsInRange, children_of, node_count, sleeper_count};
+ghost use Rattle.golf_marks.specs.Flags.{IsSet};
+ghost use Rattle.golf_rows.specs.Rows.{IsInverseBelow};
+ghost use Rattle.golf_final.specs.Keeping.{HasKept, Prevents};
+ghost use Rattle.golf_final.specs.Backward.{IsBackward, HasNumbers};
+
+use golf_base::{List, Memory, ObjectId, OpenGate};
+use golf_mark::mark_alone;
+use golf_model::{Graph, GraphParts, Marked};
+use golf_rows::{add_to_all, empty_rows};
+use std::alloc::Global;
+
+// For each node the nodes that have it as a child.
+fn parents(alloc: Global, graph: &Graph) -> Result<List<List<u32>>, Memory>
+    ensures { IfOk result (IsInverseBelow (node_count graph.now) (node_count graph.now) (children_of graph.now)) }
+{
+    let mut rows = empty_rows(alloc, graph.nodes())?;
+    for node in 0..graph.nodes() {
+        add_to_all(&mut rows, node, graph.children(node))?;
+    }
+    Ok(rows)
+}
+
+// Whether a flag is set; there is none past the last one.
+fn is_set(flags: &[bool], at: u32) -> bool
+    ensures { IsTrue result ↔ IsSet flags.now at }
+{
+    flags.get(at as usize) == Some(&true)
+}
+
+// Whether a node keeps whoever comes to it.
+fn prevents(graph: &Graph, flags: &[bool], sets_finalisers: bool, node: u32) -> bool
+    requires { node < node_count graph.now }
+    ensures { IsTrue result ↔ Prevents graph.now flags.now sets_finalisers node }
+{
+    if graph.finalised(node) {
+        return true;
+    }
+    sets_finalisers && is_set(flags, node)
+}
+
+// The nodes that keep whoever comes to them.
+fn preventing(
+    alloc: Global,
+    graph: &Graph,
+    flags: &[bool],
+    sets_finalisers: bool,
+) -> Result<List<u32>, Memory>
+    ensures { IfOk result (λ nodes. (p : ℕ) → In p nodes ↔ ((p < node_count graph.now) × Prevents graph.now flags.now sets_finalisers p)) }
+{
+    let mut nodes = List::new(alloc);
+    for node in 0..graph.nodes() {
+        if prevents(graph, flags, sets_finalisers, node) {
+            nodes.push(node)?;
+        }
+    }
+    Ok(nodes)
+}
+
+// The numbers of the nodes, from 0.
+fn count_up(alloc: Global, count: u32) -> Result<List<ObjectId>, Memory>
+    ensures { IfOk result (HasNumbers 0 count) }
+{
+    let mut numbers = List::new(alloc);
+    for number in 0..count {
+        numbers.push(ObjectId(number))?;
+    }
+    Ok(numbers)
+}
+
+// The graph in which each node leads to those that have it as a child, from those that keep whoever
+// comes to them.
+fn backward(
+    alloc: Global,
+    graph: &Graph,
+    flags: &[bool],
+    sets_finalisers: bool,
+) -> Result<Graph, Memory>
+    requires { length flags.now ≡ node_count graph.now }
+    ensures backward { IfOk result (IsBackward graph.now flags.now sets_finalisers) }
+    ensures in_range { OnOk result (IsInRange graph.now) }
+{
+    let children = parents(alloc, graph)?;
+    let roots = preventing(alloc, graph, flags, sets_finalisers)?;
+    let numbers = count_up(alloc, graph.nodes())?;
+    let mut finalised = List::new(alloc);
+    finalised.extend_with(graph.nodes() as usize, false)?;
+    Ok(Graph::new(GraphParts {
+        numbers,
+        children,
+        finalised,
+        roots,
+        sleepers: List::new(alloc),
+    }))
+}
+
+// Whether one of these flags is set.
+fn any_set(flags: &[bool], nodes: &[u32]) -> bool
+    ensures { IsTrue result ↔ ((p : ℕ) × In p nodes.now × IsSet flags.now p) }
+{
+    for node in nodes {
+        if is_set(flags, *node) {
+            return true;
+        }
+    }
+    false
+}
+
+// Whether a sleeper is not awake, and one of its references is set.
+fn is_kept(leading: &[bool], awake: &[bool], sleeper: u32, references: &[u32]) -> bool
+    ensures { IsTrue result ↔ ((IsSet awake.now sleeper → ⊥) × ((p : ℕ) × In p references.now × IsSet leading.now p)) }
+{
+    if is_set(awake, sleeper) {
+        return false;
+    }
+    any_set(leading, references)
+}
+
+/// For each sleeper of a graph whether it is kept: it is not awake, and it comes to an object that has
+/// a finaliser, or, where the code sets finalisers, to a live one (profile, keep rule).
+///
+/// The graph is gone through once, backwards from those objects, for all sleepers.
+pub fn keeps(
+    alloc: Global,
+    graph: &Graph,
+    marked: &Marked,
+    sets_finalisers: bool,
+) -> Result<List<bool>, Memory>
+    requires nodes { length marked.now.flags ≡ node_count graph.now }
+    requires sleepers { length marked.now.awake ≡ sleeper_count graph.now }
+    ensures { IfOk result (HasKept graph.now marked.now sets_finalisers) }
+{
+    let backward = backward(alloc, graph, marked.flags.as_slice(), sets_finalisers)?;
+    let leading = mark_alone(alloc, &backward, &OpenGate)?;
+    let mut kept = List::new(alloc);
+    for sleeper in 0..graph.sleepers() {
+        let references = graph.references(sleeper);
+        let flags = leading.flags.as_slice();
+        kept.push(is_kept(flags, marked.awake.as_slice(), sleeper, references))?;
+    }
+    Ok(kept)
+}

@@ -1,0 +1,33 @@
+-- What a heap is seen as: objects under numbers that are given in order and never used again (profile).
+use Rattle.std.specs.Prelude.{ℕ, suc, ◌+◌, Bool, cond, List, [], ◌∷◌, nat_lt}
+use Rattle.golf_theory.specs.Maps.{put, add, Rises, AllBelow}
+use Rattle.golf_data.specs.declared.value.Object.{Object}
+
+-- the objects that are there, in rising order of number, and the last number that was given, 0 where none was
+pub record NumberedObjects : Type 0 where
+  pub objects : List (ℕ × Object)
+  pub last : ℕ
+
+-- the numbers rise, from 1 up to the last one that was given
+pub record IsNumbered (h : NumberedObjects) : Type 0 where
+  pub rises : Rises 1 h.objects
+  pub within : AllBelow (h.last + 1) h.objects
+
+-- the object gets the next number
+abbrev pub made : Object → NumberedObjects → NumberedObjects
+made x h = record { objects = add (h.last + 1) x h.objects; last = h.last + 1 }
+
+-- the object of this number becomes this one
+abbrev pub replaced : ℕ → Object → NumberedObjects → NumberedObjects
+replaced o x h = record h { objects = put o x h.objects }
+
+-- the entries whose flag is true; those behind the last flag are not
+abbrev pub kept : {X : Type 0} → List Bool → List X → List X
+kept [] xs = []
+kept (b ∷ bs) [] = []
+kept (b ∷ bs) (x ∷ xs) = cond b (x ∷ kept bs xs) (kept bs xs)
+
+-- how many entries stand before the key
+abbrev pub rank : {X : Type 0} → ℕ → List (ℕ × X) → ℕ
+rank k [] = 0
+rank k (e ∷ es) = cond (nat_lt e.0 k) (suc (rank k es)) 0

@@ -1,0 +1,484 @@
+//! The instructions on structs, slices and channels, and those that make objects.
+
+ghost use Rattle.std.specs.Prelude.{◌≡◌, ◌∷◌, IfOk, OnOk, OnErr, is_some, length, drop, slice_get, option_map};
+ghost use Rattle.golf_theory.specs.Maps.{find};
+ghost use Rattle.golf_model.specs.Acting.{goes, leaves, panics, at_condition, at_reference, at_reference_or, at_struct, at_slice};
+ghost use Rattle.golf_model.specs.Conditions.{makes_condition, gets_mutex};
+ghost use Rattle.golf_model.specs.Structures.{makes_struct, gets_field, sets_field, field_set, makes_slice, makes_channel, gets_element, sets_element, element_set, element, within, measures, length_of};
+ghost use Rattle.golf_model.specs.Values.{zeros_of};
+ghost use Rattle.golf_data.specs.declared.goroutine.PanicKind.{PanicKind};
+ghost use Rattle.golf_state.specs.Doing.{does, Stands};
+ghost use Rattle.golf_machine.specs.Objects.{struct_of, slice_of, has_place, is_nil_or_mutex, field_changed, element_changed, measured};
+
+use crate::calculating::{int_in, last_int};
+use crate::values::zero_of;
+use golf_base::{List, Memory, ObjectId};
+use golf_data::{Channel, Code, Object, PanicKind, Value};
+use golf_state::{
+    Acting, Given, State, fault, last_operand, last_operands, last_three_operands, make_onto,
+    make_over, proceed, proceed_with,
+};
+use golf_sync::condition_at;
+use std::alloc::Global;
+
+/// The most elements of a slice, and the greatest capacity of a channel.
+const MOST_ELEMENTS: i64 = 65_536;
+
+// The fields of the struct of this number, where there is one.
+fn struct_at(state: &State, object: ObjectId) -> Option<&List<Value>>
+    ensures { option_map (λ fields. fields.now) result ≡ struct_of (find object.0 state.now.objects) }
+{
+    match state.heap().get(object)? {
+        Object::Struct(fields) => Some(fields),
+        Object::Slice(_) => None,
+        Object::Chan(_) => None,
+        Object::Mutex(_) => None,
+        Object::Group(_) => None,
+        Object::Rw(_) => None,
+        Object::Cond(_) => None,
+    }
+}
+
+/// Whether the object of this number is a struct.
+pub fn is_struct(state: &State, object: ObjectId) -> bool
+    ensures { result ≡ is_some (struct_of (find object.0 state.now.objects)) }
+{
+    struct_at(state, object).is_some()
+}
+
+// The elements of the slice of this number, where there is one.
+fn slice_at(state: &State, object: ObjectId) -> Option<&List<Value>>
+    ensures { option_map (λ elements. elements.now) result ≡ slice_of (find object.0 state.now.objects) }
+{
+    match state.heap().get(object)? {
+        Object::Slice(elements) => Some(elements),
+        Object::Struct(_) => None,
+        Object::Chan(_) => None,
+        Object::Mutex(_) => None,
+        Object::Group(_) => None,
+        Object::Rw(_) => None,
+        Object::Cond(_) => None,
+    }
+}
+
+/// The zero values of globals or fields.
+pub fn zeros_of(alloc: Global, values: &[Value]) -> Result<List<Value>, Memory>
+    ensures { IfOk result (λ zeros. zeros ≡ zeros_of values.now) }
+{
+    let mut zeros = List::new(alloc);
+    for value in values {
+        zeros.push(zero_of(*value))?;
+    }
+    Ok(zeros)
+}
+
+/// Makes a struct with the zero values of a row of the code's table, where that is there.
+pub fn new_struct(
+    alloc: Global,
+    code: &Code,
+    state: &mut State,
+    acting: Acting,
+    row: u32,
+) -> Result<(), Memory>
+    requires { Stands acting.goroutine.0 acting.after state.old }
+    ensures ok { OnOk result (state.new ≡ does (λ a. makes_struct code.now a row state.old) acting.goroutine.0 acting.line state.old) }
+    ensures err { OnErr result (state.new ≡ state.old) }
+{
+    match code.structs.as_slice().get(row as usize) {
+        Some(zeros) => {
+            let fields = zeros_of(alloc, zeros.as_slice())?;
+            make_onto(state, acting, Object::Struct(fields))
+        }
+        None => Ok(()),
+    }
+}
+
+// The field at a place of the struct that a value refers to.
+fn get_field_of(state: &mut State, acting: Acting, object: Value, field: u32) -> Result<(), Memory>
+    requires { Stands acting.goroutine.0 acting.after state.old }
+    ensures ok { OnOk result (state.new ≡ does (λ a. at_reference a (λ o. at_struct (λ fields. leaves a (drop 1 a.frame.operands) (slice_get fields field)) (find o state.old.objects)) object) acting.goroutine.0 acting.line state.old) }
+    ensures err { OnErr result (state.new ≡ state.old) }
+{
+    match object {
+        Value::Ref(object) => {
+            let Some(fields) = struct_at(state, object) else {
+                return Ok(());
+            };
+            match fields.as_slice().get(field as usize).copied() {
+                Some(value) => proceed_with(state, acting, acting.after, 1, Given::One(value)),
+                None => Ok(()),
+            }
+        }
+        Value::Nil => {
+            fault(state, acting, PanicKind::NilPointer);
+            Ok(())
+        }
+        Value::Int(_) => Ok(()),
+        Value::Bool(_) => Ok(()),
+        Value::Text(_) => Ok(()),
+        Value::Unit => Ok(()),
+    }
+}
+
+/// Leaves a field of the struct that the last operand refers to; it panics on nil.
+pub fn get_field(state: &mut State, acting: Acting, field: u32) -> Result<(), Memory>
+    requires { Stands acting.goroutine.0 acting.after state.old }
+    ensures ok { OnOk result (state.new ≡ does (λ a. gets_field a field state.old) acting.goroutine.0 acting.line state.old) }
+    ensures err { OnErr result (state.new ≡ state.old) }
+{
+    match last_operand(state, acting.goroutine) {
+        Some(object) => get_field_of(state, acting, object, field),
+        None => Ok(()),
+    }
+}
+
+// The field at a place becomes this value, where the object is a struct that has it.
+fn change_field(object: &mut Object, field: usize, value: Value)
+    ensures { object.new ≡ field_changed field value object.old }
+{
+    if let Object::Struct(fields) = object {
+        if field < fields.len() {
+            fields.set(field, value);
+        }
+    }
+}
+
+// Whether the struct of this number has a field at a place.
+fn has_field(state: &State, object: ObjectId, field: u32) -> bool
+    ensures { result ≡ has_place field (struct_of (find object.0 state.now.objects)) }
+{
+    match struct_at(state, object) {
+        Some(fields) => (field as usize) < fields.len(),
+        None => false,
+    }
+}
+
+// The field at a place of the struct that a value refers to becomes this value.
+fn set_field_of(state: &mut State, acting: Acting, object: Value, field: u32, value: Value)
+    requires { Stands acting.goroutine.0 acting.after state.old }
+    ensures { state.new ≡ does (λ a. at_reference a (λ o. at_struct (field_set a field value (drop 2 a.frame.operands) o) (find o state.old.objects)) object) acting.goroutine.0 acting.line state.old }
+{
+    match object {
+        Value::Ref(object) => {
+            if has_field(state, object, field) {
+                change_field(state.object_mut(object), field as usize, value);
+                proceed(state, acting, acting.after, 2);
+            }
+        }
+        Value::Nil => fault(state, acting, PanicKind::NilPointer),
+        Value::Int(_) => {},
+        Value::Bool(_) => {},
+        Value::Text(_) => {},
+        Value::Unit => {},
+    }
+}
+
+/// Stores the last operand in a field of the struct that the operand before it refers to; it panics
+/// on nil.
+pub fn set_field(state: &mut State, acting: Acting, field: u32)
+    requires { Stands acting.goroutine.0 acting.after state.old }
+    ensures { state.new ≡ does (λ a. sets_field a field state.old) acting.goroutine.0 acting.line state.old }
+{
+    if let Some((object, value)) = last_operands(state, acting.goroutine) {
+        set_field_of(state, acting, object, field, value);
+    }
+}
+
+/// Makes a slice with as many elements as the last operand says, which have this zero value; it
+/// panics where those are too many or fewer than none.
+pub fn new_slice(
+    alloc: Global,
+    state: &mut State,
+    acting: Acting,
+    zero: Value,
+) -> Result<(), Memory>
+    requires { Stands acting.goroutine.0 acting.after state.old }
+    ensures ok { OnOk result (state.new ≡ does (λ a. makes_slice a zero state.old) acting.goroutine.0 acting.line state.old) }
+    ensures err { OnErr result (state.new ≡ state.old) }
+{
+    let Some(size) = last_int(state, acting.goroutine) else {
+        return Ok(());
+    };
+    if size < 0 || size > MOST_ELEMENTS {
+        fault(state, acting, PanicKind::SliceSize);
+        return Ok(());
+    }
+    let mut elements = List::new(alloc);
+    elements.extend_with(size as usize, zero_of(zero))?;
+    make_over(state, acting, Object::Slice(elements))
+}
+
+/// Makes a channel whose capacity is the last operand; it panics where that is too great or
+/// negative.
+pub fn new_channel(
+    alloc: Global,
+    state: &mut State,
+    acting: Acting,
+    zero: Value,
+) -> Result<(), Memory>
+    requires { Stands acting.goroutine.0 acting.after state.old }
+    ensures ok { OnOk result (state.new ≡ does (λ a. makes_channel a zero state.old) acting.goroutine.0 acting.line state.old) }
+    ensures err { OnErr result (state.new ≡ state.old) }
+{
+    let Some(size) = last_int(state, acting.goroutine) else {
+        return Ok(());
+    };
+    if size < 0 || size > MOST_ELEMENTS {
+        fault(state, acting, PanicKind::ChanSize);
+        return Ok(());
+    }
+    let channel = Channel {
+        capacity: size as u32,
+        buffer: List::new(alloc),
+        closed: false,
+        zero: zero_of(zero),
+    };
+    make_over(state, acting, Object::Chan(channel))
+}
+
+// Whether a value is nil or a mutex.
+fn is_nil_or_mutex(state: &State, value: Value) -> bool
+    ensures { result ≡ is_nil_or_mutex state.now value }
+{
+    match value {
+        Value::Ref(object) => matches!(state.heap().get(object), Some(Object::Mutex(_))),
+        Value::Nil => true,
+        Value::Int(_) => false,
+        Value::Bool(_) => false,
+        Value::Text(_) => false,
+        Value::Unit => false,
+    }
+}
+
+/// Makes a condition with the mutex that is the last operand, or nil.
+pub fn new_condition(state: &mut State, acting: Acting) -> Result<(), Memory>
+    requires { Stands acting.goroutine.0 acting.after state.old }
+    ensures ok { OnOk result (state.new ≡ does (λ a. makes_condition a state.old) acting.goroutine.0 acting.line state.old) }
+    ensures err { OnErr result (state.new ≡ state.old) }
+{
+    let Some(mutex) = last_operand(state, acting.goroutine) else {
+        return Ok(());
+    };
+    if is_nil_or_mutex(state, mutex) {
+        return make_over(state, acting, Object::Cond(mutex));
+    }
+    Ok(())
+}
+
+// The element at an index, where the slice has it.
+fn element_at(elements: &[Value], index: i64) -> Option<Value>
+    ensures { result ≡ element elements.now index }
+{
+    match usize::try_from(index) {
+        Ok(at) => elements.get(at).copied(),
+        Err(_) => None,
+    }
+}
+
+// The element at an index of the slice that a value refers to.
+fn get_element_of(state: &mut State, acting: Acting, slice: Value, index: i64) -> Result<(), Memory>
+    requires { Stands acting.goroutine.0 acting.after state.old }
+    ensures ok { OnOk result (state.new ≡ does (λ a. at_reference_or (panics a (PanicKind.Index index 0)) (λ o. at_slice (λ xs. within a index (length xs) (λ v. goes a (v ∷ drop 2 a.frame.operands)) (element xs index)) (find o state.old.objects)) slice) acting.goroutine.0 acting.line state.old) }
+    ensures err { OnErr result (state.new ≡ state.old) }
+{
+    match slice {
+        Value::Ref(object) => {
+            let Some(elements) = slice_at(state, object) else {
+                return Ok(());
+            };
+            let length = u32::try_from(elements.len()).map_err(|_| Memory)?;
+            match element_at(elements.as_slice(), index) {
+                Some(value) => proceed_with(state, acting, acting.after, 2, Given::One(value)),
+                None => {
+                    fault(state, acting, PanicKind::Index { at: index, length });
+                    Ok(())
+                }
+            }
+        }
+        Value::Nil => {
+            let (at, length) = (index, 0);
+            fault(state, acting, PanicKind::Index { at, length });
+            Ok(())
+        }
+        Value::Int(_) => Ok(()),
+        Value::Bool(_) => Ok(()),
+        Value::Text(_) => Ok(()),
+        Value::Unit => Ok(()),
+    }
+}
+
+/// Leaves the element of the slice that the operand before the last refers to, at the index that is
+/// the last; it panics where the index is out of range. Nil has no elements.
+pub fn get_element(state: &mut State, acting: Acting) -> Result<(), Memory>
+    requires { Stands acting.goroutine.0 acting.after state.old }
+    ensures ok { OnOk result (state.new ≡ does (λ a. gets_element a state.old) acting.goroutine.0 acting.line state.old) }
+    ensures err { OnErr result (state.new ≡ state.old) }
+{
+    let Some((slice, index)) = last_operands(state, acting.goroutine) else {
+        return Ok(());
+    };
+    match int_in(index) {
+        Some(index) => get_element_of(state, acting, slice, index),
+        None => Ok(()),
+    }
+}
+
+// The element at a place becomes this value, where the object is a slice that has it.
+fn change_element(object: &mut Object, at: usize, value: Value)
+    ensures { object.new ≡ element_changed at value object.old }
+{
+    if let Object::Slice(elements) = object {
+        if at < elements.len() {
+            elements.set(at, value);
+        }
+    }
+}
+
+// The element at an index of a slice becomes this value.
+fn set_element_at(
+    state: &mut State,
+    acting: Acting,
+    object: ObjectId,
+    index: i64,
+    value: Value,
+) -> Result<(), Memory>
+    requires { Stands acting.goroutine.0 acting.after state.old }
+    ensures ok { OnOk result (state.new ≡ does (λ a. at_slice (element_set a index value (drop 3 a.frame.operands) object.0) (find object.0 state.old.objects)) acting.goroutine.0 acting.line state.old) }
+    ensures err { OnErr result (state.new ≡ state.old) }
+{
+    let Some(elements) = slice_at(state, object) else {
+        return Ok(());
+    };
+    let length = u32::try_from(elements.len()).map_err(|_| Memory)?;
+    if element_at(elements.as_slice(), index).is_none() {
+        fault(state, acting, PanicKind::Index { at: index, length });
+        return Ok(());
+    }
+    let at = index.unsigned_abs() as usize;
+    change_element(state.object_mut(object), at, value);
+    proceed(state, acting, acting.after, 3);
+    Ok(())
+}
+
+// The element at an index of the slice that a value refers to becomes this value.
+fn set_element_of(
+    state: &mut State,
+    acting: Acting,
+    slice: Value,
+    index: i64,
+    value: Value,
+) -> Result<(), Memory>
+    requires { Stands acting.goroutine.0 acting.after state.old }
+    ensures ok { OnOk result (state.new ≡ does (λ a. at_reference_or (panics a (PanicKind.Index index 0)) (λ o. at_slice (element_set a index value (drop 3 a.frame.operands) o) (find o state.old.objects)) slice) acting.goroutine.0 acting.line state.old) }
+    ensures err { OnErr result (state.new ≡ state.old) }
+{
+    match slice {
+        Value::Ref(object) => set_element_at(state, acting, object, index, value),
+        Value::Nil => {
+            let (at, length) = (index, 0);
+            fault(state, acting, PanicKind::Index { at, length });
+            Ok(())
+        }
+        Value::Int(_) => Ok(()),
+        Value::Bool(_) => Ok(()),
+        Value::Text(_) => Ok(()),
+        Value::Unit => Ok(()),
+    }
+}
+
+/// Stores the last operand in the slice that the first of the last three refers to, at the index
+/// between; it panics where the index is out of range. Nil has no elements.
+pub fn set_element(state: &mut State, acting: Acting) -> Result<(), Memory>
+    requires { Stands acting.goroutine.0 acting.after state.old }
+    ensures ok { OnOk result (state.new ≡ does (λ a. sets_element a state.old) acting.goroutine.0 acting.line state.old) }
+    ensures err { OnErr result (state.new ≡ state.old) }
+{
+    let Some((slice, index, value)) = last_three_operands(state, acting.goroutine) else {
+        return Ok(());
+    };
+    match int_in(index) {
+        Some(index) => set_element_of(state, acting, slice, index, value),
+        None => Ok(()),
+    }
+}
+
+// How many elements a slice has, or values the buffer of a channel.
+fn length_of(object: &Object) -> Option<usize>
+    ensures { result ≡ length_of object.now }
+{
+    match object {
+        Object::Slice(elements) => Some(elements.len()),
+        Object::Chan(channel) => Some(channel.buffer.len()),
+        Object::Struct(_) => None,
+        Object::Mutex(_) => None,
+        Object::Group(_) => None,
+        Object::Rw(_) => None,
+        Object::Cond(_) => None,
+    }
+}
+
+// The length of what a value refers to; 0 for nil.
+fn length_at(state: &State, value: Value) -> Option<usize>
+    ensures { result ≡ measured state.now value }
+{
+    match value {
+        Value::Ref(object) => length_of(state.heap().get(object)?),
+        Value::Nil => Some(0),
+        Value::Int(_) => None,
+        Value::Bool(_) => None,
+        Value::Text(_) => None,
+        Value::Unit => None,
+    }
+}
+
+/// Leaves how many elements the slice has that the last operand refers to, or values the buffer of
+/// the channel; 0 for nil.
+pub fn measure(state: &mut State, acting: Acting) -> Result<(), Memory>
+    requires { Stands acting.goroutine.0 acting.after state.old }
+    ensures ok { OnOk result (state.new ≡ does (λ a. measures a state.old) acting.goroutine.0 acting.line state.old) }
+    ensures err { OnErr result (state.new ≡ state.old) }
+{
+    let Some(value) = last_operand(state, acting.goroutine) else {
+        return Ok(());
+    };
+    let Some(length) = length_at(state, value) else {
+        return Ok(());
+    };
+    let count = i64::try_from(length).map_err(|_| Memory)?;
+    let given = Given::One(Value::Int(count));
+    proceed_with(state, acting, acting.after, 1, given)
+}
+
+// The mutex of the condition that a value refers to.
+fn get_mutex_of(state: &mut State, acting: Acting, condition: Value) -> Result<(), Memory>
+    requires { Stands acting.goroutine.0 acting.after state.old }
+    ensures ok { OnOk result (state.new ≡ does (λ a. at_reference a (λ o. at_condition (λ m. goes a (m ∷ drop 1 a.frame.operands)) (find o state.old.objects)) condition) acting.goroutine.0 acting.line state.old) }
+    ensures err { OnErr result (state.new ≡ state.old) }
+{
+    match condition {
+        Value::Ref(object) => match condition_at(state, object) {
+            Some(mutex) => proceed_with(state, acting, acting.after, 1, Given::One(mutex)),
+            None => Ok(()),
+        },
+        Value::Nil => {
+            fault(state, acting, PanicKind::NilPointer);
+            Ok(())
+        }
+        Value::Int(_) => Ok(()),
+        Value::Bool(_) => Ok(()),
+        Value::Text(_) => Ok(()),
+        Value::Unit => Ok(()),
+    }
+}
+
+/// Leaves the mutex of the condition that the last operand refers to; it panics on nil.
+pub fn get_mutex(state: &mut State, acting: Acting) -> Result<(), Memory>
+    requires { Stands acting.goroutine.0 acting.after state.old }
+    ensures ok { OnOk result (state.new ≡ does (λ a. gets_mutex a state.old) acting.goroutine.0 acting.line state.old) }
+    ensures err { OnErr result (state.new ≡ state.old) }
+{
+    match last_operand(state, acting.goroutine) {
+        Some(condition) => get_mutex_of(state, acting, condition),
+        None => Ok(()),
+    }
+}

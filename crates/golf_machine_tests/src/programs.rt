@@ -1,0 +1,86 @@
+//! Codes of two functions with a global, a struct type and texts, and what their runs come to.
+
+use crate::ready::can_run;
+use golf_base::{List, Memory};
+use golf_data::{Code, Ending, Function, Instr, Line, Value};
+use golf_machine::{start, turn};
+use golf_state::State;
+use std::alloc::Global;
+
+/// How many turns a run has.
+const TURNS: u64 = 120;
+
+// Instructions at the lines 1, 2 and so on.
+fn lines(alloc: Global, instrs: Vec<Instr>) -> Result<List<Line>, Memory> {
+    let mut body = List::new(alloc);
+    let mut line = 0u32;
+    for instr in instrs {
+        line = line.saturating_add(1);
+        body.push(Line { instr, line })?;
+    }
+    Ok(body)
+}
+
+// A function with four slots, of which its arguments take the first.
+fn function(params: u32, body: List<Line>) -> Function {
+    Function {
+        params,
+        slots: 4,
+        depth: 4,
+        line: 1,
+        body,
+    }
+}
+
+// The texts: the empty one, `a` and `b`.
+fn texts(alloc: Global) -> Result<List<List<u8>>, Memory> {
+    let mut texts = List::new(alloc);
+    for text in ["", "a", "b"] {
+        let mut bytes = List::new(alloc);
+        bytes.extend_from_slice(text.as_bytes())?;
+        texts.push(bytes)?;
+    }
+    Ok(texts)
+}
+
+/// The code of `main` and of a function 1 with an argument; there is a global, which is an integer,
+/// and a struct type with an integer and a pointer.
+pub fn program(alloc: Global, main: Vec<Instr>, other: Vec<Instr>) -> Result<Code, Memory> {
+    let mut functions = List::new(alloc);
+    functions.push(function(0, lines(alloc, main)?))?;
+    functions.push(function(1, lines(alloc, other)?))?;
+    let mut globals = List::new(alloc);
+    globals.push(Value::Int(0))?;
+    let mut fields = List::new(alloc);
+    fields.push(Value::Int(0))?;
+    fields.push(Value::Nil)?;
+    let mut structs = List::new(alloc);
+    structs.push(fields)?;
+    Ok(Code {
+        functions,
+        globals,
+        structs,
+        texts: texts(alloc)?,
+        main_line: 1,
+    })
+}
+
+/// Takes turns from this number on, each the next one, until the program has ended.
+pub fn go_on(alloc: Global, code: &Code, state: &mut State) -> Result<(), Memory> {
+    for number in 0..TURNS {
+        if state.ending().is_some() || !can_run(code) {
+            return Ok(());
+        }
+        turn(alloc, code, state, number)?;
+    }
+    Ok(())
+}
+
+/// What a run of a code prints, and how it ends.
+pub fn outcome(alloc: Global, code: &Code) -> Result<(List<u8>, Option<Ending>), Memory> {
+    let mut state = start(alloc, code)?;
+    go_on(alloc, code, &mut state)?;
+    let mut text = List::new(alloc);
+    text.extend_from_slice(state.output())?;
+    Ok((text, state.ending()))
+}

@@ -1,0 +1,119 @@
+//! What hands push, take and steal.
+
+ghost use Rattle.std.specs.Prelude.{◌≡◌, ◌<◌, ◌+◌, ◌∷◌, [], length, IfOk};
+ghost use Rattle.golf_grey.specs.Hands.{IsHandOf, capacity_of, hand_count, pushed};
+
+use golf_base::{List, Memory};
+use golf_grey::{GreyHand, GreyPool};
+use std::alloc::Global;
+use std::test::Fail;
+
+// A pool of two hands that may push 8 times each, with hand 1 and hand 0.
+fn two_hands(alloc: Global) -> Result<(GreyPool, GreyHand, GreyHand), Memory>
+    ensures count { IfOk result (λ r. hand_count r.0 ≡ 2) }
+    ensures capacity { IfOk result (λ r. capacity_of r.0 ≡ 8) }
+    ensures second { IfOk result (λ r. IsHandOf r.0 r.1) }
+    ensures first { IfOk result (λ r. IsHandOf r.0 r.2) }
+    ensures one { IfOk result (λ r. r.1.number ≡ 1) }
+    ensures zero { IfOk result (λ r. r.2.number ≡ 0) }
+    ensures none { IfOk result (λ r. pushed r.2 ≡ []) }
+    ensures idle { IfOk result (λ r. pushed r.1 ≡ []) }
+{
+    let (pool, mut hands) = GreyPool::new(alloc, 2, 8)?;
+    let first = hands.remove(1);
+    let second = hands.remove(0);
+    Ok((pool, second, first))
+}
+
+fn push_three(pool: &GreyPool, hand: &mut GreyHand)
+    requires hand { IsHandOf pool.now hand.old }
+    requires capacity { capacity_of pool.now ≡ 8 }
+    requires none { pushed hand.old ≡ [] }
+    ensures hand { IsHandOf pool.now hand.new }
+    ensures number { hand.new.number ≡ hand.old.number }
+    ensures pushed { length (pushed hand.new) ≡ 3 }
+{
+    pool.push(hand, 4);
+    pool.push(hand, 5);
+    pool.push(hand, 6);
+}
+
+fn push_four(pool: &GreyPool, hand: &mut GreyHand)
+    requires hand { IsHandOf pool.now hand.old }
+    requires capacity { capacity_of pool.now ≡ 8 }
+    requires none { pushed hand.old ≡ [] }
+    ensures hand { IsHandOf pool.now hand.new }
+    ensures number { hand.new.number ≡ hand.old.number }
+{
+    push_three(pool, hand);
+    pool.push(hand, 7);
+}
+
+fn take_three(pool: &GreyPool, hand: &mut GreyHand) -> [Option<u32>; 3]
+    requires { IsHandOf pool.now hand.old }
+    ensures hand { IsHandOf pool.now hand.new }
+    ensures number { hand.new.number ≡ hand.old.number }
+{
+    let first = pool.take(hand);
+    let second = pool.take(hand);
+    let third = pool.take(hand);
+    [first, second, third]
+}
+
+fn both(alloc: Global, second: GreyHand, first: GreyHand) -> Result<List<GreyHand>, Memory>
+    ensures { IfOk result (λ hands. hands ≡ second ∷ first ∷ []) }
+{
+    let mut hands = List::new(alloc);
+    hands.push(second)?;
+    hands.push(first)?;
+    Ok(hands)
+}
+
+#[test]
+fn a_hand_steals_all_that_another_one_pushed_and_then_nothing(rt: HostRuntime) -> Result<(), Fail> {
+    let alloc = rt.alloc();
+    let (pool, mut second, mut first) = two_hands(alloc)?;
+    push_three(&pool, &mut first);
+    let stolen = take_three(&pool, &mut second);
+    let none = pool.take(&mut second);
+    assert!(rt; stolen == [Some(4), Some(5), Some(6)]);
+    assert!(rt; none == None);
+    Ok(())
+}
+
+#[test]
+fn a_hand_takes_its_own_place_before_it_steals(rt: HostRuntime) -> Result<(), Fail> {
+    let alloc = rt.alloc();
+    let (pool, mut second, mut first) = two_hands(alloc)?;
+    push_three(&pool, &mut second);
+    pool.push(&mut first, 7);
+    let taken = take_three(&pool, &mut first);
+    assert!(rt; taken == [Some(7), Some(4), Some(5)]);
+    Ok(())
+}
+
+#[test]
+fn a_hand_steals_in_order_and_what_is_left_comes_at_the_end(rt: HostRuntime) -> Result<(), Fail> {
+    let alloc = rt.alloc();
+    let (pool, mut second, mut first) = two_hands(alloc)?;
+    push_four(&pool, &mut first);
+    let stolen = take_three(&pool, &mut second);
+    let left = pool.close(both(alloc, second, first)?);
+    assert!(rt; stolen == [Some(4), Some(5), Some(6)]);
+    assert!(rt; left.places.as_slice() == [7].as_slice());
+    Ok(())
+}
+
+#[test]
+fn what_is_pushed_is_taken_once(rt: HostRuntime) -> Result<(), Fail> {
+    let alloc = rt.alloc();
+    let (pool, mut second, mut first) = two_hands(alloc)?;
+    push_four(&pool, &mut first);
+    let stolen = take_three(&pool, &mut second);
+    let own = take_three(&pool, &mut first);
+    let none = take_three(&pool, &mut second);
+    assert!(rt; stolen == [Some(4), Some(5), Some(6)]);
+    assert!(rt; own == [Some(7), None, None]);
+    assert!(rt; none == [None, None, None]);
+    Ok(())
+}

@@ -1,0 +1,122 @@
+//! What seats claim and see.
+
+ghost use Rattle.std.specs.Prelude.{◌≡◌, ◌<◌, ◌∷◌, [], length, IfOk};
+ghost use Rattle.golf_theory.specs.Membership.{In};
+ghost use Rattle.golf_model.specs.Graph.{IsInRange};
+ghost use Rattle.golf_marks.specs.Places.{place_count};
+ghost use Rattle.golf_marks.specs.Seats.{graph_in, seat_count, IsSeatOf, IsSameSeat, IsNewSeatOf};
+
+use golf_base::{GoroutineId, List, Memory, ObjectId};
+use golf_marks::{MarkSeat, Marks};
+use golf_model::{Graph, GraphParts, Sleeper};
+use std::alloc::Global;
+use std::test::Fail;
+
+// Two objects, both roots, and a goroutine that waits on nothing.
+fn two_roots(alloc: Global) -> Result<GraphParts, Memory>
+    ensures range { IfOk result IsInRange }
+    ensures roots { IfOk result (λ parts. parts.roots ≡ 0 ∷ 1 ∷ []) }
+    ensures nodes { IfOk result (λ parts. length parts.children ≡ 2) }
+    ensures sleepers { IfOk result (λ parts. length parts.sleepers ≡ 1) }
+{
+    let mut numbers = List::new(alloc);
+    numbers.push(ObjectId(1))?;
+    numbers.push(ObjectId(2))?;
+    let mut children = List::new(alloc);
+    children.push(List::new(alloc))?;
+    children.push(List::new(alloc))?;
+    let mut finalised = List::new(alloc);
+    finalised.push(false)?;
+    finalised.push(false)?;
+    let mut roots = List::new(alloc);
+    roots.push(0)?;
+    roots.push(1)?;
+    let mut sleepers = List::new(alloc);
+    sleepers.push(Sleeper {
+        goroutine: GoroutineId(2),
+        waits: List::new(alloc),
+        references: List::new(alloc),
+    })?;
+    Ok(GraphParts {
+        numbers,
+        children,
+        finalised,
+        roots,
+        sleepers,
+    })
+}
+
+// Two seats of new words.
+fn two_seats(alloc: Global, graph: &Graph) -> Result<(Marks, MarkSeat, MarkSeat), Memory>
+    ensures graph { IfOk result (λ r. graph_in r.0 ≡ graph.now) }
+    ensures count { IfOk result (λ r. seat_count r.0 ≡ 2) }
+    ensures first { IfOk result (λ r. IsNewSeatOf r.0 r.1) }
+    ensures second { IfOk result (λ r. IsNewSeatOf r.0 r.2) }
+{
+    let (marks, mut seats) = Marks::new(alloc, graph, 2)?;
+    let first = seats.remove(0);
+    let second = seats.remove(0);
+    Ok((marks, first, second))
+}
+
+fn both(alloc: Global, first: MarkSeat, second: MarkSeat) -> Result<List<MarkSeat>, Memory>
+    ensures { IfOk result (λ seats. seats ≡ first ∷ second ∷ []) }
+{
+    let mut seats = List::new(alloc);
+    seats.push(first)?;
+    seats.push(second)?;
+    Ok(seats)
+}
+
+// The first seat claims place 0. Then the second one looks at both places, and claims place 0.
+fn look(marks: &Marks, first: &mut MarkSeat, second: &mut MarkSeat) -> [bool; 4]
+    requires first { IsSeatOf marks.now first.old }
+    requires second { IsSeatOf marks.now second.old }
+    requires places { 1 < place_count (graph_in marks.now) }
+    requires root { In 0 (graph_in marks.now).roots }
+    ensures first { IsSameSeat first.old first.new }
+    ensures second { IsSameSeat second.old second.new }
+{
+    let claimed = marks.claim(first, 0);
+    let sees_first = marks.is_marked(second, 0);
+    let sees_second = marks.is_marked(second, 1);
+    let claimed_again = marks.claim(second, 0);
+    [claimed, sees_first, sees_second, claimed_again]
+}
+
+#[test]
+fn a_seat_sees_what_another_one_claimed(rt: HostRuntime) -> Result<(), Fail> {
+    let alloc = rt.alloc();
+    let graph = Graph::new(two_roots(alloc)?);
+    let (marks, mut first, mut second) = two_seats(alloc, &graph)?;
+    let seen = look(&marks, &mut first, &mut second);
+    let marked = marks.close(both(alloc, first, second)?);
+    assert!(rt; seen == [true, true, false, false]);
+    assert!(rt; marked.flags.as_slice() == [true, false].as_slice());
+    assert!(rt; marked.awake.as_slice() == [false].as_slice());
+    assert!(rt; marked.order.as_slice() == [0].as_slice());
+    Ok(())
+}
+
+fn only(alloc: Global, seat: MarkSeat) -> Result<List<MarkSeat>, Memory>
+    ensures { IfOk result (λ seats. seats ≡ seat ∷ []) }
+{
+    let mut seats = List::new(alloc);
+    seats.push(seat)?;
+    Ok(seats)
+}
+
+#[test]
+fn a_joined_seat_stands_for_both(rt: HostRuntime) -> Result<(), Fail> {
+    let alloc = rt.alloc();
+    let graph = Graph::new(two_roots(alloc)?);
+    let (marks, mut first, mut second) = two_seats(alloc, &graph)?;
+    let claimed = marks.claim(&mut second, 1);
+    marks.join(&mut first, second);
+    let known = marks.is_marked(&mut first, 1);
+    let marked = marks.close(only(alloc, first)?);
+    assert!(rt; claimed && known);
+    assert!(rt; marked.flags.as_slice() == [false, true].as_slice());
+    assert!(rt; marked.order.as_slice() == [1].as_slice());
+    Ok(())
+}

@@ -1,0 +1,13 @@
+pub mod Acting
+pub mod Calculating
+pub mod Structures
+pub mod Channels
+pub mod Calls
+pub mod Mutexes
+pub mod Conditions
+pub mod Selecting
+pub mod ReadersWriters
+pub mod Printing
+pub mod Finalising
+pub mod Turning
+pub mod Leading

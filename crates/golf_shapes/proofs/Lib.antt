@@ -1,0 +1,7 @@
+pub mod Growing
+pub mod Changing
+pub mod Waits
+pub mod Waking
+pub mod Keeping
+pub mod NeededSlots
+pub mod Examples

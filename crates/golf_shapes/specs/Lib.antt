@@ -1,0 +1,5 @@
+pub mod Types
+pub mod Shapes
+pub mod WellTyped
+pub mod NeededSlots
+pub mod Laws

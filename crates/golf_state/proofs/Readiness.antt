@@ -1,0 +1,74 @@
+-- Goroutines that can be woken without memory.
+use Rattle.std.proofs.Common.{◌≡◌, ℕ, zero, suc, ◌+◌, ◌-◌, ◌<◌, ◌≤◌, Bool, true, false, cond, List, [], ◌∷◌, ◌++◌, length, get_or, Option, Some, None, refl, sym, ap, ◌∙◌, subst, arith, slice_get, slice_set}
+use Rattle.std.proofs.lemmas.List.{length-set}
+use Rattle.std.proofs.lemmas.Option.{slice_get_read, slice_get_within}
+use Rattle.golf_data.specs.declared.goroutine.Frame.{Frame}
+use Rattle.golf_data.specs.declared.goroutine.Mode.{Mode}
+use Rattle.golf_theory.specs.Stored.{entries}
+use Rattle.golf_model.specs.Views.{GoroutineView, goroutine_view}
+use Rattle.golf_model.specs.State.{is_running}
+use Rattle.golf_state.specs.Places.{plain_place, running_of}
+use Rattle.golf_state.specs.Ready.{IsReady, AllReady}
+use Rattle.golf_state.specs.Roominess.{HasRoom, HasRoomIn, IsReadyIn}
+use Rattle.golf_state.specs.Wakening.{wakened}
+use Rattle.golf_state.specs.declared.frames.Wakening.{Wakening}
+use Rattle.golf_state.specs.declared.places.Place.{Place}
+
+set-here : {X : Type 0} (xs : List X) (i : ℕ) (x : X) → i < length xs → slice_get (slice_set xs i x) i ≡ Some x
+set-here [] i x l = absurd (omega arith)
+set-here (y ∷ ys) zero x l = refl
+set-here (y ∷ ys) (suc i) x l = set-here ys i x (omega arith)
+
+-- the innermost frame was changed
+pub room-set : (fs : List Frame) (f w : Frame) → slice_get fs (length fs - 1) ≡ Some f → 2 ≤ w.operands.spare → HasRoom (slice_set fs (length fs - 1) w)
+room-set fs f w at l =
+    let within = slice_get_within fs (length fs - 1) f at in
+    let same : slice_get (slice_set fs (length fs - 1) w) (length (slice_set fs (length fs - 1) w) - 1) ≡ Some w =
+    ap (λ n. slice_get (slice_set fs (length fs - 1) w) (n - 1)) (length-set fs (length fs - 1) w) ∙ set-here fs (length fs - 1) w within in
+    subst HasRoomIn (sym same) l
+
+pub running-ready : (m : Mode) (fs : List Frame) → is_running m ≡ true → IsReadyIn m fs
+running-ready Mode.Running fs h = tt
+running-ready (Mode.Blocked kind line waits ticket) fs h = cc
+
+pub blocked-room : (m : Mode) (fs : List Frame) → is_running m ≡ false → IsReadyIn m fs → HasRoom fs
+blocked-room Mode.Running fs h r = cc
+blocked-room (Mode.Blocked kind line waits ticket) fs h r = r
+
+pub ready-at : (ps : List Place) (i : ℕ) (p : Place) → AllReady ps → slice_get ps i ≡ Some p → IsReady p
+ready-at [] i p r h = cc
+ready-at (q ∷ ps) zero p r h = let same : q ≡ p = cc in subst IsReady same r.0
+ready-at (q ∷ ps) (suc i) p r h = ready-at ps i p r.1 h
+
+pub ready-read : (ps : List Place) (i : ℕ) (p : Place) → AllReady ps → i < length ps → p ≡ get_or ps i p → IsReady p
+ready-read ps i p r l h = ready-at ps i p r (slice_get_read ps (length ps) i p refl l h)
+
+pub ready-set : (ps : List Place) (i : ℕ) (q : Place) → AllReady ps → IsReady q → AllReady (slice_set ps i q)
+ready-set [] i q r h = tt
+ready-set (p ∷ ps) zero q r h = (h, r.1)
+ready-set (p ∷ ps) (suc i) q r h = (r.0, ready-set ps i q r.1 h)
+
+pub ready-push : (ps : List Place) (q : Place) → AllReady ps → IsReady q → AllReady (ps ++ q ∷ [])
+ready-push [] q r h = (h, tt)
+ready-push (p ∷ ps) q r h = (r.0, ready-push ps q r.1 h)
+
+pub wakened-runs : (how : Wakening) (r : GoroutineView) → is_running (wakened how r).mode ≡ true
+wakened-runs Wakening.Released r = refl
+wakened-runs (Wakening.Served wait given) r = refl
+wakened-runs (Wakening.Unwound x) r = refl
+
+-- no more run than there are places
+pub running-few : (k : ℕ) (ps : List (Option GoroutineView)) → length (running_of (entries k ps)) ≤ length ps
+running-few k [] = omega arith
+running-few k (None ∷ ps) = let h = running-few (suc k) ps in omega arith
+running-few k (Some r ∷ ps) = let h = running-few (suc k) ps in elim (is_running r.mode) as (λ b. length (cond b (k ∷ running_of (entries (suc k) ps)) (running_of (entries (suc k) ps))) ≤ suc (length ps)) [
+  | true ↦ omega arith
+  | false ↦ omega arith
+]
+
+-- the goroutine of a place runs
+pub placed-runs : (p : Place) (v : GoroutineView) → plain_place p ≡ Some v → is_running v.mode ≡ true → is_running p.goroutine.mode ≡ true
+placed-runs p v e h = elim p.present as (λ b. cond b (Some (goroutine_view p.goroutine)) None ≡ Some v → is_running p.goroutine.mode ≡ true) [
+  | true ↦ λ i. let same : goroutine_view p.goroutine ≡ v = cc in ap (λ (r : GoroutineView). is_running r.mode) same ∙ h
+  | false ↦ λ i. cc
+] e

@@ -1,0 +1,12 @@
+-- Places whose goroutines can be woken without memory.
+use Rattle.std.specs.Prelude.{List, [], ◌∷◌}
+use Rattle.golf_state.specs.declared.places.Place.{Place}
+use Rattle.golf_state.specs.Roominess.{IsReadyIn}
+
+-- where it is blocked, its innermost frame has room
+abbrev pub IsReady : Place → Type 0
+IsReady p = IsReadyIn p.goroutine.mode p.goroutine.frames
+
+abbrev pub AllReady : List Place → Type 0
+AllReady [] = Unit {0}
+AllReady (p ∷ ps) = IsReady p × AllReady ps

@@ -1,0 +1,195 @@
+//! What an operation of the goroutine in its turn comes to.
+
+ghost use Rattle.std.specs.Prelude.{◌≡◌, [], ◌∷◌, IfOk, OnOk, OnErr, IsSome, slice_get, drop};
+ghost use Rattle.golf_model.specs.Acting.{stands, blocks};
+ghost use Rattle.golf_model.specs.Waiting.{bare_wait};
+ghost use Rattle.golf_model.specs.Structures.{makes};
+ghost use Rattle.golf_state.specs.Operands.{operands_of};
+ghost use Rattle.golf_state.specs.Doing.{does, Stands};
+ghost use Rattle.golf_state.specs.Going.{went};
+ghost use Rattle.golf_state.specs.Looked.{values_of};
+ghost use Rattle.golf_state.specs.Outcomes.{faults, is_fatal, carries, StandsToFault};
+
+use crate::acting::Acting;
+use crate::frames::{Given, advance, advance_with, exchange, unwind};
+use crate::state::State;
+use golf_base::{List, Memory, ObjectId};
+use golf_data::{Ending, Fault, Object, PanicKind, Side, Value, Wait, WaitKind};
+use std::alloc::Global;
+
+/// What an operation of the goroutine in its turn comes to.
+#[derive(Clone, Copy, Debug, PartialEq, Eq)]
+pub enum Outcome {
+    /// It is done, and the goroutine goes on.
+    Done,
+    /// The goroutine is blocked.
+    Blocked,
+    /// It panics, or it is a fatal error: nothing has changed yet.
+    Panic(PanicKind),
+    /// No rule fits: nothing has changed.
+    Stuck,
+}
+
+// Whether the program ends with it at once.
+fn is_fatal(kind: PanicKind) -> bool
+    ensures { result ≡ is_fatal kind }
+{
+    match kind {
+        PanicKind::UnlockUnlocked => true,
+        PanicKind::UnlockUnlockedRw => true,
+        PanicKind::RUnlockUnlocked => true,
+        PanicKind::ReaderLimit => true,
+        PanicKind::FinalizerSet => true,
+        PanicKind::StackOverflow => true,
+        PanicKind::Custom(_) => false,
+        PanicKind::NilPointer => false,
+        PanicKind::Index { .. } => false,
+        PanicKind::DivideByZero => false,
+        PanicKind::SliceSize => false,
+        PanicKind::ChanSize => false,
+        PanicKind::SendClosed => false,
+        PanicKind::CloseClosed => false,
+        PanicKind::CloseNil => false,
+        PanicKind::NegativeGroup => false,
+    }
+}
+
+/// The goroutine in its turn panics, or ends the program by a fatal error.
+pub fn fault(state: &mut State, acting: Acting, kind: PanicKind)
+    requires { Stands acting.goroutine.0 acting.after state.old }
+    ensures { state.new ≡ does (λ a. faults a kind) acting.goroutine.0 acting.line state.old }
+{
+    let (goroutine, line) = (acting.goroutine, acting.line);
+    if is_fatal(kind) {
+        state.finish(Ending::Panicked {
+            kind,
+            goroutine,
+            line,
+        });
+    } else {
+        unwind(state.frames_mut(goroutine), Fault { kind, line });
+    }
+}
+
+/// What is left to do once an operation has come to this: a panic or a fatal error.
+pub fn carry_out(state: &mut State, acting: Acting, outcome: Outcome)
+    requires { StandsToFault outcome acting.goroutine.0 acting.after state.old }
+    ensures { state.new ≡ carries outcome acting.goroutine.0 acting.line state.old }
+{
+    match outcome {
+        Outcome::Panic(kind) => fault(state, acting, kind),
+        Outcome::Done => {}
+        Outcome::Blocked => {}
+        Outcome::Stuck => {}
+    }
+}
+
+/// The goroutine in its turn goes on at a place, without so many operands.
+pub fn proceed(state: &mut State, acting: Acting, target: u32, taken: usize)
+    requires { Stands acting.goroutine.0 acting.after state.old }
+    ensures { state.new ≡ does (λ a. stands a (went target taken [] a.frame)) acting.goroutine.0 acting.line state.old }
+{
+    advance(state.frames_mut(acting.goroutine), target, taken);
+}
+
+/// The goroutine in its turn goes on at a place, with these values in place of so many operands.
+pub fn proceed_with(
+    state: &mut State,
+    acting: Acting,
+    target: u32,
+    taken: usize,
+    given: Given,
+) -> Result<(), Memory>
+    requires { Stands acting.goroutine.0 acting.after state.old }
+    ensures ok { OnOk result (state.new ≡ does (λ a. stands a (went target taken (values_of given) a.frame)) acting.goroutine.0 acting.line state.old) }
+    ensures err { OnErr result (state.new ≡ state.old) }
+{
+    let frames = state.frames_mut(acting.goroutine);
+    advance_with(frames, target, taken, given)
+}
+
+/// The goroutine in its turn blocks at a place, without so many operands.
+pub fn block_at(
+    state: &mut State,
+    acting: Acting,
+    target: u32,
+    taken: usize,
+    kind: WaitKind,
+    waits: List<Wait>,
+) -> Result<(), Memory>
+    requires { Stands acting.goroutine.0 acting.after state.old }
+    ensures ok { OnOk result (state.new ≡ does (λ a. blocks a (went target taken [] a.frame) kind waits) acting.goroutine.0 acting.line state.old) }
+    ensures err { OnErr result (state.new ≡ state.old) }
+{
+    state.block(acting.goroutine, kind, acting.line, waits, target, taken)
+}
+
+/// A list of one wait.
+pub fn one_wait(alloc: Global, wait: Wait) -> Result<List<Wait>, Memory>
+    ensures { IfOk result (λ waits. waits ≡ wait ∷ []) }
+{
+    let mut waits = List::new(alloc);
+    waits.push(wait)?;
+    Ok(waits)
+}
+
+/// The goroutine in its turn blocks behind its instruction, without so many operands, on an object
+/// with this side.
+pub fn block_on(
+    alloc: Global,
+    state: &mut State,
+    acting: Acting,
+    taken: usize,
+    kind: WaitKind,
+    object: ObjectId,
+    side: Side,
+) -> Result<(), Memory>
+    requires { Stands acting.goroutine.0 acting.after state.old }
+    ensures ok { OnOk result (state.new ≡ does (λ a. blocks a (went acting.after taken [] a.frame) kind (bare_wait object.0 side ∷ [])) acting.goroutine.0 acting.line state.old) }
+    ensures err { OnErr result (state.new ≡ state.old) }
+{
+    let wait = Wait {
+        object,
+        side,
+        value: Value::Nil,
+        target: None,
+        with_ok: false,
+    };
+    let waits = one_wait(alloc, wait)?;
+    block_at(state, acting, acting.after, taken, kind, waits)
+}
+
+/// Makes an object, and the goroutine in its turn goes on with the reference to it.
+pub fn make_onto(state: &mut State, acting: Acting, object: Object) -> Result<(), Memory>
+    requires { Stands acting.goroutine.0 acting.after state.old }
+    ensures ok { OnOk result (state.new ≡ does (λ a. makes a object a.frame.operands state.old) acting.goroutine.0 acting.line state.old) }
+    ensures err { OnErr result (state.new ≡ state.old) }
+{
+    let number = state.heap().last().checked_add(1).ok_or(Memory)?;
+    let given = Given::One(Value::Ref(ObjectId(number)));
+    proceed_with(state, acting, acting.after, 0, given)?;
+    if state.make(object).is_err() {
+        // The reference is taken back.
+        let frames = state.frames_mut(acting.goroutine);
+        advance(frames, acting.after.saturating_sub(1), 1);
+        return Err(Memory);
+    }
+    Ok(())
+}
+
+/// Makes an object, and the goroutine in its turn goes on with the reference to it in place of its
+/// last operand.
+pub fn make_over(state: &mut State, acting: Acting, object: Object) -> Result<(), Memory>
+    requires stands { Stands acting.goroutine.0 acting.after state.old }
+    requires operand { IsSome (slice_get (operands_of acting.goroutine.0 state.old) 0) }
+    ensures ok { OnOk result (state.new ≡ does (λ a. makes a object (drop 1 a.frame.operands) state.old) acting.goroutine.0 acting.line state.old) }
+    ensures err { OnErr result (state.new ≡ state.old) }
+{
+    let made = state.make(object)?;
+    exchange(
+        state.frames_mut(acting.goroutine),
+        acting.after,
+        Value::Ref(made),
+    );
+    Ok(())
+}

@@ -1,0 +1,169 @@
+//! Who is woken where all who wait on an object are.
+
+ghost use Rattle.std.specs.Prelude.{◌≡◌, ◌≤◌, length, map, option_map};
+ghost use Rattle.golf_model.specs.Waiting.{wait_on};
+ghost use Rattle.golf_model.specs.Waking.{received, is_below, woken_by};
+ghost use Rattle.golf_model.specs.ReadersWriters.{readers_next};
+ghost use Rattle.golf_state.specs.Looked.{values_of};
+ghost use Rattle.golf_state.specs.Places.{plain_place, plain_places, plain_entries};
+ghost use Rattle.golf_state.specs.Ready.{IsReady, AllReady};
+ghost use Rattle.golf_state.specs.Woken.{given_for, waking_of, wakening_by_close, released_where, wakening_of, reads_in};
+
+use crate::frames::{Given, Wakening, waken};
+use crate::places::Place;
+use crate::waiters::wait_for;
+use golf_base::ObjectId;
+use golf_data::{Fault, Mode, PanicKind, Side, Value, Wait};
+
+/// What wakes all goroutines that wait on an object.
+#[derive(Clone, Copy, Debug, PartialEq, Eq)]
+pub enum Waking {
+    /// A channel was closed; its zero value.
+    Closing(Value),
+    /// A wait group is at zero.
+    AtZero,
+    /// A reader and writer mutex is handed to its readers: to those with a ticket below this one,
+    /// or to all.
+    ToReaders(Option<u64>),
+}
+
+/// What a receive gives: the value, and whether it was sent where that is asked for.
+pub fn received(with_ok: bool, value: Value, sent: bool) -> Given
+    ensures values { values_of result ≡ received with_ok value sent }
+    ensures given { result ≡ given_for with_ok value sent }
+{
+    if with_ok {
+        Given::Two(value, sent)
+    } else {
+        Given::One(value)
+    }
+}
+
+// The first wait on the object.
+fn wait_on(waits: &[Wait], object: ObjectId) -> Option<Wait>
+    ensures { result ≡ wait_on object.0 waits.now }
+{
+    for wait in waits {
+        if wait.object.0 == object.0 {
+            return Some(*wait);
+        }
+    }
+    None
+}
+
+// How a goroutine that blocked on this line goes on where the channel of its wait is closed: a
+// receiver gets the zero value, and a sender unwinds.
+fn wakening_by_close(zero: Value, wait: Wait, line: u32) -> Option<Wakening>
+    ensures { result ≡ wakening_by_close zero wait line wait.side }
+{
+    let given = received(wait.with_ok, zero, false);
+    let kind = PanicKind::SendClosed;
+    match wait.side {
+        Side::Receive => Some(Wakening::Served(wait, given)),
+        Side::Send => Some(Wakening::Unwound(Fault { kind, line })),
+        Side::Lock => None,
+        Side::Group => None,
+        Side::Read => None,
+        Side::Write => None,
+        Side::Cond => None,
+    }
+}
+
+// Whether the ticket is below this one, where there is one.
+fn is_below(below: Option<u64>, ticket: u64) -> bool
+    ensures { result ≡ is_below below ticket }
+{
+    match below {
+        Some(bound) => ticket < bound,
+        None => true,
+    }
+}
+
+// Goes on where there is a wait.
+fn released_by(wait: Option<Wait>) -> Option<Wakening>
+    ensures { result ≡ released_where wait }
+{
+    match wait {
+        Some(_) => Some(Wakening::Released),
+        None => None,
+    }
+}
+
+// How a goroutine in this mode goes on, where it is woken.
+fn wakening_of(mode: &Mode, object: ObjectId, how: Waking) -> Option<Wakening>
+    ensures { result ≡ wakening_of mode.now object.0 how }
+{
+    match mode {
+        Mode::Running => None,
+        Mode::Blocked {
+            line,
+            waits,
+            ticket,
+            ..
+        } => match how {
+            Waking::Closing(zero) => {
+                let wait = wait_on(waits.as_slice(), object)?;
+                wakening_by_close(zero, wait, *line)
+            }
+            Waking::AtZero => released_by(wait_for(waits.as_slice(), object, Side::Group)),
+            Waking::ToReaders(below) => {
+                if is_below(below, *ticket) {
+                    released_by(wait_for(waits.as_slice(), object, Side::Read))
+                } else {
+                    None
+                }
+            }
+        },
+    }
+}
+
+// The goroutine at a place goes on, where it is woken.
+fn wake_place(place: &mut Place, object: ObjectId, how: Waking)
+    requires { IsReady place.old }
+    ensures place { plain_place place.new ≡ option_map (woken_by (waking_of how) object.0) (plain_place place.old) }
+    ensures ready { IsReady place.new }
+{
+    if let Some(wakening) = wakening_of(&place.goroutine.mode, object, how) {
+        waken(&mut place.goroutine, wakening);
+    }
+}
+
+/// All goroutines that are woken go on. It takes no memory.
+pub fn wake_places(places: &mut Vec<Place>, object: ObjectId, how: Waking)
+    requires { AllReady places.old.items }
+    ensures places { plain_places places.new.items ≡ map (option_map (woken_by (waking_of how) object.0)) (plain_places places.old.items) }
+    ensures ready { AllReady places.new.items }
+{
+    for at in 0..places.len() {
+        wake_place(&mut places[at], object, how);
+    }
+}
+
+// Whether the goroutine at a place is a reader that is served.
+fn reads_next(place: &Place, object: ObjectId, below: Option<u64>) -> bool
+    ensures { result ≡ reads_in below object.0 (plain_place place.now) }
+{
+    if !place.present {
+        return false;
+    }
+    match &place.goroutine.mode {
+        Mode::Running => false,
+        Mode::Blocked { waits, ticket, .. } => {
+            is_below(below, *ticket) && wait_for(waits.as_slice(), object, Side::Read).is_some()
+        }
+    }
+}
+
+/// How many readers are served: those with a ticket below this one, or all.
+pub fn readers_next(places: &[Place], object: ObjectId, below: Option<u64>) -> usize
+    ensures count { result ≡ readers_next below object.0 (plain_entries places.now) }
+    ensures few { result ≤ length places.now }
+{
+    let mut count = 0;
+    for place in places {
+        if reads_next(place, object, below) {
+            count += 1;
+        }
+    }
+    count
+}

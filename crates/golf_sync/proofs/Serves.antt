@@ -1,0 +1,44 @@
+-- Who gets a reader and writer mutex, once the goroutine in its turn has gone on.
+use Rattle.std.proofs.Common.{◌≡◌, ℕ, Bool, true, false, cond, List, Option, Some, None, refl, sym, ap, ◌∙◌}
+use Rattle.std.specs.Prelude.{nat_lt, negsuc}
+use Rattle.golf_data.specs.declared.value.Object.{Object}
+use Rattle.golf_model.specs.Views.{GoroutineView}
+use Rattle.golf_model.specs.State.{State}
+use Rattle.golf_model.specs.Waiting.{Waiter, waiter_ticket}
+use Rattle.golf_model.specs.Changes.{apply_all, replace}
+use Rattle.golf_model.specs.Acting.{choose}
+use Rattle.golf_model.specs.ReadersWriters.{to_readers, to_writer, serves_first}
+use Rattle.golf_state.specs.Handing.{IsBlockedIn}
+use Rattle.golf_state.specs.Waited.{waiting_of}
+use Rattle.golf_state.specs.declared.frames.Wakening.TheVariants as k
+use Rattle.golf_state.proofs.Serving.{Beside, IsServed, served-blocked, served-woken}
+use Rattle.golf_sync.specs.Served.{next_in, served_by, is_ready_for, readers_of}
+use Rattle.golf_sync.specs.declared.readers_writers.Served.{Served}
+
+module _ (o : ℕ) (s t : State) (b : Beside s t) where
+  abbrev as-served : (w : Waiter) → IsBlockedIn s (Some w) → IsServed s (Some w) (waiting_of w)
+  as-served w i = record { waiter = w; is = refl; told = refl; found = i.0; blocked = i.1 }
+
+  writer-is : (w : Waiter) → IsBlockedIn s (Some w) → served_by o (Served.Writer (waiting_of w)) t ≡ apply_all (to_writer o w) t
+  writer-is w i = served-woken s (Some w) (waiting_of w) (as-served w i) (replace o (Object.Rw (negsuc 0)) t) (record { others = b.others }) k.Released
+
+  pub serves-is : (m r : Option Waiter) → IsBlockedIn s m → served_by o (next_in o s.goroutines m r) t ≡ apply_all (serves_first o s.goroutines m r) t
+  serves-is None r i = refl
+  serves-is (Some w) None i = writer-is w i
+  serves-is (Some w) (Some v) i =
+      elim (nat_lt (waiter_ticket v) (waiter_ticket w)) as (λ c. served_by o (cond c (readers_of o (Some (waiter_ticket w)) s.goroutines) (Served.Writer (waiting_of w))) t ≡ apply_all (choose c (to_readers o (Some (waiter_ticket w)) s.goroutines) (to_writer o w)) t) [
+        | true ↦ refl
+        | false ↦ writer-is w i
+      ]
+
+  writer-ready : (w : Waiter) → IsBlockedIn s (Some w) → is_ready_for (Served.Writer (waiting_of w)) t ≡ true
+  writer-ready w i = served-blocked s (Some w) (waiting_of w) (as-served w i) t b
+
+  pub serves-ready : (m r : Option Waiter) → IsBlockedIn s m → is_ready_for (next_in o s.goroutines m r) t ≡ true
+  serves-ready None r i = refl
+  serves-ready (Some w) None i = writer-ready w i
+  serves-ready (Some w) (Some v) i =
+      elim (nat_lt (waiter_ticket v) (waiter_ticket w)) as (λ c. is_ready_for (cond c (readers_of o (Some (waiter_ticket w)) s.goroutines) (Served.Writer (waiting_of w))) t ≡ true) [
+        | true ↦ refl
+        | false ↦ writer-ready w i
+      ]

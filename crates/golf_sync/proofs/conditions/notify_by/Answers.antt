@@ -1,0 +1,76 @@
+use Rattle.std.proofs.Common.{◌≡◌, ℕ, ◌+◌, ◌<◌, ◌≤◌, Bool, true, false, ap, ◌∙◌, refl, sym, arith, [], ◌∷◌, ◌++◌, length, drop, List, Option, Some, None}
+use Rattle.std.proofs.lemmas.Grind.{common_steps}
+use Rattle.std.specs.Prelude.{is_some, IsSome}
+use Rattle.golf_data.specs.declared.goroutine.Side.{Side}
+use Rattle.golf_data.specs.declared.goroutine.WaitKind.{WaitKind}
+use Rattle.golf_data.specs.declared.value.Value.{Value}
+use Rattle.golf_data.specs.declared.goroutine.Mode.{Mode}
+use Rattle.golf_theory.specs.Maps.{find, put}
+use Rattle.golf_model.specs.State.{State}
+use Rattle.golf_model.specs.Changes.{Change, apply_all, pass_on, behind_first}
+use Rattle.golf_model.specs.Acting.{Actor, stands, standing, blocks, goes, at_mutex, next}
+use Rattle.golf_model.specs.Waiting.{Waiter, bare_wait, first, waiters}
+use Rattle.golf_model.specs.Mutexes.{hands_over}
+use Rattle.golf_model.specs.Conditions.{passes_on, notifies}
+use Rattle.golf_state.specs.Going.{went}
+use Rattle.golf_state.specs.declared.waiters.Waiting.{Waiting}
+use Rattle.golf_state.proofs.Doings.{does-is, apply_all-append, does-same, does-none, actor_of, went-next}
+use Rattle.golf_state.proofs.Serving.{beside-put, beside-same, handed-ready, handed-is, handed-swap, apart-some, served-from, served-blocked}
+use Rattle.golf_state.proofs.Outcomings.{comes-same}
+use Rattle.golf_sync.specs.Objects.{mutex_of}
+use Rattle.golf_sync.specs.Notified.{notified}
+use Rattle.golf_sync.proofs.Notices.{length-put, head-cons, head-none, none-of, some-of, notified-none, notified-some, notified-same, Passed, passed, waiters-count}
+use Rattle.golf_sync.proofs.conditions.notify_by.Goals as goal
+
+pub returns-then-is_none : goal.returns-then-is_none
+returns-then-is_none c =
+    let s = c.args.state.now in
+    let none = notified-none c.args.all c.args.condition.0 s.goroutines (none-of (first c.args.condition.0 Side.Cond s.goroutines) c.first_waiter.result c.first_waiter.ensures.first c.if-is_none.ensures) in
+    grind (arith, common_steps, none)
+
+pub returns-in-Ref : goal.returns-in-Ref
+returns-in-Ref c =
+    let s = c.args.state.now in
+    let w = some-of (first c.args.condition.0 Side.Cond s.goroutines) c.first_waiter.result c.first_waiter.ensures.first c.if-is_none.ensures in
+    let rest = notified-some c.args.all c.args.condition.0 s.goroutines w.0 w.1 in
+    let f : Value → List Waiter → Actor → List Change = λ v ws a. notifies a (drop 1 a.frame.operands) s ws v in
+    let g : List Waiter → Actor → List Change = λ ws a. at_mutex (λ locked. goes a (drop 1 a.frame.operands) ++ passes_on c.in-Ref.mutex.0 ws) (find c.in-Ref.mutex.0 s.objects) in
+    let A = actor_of c.requires.stands c.args.acting.line in
+    comes-same c.notify_with.result (g (notified c.args.all c.args.condition.0 s.goroutines)) (f c.args.mutex (notified c.args.all c.args.condition.0 s.goroutines)) c.args.acting.goroutine.0 c.args.acting.line s c.notify_with.new.state
+    (does-same c.args.acting.goroutine.0 c.args.acting.after s c.requires.stands (g (notified c.args.all c.args.condition.0 s.goroutines)) (f c.args.mutex (notified c.args.all c.args.condition.0 s.goroutines)) c.args.acting.line (ap (λ (ws : List Waiter). g ws A) rest.1 ∙ sym (ap (λ (v : Value). f v (w.0 ∷ rest.0) A) c.in-Ref.is) ∙ sym (ap (λ (ws : List Waiter). f c.args.mutex ws A) rest.1)))
+    c.notify_with.ensures
+
+pub returns-in-Nil : goal.returns-in-Nil
+returns-in-Nil c =
+    let s = c.args.state.now in
+    let w = some-of (first c.args.condition.0 Side.Cond s.goroutines) c.first_waiter.result c.first_waiter.ensures.first c.if-is_none.ensures in
+    let rest = notified-some c.args.all c.args.condition.0 s.goroutines w.0 w.1 in
+    grind (arith, common_steps, rest.1)
+
+pub returns-in-Int : goal.returns-in-Int
+returns-in-Int c =
+    let s = c.args.state.now in
+    let w = some-of (first c.args.condition.0 Side.Cond s.goroutines) c.first_waiter.result c.first_waiter.ensures.first c.if-is_none.ensures in
+    let rest = notified-some c.args.all c.args.condition.0 s.goroutines w.0 w.1 in
+    grind (arith, common_steps, rest.1)
+
+pub returns-in-Bool : goal.returns-in-Bool
+returns-in-Bool c =
+    let s = c.args.state.now in
+    let w = some-of (first c.args.condition.0 Side.Cond s.goroutines) c.first_waiter.result c.first_waiter.ensures.first c.if-is_none.ensures in
+    let rest = notified-some c.args.all c.args.condition.0 s.goroutines w.0 w.1 in
+    grind (arith, common_steps, rest.1)
+
+pub returns-in-Text : goal.returns-in-Text
+returns-in-Text c =
+    let s = c.args.state.now in
+    let w = some-of (first c.args.condition.0 Side.Cond s.goroutines) c.first_waiter.result c.first_waiter.ensures.first c.if-is_none.ensures in
+    let rest = notified-some c.args.all c.args.condition.0 s.goroutines w.0 w.1 in
+    grind (arith, common_steps, rest.1)
+
+pub returns-in-Unit : goal.returns-in-Unit
+returns-in-Unit c =
+    let s = c.args.state.now in
+    let w = some-of (first c.args.condition.0 Side.Cond s.goroutines) c.first_waiter.result c.first_waiter.ensures.first c.if-is_none.ensures in
+    let rest = notified-some c.args.all c.args.condition.0 s.goroutines w.0 w.1 in
+    grind (arith, common_steps, rest.1)

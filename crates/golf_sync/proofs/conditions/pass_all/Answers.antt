@@ -1,0 +1,81 @@
+use Rattle.std.proofs.Common.{◌≡◌, ℕ, ◌+◌, ◌<◌, ◌≤◌, Bool, true, false, ap, ◌∙◌, refl, sym, arith, [], ◌∷◌, ◌++◌, length, drop, List, Option, Some, None}
+use Rattle.std.proofs.lemmas.Grind.{common_steps}
+use Rattle.std.specs.Prelude.{is_some, IsSome}
+use Rattle.golf_data.specs.declared.goroutine.Side.{Side}
+use Rattle.golf_data.specs.declared.goroutine.WaitKind.{WaitKind}
+use Rattle.golf_data.specs.declared.value.Value.{Value}
+use Rattle.golf_data.specs.declared.goroutine.Mode.{Mode}
+use Rattle.golf_theory.specs.Maps.{find, put}
+use Rattle.golf_model.specs.State.{State}
+use Rattle.golf_model.specs.Changes.{Change, apply_all, pass_on, behind_first}
+use Rattle.golf_model.specs.Acting.{Actor, stands, standing, blocks, goes, at_mutex, next}
+use Rattle.golf_model.specs.Waiting.{Waiter, bare_wait, first, waiters}
+use Rattle.golf_model.specs.Mutexes.{hands_over}
+use Rattle.golf_model.specs.Conditions.{passes_on, notifies}
+use Rattle.golf_state.specs.Going.{went}
+use Rattle.golf_state.specs.declared.waiters.Waiting.{Waiting}
+use Rattle.golf_state.proofs.Doings.{does-is, apply_all-append, does-same, does-none, actor_of, went-next}
+use Rattle.golf_state.proofs.Serving.{beside-put, beside-same, handed-ready, handed-is, handed-swap, apart-some, served-from, served-blocked}
+use Rattle.golf_state.proofs.Outcomings.{comes-same}
+use Rattle.golf_sync.specs.Objects.{mutex_of}
+use Rattle.golf_sync.specs.Notified.{notified}
+use Rattle.golf_sync.proofs.Notices.{length-put, head-cons, head-none, none-of, some-of, notified-none, notified-some, notified-same, Passed, passed, waiters-count}
+use Rattle.golf_sync.proofs.conditions.pass_all.Goals as goal
+
+pub loop-waiting-init : goal.loop-waiting-init
+loop-waiting-init c = record {
+  all = refl;
+  tickets = omega (arith, c.requires.tickets, waiters-count c.args.condition.0 Side.Cond c.args.state.now.goroutines);
+  mutex = c.requires.mutex;
+}
+
+pub pass_on-requires-clause-blocked : goal.pass_on-requires-clause-blocked
+pass_on-requires-clause-blocked c =
+    let s = c.loop-waiting.state in
+    let m = first c.args.condition.0 Side.Cond s.goroutines in
+    served-blocked s m c.in-Some.waiting (served-from s m c.in-Some.waiting c.in-Some.ensures.first c.in-Some.ensures.blocked) s (beside-same s s refl)
+
+pub pass_on-requires-clause-tickets : goal.pass_on-requires-clause-tickets
+pass_on-requires-clause-tickets c =
+    let s = c.loop-waiting.state in
+    let o = c.args.condition.0 in
+    let w = served-from s (first o Side.Cond s.goroutines) c.in-Some.waiting c.in-Some.ensures.first c.in-Some.ensures.blocked in
+    let rest = notified-some true o s.goroutines w.waiter w.is in
+    omega (arith, c.loop-waiting.invariant.tickets, ap (λ (ws : List Waiter). length ws) rest.1)
+
+pub loop-waiting-smaller : goal.loop-waiting-smaller
+loop-waiting-smaller c =
+    let s = c.loop-waiting.state in
+    let o = c.args.condition.0 in
+    let w = served-from s (first o Side.Cond s.goroutines) c.in-Some.waiting c.in-Some.ensures.first c.in-Some.ensures.blocked in
+    let rest = notified-some true o s.goroutines w.waiter w.is in
+    let p = passed o c.args.mutex.0 s w.waiter rest.0 (find w.waiter.number s.goroutines) (find c.args.mutex.0 s.objects) c.in-Some.ensures.rises w.found refl c.loop-waiting.invariant.mutex rest.1 in
+    let e = c.pass_on.ensures ∙ ap (λ (x : Waiting). pass_on x.goroutine.0 c.args.mutex.0 (find x.goroutine.0 s.goroutines) (find c.args.mutex.0 s.objects) s) w.told in
+    omega (arith, ap (λ (ws : List Waiter). length ws) rest.1, ap (λ (t : State). length (waiters o Side.Cond t.goroutines)) e, ap (λ (ws : List Waiter). length ws) p.waiters)
+
+pub loop-waiting-preserved : goal.loop-waiting-preserved
+loop-waiting-preserved c =
+    let s = c.loop-waiting.state in
+    let o = c.args.condition.0 in
+    let m = c.args.mutex.0 in
+    let w = served-from s (first o Side.Cond s.goroutines) c.in-Some.waiting c.in-Some.ensures.first c.in-Some.ensures.blocked in
+    let rest = notified-some true o s.goroutines w.waiter w.is in
+    let p = passed o m s w.waiter rest.0 (find w.waiter.number s.goroutines) (find m s.objects) c.in-Some.ensures.rises w.found refl c.loop-waiting.invariant.mutex rest.1 in
+    let t = pass_on w.waiter.number m (find w.waiter.number s.goroutines) (find m s.objects) s in
+    let e = c.pass_on.ensures ∙ ap (λ (x : Waiting). pass_on x.goroutine.0 m (find x.goroutine.0 s.goroutines) (find m s.objects) s) w.told in
+    record {
+      all =
+          ap (λ (u : State). apply_all (passes_on m (waiters o Side.Cond u.goroutines)) u) e
+          ∙ ap (λ (ws : List Waiter). apply_all (passes_on m ws) t) p.waiters
+          ∙ sym (ap (λ (ws : List Waiter). apply_all (passes_on m ws) s) rest.1)
+          ∙ c.loop-waiting.invariant.all;
+      tickets = omega (arith, c.loop-waiting.invariant.tickets, ap (λ (ws : List Waiter). length ws) rest.1, ap (λ (u : State). length (waiters o Side.Cond u.goroutines)) e, ap (λ (ws : List Waiter). length ws) p.waiters, ap (λ (u : State). u.next_ticket) e, p.tickets);
+      mutex = ap (λ (u : State). is_some (mutex_of (find m u.objects))) e ∙ p.mutex;
+    }
+
+pub returns : goal.returns
+returns c =
+    let s = c.loop-waiting.state in
+    let o = c.args.condition.0 in
+    let none = none-of (first o Side.Cond s.goroutines) c.first_waiter.result c.first_waiter.ensures.first (ap is_some c.in_default.is) in
+    sym (ap (λ (ws : List Waiter). apply_all (passes_on c.args.mutex.0 ws) s) (notified-none true o s.goroutines none)) ∙ c.loop-waiting.invariant.all

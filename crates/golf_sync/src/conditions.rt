@@ -1,0 +1,223 @@
+//! Conditions.
+
+ghost use Rattle.std.specs.Prelude.{◌≡◌, ◌+◌, ◌<◌, ◌^◌, ◌++◌, IfOk, OnErr, IsSome, drop, length};
+ghost use Rattle.golf_theory.specs.Maps.{find, IsRising};
+ghost use Rattle.golf_model.specs.Changes.{apply_all};
+ghost use Rattle.golf_model.specs.Acting.{goes, taking_one, at_reference, at_mutex, at_condition};
+ghost use Rattle.golf_model.specs.Waiting.{first, waiters};
+ghost use Rattle.golf_model.specs.Conditions.{awaits, awaits_by, signals, broadcasts, notifies, first_only, passes_on};
+ghost use Rattle.golf_data.specs.declared.goroutine.Side.{Side};
+ghost use Rattle.golf_state.specs.Doing.{does, Stands};
+ghost use Rattle.golf_state.specs.Outcomes.{Comes};
+ghost use Rattle.golf_sync.specs.Objects.{mutex_of};
+ghost use Rattle.golf_sync.specs.Notified.{notified};
+
+use crate::mutexes::hand_over;
+use crate::objects::{condition_at, mutex_at};
+use golf_base::{Memory, ObjectId};
+use golf_data::{PanicKind, Side, Value, WaitKind};
+use golf_state::{Acting, Outcome, State, block_on, last_operand, proceed};
+use std::alloc::Global;
+
+// Unlocks the mutex of a condition, and blocks on the condition.
+fn await_with(
+    alloc: Global,
+    state: &mut State,
+    acting: Acting,
+    condition: ObjectId,
+    mutex: ObjectId,
+) -> Result<Outcome, Memory>
+    requires { Stands acting.goroutine.0 acting.after state.old }
+    ensures ok { IfOk result (λ outcome. Comes outcome (λ a. at_mutex (awaits_by a (drop 1 a.frame.operands) state.old condition.0 mutex.0) (find mutex.0 state.old.objects)) acting.goroutine.0 acting.line state.old state.new) }
+    ensures err { OnErr result (state.new ≡ state.old) }
+{
+    let Some(locked) = mutex_at(state, mutex) else {
+        return Ok(Outcome::Stuck);
+    };
+    if !locked {
+        return Ok(Outcome::Panic(PanicKind::UnlockUnlocked));
+    }
+    let waiting = state.first_waiter(mutex, Side::Lock);
+    block_on(
+        alloc,
+        state,
+        acting,
+        1,
+        WaitKind::Condition,
+        condition,
+        Side::Cond,
+    )?;
+    hand_over(state, mutex, waiting);
+    Ok(Outcome::Blocked)
+}
+
+// Blocks on a condition.
+fn await_at(
+    alloc: Global,
+    state: &mut State,
+    acting: Acting,
+    condition: ObjectId,
+) -> Result<Outcome, Memory>
+    requires { Stands acting.goroutine.0 acting.after state.old }
+    ensures ok { IfOk result (λ outcome. Comes outcome (λ a. at_condition (λ m. at_reference a (λ p. at_mutex (awaits_by a (drop 1 a.frame.operands) state.old condition.0 p) (find p state.old.objects)) m) (find condition.0 state.old.objects)) acting.goroutine.0 acting.line state.old state.new) }
+    ensures err { OnErr result (state.new ≡ state.old) }
+{
+    let Some(mutex) = condition_at(state, condition) else {
+        return Ok(Outcome::Stuck);
+    };
+    match mutex {
+        Value::Ref(mutex) => await_with(alloc, state, acting, condition, mutex),
+        Value::Nil => Ok(Outcome::Panic(PanicKind::NilPointer)),
+        Value::Int(_) => Ok(Outcome::Stuck),
+        Value::Bool(_) => Ok(Outcome::Stuck),
+        Value::Text(_) => Ok(Outcome::Stuck),
+        Value::Unit => Ok(Outcome::Stuck),
+    }
+}
+
+/// The goroutine in its turn waits on the condition that is its last operand: it unlocks the
+/// condition's mutex as its holder would, and blocks. Where the mutex is unlocked, that is a fatal
+/// error; it panics on nil, and where the mutex is nil.
+pub fn cond_wait(alloc: Global, state: &mut State, acting: Acting) -> Result<Outcome, Memory>
+    requires { Stands acting.goroutine.0 acting.after state.old }
+    ensures ok { IfOk result (λ outcome. Comes outcome (λ a. awaits a state.old) acting.goroutine.0 acting.line state.old state.new) }
+    ensures err { OnErr result (state.new ≡ state.old) }
+{
+    let Some(condition) = last_operand(state, acting.goroutine) else {
+        return Ok(Outcome::Stuck);
+    };
+    match condition {
+        Value::Ref(object) => await_at(alloc, state, acting, object),
+        Value::Nil => Ok(Outcome::Panic(PanicKind::NilPointer)),
+        Value::Int(_) => Ok(Outcome::Stuck),
+        Value::Bool(_) => Ok(Outcome::Stuck),
+        Value::Text(_) => Ok(Outcome::Stuck),
+        Value::Unit => Ok(Outcome::Stuck),
+    }
+}
+
+// The waiters of a condition, the first one or all by rising ticket, are passed on to a mutex. It
+// takes no memory.
+fn pass_all(state: &mut State, condition: ObjectId, mutex: ObjectId)
+    requires tickets { state.old.next_ticket + length state.old.goroutines < 2 ^ 64 }
+    requires mutex { IsSome (mutex_of (find mutex.0 state.old.objects)) }
+    ensures { state.new ≡ apply_all (passes_on mutex.0 (waiters condition.0 Side.Cond state.old.goroutines)) state.old }
+{
+    while let Some(waiting) = state.first_waiter(condition, Side::Cond) {
+        state.pass_on(waiting.goroutine, mutex);
+    }
+}
+
+// The first waiter of a condition is passed on to a mutex. It takes no memory.
+fn pass_first(state: &mut State, condition: ObjectId, mutex: ObjectId)
+    requires { state.old.next_ticket + length state.old.goroutines < 2 ^ 64 }
+    ensures { state.new ≡ apply_all (passes_on mutex.0 (first_only (first condition.0 Side.Cond state.old.goroutines))) state.old }
+{
+    if let Some(waiting) = state.first_waiter(condition, Side::Cond) {
+        state.pass_on(waiting.goroutine, mutex);
+    }
+}
+
+// The goroutine goes on, and waiters of a condition are passed on to its mutex: the first one, or
+// all.
+fn notify_with(
+    state: &mut State,
+    acting: Acting,
+    condition: ObjectId,
+    mutex: ObjectId,
+    all: bool,
+) -> Outcome
+    requires stands { Stands acting.goroutine.0 acting.after state.old }
+    requires tickets { state.old.next_ticket + length state.old.goroutines < 2 ^ 64 }
+    requires rises { IsRising state.old.goroutines }
+    ensures { Comes result (λ a. at_mutex (λ locked. goes a (drop 1 a.frame.operands) ++ passes_on mutex.0 (notified all condition.0 state.old.goroutines)) (find mutex.0 state.old.objects)) acting.goroutine.0 acting.line state.old state.new }
+{
+    if mutex_at(state, mutex).is_none() {
+        return Outcome::Stuck;
+    }
+    proceed(state, acting, acting.after, 1);
+    if all {
+        pass_all(state, condition, mutex);
+    } else {
+        pass_first(state, condition, mutex);
+    }
+    Outcome::Done
+}
+
+// Waiters of a condition with this mutex are passed on, where anyone waits: the first one, or all.
+fn notify_by(
+    state: &mut State,
+    acting: Acting,
+    condition: ObjectId,
+    mutex: Value,
+    all: bool,
+) -> Outcome
+    requires stands { Stands acting.goroutine.0 acting.after state.old }
+    requires tickets { state.old.next_ticket + length state.old.goroutines < 2 ^ 64 }
+    ensures { Comes result (λ a. notifies a (drop 1 a.frame.operands) state.old (notified all condition.0 state.old.goroutines) mutex) acting.goroutine.0 acting.line state.old state.new }
+{
+    if state.first_waiter(condition, Side::Cond).is_none() {
+        proceed(state, acting, acting.after, 1);
+        return Outcome::Done;
+    }
+    match mutex {
+        Value::Ref(mutex) => notify_with(state, acting, condition, mutex, all),
+        Value::Nil => Outcome::Stuck,
+        Value::Int(_) => Outcome::Stuck,
+        Value::Bool(_) => Outcome::Stuck,
+        Value::Text(_) => Outcome::Stuck,
+        Value::Unit => Outcome::Stuck,
+    }
+}
+
+// Waiters of a condition are passed on: the first one, or all.
+fn notify_at(state: &mut State, acting: Acting, condition: ObjectId, all: bool) -> Outcome
+    requires stands { Stands acting.goroutine.0 acting.after state.old }
+    requires tickets { state.old.next_ticket + length state.old.goroutines < 2 ^ 64 }
+    ensures { Comes result (λ a. at_condition (notifies a (drop 1 a.frame.operands) state.old (notified all condition.0 state.old.goroutines)) (find condition.0 state.old.objects)) acting.goroutine.0 acting.line state.old state.new }
+{
+    match condition_at(state, condition) {
+        Some(mutex) => notify_by(state, acting, condition, mutex, all),
+        None => Outcome::Stuck,
+    }
+}
+
+// The condition that is the last operand.
+fn notify(state: &mut State, acting: Acting, all: bool) -> Outcome
+    requires stands { Stands acting.goroutine.0 acting.after state.old }
+    requires tickets { state.old.next_ticket + length state.old.goroutines < 2 ^ 64 }
+    ensures { Comes result (λ a. taking_one (λ c rest. at_reference a (λ o. at_condition (notifies a rest state.old (notified all o state.old.goroutines)) (find o state.old.objects)) c) a.frame.operands) acting.goroutine.0 acting.line state.old state.new }
+{
+    let Some(condition) = last_operand(state, acting.goroutine) else {
+        return Outcome::Stuck;
+    };
+    match condition {
+        Value::Ref(object) => notify_at(state, acting, object, all),
+        Value::Nil => Outcome::Panic(PanicKind::NilPointer),
+        Value::Int(_) => Outcome::Stuck,
+        Value::Bool(_) => Outcome::Stuck,
+        Value::Text(_) => Outcome::Stuck,
+        Value::Unit => Outcome::Stuck,
+    }
+}
+
+/// The goroutine in its turn passes the first waiter on, where anyone waits on the condition that is
+/// its last operand: where the condition's mutex is unlocked, that becomes locked and the waiter
+/// runs; else the waiter waits for the mutex from now on. It panics on nil. It takes no memory.
+pub fn cond_signal(state: &mut State, acting: Acting) -> Outcome
+    requires stands { Stands acting.goroutine.0 acting.after state.old }
+    requires tickets { state.old.next_ticket + length state.old.goroutines < 2 ^ 64 }
+    ensures { Comes result (λ a. signals a state.old) acting.goroutine.0 acting.line state.old state.new }
+{
+    notify(state, acting, false)
+}
+
+/// The goroutine in its turn passes all waiters on, by rising ticket, who wait on the condition that
+/// is its last operand. It panics on nil. It takes no memory.
+pub fn cond_broadcast(state: &mut State, acting: Acting) -> Outcome
+    requires stands { Stands acting.goroutine.0 acting.after state.old }
+    requires tickets { state.old.next_ticket + length state.old.goroutines < 2 ^ 64 }
+    ensures { Comes result (λ a. broadcasts a state.old) acting.goroutine.0 acting.line state.old state.new }
+{
+    notify(state, acting, true)
+}

@@ -1,0 +1,112 @@
+//! Wait groups.
+
+ghost use Rattle.std.specs.Prelude.{◌≡◌, IfOk, OnErr, drop};
+ghost use Rattle.golf_theory.specs.Maps.{find};
+ghost use Rattle.golf_model.specs.Acting.{at_group, at_reference};
+ghost use Rattle.golf_model.specs.Calculating.{sum};
+ghost use Rattle.golf_model.specs.Mutexes.{adds, counts, waits, waits_by};
+ghost use Rattle.golf_state.specs.Doing.{does, Stands};
+ghost use Rattle.golf_state.specs.Outcomes.{Comes};
+
+use crate::objects::group_at;
+use golf_base::{Memory, ObjectId};
+use golf_data::{Object, PanicKind, Side, Value, WaitKind};
+use golf_state::{Acting, Outcome, State, Waking, block_on, last_operand, last_operands, proceed};
+use std::alloc::Global;
+
+// Adds to the counter of a wait group.
+fn add_at(state: &mut State, acting: Acting, group: ObjectId, delta: i64) -> Outcome
+    requires { Stands acting.goroutine.0 acting.after state.old }
+    ensures { Comes result (λ a. at_group (λ n. counts a (drop 2 a.frame.operands) group.0 (sum n delta)) (find group.0 state.old.objects)) acting.goroutine.0 acting.line state.old state.new }
+{
+    let Some(count) = group_at(state, group) else {
+        return Outcome::Stuck;
+    };
+    let count = count.wrapping_add(delta);
+    if count < 0 {
+        return Outcome::Panic(PanicKind::NegativeGroup);
+    }
+    state.replace(group, Object::Group(count));
+    proceed(state, acting, acting.after, 2);
+    if count == 0 {
+        state.wake_all(group, Waking::AtZero);
+    }
+    Outcome::Done
+}
+
+// Adds to the counter of the wait group that a value refers to.
+fn add_to(state: &mut State, acting: Acting, group: Value, delta: i64) -> Outcome
+    requires { Stands acting.goroutine.0 acting.after state.old }
+    ensures { Comes result (λ a. at_reference a (λ o. at_group (λ n. counts a (drop 2 a.frame.operands) o (sum n delta)) (find o state.old.objects)) group) acting.goroutine.0 acting.line state.old state.new }
+{
+    match group {
+        Value::Ref(object) => add_at(state, acting, object, delta),
+        Value::Nil => Outcome::Panic(PanicKind::NilPointer),
+        Value::Int(_) => Outcome::Stuck,
+        Value::Bool(_) => Outcome::Stuck,
+        Value::Text(_) => Outcome::Stuck,
+        Value::Unit => Outcome::Stuck,
+    }
+}
+
+/// The goroutine in its turn adds its last operand to the counter of the wait group before it, which
+/// wraps at 64 bits: at 0 all who wait go on. Below 0 it panics and the counter stays, and it panics
+/// on nil. It takes no memory.
+pub fn group_add(state: &mut State, acting: Acting) -> Outcome
+    requires { Stands acting.goroutine.0 acting.after state.old }
+    ensures { Comes result (λ a. adds a state.old) acting.goroutine.0 acting.line state.old state.new }
+{
+    let Some((group, delta)) = last_operands(state, acting.goroutine) else {
+        return Outcome::Stuck;
+    };
+    match delta {
+        Value::Int(delta) => add_to(state, acting, group, delta),
+        Value::Bool(_) => Outcome::Stuck,
+        Value::Text(_) => Outcome::Stuck,
+        Value::Unit => Outcome::Stuck,
+        Value::Nil => Outcome::Stuck,
+        Value::Ref(_) => Outcome::Stuck,
+    }
+}
+
+// Goes on at 0, or blocks on the wait group.
+fn wait_at(
+    alloc: Global,
+    state: &mut State,
+    acting: Acting,
+    group: ObjectId,
+) -> Result<Outcome, Memory>
+    requires { Stands acting.goroutine.0 acting.after state.old }
+    ensures ok { IfOk result (λ outcome. Comes outcome (λ a. at_group (waits_by a (drop 1 a.frame.operands) group.0) (find group.0 state.old.objects)) acting.goroutine.0 acting.line state.old state.new) }
+    ensures err { OnErr result (state.new ≡ state.old) }
+{
+    let Some(count) = group_at(state, group) else {
+        return Ok(Outcome::Stuck);
+    };
+    if count != 0 {
+        block_on(alloc, state, acting, 1, WaitKind::Group, group, Side::Group)?;
+        return Ok(Outcome::Blocked);
+    }
+    proceed(state, acting, acting.after, 1);
+    Ok(Outcome::Done)
+}
+
+/// The goroutine in its turn waits for the wait group that is its last operand: it goes on where the
+/// counter is 0, and blocks else. It panics on nil.
+pub fn group_wait(alloc: Global, state: &mut State, acting: Acting) -> Result<Outcome, Memory>
+    requires { Stands acting.goroutine.0 acting.after state.old }
+    ensures ok { IfOk result (λ outcome. Comes outcome (λ a. waits a state.old) acting.goroutine.0 acting.line state.old state.new) }
+    ensures err { OnErr result (state.new ≡ state.old) }
+{
+    let Some(group) = last_operand(state, acting.goroutine) else {
+        return Ok(Outcome::Stuck);
+    };
+    match group {
+        Value::Ref(object) => wait_at(alloc, state, acting, object),
+        Value::Nil => Ok(Outcome::Panic(PanicKind::NilPointer)),
+        Value::Int(_) => Ok(Outcome::Stuck),
+        Value::Bool(_) => Ok(Outcome::Stuck),
+        Value::Text(_) => Ok(Outcome::Stuck),
+        Value::Unit => Ok(Outcome::Stuck),
+    }
+}

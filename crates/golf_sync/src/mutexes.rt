@@ -1,0 +1,106 @@
+//! Mutexes.
+
+ghost use Rattle.std.specs.Prelude.{◌≡◌, IfOk, OnErr, drop, true};
+ghost use Rattle.golf_theory.specs.Maps.{find};
+ghost use Rattle.golf_model.specs.Acting.{at_mutex};
+ghost use Rattle.golf_model.specs.Mutexes.{locks, locks_by, unlocks, unlocks_by};
+ghost use Rattle.golf_state.specs.Doing.{does, Stands};
+ghost use Rattle.golf_state.specs.Outcomes.{Comes};
+ghost use Rattle.golf_state.specs.Handing.{is_blocked_where, handed_over};
+
+use crate::objects::mutex_at;
+use golf_base::{Memory, ObjectId};
+use golf_data::{Object, PanicKind, Side, Value, WaitKind};
+use golf_state::{Acting, Outcome, State, Waiting, Wakening, block_on, last_operand, proceed};
+use std::alloc::Global;
+
+// Locks a mutex, or blocks on it.
+fn lock_at(
+    alloc: Global,
+    state: &mut State,
+    acting: Acting,
+    mutex: ObjectId,
+) -> Result<Outcome, Memory>
+    requires { Stands acting.goroutine.0 acting.after state.old }
+    ensures ok { IfOk result (λ outcome. Comes outcome (λ a. at_mutex (locks_by a (drop 1 a.frame.operands) mutex.0) (find mutex.0 state.old.objects)) acting.goroutine.0 acting.line state.old state.new) }
+    ensures err { OnErr result (state.new ≡ state.old) }
+{
+    let Some(locked) = mutex_at(state, mutex) else {
+        return Ok(Outcome::Stuck);
+    };
+    if locked {
+        block_on(alloc, state, acting, 1, WaitKind::Lock, mutex, Side::Lock)?;
+        return Ok(Outcome::Blocked);
+    }
+    state.replace(mutex, Object::Mutex(true));
+    proceed(state, acting, acting.after, 1);
+    Ok(Outcome::Done)
+}
+
+/// The goroutine in its turn locks the mutex that is its last operand; it blocks where that is
+/// locked, and panics on nil.
+pub fn lock(alloc: Global, state: &mut State, acting: Acting) -> Result<Outcome, Memory>
+    requires { Stands acting.goroutine.0 acting.after state.old }
+    ensures ok { IfOk result (λ outcome. Comes outcome (λ a. locks a state.old) acting.goroutine.0 acting.line state.old state.new) }
+    ensures err { OnErr result (state.new ≡ state.old) }
+{
+    let Some(mutex) = last_operand(state, acting.goroutine) else {
+        return Ok(Outcome::Stuck);
+    };
+    match mutex {
+        Value::Ref(object) => lock_at(alloc, state, acting, object),
+        Value::Nil => Ok(Outcome::Panic(PanicKind::NilPointer)),
+        Value::Int(_) => Ok(Outcome::Stuck),
+        Value::Bool(_) => Ok(Outcome::Stuck),
+        Value::Text(_) => Ok(Outcome::Stuck),
+        Value::Unit => Ok(Outcome::Stuck),
+    }
+}
+
+/// A mutex stays locked and its first waiter runs; where nobody waits it becomes unlocked. It takes
+/// no memory.
+pub fn hand_over(state: &mut State, mutex: ObjectId, waiting: Option<Waiting>)
+    requires { is_blocked_where waiting state.old ≡ true }
+    ensures { state.new ≡ handed_over mutex.0 waiting state.old }
+{
+    match waiting {
+        Some(waiting) => state.wake(waiting.goroutine, Wakening::Released),
+        None => state.replace(mutex, Object::Mutex(false)),
+    }
+}
+
+// Unlocks a mutex.
+fn unlock_at(state: &mut State, acting: Acting, mutex: ObjectId) -> Outcome
+    requires { Stands acting.goroutine.0 acting.after state.old }
+    ensures { Comes result (λ a. at_mutex (unlocks_by a (drop 1 a.frame.operands) state.old mutex.0) (find mutex.0 state.old.objects)) acting.goroutine.0 acting.line state.old state.new }
+{
+    let Some(locked) = mutex_at(state, mutex) else {
+        return Outcome::Stuck;
+    };
+    if !locked {
+        return Outcome::Panic(PanicKind::UnlockUnlocked);
+    }
+    let waiting = state.first_waiter(mutex, Side::Lock);
+    proceed(state, acting, acting.after, 1);
+    hand_over(state, mutex, waiting);
+    Outcome::Done
+}
+
+/// The goroutine in its turn unlocks the mutex that is its last operand: its first waiter gets it.
+/// To unlock an unlocked mutex is a fatal error, and it panics on nil. It takes no memory.
+pub fn unlock(state: &mut State, acting: Acting) -> Outcome
+    requires { Stands acting.goroutine.0 acting.after state.old }
+    ensures { Comes result (λ a. unlocks a state.old) acting.goroutine.0 acting.line state.old state.new }
+{
+    let Some(mutex) = last_operand(state, acting.goroutine) else {
+        return Outcome::Stuck;
+    };
+    match mutex {
+        Value::Ref(object) => unlock_at(state, acting, object),
+        Value::Nil => Outcome::Panic(PanicKind::NilPointer),
+        Value::Int(_) => Outcome::Stuck,
+        Value::Bool(_) => Outcome::Stuck,
+        Value::Text(_) => Outcome::Stuck,
+        Value::Unit => Outcome::Stuck,
+    }
+}

@@ -1,0 +1,13 @@
+//! Tests of the program: worked examples, refusals, faults of its streams, and what its markers see.
+#![tactic(auto)]
+
+#[cfg(test)]
+mod calls;
+#[cfg(test)]
+mod faults;
+#[cfg(test)]
+mod markers;
+#[cfg(test)]
+mod refusals;
+#[cfg(test)]
+mod runs;
