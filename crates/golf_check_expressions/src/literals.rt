@@ -1,0 +1,280 @@
+//! Names and literals, `make` and `new`.
+
+ghost use Rattle.std.specs.Prelude.{◌≡◌, ◌≤◌, ◌++◌, ◌&&◌, [], map, flat_map, SomeIff, IfOk, is_some, slice_get, option_and_then};
+ghost use Rattle.std.specs.List.{list_any};
+ghost use Rattle.std.specs.Str.{bytes_eq};
+ghost use Rattle.golf_types.specs.Faults.{Tells, broken as broken_of};
+ghost use Rattle.golf_types.specs.Types.{given as given_of, has_base as has_base_of, has_layer, is_any, is_channel, assignable as assignable_of};
+ghost use Rattle.golf_types.specs.Expressions.{named as named_of, known_name, found_name, reads_global as reads_global_of, is_above as is_above_of, value_from, fits_int as fits_int_of, made_struct as made_struct_of, field_type as field_type_of, field_of_member as field_of_member_of, put_faults, all_put_faults, fields_differ as fields_differ_of};
+ghost use Rattle.golf_types.specs.Judging.{Finds};
+ghost use Rattle.golf_types.specs.Scopes.{meaning as meaning_of, type_at as type_at_of};
+ghost use Rattle.golf_types.specs.Written.{pointer_to as pointer_to_of};
+
+use crate::values::{assignable, has_any, has_base, has_channel};
+use crate::written_types::{plain_type, pointer_to};
+use golf_base::Memory;
+use golf_grammar::Element;
+use golf_types::{
+    Base, FileScope, Given, GoType, Member, Operand, Scope, TypeFault, Where, copy_optional,
+    given_type, is_blank, meaning_at, member_at, require, type_at,
+};
+use std::alloc::Global;
+
+/// The largest `int`.
+const MAX_INT: u64 = 9223372036854775807;
+
+fn reads_global(operand: &Operand) -> Option<u32>
+    ensures { result ≡ reads_global_of operand.now }
+{
+    match operand {
+        Operand::Variable(place, _) => match place {
+            Where::Global(number) => Some(*number),
+            Where::Slot(_) => None,
+        },
+        _ => None,
+    }
+}
+
+// Whether a global may be read where another is initialised.
+fn is_above(initialises: Option<u32>, read: Option<u32>) -> bool
+    ensures { result ≡ is_above_of initialises read }
+{
+    match initialises {
+        None => true,
+        Some(number) => match read {
+            None => true,
+            Some(read) => read < number,
+        },
+    }
+}
+
+fn found(line: u32, initialises: Option<u32>, operand: Operand) -> Result<Operand, TypeFault>
+    ensures { Finds result (found_name line initialises operand) }
+{
+    require(line, 7, is_above(initialises, reads_global(&operand)))?;
+    Ok(operand)
+}
+
+fn known(
+    line: u32,
+    initialises: Option<u32>,
+    meaning: Option<Operand>,
+) -> Result<Operand, TypeFault>
+    ensures { Finds result (known_name line initialises meaning) }
+{
+    match meaning {
+        None => Err(TypeFault::At { line, rule: 3 }),
+        Some(operand) => found(line, initialises, operand),
+    }
+}
+
+/// What a name is: rules 3 and 7.
+pub fn named(alloc: Global, line: u32, scope: &Scope, name: &[u8]) -> Result<Operand, TypeFault>
+    ensures { Finds result (named_of line scope.now name.now) }
+{
+    if is_blank(name) {
+        return Ok(Operand::Blank);
+    }
+    let meaning = meaning_at(alloc, scope, name)?;
+    known(line, scope.initialises, meaning)
+}
+
+// The number that digits stand for, where an `int` can hold it.
+fn small_value(digits: &[u8]) -> Option<u64>
+    ensures { SomeIff result (value_from 0 digits.now ≤ MAX_INT) (value_from 0 digits.now) }
+{
+    let mut value = 0u64;
+    for d in digits {
+        let digit = u64::from(d.saturating_sub(b'0'));
+        if value > (MAX_INT - digit) / 10 {
+            return None;
+        }
+        value = 10 * value + digit;
+    }
+    Some(value)
+}
+
+/// Whether an `int` can hold the number that digits stand for.
+#[tactic(auto, unfolding(golf_types::specs::Expressions::fits_int))]
+pub fn fits_int(digits: &[u8]) -> bool
+    ensures { result ≡ fits_int_of digits.now }
+{
+    small_value(digits).is_some()
+}
+
+/// `new(T)`: rule 4.
+pub fn made_struct(
+    alloc: Global,
+    line: u32,
+    scope: &Scope,
+    name: &[u8],
+) -> Result<Operand, TypeFault>
+    ensures { Finds result (made_struct_of line (pointer_to_of (meaning_of scope.now name.now))) }
+{
+    let meaning = meaning_at(alloc, scope, name)?;
+    let base = pointer_to(meaning);
+    require(line, 4, base.is_some())?;
+    Ok(Operand::Value(plain_type(alloc, base)))
+}
+
+fn field_of_member(
+    alloc: Global,
+    file: &FileScope,
+    number: u32,
+    member: Option<Member>,
+) -> Result<Option<Option<GoType>>, Memory>
+    ensures { IfOk result (λ t. t ≡ field_of_member_of file.now number member) }
+{
+    match member {
+        None => Ok(None),
+        Some(member) => match member {
+            Member::Field(place) => Ok(Some(type_of_field(alloc, file, number, place)?)),
+            Member::Method(_) => Ok(None),
+        },
+    }
+}
+
+/// The type of a field, by its place in the struct of this number.
+pub fn type_of_field(
+    alloc: Global,
+    file: &FileScope,
+    number: u32,
+    place: u32,
+) -> Result<Option<GoType>, Memory>
+    ensures { IfOk result (λ t. t ≡ option_and_then (λ ts. type_at_of ts place) (slice_get file.now.fields number)) }
+{
+    match file.fields.as_slice().get(number as usize) {
+        None => Ok(None),
+        Some(types) => type_at(alloc, types.as_slice(), place),
+    }
+}
+
+#[tactic(auto, unfolding(golf_types::specs::Expressions::field_type))]
+fn field_type(
+    alloc: Global,
+    file: &FileScope,
+    base: Option<Base>,
+    name: &[u8],
+) -> Result<Option<Option<GoType>>, Memory>
+    ensures { IfOk result (λ t. t ≡ field_type_of file.now base name.now) }
+{
+    match base {
+        None => Ok(None),
+        Some(base) => match base {
+            Base::Pointer(number) => {
+                field_of_member(alloc, file, number, member_at(file, number, name))
+            }
+            _ => Ok(None),
+        },
+    }
+}
+
+fn put_fits(line: u32, field: &Option<Option<GoType>>, given: &Given) -> Result<(), TypeFault>
+    ensures { Tells result (put_faults line field.now given.now) (λ _. Unit {0}) }
+{
+    match field {
+        None => Ok(()),
+        Some(t) => require(line, 9, assignable(given, t)),
+    }
+}
+
+fn element_fits(
+    alloc: Global,
+    line: u32,
+    file: &FileScope,
+    base: Option<Base>,
+    name: &[u8],
+    given: &Given,
+) -> Result<(), TypeFault>
+    ensures { Tells result (put_faults line (field_type_of file.now base name.now) given.now) (λ _. Unit {0}) }
+{
+    let field = field_type(alloc, file, base, name)?;
+    put_fits(line, &field, given)
+}
+
+/// Whether what is put into fields that are known fits them: rule 9.
+pub fn all_fit(
+    alloc: Global,
+    line: u32,
+    file: &FileScope,
+    base: Option<Base>,
+    elements: &[Element],
+    values: &[Given],
+) -> Result<(), TypeFault>
+    ensures { Tells result (all_put_faults line file.now base (map (λ e. e.field) elements.now) values.now) (λ _. Unit {0}) }
+{
+    match elements {
+        [] => Ok(()),
+        [e, es @ ..] => match values {
+            [] => Ok(()),
+            [v, vs @ ..] => {
+                element_fits(alloc, line, file, base, e.field.as_slice(), v)?;
+                all_fit(alloc, line, file, base, es, vs)
+            }
+        },
+    }
+}
+
+fn is_among(elements: &[Element], name: &[u8]) -> bool
+    ensures { result ≡ list_any (bytes_eq name.now) (map (λ e. e.field) elements.now) }
+{
+    for e in elements {
+        if name == e.field.as_slice() {
+            return true;
+        }
+    }
+    false
+}
+
+/// Whether each element is that of a field, and no field comes twice.
+pub fn fields_differ(
+    alloc: Global,
+    file: &FileScope,
+    base: Option<Base>,
+    elements: &[Element],
+) -> Result<bool, Memory>
+    ensures { IfOk result (λ b. b ≡ fields_differ_of file.now base [] (map (λ e. e.field) elements.now)) }
+{
+    for (i, e) in elements.iter().enumerate() {
+        let name = e.field.as_slice();
+        let field = field_type(alloc, file, base, name)?;
+        if field.is_none() || is_among(&elements[..i], name) {
+            return Ok(false);
+        }
+    }
+    Ok(true)
+}
+
+/// Whether each value fits the elements of a slice: rule 9.
+pub fn elements_fit(line: u32, values: &[Given], t: &Option<GoType>) -> Result<(), TypeFault>
+    ensures { Tells result (flat_map (λ v. broken_of line 9 (assignable_of v t.now)) values.now) (λ _. Unit {0}) }
+{
+    for v in values {
+        require(line, 9, assignable(v, t))?;
+    }
+    Ok(())
+}
+
+/// `make(T)`, behind its type: rule 11.
+pub fn made(alloc: Global, line: u32, t: Option<GoType>) -> Result<Operand, TypeFault>
+    ensures { Tells result (broken_of line 11 (has_layer is_channel (given_of (Operand.Value t)))) (λ m. m ≡ Operand.Value t) }
+{
+    let own = copy_optional(alloc, &t)?;
+    require(line, 11, has_channel(&given_type(t)))?;
+    Ok(Operand::Value(own))
+}
+
+/// `make(T, e)`, behind its type and size: rules 8 and 11.
+pub fn made_sized(
+    alloc: Global,
+    line: u32,
+    t: Option<GoType>,
+    size: &Given,
+) -> Result<Operand, TypeFault>
+    ensures { Tells result (broken_of line 8 (has_base_of Base.Int size.now) ++ broken_of line 11 (has_layer is_any (given_of (Operand.Value t)))) (λ m. m ≡ Operand.Value t) }
+{
+    let own = copy_optional(alloc, &t)?;
+    require(line, 8, has_base(Base::Int, size))?;
+    require(line, 11, has_any(&given_type(t)))?;
+    Ok(Operand::Value(own))
+}

@@ -1,0 +1,165 @@
+//! How operands stand, and what operators make of them.
+
+ghost use Rattle.std.specs.Prelude.{◌≡◌, ◌&&◌, ◌++◌};
+ghost use Rattle.golf_types.specs.Faults.{Tells, broken as broken_of};
+ghost use Rattle.golf_types.specs.Types.{given as given_of, has_base as has_base_of, has_layer, is_slice, element as element_of};
+ghost use Rattle.golf_types.specs.Expressions.{late_faults, value_faults, name_faults, value as value_of_base, unary_faults, unary_meaning, result_base as result_base_of, operand_base as operand_base_of, binary_fits as binary_fits_of, without_package as without_package_of};
+
+use crate::values::{can_give, comparable, element, has_base, has_slice};
+use golf_grammar::{BinaryOperator, UnaryOperator};
+use golf_types::{Base, Given, Operand, Scope, TypeFault, plain, require, value_of};
+use std::alloc::Global;
+
+/// The rule that the arguments of a call without a result break, if any.
+pub fn late(line: u32, rule: Option<u32>) -> Result<(), TypeFault>
+    ensures { Tells result (late_faults line rule) (λ _. Unit {0}) }
+{
+    match rule {
+        None => Ok(()),
+        Some(rule) => Err(TypeFault::At { line, rule }),
+    }
+}
+
+/// Whether an operand is a value: rules 3 and 18.
+pub fn is_value(line: u32, operand: &Operand) -> Result<(), TypeFault>
+    ensures { Tells result (value_faults line operand.now) (λ _. Unit {0}) }
+{
+    match operand {
+        Operand::Value(_)
+        | Operand::Outcome(_)
+        | Operand::Constant(_, _)
+        | Operand::Truth(_)
+        | Operand::Variable(_, _)
+        | Operand::Field(_, _)
+        | Operand::Element(_)
+        | Operand::Nil => Ok(()),
+        Operand::Nothing(_) => Err(TypeFault::At { line, rule: 18 }),
+        Operand::Blank
+        | Operand::Function(_)
+        | Operand::Method(_)
+        | Operand::BuiltIn(_)
+        | Operand::Package(_)
+        | Operand::Struct(_)
+        | Operand::TypeName => Err(TypeFault::At { line, rule: 3 }),
+    }
+}
+
+/// Whether an operand may stand where a name of any kind may: rules 3 and 18.
+pub fn is_name(line: u32, operand: &Operand) -> Result<(), TypeFault>
+    ensures { Tells result (name_faults line operand.now) (λ _. Unit {0}) }
+{
+    match operand {
+        Operand::Blank => Err(TypeFault::At { line, rule: 3 }),
+        Operand::Nothing(_) => Err(TypeFault::At { line, rule: 18 }),
+        _ => Ok(()),
+    }
+}
+
+/// What an operand gives as a value.
+pub fn as_value(alloc: Global, line: u32, operand: Operand) -> Result<Given, TypeFault>
+    ensures { Tells result (value_faults line operand) (λ v. v ≡ given_of operand) }
+{
+    is_value(line, &operand)?;
+    Ok(value_of(alloc, operand))
+}
+
+/// A value of a type without layers.
+pub fn value(alloc: Global, base: Base) -> Operand
+    ensures { result ≡ value_of_base base }
+{
+    Operand::Value(Some(plain(alloc, base)))
+}
+
+/// What stands in parentheses: a package there is no qualifier.
+pub fn without_package(operand: Operand) -> Operand
+    ensures { result ≡ without_package_of operand }
+{
+    match operand {
+        Operand::Package(_) => Operand::TypeName,
+        _ => operand,
+    }
+}
+
+/// What a unary operator makes.
+pub fn unary(
+    alloc: Global,
+    line: u32,
+    scope: &Scope,
+    operator: UnaryOperator,
+    x: Given,
+) -> Result<Operand, TypeFault>
+    ensures { Tells result (unary_faults line scope.now operator x) (λ m. m ≡ unary_meaning operator x) }
+{
+    match operator {
+        UnaryOperator::Negate => {
+            require(line, 8, has_base(Base::Int, &x))?;
+            Ok(value(alloc, Base::Int))
+        }
+        UnaryOperator::Not => {
+            require(line, 8, has_base(Base::Bool, &x))?;
+            Ok(value(alloc, Base::Bool))
+        }
+        UnaryOperator::Receive => {
+            require(line, 7, scope.initialises.is_none())?;
+            require(line, 16, can_give(&x))?;
+            Ok(Operand::Outcome(element(x)))
+        }
+    }
+}
+
+/// What a binary operator gives.
+pub fn result_base(operator: BinaryOperator) -> Base
+    ensures { result ≡ result_base_of operator }
+{
+    match operator {
+        BinaryOperator::Add
+        | BinaryOperator::Subtract
+        | BinaryOperator::Multiply
+        | BinaryOperator::Divide
+        | BinaryOperator::Remainder => Base::Int,
+        _ => Base::Bool,
+    }
+}
+
+fn operand_base(operator: BinaryOperator) -> Base
+    ensures { result ≡ operand_base_of operator }
+{
+    match operator {
+        BinaryOperator::Or | BinaryOperator::And => Base::Bool,
+        _ => Base::Int,
+    }
+}
+
+fn binary_fits(operator: BinaryOperator, x: &Given, y: &Given) -> bool
+    ensures { result ≡ binary_fits_of operator x.now y.now }
+{
+    match operator {
+        BinaryOperator::Equal | BinaryOperator::NotEqual => comparable(x, y),
+        _ => {
+            let base = operand_base(operator);
+            has_base(base, x) && has_base(base, y)
+        }
+    }
+}
+
+/// What a binary operator makes.
+pub fn binary(
+    alloc: Global,
+    line: u32,
+    operator: BinaryOperator,
+    x: Given,
+    y: Given,
+) -> Result<Operand, TypeFault>
+    ensures { Tells result (broken_of line 8 (binary_fits_of operator x y)) (λ m. m ≡ value_of_base (result_base_of operator)) }
+{
+    require(line, 8, binary_fits(operator, &x, &y))?;
+    Ok(value(alloc, result_base(operator)))
+}
+
+/// The element that an index leads to.
+pub fn index(line: u32, x: Given, i: Given) -> Result<Operand, TypeFault>
+    ensures { Tells result (broken_of line 8 (has_layer is_slice x && has_base_of Base.Int i)) (λ m. m ≡ Operand.Element (element_of x)) }
+{
+    require(line, 8, has_slice(&x) && has_base(Base::Int, &i))?;
+    Ok(Operand::Element(element(x)))
+}

@@ -1,0 +1,223 @@
+//! Selectors: fields, methods, and what packages have.
+
+ghost use Rattle.std.specs.Prelude.{◌≡◌};
+ghost use Rattle.golf_types.specs.Judging.{Finds};
+ghost use Rattle.golf_types.specs.Expressions.{fmt_member as fmt_member_of, runtime_member as runtime_member_of, sync_member as sync_member_of, package_member as package_member_of, called_name as called_name_of, mutex_method as mutex_method_of, group_method as group_method_of, write_method as write_method_of, read_method as read_method_of, condition_method as condition_method_of, condition_member as condition_member_of, struct_member as struct_member_of, base_member as base_member_of, value_member as value_member_of, selected_from};
+
+use crate::literals::type_of_field;
+use crate::operators::{as_value, value};
+use golf_types::{Base, BuiltIn, FileScope, Given, Member, Operand, Package, TypeFault, member_at};
+use std::alloc::Global;
+
+#[tactic(auto, unfolding(golf_types::specs::Expressions::fmt_member))]
+fn fmt_member(name: &[u8]) -> Option<BuiltIn>
+    ensures { result ≡ fmt_member_of name.now }
+{
+    if name == b"Println".as_slice() {
+        return Some(BuiltIn::Print);
+    }
+    None
+}
+
+#[tactic(auto, unfolding(golf_types::specs::Expressions::runtime_member))]
+fn runtime_member(name: &[u8]) -> Option<BuiltIn>
+    ensures { result ≡ runtime_member_of name.now }
+{
+    if name == b"GC".as_slice() {
+        return Some(BuiltIn::Collect);
+    }
+    if name == b"SetFinalizer".as_slice() {
+        return Some(BuiltIn::SetFinalizer);
+    }
+    None
+}
+
+#[tactic(auto, unfolding(golf_types::specs::Expressions::sync_member))]
+fn sync_member(name: &[u8]) -> Option<BuiltIn>
+    ensures { result ≡ sync_member_of name.now }
+{
+    if name == b"NewCond".as_slice() {
+        return Some(BuiltIn::NewCondition);
+    }
+    None
+}
+
+fn package_member(from: Package, name: &[u8]) -> Option<BuiltIn>
+    ensures { result ≡ package_member_of from name.now }
+{
+    match from {
+        Package::Fmt => fmt_member(name),
+        Package::Runtime => runtime_member(name),
+        Package::Sync => sync_member(name),
+    }
+}
+
+fn called_name(line: u32, name: Option<BuiltIn>) -> Result<Operand, TypeFault>
+    ensures { Finds result (called_name_of line name) }
+{
+    match name {
+        None => Err(TypeFault::At { line, rule: 3 }),
+        Some(built_in) => Ok(Operand::BuiltIn(built_in)),
+    }
+}
+
+#[tactic(auto, unfolding(golf_types::specs::Expressions::mutex_method))]
+fn mutex_method(name: &[u8]) -> Option<BuiltIn>
+    ensures { result ≡ mutex_method_of name.now }
+{
+    if name == b"Lock".as_slice() {
+        return Some(BuiltIn::Lock);
+    }
+    if name == b"Unlock".as_slice() {
+        return Some(BuiltIn::Unlock);
+    }
+    None
+}
+
+#[tactic(auto, unfolding(golf_types::specs::Expressions::group_method))]
+fn group_method(name: &[u8]) -> Option<BuiltIn>
+    ensures { result ≡ group_method_of name.now }
+{
+    if name == b"Add".as_slice() {
+        return Some(BuiltIn::Add);
+    }
+    if name == b"Done".as_slice() {
+        return Some(BuiltIn::Done);
+    }
+    if name == b"Wait".as_slice() {
+        return Some(BuiltIn::WaitGroup);
+    }
+    None
+}
+
+#[tactic(auto, unfolding(golf_types::specs::Expressions::write_method))]
+fn write_method(name: &[u8]) -> Option<BuiltIn>
+    ensures { result ≡ write_method_of name.now }
+{
+    if name == b"Lock".as_slice() {
+        return Some(BuiltIn::WriteLock);
+    }
+    if name == b"Unlock".as_slice() {
+        return Some(BuiltIn::WriteUnlock);
+    }
+    None
+}
+
+#[tactic(auto, unfolding(golf_types::specs::Expressions::read_method))]
+fn read_method(name: &[u8]) -> Option<BuiltIn>
+    ensures { result ≡ read_method_of name.now }
+{
+    if name == b"RLock".as_slice() {
+        return Some(BuiltIn::ReadLock);
+    }
+    if name == b"RUnlock".as_slice() {
+        return Some(BuiltIn::ReadUnlock);
+    }
+    write_method(name)
+}
+
+#[tactic(auto, unfolding(golf_types::specs::Expressions::condition_method))]
+fn condition_method(name: &[u8]) -> Option<BuiltIn>
+    ensures { result ≡ condition_method_of name.now }
+{
+    if name == b"Wait".as_slice() {
+        return Some(BuiltIn::WaitCondition);
+    }
+    if name == b"Signal".as_slice() {
+        return Some(BuiltIn::Signal);
+    }
+    if name == b"Broadcast".as_slice() {
+        return Some(BuiltIn::Broadcast);
+    }
+    None
+}
+
+#[tactic(auto, unfolding(golf_types::specs::Expressions::condition_member))]
+fn condition_member(alloc: Global, line: u32, name: &[u8]) -> Result<Operand, TypeFault>
+    ensures { Finds result (condition_member_of line name.now) }
+{
+    if name == b"L".as_slice() {
+        return Ok(value(alloc, Base::Mutex));
+    }
+    called_name(line, condition_method(name))
+}
+
+fn struct_member(
+    alloc: Global,
+    line: u32,
+    file: &FileScope,
+    number: u32,
+    member: Option<Member>,
+) -> Result<Operand, TypeFault>
+    ensures { Finds result (struct_member_of line file.now number member) }
+{
+    match member {
+        None => Err(TypeFault::At { line, rule: 3 }),
+        Some(member) => match member {
+            Member::Field(place) => Ok(Operand::Field(
+                place,
+                type_of_field(alloc, file, number, place)?,
+            )),
+            Member::Method(method) => Ok(Operand::Method(method)),
+        },
+    }
+}
+
+fn base_member(
+    alloc: Global,
+    line: u32,
+    file: &FileScope,
+    name: &[u8],
+    base: Base,
+) -> Result<Operand, TypeFault>
+    ensures { Finds result (base_member_of line file.now name.now base) }
+{
+    match base {
+        Base::Pointer(number) => {
+            struct_member(alloc, line, file, number, member_at(file, number, name))
+        }
+        Base::Mutex => called_name(line, mutex_method(name)),
+        Base::Group => called_name(line, group_method(name)),
+        Base::ReadWriteMutex => called_name(line, read_method(name)),
+        Base::Condition => condition_member(alloc, line, name),
+        Base::Int | Base::Bool | Base::Text | Base::Unit => Err(TypeFault::At { line, rule: 8 }),
+    }
+}
+
+fn value_member(
+    alloc: Global,
+    line: u32,
+    file: &FileScope,
+    name: &[u8],
+    given: &Given,
+) -> Result<Operand, TypeFault>
+    ensures { Finds result (value_member_of line file.now name.now given.now) }
+{
+    match given {
+        Given::Typed(t) => match t.layers.as_slice() {
+            [] => base_member(alloc, line, file, name, t.base),
+            [_, ..] => Err(TypeFault::At { line, rule: 8 }),
+        },
+        Given::Nil => Err(TypeFault::At { line, rule: 8 }),
+        Given::Unknown => Ok(Operand::Value(None)),
+    }
+}
+
+/// What stands behind a dot: of a package, or of a value. Rules 3, 8 and 18.
+pub fn select(
+    alloc: Global,
+    line: u32,
+    file: &FileScope,
+    name: &[u8],
+    operand: Operand,
+) -> Result<Operand, TypeFault>
+    ensures { Finds result (selected_from line file.now name.now operand) }
+{
+    match operand {
+        Operand::Package(from) => called_name(line, package_member(from, name)),
+        _ => {
+            let given = as_value(alloc, line, operand)?;
+            value_member(alloc, line, file, name, &given)
+        }
+    }
+}

@@ -1,0 +1,216 @@
+//! Tests of values (Go specification, "Assignability", "Comparison operators"). A value whose type
+//! is not known passes all.
+
+ghost use Rattle.std.specs.Prelude.{◌≡◌};
+ghost use Rattle.golf_types.specs.Types.{has_base as has_base_of, has_layer, starts_with, is_slice, is_channel, is_any, gives, takes, element as element_of, inside as inside_of, takes_nil as takes_nil_of, narrows as narrows_of, assignable_type as assignable_type_of, assignable_to as assignable_to_of, assignable as assignable_of, comparable as comparable_of};
+
+use golf_base::List;
+use golf_types::{Base, Given, GoType, Layer, same_base, same_layers, same_type};
+
+/// Whether a value has this type without layers.
+pub fn has_base(base: Base, given: &Given) -> bool
+    ensures { result ≡ has_base_of base given.now }
+{
+    match given {
+        Given::Typed(t) => same_layers(t.layers.as_slice(), &[]) && same_base(t.base, base),
+        Given::Nil => false,
+        Given::Unknown => true,
+    }
+}
+
+fn begins_slice(layers: &[Layer]) -> bool
+    ensures { result ≡ starts_with is_slice layers.now }
+{
+    match layers {
+        [Layer::Slice, ..] => true,
+        _ => false,
+    }
+}
+
+/// Whether a value is a slice.
+pub fn has_slice(given: &Given) -> bool
+    ensures { result ≡ has_layer is_slice given.now }
+{
+    match given {
+        Given::Typed(t) => begins_slice(t.layers.as_slice()),
+        Given::Nil => false,
+        Given::Unknown => true,
+    }
+}
+
+fn begins_channel(layers: &[Layer]) -> bool
+    ensures { result ≡ starts_with is_channel layers.now }
+{
+    match layers {
+        [Layer::Chan, ..] => true,
+        [Layer::SendChan, ..] => true,
+        [Layer::ReceiveChan, ..] => true,
+        _ => false,
+    }
+}
+
+/// Whether a value is a channel.
+pub fn has_channel(given: &Given) -> bool
+    ensures { result ≡ has_layer is_channel given.now }
+{
+    match given {
+        Given::Typed(t) => begins_channel(t.layers.as_slice()),
+        Given::Nil => false,
+        Given::Unknown => true,
+    }
+}
+
+/// Whether a value is a slice or a channel.
+pub fn has_any(given: &Given) -> bool
+    ensures { result ≡ has_layer is_any given.now }
+{
+    match given {
+        Given::Typed(t) => match t.layers.as_slice() {
+            [] => false,
+            [_, ..] => true,
+        },
+        Given::Nil => false,
+        Given::Unknown => true,
+    }
+}
+
+fn begins_giving(layers: &[Layer]) -> bool
+    ensures { result ≡ starts_with gives layers.now }
+{
+    match layers {
+        [Layer::Chan, ..] => true,
+        [Layer::ReceiveChan, ..] => true,
+        _ => false,
+    }
+}
+
+/// Whether a value is a channel that can be received from.
+pub fn can_give(given: &Given) -> bool
+    ensures { result ≡ has_layer gives given.now }
+{
+    match given {
+        Given::Typed(t) => begins_giving(t.layers.as_slice()),
+        Given::Nil => false,
+        Given::Unknown => true,
+    }
+}
+
+fn begins_taking(layers: &[Layer]) -> bool
+    ensures { result ≡ starts_with takes layers.now }
+{
+    match layers {
+        [Layer::Chan, ..] => true,
+        [Layer::SendChan, ..] => true,
+        _ => false,
+    }
+}
+
+/// Whether a value is a channel that can be sent on and closed.
+pub fn can_take(given: &Given) -> bool
+    ensures { result ≡ has_layer takes given.now }
+{
+    match given {
+        Given::Typed(t) => begins_taking(t.layers.as_slice()),
+        Given::Nil => false,
+        Given::Unknown => true,
+    }
+}
+
+fn inside(layers: List<Layer>, base: Base) -> Option<GoType>
+    ensures { result ≡ inside_of layers base }
+{
+    if layers.is_empty() {
+        return None;
+    }
+    let mut layers = layers;
+    layers.remove(0);
+    Some(GoType { layers, base })
+}
+
+/// What a slice has or a channel carries.
+pub fn element(given: Given) -> Option<GoType>
+    ensures { result ≡ element_of given }
+{
+    match given {
+        Given::Typed(t) => {
+            let GoType { layers, base } = t;
+            inside(layers, base)
+        }
+        _ => None,
+    }
+}
+
+fn takes_nil(t: &GoType) -> bool
+    ensures { result ≡ takes_nil_of t.now.layers t.now.base }
+{
+    match t.layers.as_slice() {
+        [] => match t.base {
+            Base::Int | Base::Bool | Base::Text | Base::Unit => false,
+            _ => true,
+        },
+        [_, ..] => true,
+    }
+}
+
+fn narrows(a: &[Layer], b: &[Layer]) -> bool
+    ensures { result ≡ narrows_of a.now b.now }
+{
+    match a {
+        [Layer::Chan, xs @ ..] => match b {
+            [Layer::SendChan, ys @ ..] => same_layers(xs, ys),
+            [Layer::ReceiveChan, ys @ ..] => same_layers(xs, ys),
+            _ => false,
+        },
+        _ => false,
+    }
+}
+
+fn assignable_type(a: &GoType, b: &GoType) -> bool
+    ensures { result ≡ assignable_type_of a.now b.now }
+{
+    same_type(a, b)
+        || (narrows(a.layers.as_slice(), b.layers.as_slice()) && same_base(a.base, b.base))
+}
+
+/// Whether a value may be assigned to what has this type.
+pub fn assignable_to(given: &Given, t: &GoType) -> bool
+    ensures { result ≡ assignable_to_of given.now t.now }
+{
+    match given {
+        Given::Typed(a) => assignable_type(a, t),
+        Given::Nil => takes_nil(t),
+        Given::Unknown => true,
+    }
+}
+
+/// The same of a type that may not be known.
+pub fn assignable(given: &Given, t: &Option<GoType>) -> bool
+    ensures { result ≡ assignable_of given.now t.now }
+{
+    match t {
+        None => true,
+        Some(t) => assignable_to(given, t),
+    }
+}
+
+/// Whether two values may be compared by `==` and `!=`.
+pub fn comparable(x: &Given, y: &Given) -> bool
+    ensures { result ≡ comparable_of x.now y.now }
+{
+    match x {
+        Given::Unknown => true,
+        Given::Nil => match y {
+            Given::Unknown => true,
+            Given::Nil => false,
+            Given::Typed(b) => takes_nil(b),
+        },
+        Given::Typed(a) => match y {
+            Given::Unknown => true,
+            Given::Nil => takes_nil(a),
+            Given::Typed(b) => {
+                (assignable_type(a, b) || assignable_type(b, a))
+                    && !begins_slice(a.layers.as_slice())
+            }
+        },
+    }
+}

@@ -1,0 +1,435 @@
+//! Methods, the declared names, the written types, `main`.
+
+ghost use Rattle.std.specs.Prelude.{◌≡◌, flat_map, slice_get, OnOk, option_and_then};
+ghost use Rattle.golf_types.specs.Faults.{Tells, broken as broken_of};
+ghost use Rattle.golf_types.specs.Scopes.{kind_in as kind_in_of, meaning_in};
+ghost use Rattle.golf_types.specs.Names.{number_of, is_number as is_number_of};
+ghost use Rattle.golf_types.specs.Files.{struct_number as struct_number_of, receiver_struct as receiver_struct_of, with_method, method_added, methods_added, may_be_named as may_be_named_of, kind_of as kind_of_of, is_field as is_field_of, is_method as is_method_of, fields_are as fields_are_of, method_is as method_is_of, function_faults, name_faults, names_faults, none_above, names_in as names_in_of, structs_in as structs_in_of, functions_in as functions_in_of, field_fault, content_faults, result_fault, type_faults, is_main as is_main_of, fits_main as fits_main_of, declares_main as declares_main_of, line_of as line_of_of, main_faults};
+
+use crate::names::names_of;
+use golf_base::{List, Memory};
+use golf_check_expressions::type_is_there;
+use golf_grammar::{Decl, Field, Func, Name, OwnedType, Receiver, VarContent};
+use golf_types::{
+    FileScope, Meaning, Member, Members, Naming, Scope, Table, TypeFault, is_blank, is_reserved,
+    require,
+};
+use std::alloc::Global;
+
+// The struct of the file with this name.
+fn struct_named(names: &Table, meanings: &[Meaning], name: &[u8]) -> Option<u32>
+    ensures { result ≡ struct_number_of (option_and_then (slice_get meanings.now) (number_of names.now name.now)) }
+{
+    match names.number_of(name) {
+        None => None,
+        Some(number) => match meanings.get(number) {
+            None => None,
+            Some(meaning) => match meaning {
+                Meaning::Struct(number) => Some(*number),
+                _ => None,
+            },
+        },
+    }
+}
+
+fn receiver_struct(naming: &Naming, receiver: &Option<Receiver>) -> Option<u32>
+    ensures { result ≡ receiver_struct_of naming.now receiver.now }
+{
+    match receiver {
+        None => None,
+        Some(receiver) => struct_named(
+            &naming.names,
+            naming.meanings.as_slice(),
+            receiver.type_name.as_slice(),
+        ),
+    }
+}
+
+fn add_method(alloc: Global, members: &mut Members, name: &[u8], number: u32) -> Result<(), Memory>
+    ensures { OnOk result (members.new ≡ with_method members.old name.now number) }
+{
+    let place = members.kinds.len();
+    members.names.add(alloc, name, place)?;
+    members.kinds.push(Member::Method(number))?;
+    Ok(())
+}
+
+fn put_method(
+    alloc: Global,
+    structs: &mut List<Members>,
+    owner: Option<u32>,
+    name: &[u8],
+    number: u32,
+) -> Result<(), Memory>
+    ensures { OnOk result (structs.new ≡ method_added structs.old owner name.now number) }
+{
+    let Some(owner) = owner else {
+        return Ok(());
+    };
+    let place = owner as usize;
+    if place < structs.len() {
+        add_method(alloc, structs.item_mut(place), name, number)?;
+    }
+    Ok(())
+}
+
+/// Puts the methods behind the fields of their structs.
+pub fn add_methods(alloc: Global, naming: &mut Naming, decls: &[Decl]) -> Result<(), Memory>
+    ensures { OnOk result (naming.new ≡ record naming.old { structs = methods_added naming.old 0 naming.old.structs decls.now }) }
+{
+    let mut number = 0u32;
+    for decl in decls {
+        if let Decl::Func(func) = decl {
+            let owner = receiver_struct(naming, &func.receiver);
+            put_method(
+                alloc,
+                &mut naming.structs,
+                owner,
+                func.name.as_slice(),
+                number,
+            )?;
+            number = number.checked_add(1).ok_or(Memory)?;
+        }
+    }
+    Ok(())
+}
+
+fn is_number(found: Option<usize>, number: usize) -> bool
+    ensures { result ≡ is_number_of found number }
+{
+    match found {
+        None => false,
+        Some(found) => found == number,
+    }
+}
+
+#[tactic(auto, unfolding(golf_types::specs::Files::may_be_named))]
+fn may_be_named(file: &FileScope, at: usize, name: &[u8]) -> bool
+    ensures { result ≡ may_be_named_of file.now at name.now }
+{
+    !is_blank(name) && !is_reserved(name) && is_number(file.names.number_of(name), at)
+}
+
+fn kind_in(members: &Members, name: &[u8]) -> Option<Member>
+    ensures { result ≡ kind_in_of members.now name.now }
+{
+    match members.names.number_of(name) {
+        None => None,
+        Some(number) => members.kinds.as_slice().get(number).copied(),
+    }
+}
+
+fn kind_of(structs: &[Members], number: usize, name: &[u8]) -> Option<Member>
+    ensures { result ≡ kind_of_of structs.now number name.now }
+{
+    match structs.get(number) {
+        None => None,
+        Some(members) => kind_in(members, name),
+    }
+}
+
+fn is_field(kind: Option<Member>, place: usize) -> bool
+    ensures { result ≡ is_field_of kind place }
+{
+    match kind {
+        None => false,
+        Some(kind) => match kind {
+            Member::Field(found) => found as usize == place,
+            Member::Method(_) => false,
+        },
+    }
+}
+
+fn is_method(kind: Option<Member>, number: u32) -> bool
+    ensures { result ≡ is_method_of kind number }
+{
+    match kind {
+        None => false,
+        Some(kind) => match kind {
+            Member::Field(_) => false,
+            Member::Method(found) => found == number,
+        },
+    }
+}
+
+// Whether each name is its own field.
+fn fields_are(structs: &[Members], number: usize, names: &[Name]) -> bool
+    ensures { result ≡ fields_are_of structs.now number 0 names.now }
+{
+    for (i, name) in names.iter().enumerate() {
+        if !is_field(kind_of(structs, number, name.as_slice()), i) {
+            return false;
+        }
+    }
+    true
+}
+
+fn method_is(structs: &[Members], owner: Option<u32>, name: &[u8], number: u32) -> bool
+    ensures { result ≡ method_is_of structs.now owner name.now number }
+{
+    match owner {
+        None => false,
+        Some(owner) => is_method(kind_of(structs, owner as usize, name), number),
+    }
+}
+
+fn method_is_named(
+    file: &FileScope,
+    line: u32,
+    receiver: &Receiver,
+    name: &[u8],
+    number: u32,
+) -> Result<(), TypeFault>
+    ensures { Tells result (broken_of line 5 (method_is_of file.now.structs (struct_number_of (meaning_in file.now receiver.now.type_name)) name.now number)) (λ _. Unit {0}) }
+{
+    let owner = struct_named(
+        &file.names,
+        file.meanings.as_slice(),
+        receiver.type_name.as_slice(),
+    );
+    require(
+        line,
+        5,
+        method_is(file.structs.as_slice(), owner, name, number),
+    )
+}
+
+fn function_is_named(
+    file: &FileScope,
+    names: usize,
+    number: u32,
+    func: &Func,
+) -> Result<(), TypeFault>
+    ensures { Tells result (function_faults file.now (record { names = names; structs = 0; functions = number }) func.now func.now.receiver) (λ _. Unit {0}) }
+{
+    let name = func.name.as_slice();
+    match &func.receiver {
+        None => require(
+            func.line,
+            2,
+            may_be_named(file, names, name) && name != b"init".as_slice(),
+        ),
+        Some(receiver) => method_is_named(file, func.line, receiver, name, number),
+    }
+}
+
+fn struct_is_named(
+    alloc: Global,
+    file: &FileScope,
+    line: u32,
+    names: usize,
+    number: usize,
+    name: &[u8],
+    fields: &[Field],
+) -> Result<(), TypeFault>
+    ensures { Tells result (name_faults file.now (record { names = names; structs = number; functions = 0 }) (Decl.Struct line name.now fields.now)) (λ _. Unit {0}) }
+{
+    require(line, 2, may_be_named(file, names, name))?;
+    let all = names_of(alloc, fields)?;
+    require(
+        line,
+        5,
+        fields_are(file.structs.as_slice(), number, all.as_slice()) && all.len() <= 64,
+    )
+}
+
+fn is_named(
+    alloc: Global,
+    file: &FileScope,
+    names: usize,
+    structs: usize,
+    functions: u32,
+    decl: &Decl,
+) -> Result<(), TypeFault>
+    ensures { Tells result (name_faults file.now (record { names = names; structs = structs; functions = functions }) decl.now) (λ _. Unit {0}) }
+{
+    match decl {
+        Decl::Const(line, name, _) => {
+            require(*line, 2, may_be_named(file, names, name.as_slice()))
+        }
+        Decl::Var(var) => require(
+            var.get().line,
+            2,
+            may_be_named(file, names, var.get().name.as_slice()),
+        ),
+        Decl::Struct(line, name, fields) => struct_is_named(
+            alloc,
+            file,
+            *line,
+            names,
+            structs,
+            name.as_slice(),
+            fields.as_slice(),
+        ),
+        Decl::Func(func) => function_is_named(file, names, functions, func),
+    }
+}
+
+fn names_in(decl: &Decl) -> usize
+    ensures { result ≡ names_in_of decl.now }
+{
+    match decl {
+        Decl::Const(_, _, _) | Decl::Var(_) | Decl::Struct(_, _, _) => 1,
+        Decl::Func(func) => match func.receiver {
+            None => 1,
+            Some(_) => 0,
+        },
+    }
+}
+
+fn structs_in(decl: &Decl) -> usize
+    ensures { result ≡ structs_in_of decl.now }
+{
+    match decl {
+        Decl::Struct(_, _, _) => 1,
+        Decl::Const(_, _, _) | Decl::Var(_) | Decl::Func(_) => 0,
+    }
+}
+
+fn functions_in(decl: &Decl) -> u32
+    ensures { result ≡ functions_in_of decl.now }
+{
+    match decl {
+        Decl::Func(_) => 1,
+        Decl::Const(_, _, _) | Decl::Var(_) | Decl::Struct(_, _, _) => 0,
+    }
+}
+
+/// The declared names: rules 2 and 5.
+pub fn names_are_good(alloc: Global, file: &FileScope, decls: &[Decl]) -> Result<(), TypeFault>
+    ensures { Tells result (names_faults file.now none_above decls.now) (λ _. Unit {0}) }
+{
+    let mut names = 0usize;
+    let mut structs = 0usize;
+    let mut functions = 0u32;
+    for decl in decls {
+        is_named(alloc, file, names, structs, functions, decl)?;
+        names = names.checked_add(names_in(decl)).ok_or(Memory)?;
+        structs = structs.checked_add(structs_in(decl)).ok_or(Memory)?;
+        functions = functions.checked_add(functions_in(decl)).ok_or(Memory)?;
+    }
+    Ok(())
+}
+
+fn fields_are_typed(
+    alloc: Global,
+    line: u32,
+    scope: &Scope,
+    fields: &[Field],
+) -> Result<(), TypeFault>
+    ensures { Tells result (flat_map (field_fault line scope.now) fields.now) (λ _. Unit {0}) }
+{
+    for field in fields {
+        type_is_there(alloc, line, scope, field.of_type.get())?;
+    }
+    Ok(())
+}
+
+fn content_is_typed(
+    alloc: Global,
+    line: u32,
+    scope: &Scope,
+    content: &VarContent,
+) -> Result<(), TypeFault>
+    ensures { Tells result (content_faults line scope.now content.now) (λ _. Unit {0}) }
+{
+    match content {
+        VarContent::Zero(t) => type_is_there(alloc, line, scope, t.get()),
+        VarContent::Typed(t, _) => type_is_there(alloc, line, scope, t.get()),
+        VarContent::Untyped(_) => Ok(()),
+    }
+}
+
+fn result_is_typed(
+    alloc: Global,
+    line: u32,
+    scope: &Scope,
+    t: &Option<OwnedType>,
+) -> Result<(), TypeFault>
+    ensures { Tells result (result_fault line scope.now t.now) (λ _. Unit {0}) }
+{
+    match t {
+        None => Ok(()),
+        Some(t) => type_is_there(alloc, line, scope, t.get()),
+    }
+}
+
+fn func_is_typed(alloc: Global, scope: &Scope, func: &Func) -> Result<(), TypeFault>
+    ensures { Tells result (type_faults scope.now (Decl.Func func.now)) (λ _. Unit {0}) }
+{
+    fields_are_typed(alloc, func.line, scope, func.parameters.as_slice())?;
+    result_is_typed(alloc, func.line, scope, &func.result)
+}
+
+fn decl_is_typed(alloc: Global, scope: &Scope, decl: &Decl) -> Result<(), TypeFault>
+    ensures { Tells result (type_faults scope.now decl.now) (λ _. Unit {0}) }
+{
+    match decl {
+        Decl::Const(_, _, _) => Ok(()),
+        Decl::Var(var) => content_is_typed(alloc, var.get().line, scope, var.get().content.get()),
+        Decl::Struct(line, _, fields) => fields_are_typed(alloc, *line, scope, fields.as_slice()),
+        Decl::Func(func) => func_is_typed(alloc, scope, func),
+    }
+}
+
+/// The written types: rules 3 and 4.
+pub fn types_are_there(alloc: Global, scope: &Scope, decls: &[Decl]) -> Result<(), TypeFault>
+    ensures { Tells result (flat_map (type_faults scope.now) decls.now) (λ _. Unit {0}) }
+{
+    for decl in decls {
+        decl_is_typed(alloc, scope, decl)?;
+    }
+    Ok(())
+}
+
+#[tactic(auto, unfolding(golf_types::specs::Files::is_main))]
+fn is_main(name: &[u8]) -> bool
+    ensures { result ≡ is_main_of name.now }
+{
+    name == b"main".as_slice()
+}
+
+fn fits_main(decl: &Decl) -> bool
+    ensures { result ≡ fits_main_of decl.now }
+{
+    match decl {
+        Decl::Func(func) => {
+            func.receiver.is_none() && func.parameters.is_empty() && func.result.is_none()
+        }
+        _ => false,
+    }
+}
+
+fn declares_main(decl: &Decl) -> bool
+    ensures { result ≡ declares_main_of decl.now }
+{
+    match decl {
+        Decl::Const(_, name, _) => is_main(name.as_slice()),
+        Decl::Var(var) => is_main(var.get().name.as_slice()),
+        Decl::Struct(_, name, _) => is_main(name.as_slice()),
+        Decl::Func(func) => func.receiver.is_none() && is_main(func.name.as_slice()),
+    }
+}
+
+fn line_of(decl: &Decl) -> u32
+    ensures { result ≡ line_of_of decl.now }
+{
+    match decl {
+        Decl::Const(line, _, _) => *line,
+        Decl::Var(var) => var.get().line,
+        Decl::Struct(line, _, _) => *line,
+        Decl::Func(func) => func.line,
+    }
+}
+
+/// `main`: rule 6.
+pub fn main_is_there(decls: &[Decl]) -> Result<(), TypeFault>
+    ensures { Tells result (main_faults decls.now) (λ _. Unit {0}) }
+{
+    for decl in decls {
+        if declares_main(decl) {
+            return require(line_of(decl), 6, fits_main(decl));
+        }
+    }
+    Err(TypeFault::At { line: 1, rule: 6 })
+}

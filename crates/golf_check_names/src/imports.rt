@@ -1,0 +1,104 @@
+//! Imports.
+
+ghost use Rattle.std.specs.Prelude.{◌≡◌};
+ghost use Rattle.golf_types.specs.Faults.{Tells, broken as broken_of};
+ghost use Rattle.golf_types.specs.Files.{package_of as package_of_of, is_new_import as is_new_import_of, with_import as with_import_of, path_faults, with_paths, import_line, import_paths as import_paths_of, import_faults, with_imports, no_imports};
+
+use golf_grammar::{Import, Name};
+use golf_types::{Imports, Package, TypeFault, require};
+
+#[tactic(auto, unfolding(golf_types::specs::Files::package_of))]
+fn package_of(path: &[u8]) -> Option<Package>
+    ensures { result ≡ package_of_of path.now }
+{
+    if path == b"fmt".as_slice() {
+        return Some(Package::Fmt);
+    }
+    if path == b"runtime".as_slice() {
+        return Some(Package::Runtime);
+    }
+    if path == b"sync".as_slice() {
+        return Some(Package::Sync);
+    }
+    None
+}
+
+fn is_new_import(imports: Imports, from: Option<Package>) -> bool
+    ensures { result ≡ is_new_import_of imports from }
+{
+    match from {
+        None => false,
+        Some(from) => match from {
+            Package::Fmt => !imports.fmt,
+            Package::Runtime => !imports.runtime,
+            Package::Sync => !imports.sync,
+        },
+    }
+}
+
+fn with_import(imports: Imports, from: Option<Package>) -> Imports
+    ensures { result ≡ with_import_of imports from }
+{
+    match from {
+        None => imports,
+        Some(from) => match from {
+            Package::Fmt => Imports {
+                fmt: true,
+                runtime: imports.runtime,
+                sync: imports.sync,
+            },
+            Package::Runtime => Imports {
+                fmt: imports.fmt,
+                runtime: true,
+                sync: imports.sync,
+            },
+            Package::Sync => Imports {
+                fmt: imports.fmt,
+                runtime: imports.runtime,
+                sync: true,
+            },
+        },
+    }
+}
+
+fn import_path(line: u32, imports: Imports, path: &[u8]) -> Result<Imports, TypeFault>
+    ensures { Tells result (broken_of line 1 (is_new_import_of imports (package_of_of path.now))) (λ i. i ≡ with_import_of imports (package_of_of path.now)) }
+{
+    let from = package_of(path);
+    require(line, 1, is_new_import(imports, from))?;
+    Ok(with_import(imports, from))
+}
+
+fn import_paths(line: u32, imports: Imports, paths: &[Name]) -> Result<Imports, TypeFault>
+    ensures { Tells result (path_faults line imports paths.now) (λ i. i ≡ with_paths imports paths.now) }
+{
+    let mut imports = imports;
+    for path in paths {
+        imports = import_path(line, imports, path.as_slice())?;
+    }
+    Ok(imports)
+}
+
+fn import_one(imports: Imports, import: &Import) -> Result<Imports, TypeFault>
+    ensures { Tells result (path_faults (import_line import.now) imports (import_paths_of import.now)) (λ i. i ≡ with_paths imports (import_paths_of import.now)) }
+{
+    match import {
+        Import::One(line, path) => import_path(*line, imports, path.as_slice()),
+        Import::Group(line, paths) => import_paths(*line, imports, paths.as_slice()),
+    }
+}
+
+/// Which packages are imported: rule 1.
+pub fn imported(imports: &[Import]) -> Result<Imports, TypeFault>
+    ensures { Tells result (import_faults no_imports imports.now) (λ i. i ≡ with_imports no_imports imports.now) }
+{
+    let mut found = Imports {
+        fmt: false,
+        runtime: false,
+        sync: false,
+    };
+    for import in imports {
+        found = import_one(found, import)?;
+    }
+    Ok(found)
+}

@@ -1,0 +1,186 @@
+//! What the names of a file are.
+
+ghost use Rattle.std.specs.Prelude.{◌≡◌, ◌∷◌, ◌++◌, ◌+◌, [], fold, flat_map, length, IfOk, OnOk};
+ghost use Rattle.golf_types.specs.Files.{const_base as const_base_of, field_names, with_field as with_field_of, members_of as members_of_of, name_added, function_added, decl_added, naming_of as naming_of_of};
+
+use golf_base::{List, Memory};
+use golf_grammar::{Const, Decl, Field, Name, Receiver};
+use golf_types::{Base, Meaning, Member, Members, Naming, Table};
+use std::alloc::Global;
+
+/// The type of a constant.
+fn const_base(value: &Const) -> Base
+    ensures { result ≡ const_base_of value.now }
+{
+    match value {
+        Const::Integer(_) => Base::Int,
+        Const::Negative(_) => Base::Int,
+        Const::Text(_) => Base::Text,
+        Const::True => Base::Bool,
+        Const::False => Base::Bool,
+    }
+}
+
+// The number behind the last.
+fn number(count: usize) -> Result<u32, Memory>
+    ensures { IfOk result (λ n. n ≡ count) }
+{
+    match u32::try_from(count) {
+        Ok(n) => Ok(n),
+        Err(_) => Err(Memory),
+    }
+}
+
+fn add_field(alloc: Global, members: &mut Members, name: &[u8]) -> Result<(), Memory>
+    ensures { OnOk result (members.new ≡ with_field_of members.old name.now) }
+{
+    let place = members.kinds.len();
+    let field = Member::Field(number(place)?);
+    members.names.add(alloc, name, place)?;
+    members.kinds.push(field)?;
+    Ok(())
+}
+
+fn copy_name(alloc: Global, name: &[u8]) -> Result<Name, Memory>
+    ensures { IfOk result (λ n. n ≡ name.now) }
+{
+    let mut copy = List::new(alloc);
+    copy.extend_from_slice(name)?;
+    Ok(copy)
+}
+
+fn add_names(alloc: Global, names: &mut List<Name>, field: &Field) -> Result<(), Memory>
+    ensures { OnOk result (names.new ≡ names.old ++ field_names field.now) }
+{
+    names.push(copy_name(alloc, field.first.as_slice())?)?;
+    for name in field.more.as_slice() {
+        names.push(copy_name(alloc, name.as_slice())?)?;
+    }
+    Ok(())
+}
+
+/// The names of fields or parameters.
+pub fn names_of(alloc: Global, fields: &[Field]) -> Result<List<Name>, Memory>
+    ensures { IfOk result (λ ns. ns ≡ flat_map field_names fields.now) }
+{
+    let mut names = List::new(alloc);
+    for field in fields {
+        add_names(alloc, &mut names, field)?;
+    }
+    Ok(names)
+}
+
+fn add_all_fields(alloc: Global, members: &mut Members, names: &[Name]) -> Result<(), Memory>
+    ensures { OnOk result (members.new ≡ fold with_field_of members.old names.now) }
+{
+    for name in names {
+        add_field(alloc, members, name.as_slice())?;
+    }
+    Ok(())
+}
+
+fn members_of(alloc: Global, fields: &[Field]) -> Result<Members, Memory>
+    ensures { IfOk result (λ m. m ≡ members_of_of fields.now) }
+{
+    let mut members = Members {
+        names: Table::new(alloc),
+        kinds: List::new(alloc),
+    };
+    let names = names_of(alloc, fields)?;
+    add_all_fields(alloc, &mut members, names.as_slice())?;
+    Ok(members)
+}
+
+fn add_name(alloc: Global, naming: &mut Naming, name: &[u8], meaning: Meaning) -> Result<(), Memory>
+    ensures { OnOk result (naming.new ≡ name_added naming.old name.now meaning) }
+{
+    let place = naming.meanings.len();
+    naming.names.add(alloc, name, place)?;
+    naming.meanings.push(meaning)?;
+    Ok(())
+}
+
+fn add_constant(alloc: Global, naming: &mut Naming, name: &[u8], base: Base) -> Result<(), Memory>
+    ensures { OnOk result (naming.new ≡ record (name_added naming.old name.now (Meaning.Constant naming.old.constants base)) { constants = naming.old.constants + 1 }) }
+{
+    let meaning = Meaning::Constant(naming.constants, base);
+    add_name(alloc, naming, name, meaning)?;
+    naming.constants = naming.constants.checked_add(1).ok_or(Memory)?;
+    Ok(())
+}
+
+fn add_global(alloc: Global, naming: &mut Naming, name: &[u8]) -> Result<(), Memory>
+    ensures { OnOk result (naming.new ≡ record (name_added naming.old name.now (Meaning.Global naming.old.globals)) { globals = naming.old.globals + 1 }) }
+{
+    let meaning = Meaning::Global(naming.globals);
+    add_name(alloc, naming, name, meaning)?;
+    naming.globals = naming.globals.checked_add(1).ok_or(Memory)?;
+    Ok(())
+}
+
+fn add_struct(
+    alloc: Global,
+    naming: &mut Naming,
+    name: &[u8],
+    fields: &[Field],
+) -> Result<(), Memory>
+    ensures { OnOk result (naming.new ≡ record (name_added naming.old name.now (Meaning.Struct (length naming.old.structs))) { structs = naming.old.structs ++ members_of_of fields.now ∷ [] }) }
+{
+    let meaning = Meaning::Struct(number(naming.structs.len())?);
+    add_name(alloc, naming, name, meaning)?;
+    naming.structs.push(members_of(alloc, fields)?)?;
+    Ok(())
+}
+
+fn add_function(
+    alloc: Global,
+    naming: &mut Naming,
+    receiver: &Option<Receiver>,
+    name: &[u8],
+) -> Result<(), Memory>
+    ensures { OnOk result (naming.new ≡ function_added naming.old receiver.now name.now) }
+{
+    let next = naming.functions.checked_add(1).ok_or(Memory)?;
+    match receiver {
+        Some(_) => {}
+        None => {
+            let meaning = Meaning::Function(naming.functions);
+            add_name(alloc, naming, name, meaning)?;
+        }
+    }
+    naming.functions = next;
+    Ok(())
+}
+
+fn add_decl(alloc: Global, naming: &mut Naming, decl: &Decl) -> Result<(), Memory>
+    ensures { OnOk result (naming.new ≡ decl_added naming.old decl.now) }
+{
+    match decl {
+        Decl::Const(_, name, value) => {
+            add_constant(alloc, naming, name.as_slice(), const_base(value))
+        }
+        Decl::Var(var) => add_global(alloc, naming, var.get().name.as_slice()),
+        Decl::Struct(_, name, fields) => {
+            add_struct(alloc, naming, name.as_slice(), fields.as_slice())
+        }
+        Decl::Func(func) => add_function(alloc, naming, &func.receiver, func.name.as_slice()),
+    }
+}
+
+/// The names of a file's first declarations.
+pub fn naming_of(alloc: Global, decls: &[Decl]) -> Result<Naming, Memory>
+    ensures { IfOk result (λ n. n ≡ naming_of_of decls.now) }
+{
+    let mut naming = Naming {
+        constants: 0,
+        globals: 0,
+        functions: 0,
+        names: Table::new(alloc),
+        meanings: List::new(alloc),
+        structs: List::new(alloc),
+    };
+    for decl in decls {
+        add_decl(alloc, &mut naming, decl)?;
+    }
+    Ok(naming)
+}

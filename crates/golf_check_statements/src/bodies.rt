@@ -1,0 +1,501 @@
+//! What stands in statements beside other statements.
+
+ghost use Rattle.std.specs.Prelude.{◌≡◌, ◌++◌, []};
+ghost use Rattle.golf_types.specs.Faults.{Tells};
+ghost use Rattle.golf_types.specs.Types.{starts_with, type_given as type_given_of, is_slice as is_slice_layer, is_channel as is_channel_layer};
+ghost use Rattle.golf_types.specs.Expressions.{given_by};
+ghost use Rattle.golf_types.specs.Judging.{judge};
+ghost use Rattle.golf_types.specs.Statements.{Adds, Moves, Walks, zero as zero_of, typed as typed_of, untyped as untyped_of, var_content, may_be_begun as may_be_begun_of, done_faults, begin_call as begin_call_of, result_faults, returned as returned_of, condition as condition_of, optional as optional_of, optional_test as optional_test_of, range_names_differ as range_names_differ_of, are_two as are_two_of, only_takes, is_outer, range_faults, hidden, hides, range_name as range_name_of, first_type as first_type_of, range_names as range_names_of, range_head as range_head_of, range_slots as range_slots_of, communication as communication_of, received as received_of, then};
+
+use crate::pairs::{assign_name, declare_new, define_name};
+use crate::simple::{define_received, is_nil, received, send, simple, type_given};
+use golf_base::List;
+use golf_check_expressions::{
+    assignable, assignable_to, called, callee, element, given, has_any, has_base, late, written,
+};
+use golf_grammar::{Communication, Expr, OwnedExpr, OwnedSimple, RangeNames, TypeExpr, VarContent};
+use golf_types::{
+    Base, BuiltIn, Given, GoType, Layer, Operand, Scope, TypeFault, copy_optional, declare, hide,
+    is_blank, is_reserved, may_be_declared, plain, require,
+};
+use std::alloc::Global;
+
+fn zero(
+    alloc: Global,
+    line: u32,
+    scope: &mut Scope,
+    name: &[u8],
+    t: &TypeExpr,
+    types: &mut List<Option<GoType>>,
+) -> Result<(), TypeFault>
+    ensures { Walks result (zero_of line name.now t.now scope.old) scope.old scope.new types.old types.new }
+{
+    let of_type = written(alloc, line, scope, t)?;
+    require(line, 2, may_be_declared(scope, name))?;
+    declare(alloc, scope, name, of_type)?;
+    Ok(())
+}
+
+fn typed(
+    alloc: Global,
+    line: u32,
+    scope: &mut Scope,
+    name: &[u8],
+    t: &TypeExpr,
+    e: &Expr,
+    types: &mut List<Option<GoType>>,
+) -> Result<(), TypeFault>
+    ensures { Walks result (typed_of line name.now t.now e.now scope.old) scope.old scope.new types.old types.new }
+{
+    let of_type = written(alloc, line, scope, t)?;
+    let value = given(alloc, line, scope, e, types)?;
+    require(line, 2, may_be_declared(scope, name))?;
+    require(line, 9, assignable(&value, &of_type))?;
+    declare(alloc, scope, name, of_type)?;
+    Ok(())
+}
+
+fn untyped(
+    alloc: Global,
+    line: u32,
+    scope: &mut Scope,
+    name: &[u8],
+    e: &Expr,
+    types: &mut List<Option<GoType>>,
+) -> Result<(), TypeFault>
+    ensures { Walks result (untyped_of line name.now e.now scope.old) scope.old scope.new types.old types.new }
+{
+    let value = given(alloc, line, scope, e, types)?;
+    require(line, 2, may_be_declared(scope, name))?;
+    require(line, 23, !is_nil(&value))?;
+    declare(alloc, scope, name, type_given(value))?;
+    Ok(())
+}
+
+/// A variable.
+pub fn variable(
+    alloc: Global,
+    line: u32,
+    scope: &mut Scope,
+    name: &[u8],
+    content: &VarContent,
+    types: &mut List<Option<GoType>>,
+) -> Result<(), TypeFault>
+    ensures { Walks result (var_content line name.now content.now scope.old) scope.old scope.new types.old types.new }
+{
+    match content {
+        VarContent::Zero(t) => zero(alloc, line, scope, name, t.get(), types),
+        VarContent::Typed(t, e) => typed(alloc, line, scope, name, t.get(), e.get(), types),
+        VarContent::Untyped(e) => untyped(alloc, line, scope, name, e.get(), types),
+    }
+}
+
+fn may_be_begun(operand: &Operand) -> bool
+    ensures { result ≡ may_be_begun_of operand.now }
+{
+    match operand {
+        Operand::BuiltIn(built_in) => match built_in {
+            BuiltIn::Length
+            | BuiltIn::Panic
+            | BuiltIn::Print
+            | BuiltIn::Collect
+            | BuiltIn::SetFinalizer
+            | BuiltIn::NewCondition => false,
+            _ => true,
+        },
+        Operand::Function(_) => true,
+        Operand::Method(_) => true,
+        _ => false,
+    }
+}
+
+fn is_done(line: u32, operand: &Operand) -> Result<(), TypeFault>
+    ensures { Tells result (done_faults line operand.now) (λ _. Unit {0}) }
+{
+    match operand {
+        Operand::Nothing(rule) => late(line, *rule),
+        _ => Ok(()),
+    }
+}
+
+/// The call of `go` and `defer`: rule 12.
+pub fn begin_call(
+    alloc: Global,
+    line: u32,
+    scope: &Scope,
+    f: &Expr,
+    xs: &[Expr],
+    types: &mut List<Option<GoType>>,
+) -> Result<(), TypeFault>
+    ensures { Adds result (begin_call_of line f.now xs.now scope.now) types.old types.new }
+{
+    let callee = callee(alloc, line, scope, f, types)?;
+    let operand = called(alloc, line, scope, &callee, xs, types)?;
+    is_done(line, &operand)?;
+    require(line, 12, may_be_begun(&callee))
+}
+
+fn gives_back(line: u32, wanted: &Option<GoType>, value: &Given) -> Result<(), TypeFault>
+    ensures { Tells result (result_faults line wanted.now value.now) (λ _. Unit {0}) }
+{
+    match wanted {
+        None => Err(TypeFault::At { line, rule: 13 }),
+        Some(t) => require(line, 9, assignable_to(value, t)),
+    }
+}
+
+fn return_value(
+    alloc: Global,
+    line: u32,
+    scope: &Scope,
+    e: &Expr,
+    types: &mut List<Option<GoType>>,
+) -> Result<(), TypeFault>
+    ensures { Adds result (returned_of line (Some e.now) scope.now) types.old types.new }
+{
+    let value = given(alloc, line, scope, e, types)?;
+    gives_back(line, &scope.result, &value)
+}
+
+/// `return`: rules 9 and 13.
+pub fn returned(
+    alloc: Global,
+    line: u32,
+    scope: &Scope,
+    e: &Option<OwnedExpr>,
+    types: &mut List<Option<GoType>>,
+) -> Result<(), TypeFault>
+    ensures { Adds result (returned_of line e.now scope.now) types.old types.new }
+{
+    match e {
+        None => require(line, 13, scope.result.is_none()),
+        Some(e) => return_value(alloc, line, scope, e.get(), types),
+    }
+}
+
+/// A condition: rule 8.
+pub fn condition(
+    alloc: Global,
+    line: u32,
+    scope: &Scope,
+    e: &Expr,
+    types: &mut List<Option<GoType>>,
+) -> Result<(), TypeFault>
+    ensures { Adds result (condition_of line e.now scope.now) types.old types.new }
+{
+    let value = given(alloc, line, scope, e, types)?;
+    require(line, 8, has_base(Base::Bool, &value))
+}
+
+/// A condition, where there is one.
+pub fn optional_test(
+    alloc: Global,
+    line: u32,
+    scope: &Scope,
+    test: &Option<OwnedExpr>,
+    types: &mut List<Option<GoType>>,
+) -> Result<(), TypeFault>
+    ensures { Adds result (optional_test_of line test.now scope.now) types.old types.new }
+{
+    match test {
+        None => Ok(()),
+        Some(e) => condition(alloc, line, scope, e.get(), types),
+    }
+}
+
+/// A simple statement, where there is one.
+#[tactic(auto, using(golf_types::proofs::WalkLaws::stays))]
+pub fn optional(
+    alloc: Global,
+    scope: &mut Scope,
+    first: &Option<OwnedSimple>,
+    types: &mut List<Option<GoType>>,
+) -> Result<(), TypeFault>
+    ensures { Walks result (optional_of first.now scope.old) scope.old scope.new types.old types.new }
+{
+    match first {
+        None => Ok(()),
+        Some(first) => simple(alloc, scope, first.get(), types),
+    }
+}
+
+#[tactic(auto, unfolding(golf_types::specs::Statements::range_names_differ))]
+fn range_names_differ(names: &RangeNames) -> bool
+    ensures { result ≡ range_names_differ_of names.now }
+{
+    match names {
+        RangeNames::Neither => true,
+        RangeNames::One(n) => !is_reserved(n.as_slice()),
+        RangeNames::Two(n, m) => {
+            !is_reserved(n.as_slice())
+                && !is_reserved(m.as_slice())
+                && (is_blank(n.as_slice()) || n.as_slice() != m.as_slice())
+        }
+    }
+}
+
+fn are_two(names: &RangeNames) -> bool
+    ensures { result ≡ are_two_of names.now }
+{
+    match names {
+        RangeNames::Two(_, _) => true,
+        _ => false,
+    }
+}
+
+fn begins_only_taking(layers: &[Layer]) -> bool
+    ensures { result ≡ starts_with only_takes layers.now }
+{
+    match layers {
+        [Layer::SendChan, ..] => true,
+        _ => false,
+    }
+}
+
+fn only_takes_values(given: &Given) -> bool
+    ensures { result ≡ is_outer only_takes given.now }
+{
+    match given {
+        Given::Typed(t) => begins_only_taking(t.layers.as_slice()),
+        _ => false,
+    }
+}
+
+fn begins_channel(layers: &[Layer]) -> bool
+    ensures { result ≡ starts_with is_channel_layer layers.now }
+{
+    match layers {
+        [Layer::Chan, ..] => true,
+        [Layer::SendChan, ..] => true,
+        [Layer::ReceiveChan, ..] => true,
+        _ => false,
+    }
+}
+
+fn is_channel(given: &Given) -> bool
+    ensures { result ≡ is_outer is_channel_layer given.now }
+{
+    match given {
+        Given::Typed(t) => begins_channel(t.layers.as_slice()),
+        _ => false,
+    }
+}
+
+fn begins_slice(layers: &[Layer]) -> bool
+    ensures { result ≡ starts_with is_slice_layer layers.now }
+{
+    match layers {
+        [Layer::Slice, ..] => true,
+        _ => false,
+    }
+}
+
+fn is_slice(given: &Given) -> bool
+    ensures { result ≡ is_outer is_slice_layer given.now }
+{
+    match given {
+        Given::Typed(t) => begins_slice(t.layers.as_slice()),
+        _ => false,
+    }
+}
+
+fn can_be_ranged(line: u32, names: &RangeNames, given: &Given) -> Result<(), TypeFault>
+    ensures { Tells result (range_faults line names.now given.now) (λ _. Unit {0}) }
+{
+    require(line, 2, range_names_differ(names))?;
+    require(line, 16, !only_takes_values(given))?;
+    require(
+        line,
+        17,
+        has_any(given) && !(are_two(names) && is_channel(given)),
+    )
+}
+
+/// What a `range` goes over: rules 2, 16 and 17.
+pub fn range_head(
+    alloc: Global,
+    line: u32,
+    scope: &Scope,
+    names: &RangeNames,
+    e: &Expr,
+    types: &mut List<Option<GoType>>,
+) -> Result<Given, TypeFault>
+    ensures { Tells result (range_head_of line names.now e.now scope.now).faults (λ v. (v ≡ given_by (judge e.now line scope.now)) × (types.new ≡ types.old ++ (range_head_of line names.now e.now scope.now).types)) }
+{
+    let value = given(alloc, line, scope, e, types)?;
+    can_be_ranged(line, names, &value)?;
+    Ok(value)
+}
+
+fn range_name(
+    alloc: Global,
+    scope: &mut Scope,
+    name: &[u8],
+    t: Option<GoType>,
+) -> Result<(), TypeFault>
+    ensures { Moves result (range_name_of name.now t scope.old) scope.old scope.new }
+{
+    declare_new(alloc, scope, !is_blank(name), name, t)
+}
+
+fn first_type(alloc: Global, slice: bool, t: &Option<GoType>) -> Result<Option<GoType>, TypeFault>
+    ensures { Tells result [] (λ r. r ≡ first_type_of slice t.now) }
+{
+    if slice {
+        Ok(Some(plain(alloc, Base::Int)))
+    } else {
+        Ok(copy_optional(alloc, t)?)
+    }
+}
+
+fn two_names(
+    alloc: Global,
+    scope: &mut Scope,
+    first: &[u8],
+    second: &[u8],
+    first_type: Option<GoType>,
+    second_type: Option<GoType>,
+) -> Result<(), TypeFault>
+    ensures { Moves result (then (range_name_of first.now first_type) (range_name_of second.now second_type) scope.old) scope.old scope.new }
+{
+    range_name(alloc, scope, first, first_type)?;
+    range_name(alloc, scope, second, second_type)
+}
+
+#[tactic(auto, using(golf_types::proofs::WalkLaws::stays))]
+fn range_names(
+    alloc: Global,
+    scope: &mut Scope,
+    names: &RangeNames,
+    slice: bool,
+    t: Option<GoType>,
+) -> Result<(), TypeFault>
+    ensures { Moves result (range_names_of names.now slice t scope.old) scope.old scope.new }
+{
+    let first = first_type(alloc, slice, &t)?;
+    match names {
+        RangeNames::Neither => Ok(()),
+        RangeNames::One(n) => range_name(alloc, scope, n.as_slice(), first),
+        RangeNames::Two(n, m) => two_names(alloc, scope, n.as_slice(), m.as_slice(), first, t),
+    }
+}
+
+fn hide_slots(scope: &mut Scope, slice: bool, given: &Given) -> Result<(), TypeFault>
+    ensures { Moves result (hides (hidden slice (type_given_of given.now))) scope.old scope.new }
+{
+    if slice {
+        hide(scope, 3)?;
+    } else {
+        hide(scope, 1)?;
+    }
+    Ok(())
+}
+
+/// The hidden slots of a `range`, and its names.
+pub fn range_slots(
+    alloc: Global,
+    scope: &mut Scope,
+    names: &RangeNames,
+    given: Given,
+) -> Result<(), TypeFault>
+    ensures { Moves result (range_slots_of names.now given scope.old) scope.old scope.new }
+{
+    let slice = is_slice(&given);
+    hide_slots(scope, slice, &given)?;
+    range_names(alloc, scope, names, slice, element(given))
+}
+
+fn define_received_name(
+    alloc: Global,
+    line: u32,
+    names_line: u32,
+    scope: &mut Scope,
+    name: &[u8],
+    e: &Expr,
+    types: &mut List<Option<GoType>>,
+) -> Result<(), TypeFault>
+    ensures { Walks result (communication_of line names_line (Communication.Define name.now e.now) scope.old) scope.old scope.new types.old types.new }
+{
+    let t = received(alloc, line, scope, e, types)?;
+    define_name(alloc, names_line, scope, name, t)
+}
+
+fn assign_received_name(
+    alloc: Global,
+    line: u32,
+    names_line: u32,
+    scope: &Scope,
+    name: &[u8],
+    e: &Expr,
+    types: &mut List<Option<GoType>>,
+) -> Result<(), TypeFault>
+    ensures { Adds result (communication_of line names_line (Communication.Assign name.now e.now) scope.now) types.old types.new }
+{
+    let t = received(alloc, line, scope, e, types)?;
+    assign_name(alloc, names_line, scope, name, &t)
+}
+
+fn receive(
+    alloc: Global,
+    line: u32,
+    scope: &Scope,
+    e: &Expr,
+    types: &mut List<Option<GoType>>,
+) -> Result<(), TypeFault>
+    ensures { Adds result (received_of line e.now scope.now) types.old types.new }
+{
+    received(alloc, line, scope, e, types)?;
+    Ok(())
+}
+
+/// The communication of a clause, on the line of `select`, and its names on that of `case`.
+#[tactic(auto, using(golf_types::proofs::WalkLaws::stays))]
+pub fn communication(
+    alloc: Global,
+    line: u32,
+    names_line: u32,
+    scope: &mut Scope,
+    communication: &Communication,
+    types: &mut List<Option<GoType>>,
+) -> Result<(), TypeFault>
+    ensures { Walks result (communication_of line names_line communication.now scope.old) scope.old scope.new types.old types.new }
+{
+    match communication {
+        Communication::Send(channel, e) => {
+            send(alloc, line, scope, channel.get(), e.get(), types)
+        },
+        Communication::Receive(e) => receive(alloc, line, scope, e.get(), types),
+        Communication::Define(name, e) => {
+            define_received_name(
+                alloc,
+                line,
+                names_line,
+                scope,
+                name.as_slice(),
+                e.get(),
+                types,
+            )
+        }
+        Communication::Assign(name, e) => {
+            assign_received_name(
+                alloc,
+                line,
+                names_line,
+                scope,
+                name.as_slice(),
+                e.get(),
+                types,
+            )
+        }
+        Communication::DefineReceived(first, second, e) => define_received(
+            alloc,
+            line,
+            names_line,
+            scope,
+            first.as_slice(),
+            second.as_slice(),
+            e.get(),
+            types,
+        ),
+    }
+}

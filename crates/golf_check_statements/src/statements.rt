@@ -1,0 +1,431 @@
+//! Whether statements keep the rules.
+
+ghost use Rattle.std.specs.Prelude.{◌≡◌, map};
+ghost use Rattle.golf_types.specs.Statements.{Walks, in_order, block as block_of, loop_body as loop_body_of, then_walk, if_walk, else_walk, behind_test, behind_optional, steps as steps_of, then, optional as optional_of, range_walk, header_walk, for_walk, case_walk, breaking as breaking_of, in_block, communication as communication_of, walk, walk_clause, walk_clause_at};
+
+use crate::bodies::{
+    begin_call, communication, condition, optional, optional_test, range_head, range_slots,
+    returned, variable,
+};
+use crate::simple::simple;
+use golf_base::List;
+use golf_grammar::{Clause, Communication, Expr, Header, OwnedExpr, OwnedSimple, RangeNames, Stmt};
+use golf_types::{GoType, Scope, TypeFault, begin, end, require};
+use std::alloc::Global;
+
+/// Statements in order, in one block.
+#[cycle(walking)]
+pub fn all(
+    alloc: Global,
+    scope: &mut Scope,
+    stmts: &[Stmt],
+    types: &mut List<Option<GoType>>,
+) -> Result<(), TypeFault>
+    ensures { Walks result (in_order (map walk stmts.now) scope.old) scope.old scope.new types.old types.new }
+{
+    for stmt in stmts {
+        statement(alloc, scope, stmt, types)?;
+    }
+    Ok(())
+}
+
+#[cycle(walking)]
+fn block(
+    alloc: Global,
+    scope: &mut Scope,
+    body: &[Stmt],
+    types: &mut List<Option<GoType>>,
+) -> Result<(), TypeFault>
+    ensures { Walks result (block_of (map walk body.now) scope.old) scope.old scope.new types.old types.new }
+{
+    let mark = begin(scope)?;
+    all(alloc, scope, body, types)?;
+    end(alloc, scope, mark)?;
+    Ok(())
+}
+
+// A block that `break` and `continue` leave.
+#[cycle(walking)]
+fn loop_body(
+    alloc: Global,
+    scope: &mut Scope,
+    body: &[Stmt],
+    types: &mut List<Option<GoType>>,
+) -> Result<(), TypeFault>
+    ensures { Walks result (loop_body_of (map walk body.now) scope.old) scope.old scope.new types.old types.new }
+{
+    let breaks = scope.breaks;
+    let loops = scope.loops;
+    scope.breaks = true;
+    scope.loops = true;
+    block(alloc, scope, body, types)?;
+    scope.breaks = breaks;
+    scope.loops = loops;
+    Ok(())
+}
+
+#[cycle(walking)]
+fn tested(
+    alloc: Global,
+    line: u32,
+    scope: &mut Scope,
+    body: &[Stmt],
+    test: &Expr,
+    types: &mut List<Option<GoType>>,
+) -> Result<(), TypeFault>
+    ensures { Walks result (behind_test line test.now (block_of (map walk body.now)) scope.old) scope.old scope.new types.old types.new }
+{
+    condition(alloc, line, scope, test, types)?;
+    block(alloc, scope, body, types)
+}
+
+#[cycle(walking)]
+fn then_part(
+    alloc: Global,
+    line: u32,
+    scope: &mut Scope,
+    body: &[Stmt],
+    first: &Option<OwnedSimple>,
+    test: &Expr,
+    types: &mut List<Option<GoType>>,
+) -> Result<(), TypeFault>
+    ensures { Walks result (then_walk line first.now test.now (map walk body.now) scope.old) scope.old scope.new types.old types.new }
+{
+    optional(alloc, scope, first, types)?;
+    tested(alloc, line, scope, body, test, types)
+}
+
+#[cycle(walking)]
+fn if_at(
+    alloc: Global,
+    line: u32,
+    scope: &mut Scope,
+    body: &[Stmt],
+    first: &Option<OwnedSimple>,
+    test: &Expr,
+    types: &mut List<Option<GoType>>,
+) -> Result<(), TypeFault>
+    ensures { Walks result (if_walk line first.now test.now (map walk body.now) scope.old) scope.old scope.new types.old types.new }
+{
+    let mark = begin(scope)?;
+    then_part(alloc, line, scope, body, first, test, types)?;
+    end(alloc, scope, mark)?;
+    Ok(())
+}
+
+#[cycle(walking)]
+fn both_parts(
+    alloc: Global,
+    line: u32,
+    scope: &mut Scope,
+    body: &[Stmt],
+    otherwise: &Stmt,
+    first: &Option<OwnedSimple>,
+    test: &Expr,
+    types: &mut List<Option<GoType>>,
+) -> Result<(), TypeFault>
+    ensures { Walks result (then (then_walk line first.now test.now (map walk body.now)) (walk otherwise.now) scope.old) scope.old scope.new types.old types.new }
+{
+    then_part(alloc, line, scope, body, first, test, types)?;
+    statement(alloc, scope, otherwise, types)
+}
+
+#[cycle(walking)]
+fn else_at(
+    alloc: Global,
+    line: u32,
+    scope: &mut Scope,
+    body: &[Stmt],
+    otherwise: &Stmt,
+    first: &Option<OwnedSimple>,
+    test: &Expr,
+    types: &mut List<Option<GoType>>,
+) -> Result<(), TypeFault>
+    ensures { Walks result (else_walk line first.now test.now (map walk body.now) (walk otherwise.now) scope.old) scope.old scope.new types.old types.new }
+{
+    let mark = begin(scope)?;
+    both_parts(alloc, line, scope, body, otherwise, first, test, types)?;
+    end(alloc, scope, mark)?;
+    Ok(())
+}
+
+#[cycle(walking)]
+fn while_at(
+    alloc: Global,
+    line: u32,
+    scope: &mut Scope,
+    body: &[Stmt],
+    test: &Expr,
+    types: &mut List<Option<GoType>>,
+) -> Result<(), TypeFault>
+    ensures { Walks result (behind_test line test.now (loop_body_of (map walk body.now)) scope.old) scope.old scope.new types.old types.new }
+{
+    condition(alloc, line, scope, test, types)?;
+    loop_body(alloc, scope, body, types)
+}
+
+#[cycle(walking)]
+fn behind_post(
+    alloc: Global,
+    scope: &mut Scope,
+    body: &[Stmt],
+    post: &Option<OwnedSimple>,
+    types: &mut List<Option<GoType>>,
+) -> Result<(), TypeFault>
+    ensures { Walks result (then (optional_of post.now) (loop_body_of (map walk body.now)) scope.old) scope.old scope.new types.old types.new }
+{
+    optional(alloc, scope, post, types)?;
+    loop_body(alloc, scope, body, types)
+}
+
+#[cycle(walking)]
+fn behind_first(
+    alloc: Global,
+    line: u32,
+    scope: &mut Scope,
+    body: &[Stmt],
+    test: &Option<OwnedExpr>,
+    post: &Option<OwnedSimple>,
+    types: &mut List<Option<GoType>>,
+) -> Result<(), TypeFault>
+    ensures { Walks result (behind_optional line test.now (then (optional_of post.now) (loop_body_of (map walk body.now))) scope.old) scope.old scope.new types.old types.new }
+{
+    optional_test(alloc, line, scope, test, types)?;
+    behind_post(alloc, scope, body, post, types)
+}
+
+#[cycle(walking)]
+fn steps(
+    alloc: Global,
+    line: u32,
+    scope: &mut Scope,
+    body: &[Stmt],
+    first: &Option<OwnedSimple>,
+    test: &Option<OwnedExpr>,
+    post: &Option<OwnedSimple>,
+    types: &mut List<Option<GoType>>,
+) -> Result<(), TypeFault>
+    ensures { Walks result (steps_of line first.now test.now post.now (map walk body.now) scope.old) scope.old scope.new types.old types.new }
+{
+    optional(alloc, scope, first, types)?;
+    behind_first(alloc, line, scope, body, test, post, types)
+}
+
+#[cycle(walking)]
+fn range_at(
+    alloc: Global,
+    line: u32,
+    scope: &mut Scope,
+    body: &[Stmt],
+    names: &RangeNames,
+    e: &Expr,
+    types: &mut List<Option<GoType>>,
+) -> Result<(), TypeFault>
+    ensures { Walks result (range_walk line names.now e.now (map walk body.now) scope.old) scope.old scope.new types.old types.new }
+{
+    let value = range_head(alloc, line, scope, names, e, types)?;
+    range_slots(alloc, scope, names, value)?;
+    loop_body(alloc, scope, body, types)
+}
+
+#[cycle(walking)]
+fn header_at(
+    alloc: Global,
+    line: u32,
+    scope: &mut Scope,
+    body: &[Stmt],
+    header: &Header,
+    types: &mut List<Option<GoType>>,
+) -> Result<(), TypeFault>
+    ensures { Walks result (header_walk line header.now (map walk body.now) scope.old) scope.old scope.new types.old types.new }
+{
+    match header {
+        Header::Forever => loop_body(alloc, scope, body, types),
+        Header::While(test) => while_at(alloc, line, scope, body, test.get(), types),
+        Header::Steps(first, test, post) => {
+            steps(alloc, line, scope, body, first, test, post, types)
+        }
+        Header::Range(names, e) => range_at(alloc, line, scope, body, names, e.get(), types),
+    }
+}
+
+#[cycle(walking)]
+fn for_at(
+    alloc: Global,
+    line: u32,
+    scope: &mut Scope,
+    body: &[Stmt],
+    header: &Header,
+    types: &mut List<Option<GoType>>,
+) -> Result<(), TypeFault>
+    ensures { Walks result (for_walk line header.now (map walk body.now) scope.old) scope.old scope.new types.old types.new }
+{
+    let mark = begin(scope)?;
+    header_at(alloc, line, scope, body, header, types)?;
+    end(alloc, scope, mark)?;
+    Ok(())
+}
+
+// The statements of a clause, which `break` leaves.
+#[cycle(walking)]
+fn clause_body(
+    alloc: Global,
+    scope: &mut Scope,
+    body: &[Stmt],
+    types: &mut List<Option<GoType>>,
+) -> Result<(), TypeFault>
+    ensures { Walks result (breaking_of (in_order (map walk body.now)) scope.old) scope.old scope.new types.old types.new }
+{
+    let breaks = scope.breaks;
+    scope.breaks = true;
+    all(alloc, scope, body, types)?;
+    scope.breaks = breaks;
+    Ok(())
+}
+
+#[cycle(walking)]
+fn case_parts(
+    alloc: Global,
+    line: u32,
+    case_line: u32,
+    scope: &mut Scope,
+    body: &[Stmt],
+    first: &Communication,
+    types: &mut List<Option<GoType>>,
+) -> Result<(), TypeFault>
+    ensures { Walks result (then (communication_of line case_line first.now) (breaking_of (in_order (map walk body.now))) scope.old) scope.old scope.new types.old types.new }
+{
+    communication(alloc, line, case_line, scope, first, types)?;
+    clause_body(alloc, scope, body, types)
+}
+
+#[cycle(walking)]
+fn case_at(
+    alloc: Global,
+    line: u32,
+    case_line: u32,
+    scope: &mut Scope,
+    body: &[Stmt],
+    first: &Communication,
+    types: &mut List<Option<GoType>>,
+) -> Result<(), TypeFault>
+    ensures { Walks result (case_walk line case_line first.now (map walk body.now) scope.old) scope.old scope.new types.old types.new }
+{
+    let mark = begin(scope)?;
+    case_parts(alloc, line, case_line, scope, body, first, types)?;
+    end(alloc, scope, mark)?;
+    Ok(())
+}
+
+#[cycle(walking)]
+fn default_at(
+    alloc: Global,
+    scope: &mut Scope,
+    body: &[Stmt],
+    types: &mut List<Option<GoType>>,
+) -> Result<(), TypeFault>
+    ensures { Walks result (in_block (breaking_of (in_order (map walk body.now))) scope.old) scope.old scope.new types.old types.new }
+{
+    let mark = begin(scope)?;
+    clause_body(alloc, scope, body, types)?;
+    end(alloc, scope, mark)?;
+    Ok(())
+}
+
+#[cycle(walking)]
+#[tactic(auto, unfolding(golf_types::specs::Statements::walk_clause, golf_types::specs::Statements::walk))]
+fn clause_at(
+    alloc: Global,
+    line: u32,
+    scope: &mut Scope,
+    clause: &Clause,
+    types: &mut List<Option<GoType>>,
+) -> Result<(), TypeFault>
+    ensures { Walks result (walk_clause clause.now line scope.old) scope.old scope.new types.old types.new }
+{
+    match clause {
+        Clause::Case(case_line, first, body) => {
+            case_at(
+                alloc,
+                line,
+                *case_line,
+                scope,
+                body.as_slice(),
+                first.get(),
+                types,
+            )
+        }
+        Clause::Default(_, body) => default_at(alloc, scope, body.as_slice(), types),
+    }
+}
+
+#[cycle(walking)]
+fn clauses_at(
+    alloc: Global,
+    line: u32,
+    scope: &mut Scope,
+    clauses: &[Clause],
+    types: &mut List<Option<GoType>>,
+) -> Result<(), TypeFault>
+    ensures { Walks result (in_order (map (walk_clause_at line) clauses.now) scope.old) scope.old scope.new types.old types.new }
+{
+    for clause in clauses {
+        clause_at(alloc, line, scope, clause, types)?;
+    }
+    Ok(())
+}
+
+/// Whether a statement keeps the rules; what it declares and its expressions' types are added.
+#[cycle(walking)]
+#[tactic(auto, unfolding(golf_types::specs::Statements::walk))]
+pub fn statement(
+    alloc: Global,
+    scope: &mut Scope,
+    stmt: &Stmt,
+    types: &mut List<Option<GoType>>,
+) -> Result<(), TypeFault>
+    ensures { Walks result (walk stmt.now scope.old) scope.old scope.new types.old types.new }
+{
+    match stmt {
+        Stmt::Var(var) => variable(
+            alloc,
+            var.get().line,
+            scope,
+            var.get().name.as_slice(),
+            var.get().content.get(),
+            types,
+        ),
+        Stmt::Simple(one) => simple(alloc, scope, one.get(), types),
+        Stmt::Go(line, f, xs) => begin_call(alloc, *line, scope, f.get(), xs.as_slice(), types),
+        Stmt::Defer(line, f, xs) => begin_call(alloc, *line, scope, f.get(), xs.as_slice(), types),
+        Stmt::Return(line, e) => returned(alloc, *line, scope, e, types),
+        Stmt::Break(line) => require(*line, 15, scope.breaks),
+        Stmt::Continue(line) => require(*line, 15, scope.loops),
+        Stmt::Block(_, body) => block(alloc, scope, body.as_slice(), types),
+        Stmt::If(line, first, test, body) => {
+            if_at(
+                alloc,
+                *line,
+                scope,
+                body.as_slice(),
+                first,
+                test.get(),
+                types,
+            )
+        }
+        Stmt::IfElse(line, first, test, body, otherwise) => else_at(
+            alloc,
+            *line,
+            scope,
+            body.as_slice(),
+            otherwise.get(),
+            first,
+            test.get(),
+            types,
+        ),
+        Stmt::For(line, header, body) => {
+            for_at(alloc, *line, scope, body.as_slice(), header.get(), types)
+        }
+        Stmt::Select(line, clauses) => clauses_at(alloc, *line, scope, clauses.as_slice(), types),
+    }
+}

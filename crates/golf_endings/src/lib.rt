@@ -1,0 +1,6 @@
+//! Which statements are terminating.
+#![tactic(auto)]
+
+mod endings;
+
+pub use endings::all_ending;

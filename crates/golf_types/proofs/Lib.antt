@@ -1,0 +1,5 @@
+pub mod Seams
+pub mod PlaceLaws
+pub mod TableLaws
+pub mod JudgeLaws
+pub mod WalkLaws

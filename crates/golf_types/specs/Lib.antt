@@ -1,0 +1,12 @@
+pub mod Faults
+pub mod Types
+pub mod Names
+pub mod Places
+pub mod Scopes
+pub mod Written
+pub mod Expressions
+pub mod Calls
+pub mod Judging
+pub mod Statements
+pub mod Endings
+pub mod Files

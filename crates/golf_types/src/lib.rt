@@ -1,0 +1,27 @@
+//! Types, what expressions and names are, scopes, and the definitions of which rules a file
+//! breaks.
+#![tactic(auto)]
+
+mod endings;
+mod fault;
+mod locals;
+mod operands;
+mod scopes;
+mod table;
+mod types;
+
+pub use endings::{Ending, Panics};
+pub use fault::{TypeFault, require};
+pub use locals::{Local, Locals};
+pub use operands::{
+    BuiltIn, Given, Operand, Package, Signature, Where, given_type, type_of, value_of,
+};
+pub use scopes::{
+    FileScope, Imports, Meaning, Member, Members, Naming, Scope, begin, declare, end, hide,
+    is_blank, is_here, is_reserved, may_be_declared, meaning_at, member_at, type_at,
+};
+pub use table::Table;
+pub use types::{
+    Base, GoType, Layer, copy_optional, copy_type, plain, same_base, same_layers, same_type,
+    with_layer,
+};

@@ -1,0 +1,169 @@
+//! What an expression can be.
+
+ghost use Rattle.std.specs.Prelude.{◌≡◌, IfOk};
+ghost use Rattle.golf_types.specs.Types.{given as given_of, type_of as type_of_of, given_type as given_type_of};
+
+use crate::types::{Base, GoType, copy_optional, plain};
+use golf_base::{List, Memory};
+use std::alloc::Global;
+
+/// Where a variable stands.
+#[derive(Clone, Copy, Debug, PartialEq, Eq)]
+pub enum Where {
+    /// A slot of the function: receiver and parameters are numbered from 0, then one for each local
+    /// and each hidden name of a `range`, in source order.
+    Slot(u32),
+    /// The globals of a file are numbered from 0 in source order.
+    Global(u32),
+}
+
+/// The types of a function. `None` stands for a type that is not known.
+#[derive(Debug, Drop)]
+pub struct Signature {
+    pub parameters: List<Option<GoType>>,
+    /// None where the function has no result.
+    pub result: Option<GoType>,
+}
+
+/// A package of the language.
+#[derive(Clone, Copy, Debug, PartialEq, Eq)]
+pub enum Package {
+    Fmt,
+    Runtime,
+    Sync,
+}
+
+/// What can be called and is no function of the file.
+#[derive(Clone, Copy, Debug, PartialEq, Eq)]
+pub enum BuiltIn {
+    /// `len`
+    Length,
+    /// `close`
+    Close,
+    /// `panic`
+    Panic,
+    /// `fmt.Println`
+    Print,
+    /// `runtime.GC`
+    Collect,
+    /// `runtime.SetFinalizer`
+    SetFinalizer,
+    /// `sync.NewCond`
+    NewCondition,
+    /// `Lock` of a mutex.
+    Lock,
+    /// `Unlock` of a mutex.
+    Unlock,
+    /// `Add` of a wait group.
+    Add,
+    /// `Done` of a wait group.
+    Done,
+    /// `Wait` of a wait group.
+    WaitGroup,
+    /// `Lock` of a reader and writer mutex.
+    WriteLock,
+    /// `Unlock` of a reader and writer mutex.
+    WriteUnlock,
+    /// `RLock`
+    ReadLock,
+    /// `RUnlock`
+    ReadUnlock,
+    /// `Wait` of a condition.
+    WaitCondition,
+    /// `Signal`
+    Signal,
+    /// `Broadcast`
+    Broadcast,
+}
+
+/// What an expression is. `None` stands for a type that is not known.
+#[derive(Debug, Drop)]
+pub enum Operand {
+    /// A value that stands nowhere.
+    Value(Option<GoType>),
+    /// What a call or a receive gives, which may be dropped.
+    Outcome(Option<GoType>),
+    /// The constants of a file are numbered from 0 in source order.
+    Constant(u32, Base),
+    /// `true` or `false`
+    Truth(bool),
+    Variable(Where, Option<GoType>),
+    /// A field, by its place in its struct.
+    Field(u32, Option<GoType>),
+    /// An element of a slice.
+    Element(Option<GoType>),
+    /// `nil`
+    Nil,
+    /// `_`
+    Blank,
+    /// A call without a result, and the rule that its arguments break, if any.
+    Nothing(Option<u32>),
+    /// Functions and methods of a file are numbered from 0 in source order.
+    Function(u32),
+    Method(u32),
+    BuiltIn(BuiltIn),
+    Package(Package),
+    /// A struct of the file.
+    Struct(u32),
+    /// `int`, `bool`, `string`, or a package in parentheses: a name that is no value.
+    TypeName,
+}
+
+/// What an expression gives where it stands as a value.
+#[derive(Debug, Drop)]
+pub enum Given {
+    Typed(GoType),
+    Nil,
+    /// A value whose type is not known breaks no rule.
+    Unknown,
+}
+
+/// What a type gives as a value.
+pub fn given_type(t: Option<GoType>) -> Given
+    ensures { result ≡ given_type_of t }
+{
+    match t {
+        None => Given::Unknown,
+        Some(t) => Given::Typed(t),
+    }
+}
+
+/// What an operand gives as a value.
+pub fn value_of(alloc: Global, operand: Operand) -> Given
+    ensures { result ≡ given_of operand }
+{
+    match operand {
+        Operand::Value(t)
+        | Operand::Outcome(t)
+        | Operand::Variable(_, t)
+        | Operand::Field(_, t)
+        | Operand::Element(t) => given_type(t),
+        Operand::Constant(_, base) => Given::Typed(plain(alloc, base)),
+        Operand::Truth(_) => Given::Typed(plain(alloc, Base::Bool)),
+        Operand::Nil => Given::Nil,
+        Operand::Blank
+        | Operand::Nothing(_)
+        | Operand::Function(_)
+        | Operand::Method(_)
+        | Operand::BuiltIn(_)
+        | Operand::Package(_)
+        | Operand::Struct(_)
+        | Operand::TypeName => Given::Unknown,
+    }
+}
+
+/// The type of an operand, where it has one.
+pub fn type_of(alloc: Global, operand: &Operand) -> Result<Option<GoType>, Memory>
+    ensures { IfOk result (λ t. t ≡ type_of_of operand.now) }
+{
+    match operand {
+        Operand::Value(t)
+        | Operand::Outcome(t)
+        | Operand::Variable(_, t)
+        | Operand::Field(_, t)
+        | Operand::Element(t) => Ok(copy_optional(alloc, t)?),
+        Operand::Constant(_, base) => Ok(Some(plain(alloc, *base))),
+        Operand::Truth(_) => Ok(Some(plain(alloc, Base::Bool))),
+        _ => Ok(None),
+    }
+}
