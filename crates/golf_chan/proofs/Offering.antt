@@ -1,10 +1,10 @@
 -- Cases that take their operands, from the last one to the first.
-use Rattle.std.proofs.Common.{◌≡◌, ℕ, zero, suc, ◌+◌, ◌-◌, ◌<◌, ◌≤◌, List, [], ◌∷◌, ◌++◌, length, take, drop, get_or, map, Option, Some, None, refl, sym, ap, ◌∙◌, arith}
+use Rattle.std.proofs.Common.{◌≡◌, ℕ, zero, suc, ◌+◌, ◌-◌, ◌<◌, ◌≤◌, List, [], ◌∷◌, ◌++◌, length, take, drop, get_or, Some, None, refl, sym, ap, ◌∙◌, arith}
 use Rattle.std.specs.Prelude.{reverse}
 use Rattle.std.proofs.lemmas.List.{drop_more, take_all, drop_all, append-nil, length-take-le}
 use Rattle.golf_data.specs.declared.value.Value.{Value}
 use Rattle.golf_data.specs.declared.code.SelectCase.{SelectCase}
-use Rattle.golf_model.specs.Selecting.{Offer as Offering, Taken, and_case, take_case, offers_of}
+use Rattle.golf_model.specs.Selecting.{Taken, and_case, take_case, offers_of}
 use Rattle.golf_state.proofs.Tops.{reverse-take}
 
 -- one case more

@@ -1,5 +1,5 @@
 -- What a goroutine in its turn does, by the changes of the state.
-use Rattle.std.proofs.Common.{◌≡◌, ℕ, suc, ◌+◌, true, List, [], ◌∷◌, ◌++◌, Option, Some, None, refl, sym, ap, ◌∙◌, subst}
+use Rattle.std.proofs.Common.{◌≡◌, ℕ, suc, true, List, [], ◌∷◌, ◌++◌, Option, Some, refl, sym, ap, ◌∙◌, subst}
 use Rattle.std.specs.Prelude.{drop, IsSome, slice_get}
 use Rattle.golf_data.specs.declared.value.Value.{Value}
 use Rattle.golf_data.specs.declared.goroutine.Mode.{Mode}
@@ -9,15 +9,15 @@ use Rattle.golf_data.specs.declared.goroutine.WaitKind.{WaitKind}
 use Rattle.golf_theory.specs.Maps.{find, put, Rises, IsRising}
 use Rattle.golf_theory.proofs.MapFinds.{find-put, put-put}
 use Rattle.golf_model.specs.Views.{FrameView, GoroutineView}
-use Rattle.golf_model.specs.State.{State, is_running}
+use Rattle.golf_model.specs.State.{State}
 use Rattle.golf_model.specs.Waking.{fault, unwinding, on_top}
 use Rattle.golf_model.specs.Changes.{Change, apply_all, become, block}
-use Rattle.golf_model.specs.Acting.{Actor, next, stands, goes, panics, blocks, with_frames, standing}
+use Rattle.golf_model.specs.Acting.{Actor, next, stands, goes, panics, blocks, standing}
 use Rattle.golf_state.specs.Looked.{on_goroutine, looked_up, frames_of, frames_in, reframed, runs, is_running_in, advanced}
 use Rattle.golf_state.specs.Going.{went, exchanged_in}
 use Rattle.golf_state.proofs.PlaceLaws.{put-same}
 use Rattle.golf_state.specs.Operands.{operands_of, top_operands}
-use Rattle.golf_state.specs.Doing.{does, does_by, Stands, Runs}
+use Rattle.golf_state.specs.Doing.{does, does_by, Stands}
 
 Rises-unput : {X : Type 0} (j g : ℕ) (v : X) (es : List (ℕ × X)) → Rises j (put g v es) → Rises j es
 Rises-unput j g v [] r = tt

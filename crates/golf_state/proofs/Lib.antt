@@ -9,3 +9,4 @@ pub mod Rises
 pub mod Doings
 pub mod Serving
 pub mod Outcomings
+pub mod Runnings

@@ -1,10 +1,8 @@
 -- The list of goroutines as a list of numbers.
-use Rattle.std.proofs.Common.{◌≡◌, ℕ, zero, suc, ◌+◌, ◌<◌, ◌≤◌, List, [], ◌∷◌, ◌++◌, length, take, drop, get_or, map, refl, sym, ap, ◌∙◌, arith}
+use Rattle.std.proofs.Common.{◌≡◌, ℕ, zero, suc, ◌<◌, List, [], ◌∷◌, ◌++◌, length, take, drop, get_or, refl, sym, ap, ◌∙◌, arith}
 use Rattle.std.specs.Prelude.{insert, remove}
-use Rattle.std.proofs.lemmas.List.{map-append, length-map, take_all, drop_all, append-nil}
+use Rattle.std.proofs.lemmas.List.{map-append}
 use Rattle.golf_base.specs.declared.ids.GoroutineId.{GoroutineId}
-use Rattle.golf_theory.specs.Stored.{placed}
-use Rattle.golf_theory.proofs.Placing.{placed_here}
 use Rattle.golf_state.specs.Inside.{numbers}
 
 pub number-at : (xs : List GoroutineId) (i : ℕ) (x : GoroutineId) → i < length xs → x ≡ get_or xs i x → get_or (numbers xs) i 0 ≡ x.0

@@ -3,22 +3,21 @@ use Rattle.std.proofs.Common.{◌≡◌, ℕ, List, ap, sym, ◌∙◌}
 use Rattle.golf_model.specs.State.{State}
 use Rattle.golf_model.specs.Changes.{Change}
 use Rattle.golf_model.specs.Acting.{Actor}
-use Rattle.golf_data.specs.declared.goroutine.PanicKind.{PanicKind}
 use Rattle.golf_state.specs.declared.outcome.Outcome.{Outcome}
 use Rattle.golf_theory.specs.Maps.{find}
 use Rattle.golf_state.specs.Doing.{does, Stands}
 use Rattle.golf_state.specs.Outcomes.{Comes, faults, carries, StandsToFault}
 
 pub comes-same : (outcome : Outcome) (act other : Actor → List Change) (g line : ℕ) (s t : State) → does act g line s ≡ does other g line s → Comes outcome act g line s t → Comes outcome other g line s t
-comes-same Outcome.Done act other g line s t e h = h ∙ e
-comes-same Outcome.Blocked act other g line s t e h = h ∙ e
+comes-same Outcome.Done act other g line s t e h = (h.0 ∙ e, h.1)
+comes-same Outcome.Blocked act other g line s t e h = (h.0 ∙ e, h.1)
 comes-same (Outcome.Panic kind) act other g line s t e h = (h.0, sym e ∙ h.1)
 comes-same Outcome.Stuck act other g line s t e h = (h.0, sym e ∙ h.1)
 
 -- once what is left is done, the changes are made
 pub carried : (outcome : Outcome) (act : Actor → List Change) (g line : ℕ) (s t u : State) → Comes outcome act g line s t → u ≡ carries outcome g line t → u ≡ does act g line s
-carried Outcome.Done act g line s t u h e = e ∙ h
-carried Outcome.Blocked act g line s t u h e = e ∙ h
+carried Outcome.Done act g line s t u h e = e ∙ h.0
+carried Outcome.Blocked act g line s t u h e = e ∙ h.0
 carried (Outcome.Panic kind) act g line s t u h e = e ∙ ap (does (λ a. faults a kind) g line) h.0 ∙ sym h.1
 carried Outcome.Stuck act g line s t u h e = e ∙ h.0 ∙ sym h.1
 

@@ -1,5 +1,5 @@
 -- What changes of places do to the map of goroutines, and to the list of those that run.
-use Rattle.std.proofs.Common.{◌≡◌, ℕ, zero, suc, ◌+◌, ◌<◌, ◌≤◌, Bool, true, false, not, cond, ◌&&◌, ◌||◌, List, [], ◌∷◌, ◌++◌, length, get_or, map, Option, Some, None, ◌==◌, refl, sym, ap, ◌∙◌, inl, inr, arith, slice_get, slice_set}
+use Rattle.std.proofs.Common.{◌≡◌, ℕ, suc, ◌+◌, ◌<◌, ◌≤◌, Bool, true, false, not, cond, ◌&&◌, ◌||◌, List, [], ◌∷◌, ◌++◌, length, get_or, Option, Some, None, ◌==◌, refl, sym, ap, ◌∙◌, inl, inr, arith, slice_get, slice_set}
 use Rattle.std.specs.Prelude.{option_map}
 use Rattle.std.specs.Borrow.{Bor}
 use Rattle.std.specs.Slice.{IsItemAt}
@@ -8,7 +8,7 @@ use Rattle.std.proofs.lemmas.List.{map-append, map-set, length-map, length-set, 
 use Rattle.std.proofs.lemmas.Option.{slice_get_read, slice_get_past, slice_get_within, slice_get-map}
 use Rattle.golf_data.specs.declared.goroutine.Mode.{Mode}
 use Rattle.golf_data.specs.declared.goroutine.Queued.{Queued}
-use Rattle.golf_theory.specs.Maps.{Entry, find, put, add, only, keys_where, Rises}
+use Rattle.golf_theory.specs.Maps.{find, put, add, only, keys_where, Rises}
 use Rattle.golf_theory.specs.Stored.{entries, placed, without}
 use Rattle.golf_theory.proofs.MapFinds.{cases_find, Entry-above, find-Entry}
 use Rattle.golf_theory.proofs.MapKeys.{keys_where-same, keys_where-add, keys_where-put_out, keys_where-put_same, keys_where-only}
@@ -17,7 +17,7 @@ use Rattle.golf_model.specs.Views.{GoroutineView, goroutine_view}
 use Rattle.golf_model.specs.State.{State, is_running, not_empty, can_run}
 use Rattle.golf_model.specs.Changes.{behind_first}
 use Rattle.golf_state.specs.Looked.{is_running_in, is_blocked_in}
-use Rattle.golf_state.specs.Places.{plain_place, plain_places, plain_entries, running_of, is_idle, starts_idle}
+use Rattle.golf_state.specs.Places.{plain_place, plain_places, plain_entries, running_of, starts_idle}
 use Rattle.golf_state.specs.declared.places.Place.{Place}
 
 -- ---- what is put

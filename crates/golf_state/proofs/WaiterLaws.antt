@@ -1,5 +1,5 @@
 -- The look for the first waiter.
-use Rattle.std.proofs.Common.{◌≡◌, ℕ, zero, suc, ◌+◌, ◌<◌, ◌≤◌, Bool, true, false, cond, ◌&&◌, List, [], ◌∷◌, Option, Some, None, length, drop, get_or, map, ◌==◌, refl, sym, ap, ◌∙◌, arith, drop_of_length-le, inl, inr}
+use Rattle.std.proofs.Common.{◌≡◌, ℕ, zero, suc, ◌+◌, ◌<◌, ◌≤◌, true, false, cond, ◌&&◌, List, [], ◌∷◌, Option, Some, None, length, drop, get_or, ◌==◌, refl, sym, ap, ◌∙◌, arith, drop_of_length-le, inl, inr}
 use Rattle.std.specs.Prelude.{option_map, nat_lt, IfSome}
 use Rattle.std.proofs.lemmas.List.{drop_more, length-map, get_or-map}
 use Rattle.golf_base.specs.declared.ids.GoroutineId.{GoroutineId}

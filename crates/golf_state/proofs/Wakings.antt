@@ -1,24 +1,21 @@
 -- Who is woken.
-use Rattle.std.proofs.Common.{◌≡◌, ℕ, zero, suc, ◌+◌, ◌<◌, ◌≤◌, Bool, true, false, cond, List, [], ◌∷◌, ◌++◌, length, take, drop, get_or, map, Option, Some, None, ◌==◌, refl, sym, ap, ◌∙◌, arith, drop_of_length-le, slice_get, slice_set, add-one, nat_lt}
+use Rattle.std.proofs.Common.{◌≡◌, ℕ, zero, suc, ◌+◌, ◌<◌, ◌≤◌, Bool, true, false, cond, List, [], ◌∷◌, ◌++◌, length, take, drop, get_or, map, Option, Some, None, ◌==◌, refl, sym, ap, ◌∙◌, arith, drop_of_length-le, slice_get, slice_set, add-one}
 use Rattle.std.specs.Prelude.{option_map, is_some}
-use Rattle.std.proofs.lemmas.List.{drop_more, take_more, take_all, length-map, get_or-map, length-take-le}
-use Rattle.std.proofs.lemmas.Option.{get_or_from_slice_get}
+use Rattle.std.proofs.lemmas.List.{drop_more}
 use Rattle.golf_data.specs.declared.value.Value.{Value}
 use Rattle.golf_data.specs.declared.goroutine.Mode.{Mode}
 use Rattle.golf_data.specs.declared.goroutine.Side.{Side}
 use Rattle.golf_data.specs.declared.goroutine.Wait.{Wait}
 use Rattle.golf_data.specs.declared.goroutine.WaitKind.{WaitKind}
-use Rattle.golf_theory.specs.Maps.{map_values, add, keys_where}
+use Rattle.golf_theory.specs.Maps.{map_values}
 use Rattle.golf_theory.specs.Stored.{entries}
-use Rattle.golf_theory.proofs.MapKeys.{keys_where-add, keys_where-add_out}
-use Rattle.golf_theory.proofs.Placing.{entries-push}
 use Rattle.golf_model.specs.Views.{FrameView, GoroutineView, goroutine_view}
 use Rattle.golf_model.specs.State.{is_running}
-use Rattle.golf_model.specs.Waiting.{wait_for, wait_on, waits_of, ticket_of}
-use Rattle.golf_model.specs.Waking.{Waking as Woken, received, is_below, reads_next, resumed, released_by, closed_on, closed_for, woken_by}
+use Rattle.golf_model.specs.Waiting.{wait_for, wait_on}
+use Rattle.golf_model.specs.Waking.{received, is_below, reads_next, resumed, released_by, closed_on, closed_for, woken_by}
 use Rattle.golf_model.specs.ReadersWriters.{one_if, readers_next}
 use Rattle.golf_state.specs.Looked.{values_of, is_running_in}
-use Rattle.golf_state.specs.Places.{plain_place, plain_places, plain_entries, running_of}
+use Rattle.golf_state.specs.Places.{plain_place, running_of}
 use Rattle.golf_state.specs.Woken.{given_for, waking_of, wakening_by_close, wakening_on, released_where, wakening_of, wakened_by, reads_in}
 use Rattle.golf_state.specs.declared.waking.Waking.{Waking}
 use Rattle.golf_state.specs.declared.frames.Wakening.{Wakening}

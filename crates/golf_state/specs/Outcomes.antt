@@ -5,6 +5,7 @@ use Rattle.golf_model.specs.State.{State}
 use Rattle.golf_model.specs.Changes.{Change}
 use Rattle.golf_model.specs.Acting.{Actor, panics, dies, choose}
 use Rattle.golf_state.specs.declared.outcome.Outcome.{Outcome}
+use Rattle.golf_state.specs.Looked.{runs, is_blocked}
 use Rattle.golf_state.specs.Doing.{does, Stands}
 
 -- a fatal error ends the program at once; a panic unwinds
@@ -43,9 +44,9 @@ carries Outcome.Blocked g line s = s
 carries (Outcome.Panic kind) g line s = does (λ a. faults a kind) g line s
 carries Outcome.Stuck g line s = s
 
--- an operation that makes these changes has come to this outcome: it is done, or the goroutine is blocked; or it panics, and the state is as it was; or no rule fits
+-- an operation that makes these changes has come to this outcome: it is done, and the goroutine runs; or the goroutine is blocked; or it panics, and the state is as it was; or no rule fits
 abbrev pub Comes : Outcome → (Actor → List Change) → ℕ → ℕ → State → State → Type 0
-Comes Outcome.Done act g line old new = new ≡ does act g line old
-Comes Outcome.Blocked act g line old new = new ≡ does act g line old
+Comes Outcome.Done act g line old new = (new ≡ does act g line old) × (runs g new ≡ true)
+Comes Outcome.Blocked act g line old new = (new ≡ does act g line old) × (is_blocked g new ≡ true)
 Comes (Outcome.Panic kind) act g line old new = (new ≡ old) × (does act g line old ≡ does (λ a. faults a kind) g line old)
 Comes Outcome.Stuck act g line old new = (new ≡ old) × (does act g line old ≡ old)

@@ -1,5 +1,5 @@
 -- How the places of goroutines in memory stand for the map of the definitions.
-use Rattle.std.specs.Prelude.{ℕ, Bool, true, false, not, cond, ◌&&◌, List, [], ◌∷◌, map, Option, Some, None}
+use Rattle.std.specs.Prelude.{ℕ, Bool, false, not, cond, ◌&&◌, List, [], ◌∷◌, map, Option, Some, None}
 use Rattle.golf_theory.specs.Maps.{keys_where}
 use Rattle.golf_theory.specs.Stored.{entries}
 use Rattle.golf_model.specs.Views.{GoroutineView, goroutine_view}

@@ -1,5 +1,5 @@
 -- What a blocked goroutine keeps ready, so that it is woken without memory.
-use Rattle.std.specs.Prelude.{◌-◌, ◌≤◌, List, [], ◌∷◌, length, Option, Some, None, slice_get}
+use Rattle.std.specs.Prelude.{◌-◌, ◌≤◌, List, length, Option, Some, None, slice_get}
 use Rattle.golf_data.specs.declared.goroutine.Frame.{Frame}
 use Rattle.golf_data.specs.declared.goroutine.Mode.{Mode}
 

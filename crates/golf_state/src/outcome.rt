@@ -1,13 +1,13 @@
 //! What an operation of the goroutine in its turn comes to.
 
-ghost use Rattle.std.specs.Prelude.{◌≡◌, [], ◌∷◌, IfOk, OnOk, OnErr, IsSome, slice_get, drop};
+ghost use Rattle.std.specs.Prelude.{◌≡◌, [], ◌∷◌, IfOk, OnOk, OnErr, IsSome, slice_get, drop, true};
 ghost use Rattle.golf_model.specs.Acting.{stands, blocks};
 ghost use Rattle.golf_model.specs.Waiting.{bare_wait};
 ghost use Rattle.golf_model.specs.Structures.{makes};
 ghost use Rattle.golf_state.specs.Operands.{operands_of};
 ghost use Rattle.golf_state.specs.Doing.{does, Stands};
 ghost use Rattle.golf_state.specs.Going.{went};
-ghost use Rattle.golf_state.specs.Looked.{values_of};
+ghost use Rattle.golf_state.specs.Looked.{values_of, runs, is_blocked};
 ghost use Rattle.golf_state.specs.Outcomes.{faults, is_fatal, carries, StandsToFault};
 
 use crate::acting::Acting;
@@ -87,7 +87,8 @@ pub fn carry_out(state: &mut State, acting: Acting, outcome: Outcome)
 /// The goroutine in its turn goes on at a place, without so many operands.
 pub fn proceed(state: &mut State, acting: Acting, target: u32, taken: usize)
     requires { Stands acting.goroutine.0 acting.after state.old }
-    ensures { state.new ≡ does (λ a. stands a (went target taken [] a.frame)) acting.goroutine.0 acting.line state.old }
+    ensures state { state.new ≡ does (λ a. stands a (went target taken [] a.frame)) acting.goroutine.0 acting.line state.old }
+    ensures runs { runs acting.goroutine.0 state.new ≡ true }
 {
     advance(state.frames_mut(acting.goroutine), target, taken);
 }
@@ -102,6 +103,7 @@ pub fn proceed_with(
 ) -> Result<(), Memory>
     requires { Stands acting.goroutine.0 acting.after state.old }
     ensures ok { OnOk result (state.new ≡ does (λ a. stands a (went target taken (values_of given) a.frame)) acting.goroutine.0 acting.line state.old) }
+    ensures runs { OnOk result (runs acting.goroutine.0 state.new ≡ true) }
     ensures err { OnErr result (state.new ≡ state.old) }
 {
     let frames = state.frames_mut(acting.goroutine);
@@ -119,6 +121,7 @@ pub fn block_at(
 ) -> Result<(), Memory>
     requires { Stands acting.goroutine.0 acting.after state.old }
     ensures ok { OnOk result (state.new ≡ does (λ a. blocks a (went target taken [] a.frame) kind waits) acting.goroutine.0 acting.line state.old) }
+    ensures blocked { OnOk result (is_blocked acting.goroutine.0 state.new ≡ true) }
     ensures err { OnErr result (state.new ≡ state.old) }
 {
     state.block(acting.goroutine, kind, acting.line, waits, target, taken)
@@ -146,6 +149,7 @@ pub fn block_on(
 ) -> Result<(), Memory>
     requires { Stands acting.goroutine.0 acting.after state.old }
     ensures ok { OnOk result (state.new ≡ does (λ a. blocks a (went acting.after taken [] a.frame) kind (bare_wait object.0 side ∷ [])) acting.goroutine.0 acting.line state.old) }
+    ensures blocked { OnOk result (is_blocked acting.goroutine.0 state.new ≡ true) }
     ensures err { OnErr result (state.new ≡ state.old) }
 {
     let wait = Wait {

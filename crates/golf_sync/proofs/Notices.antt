@@ -5,7 +5,6 @@ use Rattle.std.proofs.lemmas.Bool.{eqb-true, eq-eqb}
 use Rattle.golf_data.specs.declared.value.Object.{Object}
 use Rattle.golf_data.specs.declared.goroutine.Mode.{Mode}
 use Rattle.golf_data.specs.declared.goroutine.Side.{Side}
-use Rattle.golf_data.specs.declared.goroutine.Wait.{Wait}
 use Rattle.golf_theory.specs.Membership.{In}
 use Rattle.golf_theory.specs.Maps.{Entry, find, put, Rises, IsRising}
 use Rattle.golf_theory.proofs.MapFinds.{find-put, Entry-above, find-Entry}
@@ -14,12 +13,14 @@ use Rattle.golf_model.specs.Views.{GoroutineView}
 use Rattle.golf_model.specs.State.{State, is_running}
 use Rattle.golf_model.specs.Waiting.{Waiter, waiter_ticket, waiter_of, waits_of, wait_for, first, by_ticket, enter, waiters}
 use Rattle.golf_model.specs.Waking.{released}
-use Rattle.golf_model.specs.Changes.{pass_on, moved, behind_first}
-use Rattle.golf_model.specs.Conditions.{first_only}
+use Rattle.golf_model.specs.Changes.{apply_all, pass_on, moved, behind_first}
+use Rattle.golf_model.specs.Conditions.{first_only, passes_on}
 use Rattle.golf_model.specs.Laws.{head}
 use Rattle.golf_model.proofs.Firsts.{first-head, waiters-sound}
 use Rattle.golf_state.specs.declared.waiters.Waiting.{Waiting}
 use Rattle.golf_state.specs.Waited.{waiting_of}
+use Rattle.golf_state.specs.Looked.{runs}
+use Rattle.golf_state.proofs.Runnings.{runs-passed}
 use Rattle.golf_sync.specs.Objects.{mutex_of}
 use Rattle.golf_sync.specs.Notified.{notified}
 
@@ -185,3 +186,8 @@ notified-none false o gs h = ap first_only h
 pub notified-some : (all : Bool) (o : ℕ) (gs : List (ℕ × GoroutineView)) (w : Waiter) → first o Side.Cond gs ≡ Some w → (ws : List Waiter) × (notified all o gs ≡ w ∷ ws)
 notified-some true o gs w h = (behind_first (waiters o Side.Cond gs), head-cons (waiters o Side.Cond gs) w (sym (first-head o Side.Cond gs) ∙ h))
 notified-some false o gs w h = ([], ap first_only h)
+
+-- who runs still does once they are passed on
+pub passes-run : (g m : ℕ) (ws : List Waiter) (s : State) → runs g s ≡ true → runs g (apply_all (passes_on m ws) s) ≡ true
+passes-run g m [] s h = h
+passes-run g m (w ∷ ws) s h = passes-run g m ws (pass_on w.number m (find w.number s.goroutines) (find m s.objects) s) (runs-passed g w.number m s h)

@@ -1,16 +1,18 @@
 -- Who gets a reader and writer mutex, once the goroutine in its turn has gone on.
-use Rattle.std.proofs.Common.{◌≡◌, ℕ, Bool, true, false, cond, List, Option, Some, None, refl, sym, ap, ◌∙◌}
+use Rattle.std.proofs.Common.{◌≡◌, ℕ, true, false, cond, Option, Some, None, refl}
 use Rattle.std.specs.Prelude.{nat_lt, negsuc}
 use Rattle.golf_data.specs.declared.value.Object.{Object}
-use Rattle.golf_model.specs.Views.{GoroutineView}
 use Rattle.golf_model.specs.State.{State}
 use Rattle.golf_model.specs.Waiting.{Waiter, waiter_ticket}
 use Rattle.golf_model.specs.Changes.{apply_all, replace}
+use Rattle.golf_model.specs.Waking.{Waking}
 use Rattle.golf_model.specs.Acting.{choose}
 use Rattle.golf_model.specs.ReadersWriters.{to_readers, to_writer, serves_first}
 use Rattle.golf_state.specs.Handing.{IsBlockedIn}
 use Rattle.golf_state.specs.Waited.{waiting_of}
 use Rattle.golf_state.specs.declared.frames.Wakening.TheVariants as k
+use Rattle.golf_state.specs.Looked.{runs}
+use Rattle.golf_state.proofs.Runnings.{runs-woken, runs-all}
 use Rattle.golf_state.proofs.Serving.{Beside, IsServed, served-blocked, served-woken}
 use Rattle.golf_sync.specs.Served.{next_in, served_by, is_ready_for, readers_of}
 use Rattle.golf_sync.specs.declared.readers_writers.Served.{Served}
@@ -42,3 +44,8 @@ module _ (o : ℕ) (s t : State) (b : Beside s t) where
         | true ↦ refl
         | false ↦ writer-ready w i
       ]
+
+-- who runs still does once they have it
+pub served-runs : (g o : ℕ) (x : Served) (s : State) → runs g s ≡ true → runs g (served_by o x s) ≡ true
+served-runs g o (Served.Readers count below) s h = runs-all g o (Waking.ToReaders below) (replace o (Object.Rw count) s) h
+served-runs g o (Served.Writer w) s h = runs-woken g w.goroutine.0 k.Released (replace o (Object.Rw (negsuc 0)) s) h

@@ -1,21 +1,20 @@
-use Rattle.std.proofs.Common.{◌≡◌, ℕ, Bool, true, false, ap, ◌∙◌, refl, sym, arith, [], ◌∷◌, ◌++◌, drop, List, Option, Some, None}
+use Rattle.std.proofs.Common.{◌≡◌, ap, ◌∙◌, sym, arith, [], ◌∷◌, ◌++◌, List, Some}
 use Rattle.std.proofs.lemmas.Grind.{common_steps}
 use Rattle.golf_data.specs.declared.goroutine.Side.{Side}
 use Rattle.golf_data.specs.declared.value.Object.{Object}
 use Rattle.golf_data.specs.declared.value.Value.{Value}
-use Rattle.golf_data.specs.declared.value.Channel.{Channel}
-use Rattle.golf_theory.specs.Maps.{find, put}
+use Rattle.golf_theory.specs.Maps.{find}
 use Rattle.golf_model.specs.State.{State}
-use Rattle.golf_model.specs.Changes.{Change, apply_all, replace}
+use Rattle.golf_model.specs.Changes.{Change, replace}
 use Rattle.golf_model.specs.Acting.{Actor, stands}
-use Rattle.golf_model.specs.Waiting.{Waiter, first}
+use Rattle.golf_model.specs.Waiting.{first}
 use Rattle.golf_state.specs.Going.{went}
-use Rattle.golf_state.specs.Looked.{values_of}
+use Rattle.golf_state.specs.Looked.{values_of, runs}
 use Rattle.golf_state.specs.declared.waiters.Waiting.{Waiting}
 use Rattle.golf_state.specs.declared.frames.Wakening.TheVariants as k
 use Rattle.golf_state.specs.declared.frames.Given.TheVariants as v
-use Rattle.golf_state.specs.Outcomes.{Comes}
 use Rattle.golf_state.proofs.Doings.{does-is}
+use Rattle.golf_state.proofs.Runnings.{runs-woken}
 use Rattle.golf_state.proofs.Serving.{beside-put, served-from, served-blocked, served-woken}
 use Rattle.golf_chan.specs.Channels.{shifted, unbuffered}
 use Rattle.golf_chan.proofs.Buffers.{full-channel}
@@ -52,4 +51,4 @@ returns-in-Some-clause-ok c =
     c.take_first.ensures ∙ ap (unbuffered (x.wait.value ∷ [])) old
     ∙ ap (λ (bs : List Value). Object.Chan (record ch.0 { buffer = shifted (x.wait.value ∷ []) bs })) ch.3
     ∙ ap (λ (y : Waiting). Object.Chan (record ch.0 { buffer = ch.1 ++ y.wait.value ∷ [] })) w.told in
-    grind (arith, common_steps, e, w.is, w.told, ch.2, ch.3, new)
+    (grind (arith, common_steps, e, w.is, w.told, ch.2, ch.3, new), ap (runs g) c.wake.ensures ∙ runs-woken g x.goroutine.0 (k.Served x.wait v.Nothing) t c.in_ok-proceed_with.ensures.runs)

@@ -1,20 +1,18 @@
-use Rattle.std.proofs.Common.{◌≡◌, ℕ, Bool, true, false, ap, ◌∙◌, refl, sym, arith, [], ◌∷◌, ◌++◌, drop, List, Option, Some, None}
+use Rattle.std.proofs.Common.{ap, ◌∙◌, arith, [], List}
 use Rattle.std.proofs.lemmas.Grind.{common_steps}
 use Rattle.golf_data.specs.declared.goroutine.Side.{Side}
 use Rattle.golf_data.specs.declared.value.Object.{Object}
-use Rattle.golf_data.specs.declared.value.Value.{Value}
-use Rattle.golf_theory.specs.Maps.{find, put}
+use Rattle.golf_theory.specs.Maps.{put}
 use Rattle.golf_model.specs.State.{State}
-use Rattle.golf_model.specs.Changes.{Change, apply_all, replace}
+use Rattle.golf_model.specs.Changes.{Change}
 use Rattle.golf_model.specs.Acting.{Actor, stands}
-use Rattle.golf_model.specs.Waiting.{Waiter, first}
+use Rattle.golf_model.specs.Waiting.{first}
 use Rattle.golf_state.specs.Going.{went}
-use Rattle.golf_state.specs.Looked.{values_of}
-use Rattle.golf_state.specs.declared.waiters.Waiting.{Waiting}
+use Rattle.golf_state.specs.Looked.{runs}
 use Rattle.golf_state.specs.declared.frames.Wakening.TheVariants as k
-use Rattle.golf_state.specs.declared.frames.Given.TheVariants as v
 use Rattle.golf_state.proofs.Doings.{does-is}
 use Rattle.golf_state.proofs.Serving.{beside-put, served-from, served-blocked, served-woken}
+use Rattle.golf_state.proofs.Runnings.{runs-woken}
 use Rattle.std.proofs.lemmas.Result.{err_from_is_err_and}
 use Rattle.golf_state.proofs.PlaceLaws.{put-same}
 use Rattle.golf_chan.proofs.sending.send_on.Goals as goal
@@ -27,7 +25,7 @@ wake-requires c =
     let t = c.proceed.new.state in
     let m = first c.args.object.0 Side.Receive s.goroutines in
     let act : Actor → List Change = λ a. stands a (went c.args.target c.args.taken [] a.frame) in
-    let b = beside-put g c.args.acting.after s c.requires t _ (ap (λ (t : State). t.goroutines) (c.proceed.ensures ∙ does-is g c.args.acting.after s c.requires act c.args.acting.line)) in
+    let b = beside-put g c.args.acting.after s c.requires t _ (ap (λ (t : State). t.goroutines) (c.proceed.ensures.state ∙ does-is g c.args.acting.after s c.requires act c.args.acting.line)) in
     served-blocked s m x (served-from s m x c.in-Some-first_waiter.ensures.first c.in-Some-first_waiter.ensures.blocked) t b
 
 pub returns-in-Some-first_waiter-clause-ok : goal.returns-in-Some-first_waiter-clause-ok
@@ -38,10 +36,10 @@ returns-in-Some-first_waiter-clause-ok c =
     let t = c.proceed.new.state in
     let m = first c.args.object.0 Side.Receive s.goroutines in
     let act : Actor → List Change = λ a. stands a (went c.args.target c.args.taken [] a.frame) in
-    let b = beside-put g c.args.acting.after s c.requires t _ (ap (λ (t : State). t.goroutines) (c.proceed.ensures ∙ does-is g c.args.acting.after s c.requires act c.args.acting.line)) in
+    let b = beside-put g c.args.acting.after s c.requires t _ (ap (λ (t : State). t.goroutines) (c.proceed.ensures.state ∙ does-is g c.args.acting.after s c.requires act c.args.acting.line)) in
     let w = served-from s m x c.in-Some-first_waiter.ensures.first c.in-Some-first_waiter.ensures.blocked in
     let e = c.wake.ensures ∙ served-woken s m x w t b (k.Served x.wait c.received-given.result) in
-    grind (arith, common_steps, e, w.is, w.told)
+    (grind (arith, common_steps, e, w.is, w.told), ap (runs g) c.wake.ensures ∙ runs-woken g x.goroutine.0 (k.Served x.wait c.received-given.result) t c.proceed.ensures.runs)
 
 pub returns-in_err-buffer-clause-err : goal.returns-in_err-buffer-clause-err
 returns-in_err-buffer-clause-err c =

@@ -35,4 +35,4 @@ returns-clause-ok c =
     c.in_ok-spawn.ensures.ok ∙ ap (λ (fs : List Frame). spawn (record { frames = frame_views fs; mode = Mode.Running; started = c.args.acting.line }) s) c.in_ok-frames_of.ensures in
     spawns-enter c.args.acting.goroutine.0 c.args.acting.after s c.requires c.args.acting.line c.args.code.now c.args.number c.args.count c.in-Some.arguments.now c.in-Some.ensures (frame_view c.in-Some-2.frame) c.spawn.new.self c.proceed.new.state
     (stands-spawned c.args.acting.goroutine.0 c.args.acting.after s c.requires c.spawn.new.self r made)
-    (ap (option_map frame_view) (sym c.in-Some-2.is) ∙ c.in_ok-frame.ensures) made refl refl refl c.proceed.ensures
+    (ap (option_map frame_view) (sym c.in-Some-2.is) ∙ c.in_ok-frame.ensures) made refl refl refl c.proceed.ensures.state

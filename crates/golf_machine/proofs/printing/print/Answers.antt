@@ -27,4 +27,4 @@ returns-clause-ok c =
     let s = c.args.state.now in
     let made = c.in_ok-add_output.ensures.ok ∙ ap (λ (bs : List ℕ). output bs s) c.as_slice-2.ensures in
     prints-line c.args.acting.goroutine.0 c.args.acting.after s c.requires c.args.acting.line c.args.code.now c.args.count c.in-Some.values.now c.in-Some.ensures c.in-Some-2.line c.add_output.new.self c.proceed.new.state
-    (sym c.in-Some-2.is ∙ c.in_ok-line.ensures ∙ ap (λ (ts : List (List ℕ)). line_bytes ts c.in-Some.values.now) c.as_slice.ensures) made c.proceed.ensures
+    (sym c.in-Some-2.is ∙ c.in_ok-line.ensures ∙ ap (λ (ts : List (List ℕ)). line_bytes ts c.in-Some.values.now) c.as_slice.ensures) made c.proceed.ensures.state

@@ -1,4 +1,4 @@
-use Rattle.std.proofs.Common.{[], arith}
+use Rattle.std.proofs.Common.{[]}
 use Rattle.golf_state.specs.Going.{went}
 use Rattle.golf_state.proofs.Tops.{below_changed}
 use Rattle.golf_state.proofs.calls.enter.Goals as goal

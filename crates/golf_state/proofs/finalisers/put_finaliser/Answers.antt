@@ -1,4 +1,4 @@
-use Rattle.std.proofs.Common.{◌≡◌, ℕ, ◌≤◌, List, length, sym, ap, ◌∙◌, arith, rules}
+use Rattle.std.proofs.Common.{◌≡◌, ℕ, List, ap, ◌∙◌, arith, rules}
 use Rattle.std.specs.Prelude.{insert as insert_item}
 use Rattle.golf_heap.specs.Objects.{rank}
 use Rattle.golf_heap.proofs.Ranks.{rank-within}

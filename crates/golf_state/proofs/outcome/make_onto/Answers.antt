@@ -1,10 +1,9 @@
-use Rattle.std.proofs.Common.{◌≡◌, ℕ, ◌+◌, ◌-◌, true, [], ◌∷◌, List, Some, Ok, Err, refl, sym, ap, ◌∙◌, arith}
+use Rattle.std.proofs.Common.{◌≡◌, true, [], ◌∷◌, List, Ok, Err, ap, ◌∙◌, arith}
 use Rattle.std.specs.Prelude.{Result, OnErr, is_err}
 use Rattle.golf_base.specs.declared.Memory.{Memory}
 use Rattle.golf_base.specs.declared.ids.ObjectId.{ObjectId}
 use Rattle.golf_data.specs.declared.value.Value.{Value}
-use Rattle.golf_theory.specs.Maps.{find}
-use Rattle.golf_model.specs.Views.{FrameView, frame_views}
+use Rattle.golf_model.specs.Views.{frame_views}
 use Rattle.golf_model.specs.State.{State}
 use Rattle.golf_model.specs.Changes.{Change}
 use Rattle.golf_model.specs.Acting.{Actor, stands}

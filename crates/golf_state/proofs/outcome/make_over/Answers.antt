@@ -1,4 +1,4 @@
-use Rattle.std.proofs.Common.{◌≡◌, ℕ, ◌+◌, true, [], ◌∷◌, List, Some, refl, sym, ap, ◌∙◌, arith, drop}
+use Rattle.std.proofs.Common.{◌+◌, ◌∷◌, List, sym, ap, ◌∙◌, drop}
 use Rattle.std.specs.Prelude.{IsSome, is_some, slice_get}
 use Rattle.golf_data.specs.declared.value.Value.{Value}
 use Rattle.golf_theory.specs.Maps.{find}

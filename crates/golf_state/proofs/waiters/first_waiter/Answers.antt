@@ -1,7 +1,7 @@
-use Rattle.std.proofs.Common.{◌≡◌, ℕ, ◌+◌, ◌-◌, ◌<◌, ◌≤◌, length, get_or, drop, refl, sym, ap, ◌∙◌, arith, Option}
+use Rattle.std.proofs.Common.{◌≡◌, ℕ, ◌+◌, ◌-◌, ◌<◌, length, get_or, drop, ap, ◌∙◌, arith, Option}
 use Rattle.std.specs.Prelude.{option_map}
 use Rattle.golf_base.specs.declared.ids.GoroutineId.{GoroutineId}
-use Rattle.golf_model.specs.Waiting.{Waiter, first}
+use Rattle.golf_model.specs.Waiting.{first}
 use Rattle.golf_state.specs.Places.{plain_place, plain_entries}
 use Rattle.golf_state.specs.Seen.{sooner, waiter_in}
 use Rattle.golf_state.specs.Waited.{waiting_of}

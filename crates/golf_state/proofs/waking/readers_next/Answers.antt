@@ -1,4 +1,4 @@
-use Rattle.std.proofs.Common.{sym, ap, ◌∙◌, arith, ℕ, ◌+◌, ◌≤◌, ◌≡◌}
+use Rattle.std.proofs.Common.{sym, ap, ◌∙◌, arith, ◌+◌}
 use Rattle.golf_state.specs.Places.{plain_places}
 use Rattle.golf_state.proofs.PlaceLaws.{place-at}
 use Rattle.golf_state.proofs.Wakings.{readers-more, readers-same}

@@ -1,4 +1,4 @@
-use Rattle.std.proofs.Common.{◌≡◌, ℕ, ◌+◌, ◌<◌, ◌≤◌, List, length, Option, Some, sym, ap, ◌∙◌, arith, slice_set, slice_get}
+use Rattle.std.proofs.Common.{◌≡◌, ◌<◌, List, length, Option, Some, sym, ap, ◌∙◌, arith, slice_set, slice_get}
 use Rattle.std.specs.Prelude.{option_map}
 use Rattle.std.proofs.lemmas.List.{map-set, length-map}
 use Rattle.golf_model.specs.Views.{GoroutineView}
@@ -7,7 +7,7 @@ use Rattle.golf_state.specs.Places.{plain_place, plain_places}
 use Rattle.golf_state.specs.Woken.{waking_of}
 use Rattle.golf_state.proofs.PlaceLaws.{place-at}
 use Rattle.golf_state.proofs.Readiness.{ready-read, ready-set}
-use Rattle.golf_state.proofs.Wakings.{half, half-none, length-half, half-get, half-set, half-all}
+use Rattle.golf_state.proofs.Wakings.{half-none, length-half, half-get, half-set, half-all}
 use Rattle.golf_state.proofs.waking.wake_places.Goals as goal
 
 pub loop-at-init : goal.loop-at-init

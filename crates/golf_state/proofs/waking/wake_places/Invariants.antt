@@ -1,4 +1,4 @@
-use Rattle.std.proofs.Common.{◌≡◌, map}
+use Rattle.std.proofs.Common.{◌≡◌}
 use Rattle.std.specs.Prelude.{option_map}
 use Rattle.golf_model.specs.Waking.{woken_by}
 use Rattle.golf_state.specs.Places.{plain_places}

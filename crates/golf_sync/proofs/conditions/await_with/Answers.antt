@@ -1,25 +1,17 @@
-use Rattle.std.proofs.Common.{◌≡◌, ℕ, ◌+◌, ◌<◌, ◌≤◌, Bool, true, false, ap, ◌∙◌, refl, sym, arith, [], ◌∷◌, ◌++◌, length, drop, List, Option, Some, None}
+use Rattle.std.proofs.Common.{ap, ◌∙◌, arith, [], ◌∷◌, drop, List}
 use Rattle.std.proofs.lemmas.Grind.{common_steps}
-use Rattle.std.specs.Prelude.{is_some, IsSome}
 use Rattle.golf_data.specs.declared.goroutine.Side.{Side}
 use Rattle.golf_data.specs.declared.goroutine.WaitKind.{WaitKind}
-use Rattle.golf_data.specs.declared.value.Value.{Value}
-use Rattle.golf_data.specs.declared.goroutine.Mode.{Mode}
-use Rattle.golf_theory.specs.Maps.{find, put}
 use Rattle.golf_model.specs.State.{State}
-use Rattle.golf_model.specs.Changes.{Change, apply_all, pass_on, behind_first}
-use Rattle.golf_model.specs.Acting.{Actor, stands, standing, blocks, goes, at_mutex, next}
-use Rattle.golf_model.specs.Waiting.{Waiter, bare_wait, first, waiters}
+use Rattle.golf_model.specs.Changes.{Change, apply_all}
+use Rattle.golf_model.specs.Acting.{Actor, standing, blocks, next}
+use Rattle.golf_model.specs.Waiting.{bare_wait, first}
 use Rattle.golf_model.specs.Mutexes.{hands_over}
-use Rattle.golf_model.specs.Conditions.{passes_on, notifies}
 use Rattle.golf_state.specs.Going.{went}
-use Rattle.golf_state.specs.declared.waiters.Waiting.{Waiting}
-use Rattle.golf_state.proofs.Doings.{does-is, apply_all-append, does-same, does-none, actor_of, went-next}
-use Rattle.golf_state.proofs.Serving.{beside-put, beside-same, handed-ready, handed-is, handed-swap, apart-some, served-from, served-blocked}
-use Rattle.golf_state.proofs.Outcomings.{comes-same}
-use Rattle.golf_sync.specs.Objects.{mutex_of}
-use Rattle.golf_sync.specs.Notified.{notified}
-use Rattle.golf_sync.proofs.Notices.{length-put, head-cons, head-none, none-of, some-of, notified-none, notified-some, notified-same, Passed, passed, waiters-count}
+use Rattle.golf_state.specs.Looked.{is_blocked}
+use Rattle.golf_state.proofs.Runnings.{blocked-handed}
+use Rattle.golf_state.proofs.Doings.{does-is, apply_all-append, actor_of}
+use Rattle.golf_state.proofs.Serving.{beside-put, handed-ready, handed-is, handed-swap, apart-some}
 use Rattle.golf_sync.proofs.conditions.await_with.Goals as goal
 
 pub hand_over-requires : goal.hand_over-requires
@@ -47,4 +39,7 @@ returns-clause-ok c =
     ∙ ap (apply_all (hands_over c.args.mutex.0 m)) now
     ∙ handed-swap g s WaitKind.Condition c.args.acting.line waits (standing A (went after 1 [] c.requires.frame)) c.args.mutex.0 m (apart-some g after s c.requires m c.first_waiter-waiting.ensures.blocked) in
     let append = apply_all-append (hands_over c.args.mutex.0 m) (blocks A (next c.requires.frame (drop 1 c.requires.frame.operands)) WaitKind.Condition waits) s in
-    grind (arith, common_steps, e, append)
+    let stays =
+    ap (is_blocked g) (c.hand_over.ensures ∙ handed-is s m c.first_waiter-waiting.result c.first_waiter-waiting.ensures.first c.first_waiter-waiting.ensures.blocked c.block_on.new.state b c.args.mutex.0)
+    ∙ blocked-handed g c.args.mutex.0 m c.block_on.new.state (apart-some g after s c.requires m c.first_waiter-waiting.ensures.blocked) c.in_ok-block_on.ensures.blocked in
+    (grind (arith, common_steps, e, append), stays)

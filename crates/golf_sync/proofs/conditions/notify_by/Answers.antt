@@ -1,25 +1,16 @@
-use Rattle.std.proofs.Common.{◌≡◌, ℕ, ◌+◌, ◌<◌, ◌≤◌, Bool, true, false, ap, ◌∙◌, refl, sym, arith, [], ◌∷◌, ◌++◌, length, drop, List, Option, Some, None}
+use Rattle.std.proofs.Common.{ap, ◌∙◌, sym, arith, ◌∷◌, ◌++◌, drop, List}
 use Rattle.std.proofs.lemmas.Grind.{common_steps}
-use Rattle.std.specs.Prelude.{is_some, IsSome}
 use Rattle.golf_data.specs.declared.goroutine.Side.{Side}
-use Rattle.golf_data.specs.declared.goroutine.WaitKind.{WaitKind}
 use Rattle.golf_data.specs.declared.value.Value.{Value}
-use Rattle.golf_data.specs.declared.goroutine.Mode.{Mode}
-use Rattle.golf_theory.specs.Maps.{find, put}
-use Rattle.golf_model.specs.State.{State}
-use Rattle.golf_model.specs.Changes.{Change, apply_all, pass_on, behind_first}
-use Rattle.golf_model.specs.Acting.{Actor, stands, standing, blocks, goes, at_mutex, next}
-use Rattle.golf_model.specs.Waiting.{Waiter, bare_wait, first, waiters}
-use Rattle.golf_model.specs.Mutexes.{hands_over}
+use Rattle.golf_theory.specs.Maps.{find}
+use Rattle.golf_model.specs.Changes.{Change}
+use Rattle.golf_model.specs.Acting.{Actor, goes, at_mutex}
+use Rattle.golf_model.specs.Waiting.{Waiter, first}
 use Rattle.golf_model.specs.Conditions.{passes_on, notifies}
-use Rattle.golf_state.specs.Going.{went}
-use Rattle.golf_state.specs.declared.waiters.Waiting.{Waiting}
-use Rattle.golf_state.proofs.Doings.{does-is, apply_all-append, does-same, does-none, actor_of, went-next}
-use Rattle.golf_state.proofs.Serving.{beside-put, beside-same, handed-ready, handed-is, handed-swap, apart-some, served-from, served-blocked}
+use Rattle.golf_state.proofs.Doings.{does-same, actor_of}
 use Rattle.golf_state.proofs.Outcomings.{comes-same}
-use Rattle.golf_sync.specs.Objects.{mutex_of}
 use Rattle.golf_sync.specs.Notified.{notified}
-use Rattle.golf_sync.proofs.Notices.{length-put, head-cons, head-none, none-of, some-of, notified-none, notified-some, notified-same, Passed, passed, waiters-count}
+use Rattle.golf_sync.proofs.Notices.{none-of, some-of, notified-none, notified-some}
 use Rattle.golf_sync.proofs.conditions.notify_by.Goals as goal
 
 pub returns-then-is_none : goal.returns-then-is_none

@@ -1,4 +1,4 @@
-use Rattle.std.proofs.Common.{◌≡◌, ℕ, ◌+◌, ◌<◌, ◌≤◌, List, length, get_or, Option, Some, subst, refl, sym, ap, ◌∙◌, rules, arith}
+use Rattle.std.proofs.Common.{◌≡◌, ℕ, ◌+◌, ◌<◌, List, length, Option, Some, subst, refl, sym, ap, ◌∙◌, rules, arith}
 use Rattle.std.proofs.lemmas.List.{length-set}
 use Rattle.golf_theory.specs.Maps.{put, keys}
 use Rattle.golf_theory.proofs.MapKeys.{keys-put}
@@ -15,7 +15,7 @@ use Rattle.golf_state.proofs.PlaceLaws.{present, beyond, found-at, absent-at, se
 use Rattle.golf_theory.proofs.Placing.{Rises-entries}
 use Rattle.golf_model.specs.State.{is_running}
 use Rattle.golf_state.specs.Places.{plain_places}
-use Rattle.golf_state.proofs.Rises.{Rises-keys, Rises-keys_where}
+use Rattle.golf_state.proofs.Rises.{Rises-keys_where}
 use Rattle.golf_state.specs.Roominess.{HasRoom, IsReadyIn}
 use Rattle.golf_data.specs.declared.goroutine.Frame.{Frame}
 use Rattle.golf_state.proofs.Readiness.{ready-set, ready-read}

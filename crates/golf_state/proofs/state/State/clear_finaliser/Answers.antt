@@ -1,4 +1,4 @@
-use Rattle.std.proofs.Common.{◌≡◌, ◌==◌, not, ◌≤◌, sym, ap, ◌∙◌, subst}
+use Rattle.std.proofs.Common.{◌==◌, not, sym, subst}
 use Rattle.golf_theory.specs.Maps.{Rises}
 use Rattle.golf_theory.proofs.MapOrder.{Rises-only}
 use Rattle.golf_state.proofs.state.State.clear_finaliser.Goals as goal

@@ -1,7 +1,6 @@
-use Rattle.std.proofs.Common.{◌≡◌, ℕ, ◌<◌, true, List, length, Option, Some, refl, sym, ap, ◌∙◌, arith}
+use Rattle.std.proofs.Common.{◌≡◌, ℕ, List, Option, Some, refl, sym, ap, ◌∙◌, arith}
 use Rattle.std.proofs.lemmas.List.{length-set}
-use Rattle.golf_data.specs.declared.goroutine.Frame.{Frame}
-use Rattle.golf_model.specs.Views.{FrameView, GoroutineView, frame_views}
+use Rattle.golf_model.specs.Views.{GoroutineView, frame_views}
 use Rattle.golf_model.specs.State.{State}
 use Rattle.golf_model.specs.Changes.{become}
 use Rattle.golf_state.specs.Inside.{plain_state}

@@ -1,10 +1,9 @@
-use Rattle.std.proofs.Common.{◌≡◌, ◌==◌, not, ℕ, ◌≤◌, false, List, [], length, subst, refl, sym, ap, ◌∙◌, arith}
+use Rattle.std.proofs.Common.{◌≡◌, ◌==◌, not, ℕ, false, List, [], subst, refl, sym, ap, ◌∙◌, arith}
 use Rattle.std.proofs.lemmas.List.{length-set}
 use Rattle.golf_theory.specs.Maps.{keys}
 use Rattle.golf_theory.proofs.MapKeys.{keys-only}
 use Rattle.golf_theory.specs.Stored.{without}
 use Rattle.golf_model.specs.Views.{GoroutineView}
-use Rattle.golf_model.specs.State.{State}
 use Rattle.golf_state.specs.Inside.{plain_state}
 use Rattle.golf_state.specs.Places.{plain_entries, running_of}
 use Rattle.golf_state.specs.declared.places.Place.{Place}

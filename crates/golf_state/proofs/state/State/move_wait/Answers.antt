@@ -1,8 +1,8 @@
-use Rattle.std.proofs.Common.{◌≡◌, ℕ, ◌+◌, ◌<◌, ◌≤◌, true, false, List, length, Option, Some, subst, refl, sym, ap, ◌∙◌, arith}
+use Rattle.std.proofs.Common.{◌≡◌, ℕ, ◌+◌, List, Option, Some, subst, refl, sym, ap, ◌∙◌, arith}
 use Rattle.std.proofs.lemmas.List.{length-set}
 use Rattle.golf_data.specs.declared.goroutine.Frame.{Frame}
 use Rattle.golf_data.specs.declared.goroutine.Mode.{Mode}
-use Rattle.golf_theory.specs.Maps.{put, keys}
+use Rattle.golf_theory.specs.Maps.{keys}
 use Rattle.golf_theory.proofs.MapKeys.{keys-put}
 use Rattle.golf_model.specs.Views.{GoroutineView, goroutine_view}
 use Rattle.golf_model.specs.State.{State, is_running}

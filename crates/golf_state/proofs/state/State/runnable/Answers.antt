@@ -1,4 +1,4 @@
-use Rattle.std.proofs.Common.{◌≡◌, Bool, true, not, ◌&&◌, List, sym, ap, ◌∙◌}
+use Rattle.std.proofs.Common.{not, ◌&&◌, List, sym, ap, ◌∙◌}
 use Rattle.golf_base.specs.declared.ids.GoroutineId.{GoroutineId}
 use Rattle.golf_data.specs.declared.goroutine.Queued.{Queued}
 use Rattle.golf_model.specs.State.{not_empty}

@@ -1,4 +1,4 @@
-use Rattle.std.proofs.Common.{◌≡◌, ℕ, List, Some, None, Ok, Err, sym, ap, ◌∙◌, arith, subst}
+use Rattle.std.proofs.Common.{◌≡◌, ℕ, List, None, Ok, Err, sym, ap, ◌∙◌, arith, subst}
 use Rattle.std.specs.Prelude.{Result, OnOk, OnErr}
 use Rattle.golf_base.specs.declared.Memory.{Memory}
 use Rattle.golf_theory.specs.Maps.{Rises, find, insert}

@@ -1,5 +1,4 @@
-use Rattle.std.proofs.Common.{◌≡◌, ℕ, ◌<◌, ◌≤◌, true, false, List, length, Option, Some, refl, sym, ap, ◌∙◌, arith}
-use Rattle.std.specs.Prelude.{map}
+use Rattle.std.proofs.Common.{◌≡◌, ℕ, List, length, Option, Some, sym, ap, ◌∙◌, arith}
 use Rattle.std.proofs.lemmas.List.{length-set, length-map}
 use Rattle.golf_base.specs.declared.ids.GoroutineId.{GoroutineId}
 use Rattle.golf_theory.specs.Maps.{keys}
@@ -9,7 +8,7 @@ use Rattle.golf_theory.proofs.Placing.{Rises-entries}
 use Rattle.golf_model.specs.Views.{GoroutineView, goroutine_view}
 use Rattle.golf_model.specs.State.{State, is_running}
 use Rattle.golf_model.specs.Changes.{become}
-use Rattle.golf_state.specs.Inside.{numbers, plain_state}
+use Rattle.golf_state.specs.Inside.{plain_state}
 use Rattle.golf_state.specs.Looked.{on_goroutine, is_blocked}
 use Rattle.golf_state.specs.Wakening.{wakened}
 use Rattle.golf_state.specs.Places.{plain_place, plain_places, plain_entries, running_of}

@@ -1,11 +1,10 @@
-use Rattle.std.proofs.Common.{◌≡◌, ℕ, ◌<◌, ◌≤◌, List, length, map, Option, refl, sym, ap, ◌∙◌, arith}
+use Rattle.std.proofs.Common.{◌≡◌, List, length, map, Option, sym, ap, ◌∙◌, arith}
 use Rattle.std.specs.Prelude.{option_map}
 use Rattle.std.proofs.lemmas.List.{length-map}
 use Rattle.golf_theory.specs.Maps.{keys, map_values}
 use Rattle.golf_theory.specs.Stored.{entries}
 use Rattle.golf_theory.proofs.MapKeys.{keys-map_values}
 use Rattle.golf_model.specs.Views.{GoroutineView}
-use Rattle.golf_model.specs.State.{State}
 use Rattle.golf_model.specs.Waking.{woken_by}
 use Rattle.golf_state.specs.Inside.{plain_state}
 use Rattle.golf_state.specs.Places.{plain_place, plain_places, plain_entries, running_of}
