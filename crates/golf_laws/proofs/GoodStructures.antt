@@ -37,9 +37,6 @@ module _ (O G : ℕ → Type 0) (s : State) (c : Ground s O G) (a : Actor) (i : 
   ops : Vals O a.frame.operands
   ops = i.frame.operands
 
-  Fine : List Change → Type 0
-  Fine cs = AllGood O G cs
-
   pub good-gets_field : (k : ℕ) → AllGood O G (gets_field a k s)
   good-gets_field k = all-taking_one (AllGood O G) tt O _ a.frame.operands ops
       (λ p rest h r. good-at_reference O G a i _ p h

@@ -33,10 +33,10 @@ module _ (code : Code) (recover : Bool) where
   -- the two runs from these states show the same, with the reports and calls of what comes first
   abbrev Same : State → State → Book → List State → List State → List Queued → List Queued → List Event → Type 0
   Same u t book us ts qs ps es =
-      ((run_by (λ s. real_collect s recover (sets_finalisers code)) code u es).output ≡ (run_by plain_collect code t es).output)
-      × (ending (run_by (λ s. real_collect s recover (sets_finalisers code)) code u es) ≡ ending (run_by plain_collect code t es))
-      × (reports_from recover (sets_finalisers code) book (us ++ stops_by (λ s. real_collect s recover (sets_finalisers code)) code u es) ≡ reports_from recover (sets_finalisers code) book (ts ++ stops_by plain_collect code t es))
-      × (qs ++ calls_by (λ s. real_collect s recover (sets_finalisers code)) code u es ≡ ps ++ calls_by plain_collect code t es)
+      ((run_by Real code u es).output ≡ (run_by plain_collect code t es).output)
+      × (ending (run_by Real code u es) ≡ ending (run_by plain_collect code t es))
+      × (reports_from recover (sets_finalisers code) book (us ++ stops_by Real code u es) ≡ reports_from recover (sets_finalisers code) book (ts ++ stops_by plain_collect code t es))
+      × (qs ++ calls_by Real code u es ≡ ps ++ calls_by plain_collect code t es)
 
   -- what holds at each state of the plain run
   pub record Now (gone : List ℕ) (kept : ℕ → Bool) (t : State) (book : Book) : Type 1 where
@@ -70,7 +70,7 @@ module _ (code : Code) (recover : Bool) where
 
   -- the turn takes the same entry from the queue
   the_call : (gone : List ℕ) (kept : ℕ → Bool) (t : State) (k : ℕ) (z : Sim code gone kept t)
-      → call_in (λ s. real_collect s recover (sets_finalisers code)) code false (cut (stays_by gone) kept t) (Event.Turn k) ≡ call_in plain_collect code false t (Event.Turn k)
+      → call_in Real code false (cut (stays_by gone) kept t) (Event.Turn k) ≡ call_in plain_collect code false t (Event.Turn k)
   the_call gone kept t k z =
       ap (λ (cs : List Change). first_if plain_collect code (any_of (is_taking plain_collect code) cs) t.queue) (same-turn_changes (stays_by gone) kept z.related.O z.G t z.related.closed z.related.within z.within code k)
 
@@ -86,34 +86,34 @@ module _ (code : Code) (recover : Bool) where
         let a : real_collect u recover (sets_finalisers code) ≡ v = real-cut code gone kept t w.numbered w.sim recover in
         let b : report recover (sets_finalisers code) book u ≡ report recover (sets_finalisers code) book t = same-report code gone kept t w.numbered w.sim recover book w.told in
         let c : book_after recover (sets_finalisers code) book u ≡ book_after recover (sets_finalisers code) book t = same-book code gone kept t w.numbered w.sim recover book w.told in (
-          ap (λ (x : State). (run_by (λ s. real_collect s recover (sets_finalisers code)) code x es).output) a ∙ h.0,
-          ap (λ (x : State). ending (run_by (λ s. real_collect s recover (sets_finalisers code)) code x es)) a ∙ h.1,
-          ap (λ (x : State). report recover (sets_finalisers code) book u ∷ reports_from recover (sets_finalisers code) (book_after recover (sets_finalisers code) book u) (stops_by (λ s. real_collect s recover (sets_finalisers code)) code x es)) a
-              ∙ ap (λ (x : Report). x ∷ reports_from recover (sets_finalisers code) (book_after recover (sets_finalisers code) book u) (stops_by (λ s. real_collect s recover (sets_finalisers code)) code v es)) b
-              ∙ ap (λ (x : Book). report recover (sets_finalisers code) book t ∷ reports_from recover (sets_finalisers code) x (stops_by (λ s. real_collect s recover (sets_finalisers code)) code v es)) c
+          ap (λ (x : State). (run_by Real code x es).output) a ∙ h.0,
+          ap (λ (x : State). ending (run_by Real code x es)) a ∙ h.1,
+          ap (λ (x : State). report recover (sets_finalisers code) book u ∷ reports_from recover (sets_finalisers code) (book_after recover (sets_finalisers code) book u) (stops_by Real code x es)) a
+              ∙ ap (λ (x : Report). x ∷ reports_from recover (sets_finalisers code) (book_after recover (sets_finalisers code) book u) (stops_by Real code v es)) b
+              ∙ ap (λ (x : Book). report recover (sets_finalisers code) book t ∷ reports_from recover (sets_finalisers code) x (stops_by Real code v es)) c
               ∙ ap (λ (xs : List Report). report recover (sets_finalisers code) book t ∷ xs) h.2,
-          ap (λ (x : State). qs ++ calls_by (λ s. real_collect s recover (sets_finalisers code)) code x es) a ∙ ap (λ (xs : List Queued). qs ++ xs) h.3,
+          ap (λ (x : State). qs ++ calls_by Real code x es) a ∙ ap (λ (xs : List Queued). qs ++ xs) h.3,
         )
 
     -- after a turn
     turned : (gone : List ℕ) (kept : ℕ → Bool) (t : State) (book : Book) (b : Bool) (qs : List Queued) → Now gone kept t book
-        → Same (collected_if (λ s. real_collect s recover (sets_finalisers code)) code b (cut (stays_by gone) kept t)) (collected_if plain_collect code b t) book (stop_if (λ s. real_collect s recover (sets_finalisers code)) code b (cut (stays_by gone) kept t)) (stop_if plain_collect code b t) qs qs es
+        → Same (collected_if Real code b (cut (stays_by gone) kept t)) (collected_if plain_collect code b t) book (stop_if Real code b (cut (stays_by gone) kept t)) (stop_if plain_collect code b t) qs qs es
     turned gone kept t book true qs w = at_stop gone kept t book qs w
     turned gone kept t book false qs w = let h = ih gone kept t book w in (h.0, h.1, h.2, ap (λ (xs : List Queued). qs ++ xs) h.3)
 
     happened : (gone : List ℕ) (kept : ℕ → Bool) (t : State) (book : Book) (b : Bool) (e : Event) → Now gone kept t book
-        → Same (happens_in (λ s. real_collect s recover (sets_finalisers code)) code b (cut (stays_by gone) kept t) e) (happens_in plain_collect code b t e) book (stop_in (λ s. real_collect s recover (sets_finalisers code)) code b (cut (stays_by gone) kept t) e) (stop_in plain_collect code b t e)
-        (call_in (λ s. real_collect s recover (sets_finalisers code)) code b (cut (stays_by gone) kept t) e) (call_in plain_collect code b t e) es
+        → Same (happens_in Real code b (cut (stays_by gone) kept t) e) (happens_in plain_collect code b t e) book (stop_in Real code b (cut (stays_by gone) kept t) e) (stop_in plain_collect code b t e)
+        (call_in Real code b (cut (stays_by gone) kept t) e) (call_in plain_collect code b t e) es
     happened gone kept t book true e w = ih gone kept t book w
     happened gone kept t book false (Event.Turn k) w =
         let z = w.sim in
         let t' : State = step code t k in
         let qs : List Queued = call_in plain_collect code false t (Event.Turn k) in
-        subst (λ (ps : List Queued). Same (collected_if (λ s. real_collect s recover (sets_finalisers code)) code (wants_collection code (cut (stays_by gone) kept t) k) (step code (cut (stays_by gone) kept t) k)) (collected_if plain_collect code (wants_collection code t k) t') book (stop_if (λ s. real_collect s recover (sets_finalisers code)) code (wants_collection code (cut (stays_by gone) kept t) k) (step code (cut (stays_by gone) kept t) k)) (stop_if plain_collect code (wants_collection code t k) t') ps qs es)
+        subst (λ (ps : List Queued). Same (collected_if Real code (wants_collection code (cut (stays_by gone) kept t) k) (step code (cut (stays_by gone) kept t) k)) (collected_if plain_collect code (wants_collection code t k) t') book (stop_if Real code (wants_collection code (cut (stays_by gone) kept t) k) (step code (cut (stays_by gone) kept t) k)) (stop_if plain_collect code (wants_collection code t k) t') ps qs es)
         (sym (the_call gone kept t k z))
-        (subst (λ (c : Bool). Same (collected_if (λ s. real_collect s recover (sets_finalisers code)) code c (step code (cut (stays_by gone) kept t) k)) (collected_if plain_collect code (wants_collection code t k) t') book (stop_if (λ s. real_collect s recover (sets_finalisers code)) code c (step code (cut (stays_by gone) kept t) k)) (stop_if plain_collect code (wants_collection code t k) t') qs qs es)
+        (subst (λ (c : Bool). Same (collected_if Real code c (step code (cut (stays_by gone) kept t) k)) (collected_if plain_collect code (wants_collection code t k) t') book (stop_if Real code c (step code (cut (stays_by gone) kept t) k)) (stop_if plain_collect code (wants_collection code t k) t') qs qs es)
         (sym (the_wants code gone kept z.G z.within z.agreement t z.related k))
-        (subst (λ (x : State). Same (collected_if (λ s. real_collect s recover (sets_finalisers code)) code (wants_collection code t k) x) (collected_if plain_collect code (wants_collection code t k) t') book (stop_if (λ s. real_collect s recover (sets_finalisers code)) code (wants_collection code t k) x) (stop_if plain_collect code (wants_collection code t k) t') qs qs es)
+        (subst (λ (x : State). Same (collected_if Real code (wants_collection code t k) x) (collected_if plain_collect code (wants_collection code t k) t') book (stop_if Real code (wants_collection code t k) x) (stop_if plain_collect code (wants_collection code t k) t') qs qs es)
         (sym (the_step code gone kept z.G z.within z.agreement t z.related k))
         (turned gone kept t' book (wants_collection code t k) qs (now-step gone kept t book k w))))
     happened gone kept t book false Event.Collect w = at_stop gone kept t book [] w
@@ -122,7 +122,7 @@ module _ (code : Code) (recover : Bool) where
   same-runs [] gone kept t book w = let z = w.sim in (refl, same-ending (stays_by gone) kept z.related.O z.G t z.related.closed z.related.within z.within, refl, refl)
   same-runs (e ∷ es) gone kept t book w =
       let z = w.sim in
-      subst (λ (b : Bool). Same (happens_in (λ s. real_collect s recover (sets_finalisers code)) code b (cut (stays_by gone) kept t) e) (happens_in plain_collect code (has_ended t) t e) book (stop_in (λ s. real_collect s recover (sets_finalisers code)) code b (cut (stays_by gone) kept t) e) (stop_in plain_collect code (has_ended t) t e) (call_in (λ s. real_collect s recover (sets_finalisers code)) code b (cut (stays_by gone) kept t) e) (call_in plain_collect code (has_ended t) t e) es)
+      subst (λ (b : Bool). Same (happens_in Real code b (cut (stays_by gone) kept t) e) (happens_in plain_collect code (has_ended t) t e) book (stop_in Real code b (cut (stays_by gone) kept t) e) (stop_in plain_collect code (has_ended t) t e) (call_in Real code b (cut (stays_by gone) kept t) e) (call_in plain_collect code (has_ended t) t e) es)
       (sym (same-has_ended code gone kept z.G z.within z.agreement t z.related))
       (happened es (same-runs es) gone kept t book (has_ended t) e w)
 

@@ -68,9 +68,6 @@ module _ (code : Code) (a : Actor) (s : State) where
   keep-jumps_unless target = on-one s.objects _ ops (λ x rest. on-some s.objects _ (bool_of x) (λ b. on-choice s.objects b _ _ (keep-goes s.objects a rest) (keep-jumps s.objects a target rest)))
 
   -- structs, slices and new objects
-  keep-makes : (x : Object) (rest : List Value) → AllKeepOrder s.objects (makes a x rest s)
-  keep-makes x rest = (tt, (refl, tt))
-
   keep-gets_field : (i : ℕ) → AllKeepOrder s.objects (gets_field a i s)
   keep-gets_field i = on-one s.objects _ ops (λ p rest. on-reference s.objects a _ p (λ o. on-struct s.objects _ (find o s.objects) (λ fields e. keep-leaves s.objects a rest (slice_get fields i))))
 

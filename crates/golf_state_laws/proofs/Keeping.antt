@@ -133,24 +133,6 @@ woken-wakes Waking.AtZero o r = released_by-wakes (wait_for o Side.Group (waits_
 woken-wakes (Waking.ToReaders below) o r = released_by-wakes (reads_next below o r) r
 
 -- objects of one kind
-kind-mutex : (x : Object) (b : Bool) → SameKind x (Object.Mutex b) → (d : Bool) × (x ≡ Object.Mutex d)
-kind-mutex (Object.Struct fields) b h = let e = h.1 in cc
-kind-mutex (Object.Slice elements) b h = let e = h.1 in cc
-kind-mutex (Object.Chan c) b h = let e = h.1 in cc
-kind-mutex (Object.Mutex d) b h = (d, refl)
-kind-mutex (Object.Group n) b h = let e = h.1 in cc
-kind-mutex (Object.Rw n) b h = let e = h.1 in cc
-kind-mutex (Object.Cond v) b h = cc
-
-kind-condition : (x : Object) (v : Value) → SameKind x (Object.Cond v) → x ≡ Object.Cond v
-kind-condition (Object.Struct fields) v h = let e = h.1 in cc
-kind-condition (Object.Slice elements) v h = let e = h.1 in cc
-kind-condition (Object.Chan c) v h = let e = h.1 in cc
-kind-condition (Object.Mutex d) v h = let e = h.1 in cc
-kind-condition (Object.Group n) v h = let e = h.1 in cc
-kind-condition (Object.Rw n) v h = let e = h.1 in cc
-kind-condition (Object.Cond w) v h = sym h
-
 kind-same : (x : Object) → SameKind x x
 kind-same (Object.Struct fields) = (fields, refl)
 kind-same (Object.Slice elements) = (elements, refl)

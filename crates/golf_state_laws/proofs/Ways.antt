@@ -130,9 +130,6 @@ module _ (xs : List (ℕ × Object)) where
 
   -- the acting goroutine goes on, panics or blocks with a frame
   module _ (a : Actor) where
-    pub keep-stands : (f : FrameView) → AllKeepOrder xs (stands a f)
-    keep-stands f = (refl, tt)
-
     pub keep-goes : (vs : List Value) → AllKeepOrder xs (goes a vs)
     keep-goes vs = (refl, tt)
 

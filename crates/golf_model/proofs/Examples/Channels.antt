@@ -53,6 +53,12 @@ pub first_sender_first : (after offering (lowest 9 ++ (third 3 ++ (second 3 ++ l
 unfolding digits
 first_sender_first = refl
 
+-- what a blocked sender hands over was sent
+pub handed_over_was_sent : (after (code_with [] (function 0 0 1 (new_channel 0 ++ (Instr.Dup ∷ Instr.Go 1 1 ∷ Instr.ReceiveOk ∷ Instr.Print 2 ∷ Instr.Return ∷ [])) ∷ function 1 1 11 (Instr.Load 0 ∷ push 5 ∷ Instr.Send ∷ Instr.Return ∷ []) ∷ []))
+    (lowest 4 ++ (second 3 ++ lowest 2))).output ≡ 53 ∷ 32 ∷ 116 ∷ 114 ∷ 117 ∷ 101 ∷ 10 ∷ []
+unfolding digits
+handed_over_was_sent = refl
+
 -- what was sent before the close is received, and then the zero value with false
 abbrev closed : Code
 closed =

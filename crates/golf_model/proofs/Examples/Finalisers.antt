@@ -155,6 +155,10 @@ pub queued_holds_the_next : (after chained (lowest 8 ++ second 1)).queue ≡ rec
 unfolding reach
 queued_holds_the_next = refl
 
+pub nothing_taken_yet : finaliser_calls chained (start chained) (turns (lowest 8 ++ second 1)) ≡ []
+unfolding reach
+nothing_taken_yet = refl
+
 -- and then it is its turn
 pub next_of_the_chain : (after chained (lowest 10 ++ lowest 1)).queue ≡ record { object = record { 0 = 2 }; function = 1 } ∷ []
 unfolding reach

@@ -1,11 +1,12 @@
 -- Where no rule fits: the turn has no changes, and the state stays.
-use Rattle.std.specs.Prelude.{◌≡◌, List, [], ◌∷◌, ◌++◌, length, map, replicate, Some, None, refl, true}
+use Rattle.std.specs.Prelude.{◌≡◌, List, [], ◌∷◌, ◌++◌, length, map, replicate, Some, None, refl, true, false}
 use Rattle.golf_data.specs.declared.code.Code.{Code}
 use Rattle.golf_data.specs.declared.code.CaseKind.{CaseKind}
 use Rattle.golf_data.specs.declared.code.Instr.{Instr}
 use Rattle.golf_model.specs.State.{State}
 use Rattle.golf_model.specs.Changes.{Change}
 use Rattle.golf_model.specs.Turn.{turn_changes, whose_turn}
+use Rattle.golf_model.specs.Running.{wants_collection}
 use Rattle.golf_model.proofs.Examples.Writing.{number, push, new_channel, straight, case, lowest, after}
 
 abbrev next_changes : Code → State → List Change
@@ -41,11 +42,28 @@ pub mutex_for_group : map (then (Instr.NewMutex ∷ push 1 ∷ [])) (Instr.Group
 mutex_for_group = refl
 
 -- a case of a `select` on what is no channel, also beside one that is ready and beside a `default`
-pub select_on_integer : then (push 1 ∷ []) (Instr.Select (case CaseKind.Take 0 ∷ []) None) ≡ []
-select_on_integer = refl
+abbrev no_channels : List (List Instr)
+no_channels =
+    (push 1 ∷ [])
+    ∷ (Instr.Bool true ∷ [])
+    ∷ (Instr.Text 0 ∷ [])
+    ∷ (Instr.Unit ∷ [])
+    ∷ (Instr.NewStruct 0 ∷ [])
+    ∷ (push 1 ∷ Instr.NewSlice (number 0) ∷ [])
+    ∷ (Instr.NewMutex ∷ [])
+    ∷ (Instr.NewGroup ∷ [])
+    ∷ (Instr.NewRw ∷ [])
+    ∷ (Instr.Nil ∷ Instr.NewCond ∷ [])
+    ∷ []
 
-pub select_on_mutex : then (Instr.NewMutex ∷ []) (Instr.Select (case CaseKind.Take 0 ∷ []) (Some 0)) ≡ []
-select_on_mutex = refl
+pub select_on_no_channel : map (λ before. then before (Instr.Select (case CaseKind.Take 0 ∷ []) None)) no_channels ≡ replicate 10 []
+select_on_no_channel = refl
+
+pub select_or_default : map (λ before. then before (Instr.Select (case CaseKind.TakeOk 0 ∷ []) (Some 0))) no_channels ≡ replicate 10 []
+select_or_default = refl
+
+pub no_channel_alone : map (λ before. then before Instr.Receive) no_channels ≡ replicate 10 []
+no_channel_alone = refl
 
 pub select_beside_ready : then (new_channel 1 ++ (push 5 ∷ Instr.NewGroup ∷ [])) (Instr.Select (case CaseKind.Send 0 ∷ case CaseKind.TakeOk 0 ∷ []) None) ≡ []
 select_beside_ready = refl
@@ -66,3 +84,6 @@ no_such_text = refl
 -- past the end of the code
 pub past_the_end : next_changes (straight []) (after (straight []) []) ≡ []
 past_the_end = refl
+
+pub no_collection_there : wants_collection (straight []) (after (straight []) []) 0 ≡ false
+no_collection_there = refl

@@ -3,6 +3,7 @@ use Rattle.std.specs.Prelude.{◌≡◌, ℕ, List, [], ◌∷◌, length, repli
 use Rattle.golf_theory.specs.Maps.{find}
 use Rattle.golf_data.specs.declared.value.Value.{Value}
 use Rattle.golf_data.specs.declared.value.Object.{Object}
+use Rattle.golf_data.specs.declared.code.CaseKind.{CaseKind}
 use Rattle.golf_data.specs.declared.code.Instr.{Instr}
 use Rattle.golf_data.specs.declared.goroutine.Leaving.{Leaving}
 use Rattle.golf_data.specs.declared.goroutine.Mode.{Mode}
@@ -16,7 +17,7 @@ use Rattle.golf_model.specs.Waiting.{bare_wait}
 use Rattle.golf_model.specs.Waking.{fault}
 use Rattle.golf_model.specs.Changes.{Change}
 use Rattle.golf_model.specs.Turn.{turn_changes, whose_turn, step}
-use Rattle.golf_model.proofs.Examples.Writing.{straight, panicked}
+use Rattle.golf_model.proofs.Examples.Writing.{straight, case, panicked}
 
 -- a frame of function 0 at its first instruction, with these operands
 abbrev frame : List Value → FrameView
@@ -80,6 +81,10 @@ notifying mutex x = written ((1, Object.Cond mutex) ∷ (2, x) ∷ []) (frame (r
 
 abbrev changes_by : Instr → State → List Change
 changes_by i s = turn_changes (straight (i ∷ [])) 0 s (whose_turn s 0)
+
+-- a reference to what is not there
+pub select_on_nothing : changes_by (Instr.Select (case CaseKind.Take 0 ∷ []) (Some 0)) (written [] (frame (reference 1 ∷ []) ∷ []) []) ≡ []
+select_on_nothing = refl
 
 -- who waits on a condition cannot be passed on to nil, nor to what is no mutex
 pub signal_to_nil : changes_by Instr.CondSignal (notifying Value.Nil (Object.Mutex false)) ≡ []
