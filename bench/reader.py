@@ -1,15 +1,16 @@
 #!/usr/bin/env python3
 """bench/reader.py PROGRAM: the time of reading a file, as it grows.
 
-It runs the built program (crates/golf/out/golf-..) on generated files of 10 kB, 100 kB and 1 MB: once on files of the whole
-language laid out as gofmt writes them, which lex and parse and are then refused as no plain files, and once on plain files
-of `fmt.Println(1)`, which are read and run. It prints the best of five runs each, and the time a byte; that of the empty
-file, which is mostly the start of the program, is taken off."""
+It runs the built program (crates/golf/out/golf-..) on generated files of 10 kB, 100 kB and 1 MB: on typed files of the whole
+language laid out as gofmt writes them, on files that declare names in one scope, and on plain files of `fmt.Println(1)`,
+which are read and run. A typed file is read twice. With an unknown import, which breaks the first rule, its tokens and its tree are
+made and no more is done; as it is, it is judged whole, and then refused as no plain file. It prints the best of five runs each, and the time a
+byte; that of the empty file, which is mostly the start of the program, is taken off."""
 import subprocess
 import sys
 import time
 
-HEAD = 'package main\n\nimport (\n\t"fmt"\n\t"sync"\n)\n\ntype Node struct {\n\tc     chan int\n\tnext  *Node\n\tgroup *sync.WaitGroup\n}\n'
+HEAD = 'package main\n\nimport (\n\t"fmt"\n\t"sync"\n)\n\ntype Node struct {\n\tc     chan int\n\tnext  *Node\n\tgroup *sync.WaitGroup\n}\n\nfunc main() {\n}\n'
 FUNCTION = '''
 func (n *Node) serve%d(quit chan int, limit int) int {
 	total := 0 // what came so far
@@ -33,6 +34,8 @@ func (n *Node) serve%d(quit chan int, limit int) int {
 }
 '''
 
+SIZES = (10_000, 100_000, 1_040_000)
+
 
 def whole(size):
     parts, length, k = [HEAD], len(HEAD), 0
@@ -41,6 +44,30 @@ def whole(size):
         length += len(parts[-1])
         k += 1
     return ''.join(parts[:-1])
+
+
+def names(size):
+    """A function that declares names, each by the one before: 10,000 of them are some 290 kB."""
+    parts, length, k = ['package main\n\nfunc main() {\n\tname0 := 0\n'], 0, 1
+    while length < size:
+        parts.append('\tname%d := name%d + %d\n' % (k, k - 1, k))
+        length += len(parts[-1])
+        k += 1
+    return ''.join(parts[:-1]) + '}\n'
+
+
+def globals_of(size):
+    """The same with globals, and a function that uses each."""
+    parts, length, k = ['package main\n\nvar name0 = 0\n'], 0, 1
+    while length < size:
+        parts.append('var name%d = name%d + %d\n\nfunc use%d() int {\n\treturn name%d\n}\n' % (k, k - 1, k, k, k))
+        length += len(parts[-1])
+        k += 1
+    return ''.join(parts[:-1]) + 'func main() {\n}\n'
+
+
+def with_unknown_import(text):
+    return text.replace('package main\n\n', 'package main\nimport "os"\n', 1)
 
 
 def plain(size):
@@ -60,14 +87,24 @@ def seconds(program, text, status, error):
     return best
 
 
+def shown(name, text, taken, empty):
+    print('%-34s %8d bytes: %8.2f ms, %5.0f ns a byte' % (name, len(text), taken * 1e3, (taken - empty) / len(text) * 1e9))
+
+
 def main():
     program = sys.argv[1]
     empty = seconds(program, '', 4, b'refused: line 1: syntax\n')
-    for name, make, status, error in (('whole language', whole, 4, b'refused: not built\n'), ('plain file', plain, 0, b'')):
-        for size in (10_000, 100_000, 1_048_000):
-            text = make(size)
-            taken = seconds(program, text, status, error)
-            print('%-14s %8d bytes: %8.2f ms, %5.0f ns a byte' % (name, len(text), taken * 1e3, (taken - empty) / len(text) * 1e9))
+    files = [('whole language', whole, size) for size in SIZES]
+    files += [('names of one function', names, size) for size in (29_000, 290_000, 1_040_000)]
+    files += [('names of one file', globals_of, size) for size in SIZES]
+    for name, make, size in files:
+        text = make(size)
+        marred = with_unknown_import(text)
+        shown(name + ', tokens and tree', marred, seconds(program, marred, 4, b'refused: line 2: rule 1\n'), empty)
+        shown(name + ', and types', text, seconds(program, text, 4, b'refused: not built\n'), empty)
+    for size in SIZES:
+        text = plain(size)
+        shown('plain file, read and run', text, seconds(program, text, 0, b''), empty)
 
 
 if __name__ == '__main__':

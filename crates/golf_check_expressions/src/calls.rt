@@ -22,28 +22,23 @@ fn arguments_fit(
 ) -> Result<(), TypeFault>
     ensures { Tells result (argument_faults line parameters.now values.now) (λ _. Unit {0}) }
 {
-    match parameters {
-        [] => Ok(()),
-        [p, ps @ ..] => match values {
-            [] => Ok(()),
+    let mut rest = values;
+    for p in parameters {
+        match rest {
+            [] => return Ok(()),
             [v, vs @ ..] => {
                 require(line, 9, assignable(v, p))?;
-                arguments_fit(line, ps, vs)
+                rest = vs;
             }
-        },
+        }
     }
+    Ok(())
 }
 
 fn same_number(parameters: &[Option<GoType>], values: &[Given]) -> bool
     ensures { result ≡ same_number_of parameters.now values.now }
 {
-    match parameters {
-        [] => values.is_empty(),
-        [_, ps @ ..] => match values {
-            [] => false,
-            [_, vs @ ..] => same_number(ps, vs),
-        },
-    }
+    parameters.len() == values.len()
 }
 
 // Rules 9 and 11.
@@ -239,6 +234,7 @@ pub fn call(
             built_in_fits(alloc, line, *built_in, values)?;
             Ok(built_in_result(alloc, *built_in, late_rule(*built_in, values)))
         }
+        Operand::Unknown => Ok(Operand::Outcome(None)),
         _ => Err(TypeFault::At { line, rule: 11 }),
     }
 }

@@ -183,12 +183,12 @@ fn element_fits(
     line: u32,
     file: &FileScope,
     base: Option<Base>,
-    name: &[u8],
+    element: &Element,
     given: &Given,
 ) -> Result<(), TypeFault>
-    ensures { Tells result (put_faults line (field_type_of file.now base name.now) given.now) (λ _. Unit {0}) }
+    ensures { Tells result (put_faults line (field_type_of file.now base element.now.field) given.now) (λ _. Unit {0}) }
 {
-    let field = field_type(alloc, file, base, name)?;
+    let field = field_type(alloc, file, base, element.field.as_slice())?;
     put_fits(line, &field, given)
 }
 
@@ -203,16 +203,17 @@ pub fn all_fit(
 ) -> Result<(), TypeFault>
     ensures { Tells result (all_put_faults line file.now base (map (λ e. e.field) elements.now) values.now) (λ _. Unit {0}) }
 {
-    match elements {
-        [] => Ok(()),
-        [e, es @ ..] => match values {
-            [] => Ok(()),
+    let mut rest = values;
+    for e in elements {
+        match rest {
+            [] => return Ok(()),
             [v, vs @ ..] => {
-                element_fits(alloc, line, file, base, e.field.as_slice(), v)?;
-                all_fit(alloc, line, file, base, es, vs)
+                element_fits(alloc, line, file, base, e, v)?;
+                rest = vs;
             }
-        },
+        }
     }
+    Ok(())
 }
 
 fn is_among(elements: &[Element], name: &[u8]) -> bool

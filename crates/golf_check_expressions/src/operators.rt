@@ -32,6 +32,7 @@ pub fn is_value(line: u32, operand: &Operand) -> Result<(), TypeFault>
         | Operand::Variable(_, _)
         | Operand::Field(_, _)
         | Operand::Element(_)
+        | Operand::Unknown
         | Operand::Nil => Ok(()),
         Operand::Nothing(_) => Err(TypeFault::At { line, rule: 18 }),
         Operand::Blank

@@ -199,7 +199,7 @@ fn value_member(
             [_, ..] => Err(TypeFault::At { line, rule: 8 }),
         },
         Given::Nil => Err(TypeFault::At { line, rule: 8 }),
-        Given::Unknown => Ok(Operand::Value(None)),
+        Given::Unknown => Ok(Operand::Unknown),
     }
 }
 

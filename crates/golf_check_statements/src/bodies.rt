@@ -105,6 +105,7 @@ fn may_be_begun(operand: &Operand) -> bool
         },
         Operand::Function(_) => true,
         Operand::Method(_) => true,
+        Operand::Unknown => true,
         _ => false,
     }
 }

@@ -2,7 +2,7 @@
 
 ghost use Rattle.std.specs.Prelude.{◌≡◌, IfOk};
 ghost use Rattle.golf_types.specs.Faults.{Tells};
-ghost use Rattle.golf_types.specs.Statements.{Moves, kept_local as kept_local_of, kept_faults, is_new as is_new_of, pair_differs as pair_differs_of, pair_faults, one_new as one_new_of, then, pair as pair_of, bool_type, assigned_name as assigned_name_of, put_in_faults, takes_value as takes_value_of, assigned_faults, assigned_pair_faults, assign_name as assign_name_of, assign_pair as assign_pair_of, define_name as define_name_of};
+ghost use Rattle.golf_types.specs.Statements.{Moves, kept_local as kept_local_of, kept_faults, is_new as is_new_of, pair_differs as pair_differs_of, kept_pair_faults, pair_faults, one_new as one_new_of, then, pair as pair_of, bool_type, assigned_name as assigned_name_of, put_in_faults, takes_value as takes_value_of, assigned_faults, assigned_pair_faults, assign_name as assign_name_of, assign_pair as assign_pair_of, define_name as define_name_of};
 
 use crate::simple::is_place;
 use golf_base::Memory;
@@ -74,6 +74,24 @@ fn keep_truth(alloc: Global, line: u32, scope: &Scope, name: &[u8]) -> Result<()
     keep(alloc, line, scope, name, &truth)
 }
 
+// Rule 9 of two names: one name that stands twice is not assigned.
+fn keep_both(
+    alloc: Global,
+    line: u32,
+    scope: &Scope,
+    first: &[u8],
+    second: &[u8],
+    t: &Option<GoType>,
+) -> Result<(), TypeFault>
+    ensures { Tells result (kept_pair_faults line scope.now first.now second.now t.now) (λ _. Unit {0}) }
+{
+    if first == second {
+        return Ok(());
+    }
+    keep(alloc, line, scope, first, t)?;
+    keep_truth(alloc, line, scope, second)
+}
+
 // Rules 2, 9 and 24.
 fn pair_fits(
     alloc: Global,
@@ -86,8 +104,7 @@ fn pair_fits(
     ensures { Tells result (pair_faults line scope.now first.now second.now t.now) (λ _. Unit {0}) }
 {
     require(line, 2, pair_differs(scope, first, second))?;
-    keep(alloc, line, scope, first, t)?;
-    keep_truth(alloc, line, scope, second)?;
+    keep_both(alloc, line, scope, first, second, t)?;
     require(line, 24, is_new(scope, first) || is_new(scope, second))
 }
 

@@ -95,6 +95,7 @@ pub fn is_place(operand: &Operand) -> bool
         Operand::Variable(_, _) => true,
         Operand::Field(_, _) => true,
         Operand::Element(_) => true,
+        Operand::Unknown => true,
         _ => false,
     }
 }

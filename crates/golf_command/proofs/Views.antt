@@ -16,12 +16,12 @@ use Rattle.golf_laws.proofs.MainLaws as Law
 use Rattle.golf_run.specs.HasRun.{sinks, GotFronts, GotWhole as GotBoth}
 use Rattle.golf_data.specs.declared.goroutine.Ending.{Ending}
 use Rattle.golf_model.specs.State.{ending}
-use Rattle.golf_texts.specs.Texts.{lexical_line, syntax_line}
+use Rattle.golf_texts.specs.Texts.{lexical_line, syntax_line, rule_line}
 use Rattle.golf_reader.specs.declared.refusal.Refusal.{Refusal}
 use Rattle.golf_reader.specs.declared.refusal.Refusal.TheVariants as refusals
 use Rattle.golf_reader.specs.Refusals.{IsRefusedBy}
 use Rattle.golf_command.specs.Meaning.{IsRun, Accepts, AreTrue, RefusedBy, Meaning}
-use Rattle.golf_command.specs.Meaning.RefusedBy.{TooLong, Unlexed, Unparsed, Unbuilt}
+use Rattle.golf_command.specs.Meaning.RefusedBy.{TooLong, Unlexed, Unparsed, Untyped, Unbuilt}
 use Rattle.golf_command.specs.Meaning.Meaning.{Misused, Refused, Runs}
 use Rattle.golf_command.specs.Means.{View, seen, Begins, GotFront, IsFront, RunsWhole, IsRefused, FileLine, Cut, HasFailed, HasWanted, FileMeans, UsageMeans, Causes, GotWhole, IsComplete, Tells}
 use Rattle.golf_command.specs.Means.FileLine.{WhenUnread, WhenRefused, WhenWanting}
@@ -343,6 +343,8 @@ module _ (bytes : List ℕ) (within : length bytes ≤ LIMIT) (out : Option (Lis
   refusal-means (refusals.Lexical line byte) r why (inr e) = wants r e
   refusal-means (refusals.Syntax line) r why (inl e) = refused (syntax_line line) r (Unparsed line within why) e
   refusal-means (refusals.Syntax line) r why (inr e) = wants r e
+  refusal-means (refusals.Untyped line rule) r why (inl e) = refused (rule_line line rule) r (Untyped line rule within why) e
+  refusal-means (refusals.Untyped line rule) r why (inr e) = wants r e
   refusal-means refusals.NotBuilt r why (inl e) = refused NOT_BUILT.now r (Unbuilt within why) e
   refusal-means refusals.NotBuilt r why (inr e) = wants r e
   refusal-means refusals.Memory r why (inl e) = wants r e
@@ -364,6 +366,8 @@ module _ (bytes : List ℕ) (within : length bytes ≤ LIMIT) (out : Option (Lis
   refusal-causes (refusals.Lexical line byte) r (inr e) = wanted-causes r e
   refusal-causes (refusals.Syntax line) r (inl e) = refused-causes (syntax_line line) r e
   refusal-causes (refusals.Syntax line) r (inr e) = wanted-causes r e
+  refusal-causes (refusals.Untyped line rule) r (inl e) = refused-causes (rule_line line rule) r e
+  refusal-causes (refusals.Untyped line rule) r (inr e) = wanted-causes r e
   refusal-causes refusals.NotBuilt r (inl e) = refused-causes NOT_BUILT.now r e
   refusal-causes refusals.NotBuilt r (inr e) = wanted-causes r e
   refusal-causes refusals.Memory r (inl e) = wanted-causes r e

@@ -4,7 +4,7 @@ use Rattle.std.specs.Io.KnownBytes.{Appends}
 use Rattle.golf_base.specs.Causes.{Rose, WritesFront}
 use Rattle.golf_reader.specs.declared.refusal.Refusal.{Refusal}
 use Rattle.golf_reader.specs.declared.refusal.Refusal.TheVariants as refusals
-use Rattle.golf_texts.specs.Texts.{lexical_line, syntax_line}
+use Rattle.golf_texts.specs.Texts.{lexical_line, syntax_line, rule_line}
 use Rattle.golf_texts.specs.declared.status.TheConstants.{NOT_BUILT, NO_MEMORY}
 use Rattle.golf_texts.specs.declared.status.Status.{Status}
 use Rattle.golf_texts.specs.declared.status.Status.TheVariants as s
@@ -17,6 +17,7 @@ EndsWith result status line err err' before now = ((result ≡ status) × Append
 abbrev pub refusal_line : Refusal → List ℕ
 refusal_line (refusals.Lexical line byte) = lexical_line line byte
 refusal_line (refusals.Syntax line) = syntax_line line
+refusal_line (refusals.Untyped line rule) = rule_line line rule
 refusal_line refusals.NotBuilt = NOT_BUILT.now
 refusal_line refusals.Memory = NO_MEMORY.now
 
@@ -24,6 +25,7 @@ refusal_line refusals.Memory = NO_MEMORY.now
 abbrev pub refusal_status : Refusal → Status
 refusal_status (refusals.Lexical line byte) = s.Refused
 refusal_status (refusals.Syntax line) = s.Refused
+refusal_status (refusals.Untyped line rule) = s.Refused
 refusal_status refusals.NotBuilt = s.Refused
 refusal_status refusals.Memory = s.Memory
 

@@ -6,3 +6,4 @@ pub mod Order
 pub mod Freeing
 pub mod Finding
 pub mod Writing
+pub mod Flagged

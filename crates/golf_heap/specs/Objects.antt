@@ -27,6 +27,12 @@ kept [] xs = []
 kept (b ∷ bs) [] = []
 kept (b ∷ bs) (x ∷ xs) = cond b (x ∷ kept bs xs) (kept bs xs)
 
+-- the entries whose flag is false
+abbrev pub left_out : {X : Type 0} → List Bool → List X → List X
+left_out [] xs = []
+left_out (b ∷ bs) [] = []
+left_out (b ∷ bs) (x ∷ xs) = cond b (left_out bs xs) (x ∷ left_out bs xs)
+
 -- how many entries stand before the key
 abbrev pub rank : {X : Type 0} → ℕ → List (ℕ × X) → ℕ
 rank k [] = 0

@@ -65,17 +65,17 @@ fn empty(slots: &mut Slab<(u32, Object)>, key: usize)
     slots.remove(key);
 }
 
-/// Keeps the places whose flag is true.
-pub fn close_up(places: &mut Vec<Place>, keep: &[bool])
-    requires { length keep.now ≡ length places.old.items }
-    ensures { places.new.items ≡ kept keep.now places.old.items }
+/// Keeps the items whose flag is true. It takes no memory.
+pub fn close_up<T: Drop>(items: &mut Vec<T>, keep: &[bool])
+    requires { length keep.now ≡ length items.old.items }
+    ensures { items.new.items ≡ kept keep.now items.old.items }
 {
     let mut count = 0;
     for at in 0..keep.len() {
         if keep[at] {
-            places[count] = places[at];
+            items.swap(count, at);
             count += 1;
         }
     }
-    places.truncate(count);
+    items.truncate(count);
 }

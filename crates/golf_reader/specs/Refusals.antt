@@ -4,16 +4,24 @@ use Rattle.golf_data.specs.declared.code.Code.{Code}
 use Rattle.golf_tokens.specs.declared.token.Token.{Token}
 use Rattle.golf_tokens.specs.Lexes.{Lexes, IsFault, line_at}
 use Rattle.golf_grammar.specs.declared.declarations.File.{File}
-use Rattle.golf_grammar.specs.Reads.{ReadsTokens, IsFaultOn}
+use Rattle.golf_grammar.specs.Reads.{Reads as HasTree, ReadsTokens, IsFaultOn}
 use Rattle.golf_plain.specs.declared.plain.Plain.{Plain}
 use Rattle.golf_plain.specs.Plain.{Reads}
 use Rattle.golf_plain.specs.CodeOf.{code_of}
+use Rattle.golf_types.specs.Faults.{IsFirst}
+use Rattle.golf_types.specs.Files.{Broken, Typed}
 use Rattle.golf_reader.specs.declared.refusal.Refusal.{Refusal}
 use Rattle.golf_reader.specs.declared.refusal.Refusal.TheVariants as refusals
 
 -- no plain tree reads the bytes
 abbrev pub IsNotPlain : List ℕ → Type 0
 IsNotPlain bytes = (p : Plain) → Reads bytes p → ⊥
+
+-- the file is typed: a tree that reads its bytes breaks no rule
+pub record IsTyped (bytes : List ℕ) : Type 0 where
+  pub file : File
+  pub tree : HasTree bytes file
+  pub keeps : Typed file
 
 -- the bytes do not lex: the fault is at this byte, on this line
 pub record IsUnlexed (bytes : List ℕ) (line byte : ℕ) : Type 0 where
@@ -29,18 +37,23 @@ pub record IsUnparsed (bytes : List ℕ) (line : ℕ) : Type 0 where
   pub fault : IsFaultOn tokens line
   pub none : IsNotPlain bytes
 
--- a file reads them, and it is no plain file
-pub record IsUnbuilt (bytes : List ℕ) : Type 0 where
-  pub tokens : List Token
+-- a file reads them, and this rule is the first that it breaks, on this line; so no typed file reads them
+pub record IsUntyped (bytes : List ℕ) (line rule : ℕ) : Type 0 where
   pub file : File
-  pub lexes : Lexes bytes tokens
-  pub reads : ReadsTokens tokens file
+  pub tree : HasTree bytes file
+  pub first : IsFirst rule line (Broken file)
+  pub none : IsTyped bytes → ⊥
+
+-- a typed file reads them, and it is no plain file
+pub record IsUnbuilt (bytes : List ℕ) : Type 0 where
+  pub typed : IsTyped bytes
   pub none : IsNotPlain bytes
 
--- the file has this code
+-- the file is typed, and has this code
 pub record HasCode (bytes : List ℕ) (code : Code) : Type 0 where
   pub plain : Plain
   pub reads : Reads bytes plain
+  pub typed : IsTyped bytes
   pub is : code ≡ code_of plain
   pub only : (p : Plain) → Reads bytes p → code ≡ code_of p
 
@@ -48,6 +61,7 @@ pub record HasCode (bytes : List ℕ) (code : Code) : Type 0 where
 abbrev pub IsRefusedBy : List ℕ → Refusal → Type 0
 IsRefusedBy bytes (refusals.Lexical line byte) = IsUnlexed bytes line byte
 IsRefusedBy bytes (refusals.Syntax line) = IsUnparsed bytes line
+IsRefusedBy bytes (refusals.Untyped line rule) = IsUntyped bytes line rule
 IsRefusedBy bytes refusals.NotBuilt = IsUnbuilt bytes
 IsRefusedBy bytes refusals.Memory = Unit {0}
 
@@ -63,19 +77,33 @@ abbrev pub Parses : List Token → Result File Refusal → Type 0
 Parses tokens (Ok file) = ReadsTokens tokens file
 Parses tokens (Err (refusals.Lexical line byte)) = ⊥
 Parses tokens (Err (refusals.Syntax line)) = ((file : File) → ReadsTokens tokens file → ⊥) × IsFaultOn tokens line
+Parses tokens (Err (refusals.Untyped line rule)) = ⊥
 Parses tokens (Err refusals.NotBuilt) = ⊥
 Parses tokens (Err refusals.Memory) = Unit {0}
 
--- a tree that reads the bytes
-pub record HasTree (bytes : List ℕ) (file : File) : Type 0 where
-  pub tokens : List Token
-  pub lexes : Lexes bytes tokens
-  pub reads : ReadsTokens tokens file
-
--- it, or why there is none
+-- the tree that reads the bytes, or why there is none
 abbrev pub WasParsed : List ℕ → Result File Refusal → Type 0
 WasParsed bytes (Ok file) = HasTree bytes file
 WasParsed bytes (Err (refusals.Lexical line byte)) = IsUnlexed bytes line byte
 WasParsed bytes (Err (refusals.Syntax line)) = IsUnparsed bytes line
+WasParsed bytes (Err (refusals.Untyped line rule)) = ⊥
 WasParsed bytes (Err refusals.NotBuilt) = ⊥
 WasParsed bytes (Err refusals.Memory) = Unit {0}
+
+-- the tree keeps the rules, or the first that it breaks
+abbrev pub Keeps : {A : Type 0} → File → Result A Refusal → Type 0
+Keeps file (Ok a) = Typed file
+Keeps file (Err (refusals.Lexical line byte)) = ⊥
+Keeps file (Err (refusals.Syntax line)) = ⊥
+Keeps file (Err (refusals.Untyped line rule)) = IsFirst rule line (Broken file)
+Keeps file (Err refusals.NotBuilt) = ⊥
+Keeps file (Err refusals.Memory) = Unit {0}
+
+-- the file is typed, or why it is not
+abbrev pub WasTyped : {A : Type 0} → List ℕ → Result A Refusal → Type 0
+WasTyped bytes (Ok a) = IsTyped bytes
+WasTyped bytes (Err (refusals.Lexical line byte)) = IsUnlexed bytes line byte
+WasTyped bytes (Err (refusals.Syntax line)) = IsUnparsed bytes line
+WasTyped bytes (Err (refusals.Untyped line rule)) = IsUntyped bytes line rule
+WasTyped bytes (Err refusals.NotBuilt) = ⊥
+WasTyped bytes (Err refusals.Memory) = Unit {0}

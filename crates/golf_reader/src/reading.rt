@@ -1,18 +1,20 @@
-//! Reads a file: its tokens, its tree, its code.
+//! Reads a file: its tokens, its tree, its types, its code.
 
 ghost use Rattle.std.specs.Prelude.{◌≡◌, ◌≤◌, ◌<◌, ◌-◌, ◌^◌, length, IfOk};
 ghost use Rattle.golf_data.specs.Places.{HasPlaces};
 ghost use Rattle.golf_data.specs.Built.{IsBuilt};
-ghost use Rattle.golf_reader.specs.Refusals.{Parses, WasParsed, WasRead};
+ghost use Rattle.golf_reader.specs.Refusals.{Parses, Keeps, WasParsed, WasTyped, WasRead};
 
 use crate::refusal::Refusal;
 use golf_base::List;
+use golf_check::check;
 use golf_data::Code;
 use golf_grammar::File;
 use golf_lex::{LexFault, tokens};
 use golf_plain_reader::read_plain;
 use golf_syntax::{SyntaxFault, parse};
 use golf_tokens::Token;
+use golf_types::TypeFault;
 use std::alloc::Global;
 
 // The tree of the tokens.
@@ -38,6 +40,26 @@ fn parsed(alloc: Global, bytes: &[u8]) -> Result<File, Refusal>
     }
 }
 
+// Whether a tree keeps the rules of types.
+fn judged(alloc: Global, file: File) -> Result<(), Refusal>
+    ensures { Keeps file result }
+{
+    match check(alloc, file) {
+        Ok(_) => Ok(()),
+        Err(TypeFault::At { line, rule }) => Err(Refusal::Untyped { line, rule }),
+        Err(TypeFault::Memory) => Err(Refusal::Memory),
+    }
+}
+
+// Whether the file is typed.
+fn typed(alloc: Global, bytes: &[u8]) -> Result<(), Refusal>
+    requires { length bytes.now < 2 ^ 32 - 1 }
+    ensures { WasTyped bytes.now result }
+{
+    let file = parsed(alloc, bytes)?;
+    judged(alloc, file)
+}
+
 /// The code of a file.
 ///
 /// # Errors
@@ -52,7 +74,7 @@ pub fn read(alloc: Global, bytes: &[u8]) -> Result<Code, Refusal>
     ensures places { IfOk result HasPlaces }
     ensures built { IfOk result IsBuilt }
 {
-    parsed(alloc, bytes)?;
+    typed(alloc, bytes)?;
     match read_plain(alloc, bytes) {
         Ok(Some(code)) => Ok(code),
         Ok(None) => Err(Refusal::NotBuilt),

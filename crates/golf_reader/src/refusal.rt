@@ -12,7 +12,9 @@ pub enum Refusal {
     Lexical { line: u32, byte: u32 },
     /// The tokens are those of no file: the line of the fault.
     Syntax { line: u32 },
-    /// The file parses, but is no plain file.
+    /// The file parses, and breaks a rule of types: the first broken one, and its line.
+    Untyped { line: u32, rule: u32 },
+    /// The file parses and breaks no rule, but is no plain file.
     NotBuilt,
     /// Memory was wanting.
     Memory,

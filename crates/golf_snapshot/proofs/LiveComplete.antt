@@ -1,6 +1,6 @@
 -- What is live is in the least closed set of the live graph.
-use Rattle.std.proofs.Common.{◌≡◌, ℕ, ◌+◌, Bool, true, false, ◌||◌, List, [], ◌∷◌, ◌++◌, length, map, Option, Some, None, ◌⊎◌, inl, inr, refl, sym, ap, subst, ◌∙◌, slice_get, ◌==◌}
-use Rattle.golf_theory.specs.Membership.{In, Every}
+use Rattle.std.proofs.Common.{◌≡◌, ℕ, ◌+◌, Bool, true, false, ◌||◌, List, length, Some, refl, sym, subst, ◌∙◌, slice_get, ◌==◌}
+use Rattle.golf_theory.specs.Membership.{In}
 use Rattle.golf_theory.specs.Maps.{Entry, keys}
 use Rattle.golf_theory.proofs.Lists.{In-left, In-right, In-map, In-slice_get, Every-at}
 use Rattle.golf_theory.proofs.MapEntries.{Entry-keys}
@@ -12,7 +12,7 @@ use Rattle.golf_model.specs.Views.{GoroutineView}
 use Rattle.golf_model.specs.Values.{refs}
 use Rattle.golf_model.specs.Waiting.{waits_of}
 use Rattle.golf_model.specs.State.{State, is_running}
-use Rattle.golf_model.specs.Refs.{object_refs, goroutine_refs, waited, queue_refs, refs_where, has_finaliser}
+use Rattle.golf_model.specs.Refs.{object_refs, goroutine_refs, waited, queue_refs, has_finaliser}
 use Rattle.golf_model.specs.Living.{Node, LiveRoot, LiveStep, Live}
 use Rattle.golf_model.specs.Graph.{Justifies, Least}
 use Rattle.golf_model.specs.Presence.{Present, IsWhole}

@@ -1,12 +1,12 @@
 -- What is in the least closed set of the live graph is live.
-use Rattle.std.proofs.Common.{◌≡◌, ℕ, ◌+◌, ◌<◌, ◌≤◌, Bool, true, false, ◌||◌, List, [], ◌∷◌, ◌++◌, length, map, Option, Some, None, ◌⊎◌, inl, inr, refl, sym, ap, subst, ◌∙◌, arith, slice_get, ◌==◌}
+use Rattle.std.proofs.Common.{◌≡◌, ℕ, ◌+◌, true, false, ◌||◌, List, [], ◌∷◌, length, Option, Some, None, ◌⊎◌, inl, inr, refl, sym, ap, subst, ◌∙◌, arith, slice_get, ◌==◌}
 use Rattle.std.specs.Prelude.{option_map, unwrap_or}
 use Rattle.std.proofs.lemmas.List.{length-map}
-use Rattle.std.proofs.lemmas.Option.{slice_get-map, slice_get_past, slice_get_within}
+use Rattle.std.proofs.lemmas.Option.{slice_get-map, slice_get_within}
 use Rattle.std.proofs.lemmas.Bool.{eqb-true}
 use Rattle.golf_theory.specs.Membership.{In, Every}
 use Rattle.golf_theory.specs.Maps.{Entry, keys}
-use Rattle.golf_theory.proofs.Lists.{In-left, In-right, Every-from, In-cases, In-map_back, In-slice_get, Every-at}
+use Rattle.golf_theory.proofs.Lists.{In-right, Every-from, In-cases, In-map_back, In-slice_get, Every-at}
 use Rattle.golf_theory.proofs.MapEntries.{Entry-keys}
 use Rattle.golf_theory.proofs.Derivations.{Reached-root, Reached-step, Reached-least}
 use Rattle.golf_data.specs.declared.value.Object.{Object}
@@ -15,7 +15,7 @@ use Rattle.golf_model.specs.Views.{GoroutineView}
 use Rattle.golf_model.specs.Values.{value_refs, refs}
 use Rattle.golf_model.specs.Waiting.{waits_of}
 use Rattle.golf_model.specs.State.{State, is_running}
-use Rattle.golf_model.specs.Refs.{object_refs, goroutine_refs, waited, wait_refs, frames_refs, queue_refs, refs_where, has_finaliser}
+use Rattle.golf_model.specs.Refs.{object_refs, goroutine_refs, waited, wait_refs, frames_refs, queue_refs, has_finaliser}
 use Rattle.golf_model.specs.Living.{Node, LiveRoot, LiveStep, Live}
 use Rattle.golf_model.specs.Graph.{Justifies, Least, children_of, sleeper_waits, sleeper_references, sleeper_place}
 use Rattle.golf_model.specs.Presence.{Present, IsWhole}
@@ -25,7 +25,7 @@ use Rattle.golf_model.proofs.Agreeing.{refs_where-sound}
 use Rattle.golf_theory.proofs.Tests.{In-from}
 use Rattle.golf_heap.specs.Objects.{rank}
 use Rattle.golf_snapshot.specs.Parts.{ranks, is_awake, awake_refs, live_roots, sleeping, sleeper_of, live_parts}
-use Rattle.golf_snapshot.proofs.Ranking.{Entry-at, at-rank, rank-at, cases_at, row-at, no_row-at, same-key}
+use Rattle.golf_snapshot.proofs.Ranking.{Entry-at, at-rank, cases_at, row-at, no_row-at, same-key}
 use Rattle.golf_snapshot.proofs.Roots.{awake-sound, sleeping-entry}
 
 -- what a place stands for

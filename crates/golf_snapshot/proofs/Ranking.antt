@@ -1,9 +1,9 @@
 -- Places of entries in a map whose keys rise, and what stands at a place.
-use Rattle.std.proofs.Common.{◌≡◌, ℕ, zero, suc, ◌+◌, ◌-◌, ◌<◌, ◌≤◌, Bool, true, false, cond, List, [], ◌∷◌, ◌++◌, length, map, filter, Option, Some, None, ◌⊎◌, inl, inr, nat_lt, refl, sym, ap, subst, ◌∙◌, arith, slice_get}
+use Rattle.std.proofs.Common.{◌≡◌, ℕ, zero, suc, ◌<◌, ◌≤◌, cond, List, [], ◌∷◌, map, Option, Some, None, ◌⊎◌, inl, inr, refl, sym, ap, ◌∙◌, arith, slice_get}
 use Rattle.std.specs.Prelude.{option_map, unwrap_or}
 use Rattle.std.proofs.lemmas.Bool.{lt-ltb, le-ltb}
-use Rattle.std.proofs.lemmas.Option.{slice_get-map, slice_get_past, slice_get_within}
-use Rattle.golf_theory.specs.Membership.{In, Every}
+use Rattle.std.proofs.lemmas.Option.{slice_get-map}
+use Rattle.golf_theory.specs.Membership.{In}
 use Rattle.golf_theory.specs.Maps.{Entry, Rises}
 use Rattle.golf_theory.proofs.MapFinds.{Entry-above}
 use Rattle.golf_heap.specs.Objects.{rank}

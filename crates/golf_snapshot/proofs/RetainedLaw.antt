@@ -1,6 +1,6 @@
 -- The least closed set of the retained graph is what its sources reach.
-use Rattle.std.proofs.Common.{◌≡◌, ℕ, not, List, [], Option, Some, None, ◌⊎◌, inl, inr, refl, sym, ap, subst, ◌∙◌, slice_get}
-use Rattle.golf_theory.specs.Membership.{In, Every, is_in}
+use Rattle.std.proofs.Common.{◌≡◌, ℕ, not, List, Some, inl, inr, sym, subst, ◌∙◌, slice_get}
+use Rattle.golf_theory.specs.Membership.{In, is_in}
 use Rattle.golf_theory.specs.Maps.{Entry}
 use Rattle.golf_theory.proofs.Lists.{In-cases, In-map, In-map_back, Every-at}
 use Rattle.golf_theory.proofs.Derivations.{Reached-root, Reached-step, Reached-least}
@@ -8,7 +8,7 @@ use Rattle.golf_data.specs.declared.value.Object.{Object}
 use Rattle.golf_model.specs.Values.{refs}
 use Rattle.golf_model.specs.State.{State}
 use Rattle.golf_model.proofs.Agreeing.{refs_where-sound, goroutine_refs_where-sound}
-use Rattle.golf_model.specs.Refs.{object_refs, queue_refs, refs_where, goroutine_refs_where, has_finaliser}
+use Rattle.golf_model.specs.Refs.{object_refs, queue_refs, goroutine_refs_where, has_finaliser}
 use Rattle.golf_model.specs.Reaching.{RefersTo, Reach, sources}
 use Rattle.golf_model.specs.Graph.{Justifies, Least, children_of}
 use Rattle.golf_model.specs.Presence.{Present, IsWhole}
@@ -16,7 +16,7 @@ use Rattle.golf_model.specs.Futures.{Numbered}
 use Rattle.golf_heap.specs.Objects.{rank}
 use Rattle.golf_snapshot.specs.Parts.{ranks, retained_parts}
 use Rattle.golf_snapshot.specs.Stands.{IsObject, RetainedGraph}
-use Rattle.golf_snapshot.proofs.Ranking.{Entry-at, at-rank, rank-at, cases_at, row-at, no_row-at, same-key}
+use Rattle.golf_snapshot.proofs.Ranking.{Entry-at, at-rank, rank-at, row-at, same-key}
 use Rattle.golf_snapshot.proofs.LiveSound.{rank-entry}
 
 module _ (s : State) (n : Numbered s) (w : IsWhole s) (gone : List ℕ) where

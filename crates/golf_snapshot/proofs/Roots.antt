@@ -1,5 +1,5 @@
 -- The references of the goroutines that are live at once.
-use Rattle.std.proofs.Common.{◌≡◌, ℕ, Bool, true, false, not, ◌||◌, List, [], ◌∷◌, ◌++◌, filter, Some, ◌⊎◌, inl, inr, refl, sym, subst, ◌==◌, slice_get}
+use Rattle.std.proofs.Common.{◌≡◌, ℕ, Bool, true, false, not, List, [], ◌∷◌, Some, inl, inr, refl, sym, subst, slice_get}
 use Rattle.golf_theory.specs.Membership.{In}
 use Rattle.golf_theory.specs.Maps.{Entry}
 use Rattle.golf_theory.proofs.Lists.{In-left, In-right, In-cases, In-filter, In-filter_old}

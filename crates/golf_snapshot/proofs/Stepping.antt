@@ -1,16 +1,11 @@
 -- Lists and maps, one place or one number after another.
-use Rattle.std.proofs.Common.{◌≡◌, ℕ, zero, suc, ◌+◌, ◌<◌, ◌≤◌, Bool, true, false, ◌||◌, cond, List, [], ◌∷◌, ◌++◌, length, map, take, get_or, Option, Some, None, ◌==◌, nat_lt, ◌⊎◌, inl, inr, refl, sym, ap, ◌∙◌, subst, arith, slice_get, append_assoc, append-nil}
+use Rattle.std.proofs.Common.{◌≡◌, ℕ, zero, suc, ◌+◌, ◌<◌, ◌≤◌, true, false, ◌||◌, cond, List, [], ◌∷◌, ◌++◌, length, map, take, get_or, Option, Some, ◌==◌, refl, sym, ap, ◌∙◌, arith, slice_get, append_assoc, append-nil}
 use Rattle.std.specs.Prelude.{is_some, option_map}
-use Rattle.std.proofs.lemmas.Bool.{eq-eqb, ne_eqb, lt-ltb, le-ltb, cases_eq, cases_lt}
 use Rattle.std.proofs.lemmas.List.{take_more, take_all, map-append, length-map}
 use Rattle.std.proofs.lemmas.Option.{slice_get-map, slice_get_within, get_or_from_slice_get}
-use Rattle.golf_theory.specs.Membership.{In, is_in}
-use Rattle.golf_theory.specs.Maps.{Entry, find, keys, Rises, IsRising, AllBelow}
-use Rattle.golf_theory.proofs.Lists.{In-cases, In-map, In-get_or}
-use Rattle.golf_theory.proofs.Tests.{is_in-from, is_in-out, not_in-from}
-use Rattle.golf_theory.proofs.MapFinds.{find-Entry, find_below, Entry-below}
-use Rattle.golf_theory.proofs.MapCuts.{only-all}
-use Rattle.golf_theory.proofs.MapOrder.{Rises-less}
+use Rattle.golf_theory.specs.Membership.{is_in}
+use Rattle.golf_theory.specs.Maps.{find, keys, IsRising}
+use Rattle.golf_theory.proofs.MapFinds.{find-Entry}
 use Rattle.golf_base.specs.declared.ids.GoroutineId.{GoroutineId}
 use Rattle.golf_snapshot.specs.Stepping.{entry_at}
 use Rattle.golf_snapshot.proofs.Ranking.{Entry-at}
@@ -85,15 +80,3 @@ module _ {X Y : Type 0} (G : List (ℕ × X) → List Y) (nil : G [] ≡ []) (ap
   pub gather-end : (old all : List Y) (es : List (ℕ × X)) (gs : List GoroutineId) (i : ℕ) → numbers gs ≡ keys es → length gs ≤ i → all ≡ old ++ G (take i es) → all ≡ old ++ G es
   gather-end old all es gs i e l is =
       gather-done old all es i (omega (arith, l, length-map gs (λ (g : GoroutineId). g.0), ap length e, length-map es (λ (z : ℕ × X). z.0))) is
-
--- ---- whether a goroutine is among some
-
-pub among-next : (g : ℕ) (gs : List GoroutineId) (i : ℕ) (d : GoroutineId) → i < length gs → (g ≡ (get_or gs i d).0 → ⊥) → is_in g (numbers (take i gs)) ≡ false → is_in g (numbers (take (i + 1) gs)) ≡ false
-among-next g gs i d l apart none =
-    is_in-out g (numbers (take (i + 1) gs)) (λ h. elim (In-cases g (numbers (take i gs)) ((get_or gs i d).0 ∷ []) (subst (In g) (ap numbers (take_more gs i d l) ∙ map-append (λ x. x.0) (take i gs) (get_or gs i d ∷ [])) h)) [
-      | inl a ↦ not_in-from g (numbers (take i gs)) none a
-      | inr b ↦ elim b [ inl e ↦ apart e | inr z ↦ z ]
-    ])
-
-pub among-found : (g : ℕ) (gs : List GoroutineId) (i : ℕ) (d : GoroutineId) → i < length gs → g ≡ (get_or gs i d).0 → is_in g (numbers gs) ≡ true
-among-found g gs i d l same = is_in-from g (numbers gs) (subst (λ k. In k (numbers gs)) (sym same) (In-map (λ x. x.0) (get_or gs i d) gs (In-get_or gs i d l)))

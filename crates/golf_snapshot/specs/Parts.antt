@@ -1,7 +1,6 @@
 -- The graph of a state: a node for each object that is there, by its rank; a sleeper for each blocked goroutine but goroutine 0.
-use Rattle.std.specs.Prelude.{ℕ, Bool, not, ◌&&◌, ◌||◌, List, [], ◌∷◌, ◌++◌, map, filter, ◌==◌}
+use Rattle.std.specs.Prelude.{ℕ, Bool, not, ◌||◌, List, [], ◌∷◌, ◌++◌, map, filter, ◌==◌}
 use Rattle.golf_base.specs.declared.ids.ObjectId.{ObjectId}
-use Rattle.golf_base.specs.declared.ids.GoroutineId.{GoroutineId}
 use Rattle.golf_data.specs.declared.value.Object.{Object}
 use Rattle.golf_heap.specs.Objects.{rank}
 use Rattle.golf_model.specs.Views.{GoroutineView}

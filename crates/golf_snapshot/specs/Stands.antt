@@ -1,11 +1,11 @@
 -- What the places of a state's graph stand for.
-use Rattle.std.specs.Prelude.{◌≡◌, ℕ, ◌+◌, List, length, Option, Some, slice_get, ◌↔◌}
+use Rattle.std.specs.Prelude.{◌≡◌, ℕ, ◌+◌, List, length, Some, slice_get, ◌↔◌}
 use Rattle.golf_data.specs.declared.value.Object.{Object}
 use Rattle.golf_model.specs.Views.{GoroutineView}
 use Rattle.golf_model.specs.State.{State}
 use Rattle.golf_model.specs.Reaching.{Reach, sources}
 use Rattle.golf_model.specs.Living.{Node, Live}
-use Rattle.golf_model.specs.Graph.{Least, IsInRange}
+use Rattle.golf_model.specs.Graph.{Least}
 use Rattle.golf_model.specs.Presence.{IsWhole}
 use Rattle.golf_model.specs.Futures.{Numbered}
 use Rattle.golf_snapshot.specs.Parts.{sleeping, live_parts, retained_parts}

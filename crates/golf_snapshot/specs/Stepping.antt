@@ -1,5 +1,5 @@
 -- The entries of a map, one number after another.
-use Rattle.std.specs.Prelude.{ℕ, Bool, not, List, [], ◌∷◌, map, filter, Option, Some, None}
+use Rattle.std.specs.Prelude.{ℕ, not, List, [], ◌∷◌, map, filter, Option, Some, None}
 use Rattle.golf_data.specs.declared.value.Object.{Object}
 use Rattle.golf_model.specs.Views.{GoroutineView}
 use Rattle.golf_model.specs.Refs.{object_refs}

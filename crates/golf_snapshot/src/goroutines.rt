@@ -1,6 +1,7 @@
 //! The goroutines: those that are live at once, those that are sources, and the sleepers.
 
 ghost use Rattle.std.specs.Prelude.{◌≡◌, ◌++◌, IfOk, OnOk, map, not};
+ghost use Rattle.std.specs.List.Sorted.{IsNonDecreasing};
 ghost use Rattle.golf_theory.specs.Maps.{find};
 ghost use Rattle.golf_theory.specs.Membership.{is_in};
 ghost use Rattle.golf_model.specs.Views.{goroutine_view};
@@ -8,6 +9,7 @@ ghost use Rattle.golf_model.specs.Refs.{queue_refs, goroutine_refs_where};
 ghost use Rattle.golf_snapshot.specs.Parts.{ranks, is_awake, awake_refs, sleeping, sleeper_of};
 ghost use Rattle.golf_snapshot.specs.Stepping.{entry_at, sleepers_of};
 
+use crate::among::is_among;
 use crate::references::{add_goroutine, add_waited, waits_of};
 use golf_base::{GoroutineId, List, Memory};
 use golf_data::{Goroutine, Mode, Queued};
@@ -38,14 +40,11 @@ pub(crate) fn add_awake(state: &State, nodes: &mut List<u32>) -> Result<(), Memo
     Ok(())
 }
 
-/// Adds the nodes of the goroutines that are not among these.
-pub(crate) fn add_others(
-    state: &State,
-    nodes: &mut List<u32>,
-    gone: &[GoroutineId],
-) -> Result<(), Memory>
+/// Adds the nodes of the goroutines whose numbers are not among these, which rise.
+pub(crate) fn add_others(state: &State, nodes: &mut List<u32>, gone: &[u32]) -> Result<(), Memory>
+    requires { IsNonDecreasing gone.now }
     ensures { OnOk result (nodes.new
-        ≡ nodes.old ++ ranks state.now.objects (goroutine_refs_where (λ g. not (is_in g (map (λ h. h.0) gone.now))) state.now.goroutines)) }
+        ≡ nodes.old ++ ranks state.now.objects (goroutine_refs_where (λ g. not (is_in g gone.now)) state.now.goroutines)) }
 {
     for g in state.goroutines() {
         add_unless_gone(state, nodes, gone, *g)?;
@@ -73,32 +72,22 @@ fn add_if_awake(state: &State, nodes: &mut List<u32>, g: GoroutineId) -> Result<
 fn add_unless_gone(
     state: &State,
     nodes: &mut List<u32>,
-    gone: &[GoroutineId],
+    gone: &[u32],
     g: GoroutineId,
 ) -> Result<(), Memory>
+    requires { IsNonDecreasing gone.now }
     ensures { OnOk result (nodes.new
-        ≡ nodes.old ++ ranks state.now.objects (goroutine_refs_where (λ h. not (is_in h (map (λ h. h.0) gone.now))) (entry_at g.0 (find g.0 state.now.goroutines)))) }
+        ≡ nodes.old ++ ranks state.now.objects (goroutine_refs_where (λ h. not (is_in h gone.now)) (entry_at g.0 (find g.0 state.now.goroutines)))) }
 {
     match state.goroutine(g) {
         Some(goroutine) => {
-            if !is_among(g, gone) {
+            if !is_among(g.0, gone) {
                 add_goroutine(state.heap(), nodes, goroutine)?;
             }
             Ok(())
         }
         None => Ok(()),
     }
-}
-
-fn is_among(g: GoroutineId, goroutines: &[GoroutineId]) -> bool
-    ensures { result ≡ is_in g.0 (map (λ h. h.0) goroutines.now) }
-{
-    for other in goroutines {
-        if g.0 == other.0 {
-            return true;
-        }
-    }
-    false
 }
 
 // Whether a goroutine is live at once: it runs, or is goroutine 0.

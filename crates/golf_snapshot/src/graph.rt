@@ -6,6 +6,7 @@ ghost use Rattle.golf_model.specs.Futures.{Numbered};
 ghost use Rattle.golf_model.specs.Reaching.{sources};
 ghost use Rattle.golf_snapshot.specs.Parts.{ranks, live_roots, parts_of, live_parts, retained_parts};
 
+use crate::among::in_order;
 use crate::goroutines::{add_awake, add_others, add_queue, sleepers};
 use crate::nodes::{add_finalised, children, finalised, numbers};
 use crate::references::add_values;
@@ -30,7 +31,7 @@ pub fn live_graph(alloc: Global, state: &State) -> Result<Graph, Memory>
 }
 
 /// The graph whose least closed set is what is reached without these goroutines: the same nodes,
-/// and no sleeper.
+/// and no sleeper. Each goroutine is looked up in the list by a binary search.
 ///
 /// `Memory` also comes where the nodes are too many for a `u32`.
 pub fn retained_graph(alloc: Global, state: &State, gone: &[GoroutineId]) -> Result<Graph, Memory>
@@ -65,7 +66,8 @@ fn source_nodes(alloc: Global, state: &State, gone: &[GoroutineId]) -> Result<Li
     let mut roots = List::new(alloc);
     add_values(state.heap(), &mut roots, state.globals())?;
     add_queue(state.heap(), &mut roots, state.queue())?;
-    add_others(state, &mut roots, gone)?;
+    let gone = in_order(alloc, gone)?;
+    add_others(state, &mut roots, gone.as_slice())?;
     add_finalised(state, &mut roots)?;
     Ok(roots)
 }

@@ -1,11 +1,13 @@
 //! The dense graph of a state, which a collection marks.
 #![tactic(auto)]
 
+mod among;
 mod goroutines;
 mod graph;
 mod laws;
 mod nodes;
 mod references;
 
+pub use among::{in_order, is_among, outside};
 pub use graph::{live_graph, retained_graph};
 pub use laws::{live_graph_law, retained_graph_law};

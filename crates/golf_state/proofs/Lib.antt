@@ -10,3 +10,7 @@ pub mod Doings
 pub mod Serving
 pub mod Outcomings
 pub mod Runnings
+mod Retaining
+pub mod LinedLaws
+pub mod FirstLaws
+pub mod Guesses

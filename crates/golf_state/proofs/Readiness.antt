@@ -1,13 +1,13 @@
 -- Goroutines that can be woken without memory.
-use Rattle.std.proofs.Common.{◌≡◌, ℕ, zero, suc, ◌-◌, ◌<◌, ◌≤◌, true, false, cond, List, [], ◌∷◌, ◌++◌, length, get_or, Option, Some, None, refl, sym, ap, ◌∙◌, subst, arith, slice_get, slice_set}
+use Rattle.std.proofs.Common.{◌≡◌, ℕ, zero, suc, ◌-◌, ◌<◌, ◌≤◌, true, false, cond, List, [], ◌∷◌, ◌++◌, length, get_or, Some, refl, sym, ap, ◌∙◌, subst, arith, slice_get, slice_set}
+use Rattle.std.specs.Prelude.{remove}
 use Rattle.std.proofs.lemmas.List.{length-set}
 use Rattle.std.proofs.lemmas.Option.{slice_get_read, slice_get_within}
 use Rattle.golf_data.specs.declared.goroutine.Frame.{Frame}
 use Rattle.golf_data.specs.declared.goroutine.Mode.{Mode}
-use Rattle.golf_theory.specs.Stored.{entries}
-use Rattle.golf_model.specs.Views.{GoroutineView, goroutine_view}
+use Rattle.golf_model.specs.Views.{GoroutineView}
 use Rattle.golf_model.specs.State.{is_running}
-use Rattle.golf_state.specs.Places.{plain_place, running_of}
+use Rattle.golf_state.specs.Places.{running_of}
 use Rattle.golf_state.specs.Ready.{IsReady, AllReady}
 use Rattle.golf_state.specs.Roominess.{HasRoom, HasRoomIn, IsReadyIn}
 use Rattle.golf_state.specs.Wakening.{wakened}
@@ -57,18 +57,16 @@ wakened-runs Wakening.Released r = refl
 wakened-runs (Wakening.Served wait given) r = refl
 wakened-runs (Wakening.Unwound x) r = refl
 
--- no more run than there are places
-pub running-few : (k : ℕ) (ps : List (Option GoroutineView)) → length (running_of (entries k ps)) ≤ length ps
-running-few k [] = omega arith
-running-few k (None ∷ ps) = let h = running-few (suc k) ps in omega arith
-running-few k (Some r ∷ ps) = let h = running-few (suc k) ps in elim (is_running r.mode) as (λ b. length (cond b (k ∷ running_of (entries (suc k) ps)) (running_of (entries (suc k) ps))) ≤ suc (length ps)) [
+-- no more run than there are
+pub running-few : (es : List (ℕ × GoroutineView)) → length (running_of es) ≤ length es
+running-few [] = omega arith
+running-few (e ∷ es) = let h = running-few es in elim (is_running e.1.mode) as (λ b. length (cond b (e.0 ∷ running_of es) (running_of es)) ≤ suc (length es)) [
   | true ↦ omega arith
   | false ↦ omega arith
 ]
 
--- the goroutine of a place runs
-pub placed-runs : (p : Place) (v : GoroutineView) → plain_place p ≡ Some v → is_running v.mode ≡ true → is_running p.goroutine.mode ≡ true
-placed-runs p v e h = elim p.present as (λ b. cond b (Some (goroutine_view p.goroutine)) None ≡ Some v → is_running p.goroutine.mode ≡ true) [
-  | true ↦ λ i. let same : goroutine_view p.goroutine ≡ v = cc in ap (λ (r : GoroutineView). is_running r.mode) same ∙ h
-  | false ↦ λ i. cc
-] e
+pub ready-remove : (ps : List Place) (i : ℕ) → AllReady ps → AllReady (remove ps i)
+ready-remove [] zero r = tt
+ready-remove [] (suc i) r = tt
+ready-remove (p ∷ ps) zero r = r.1
+ready-remove (p ∷ ps) (suc i) r = (r.0, ready-remove ps i r.1)

@@ -1,22 +1,22 @@
 -- Who is woken.
 use Rattle.std.proofs.Common.{◌≡◌, ℕ, zero, suc, ◌+◌, ◌<◌, ◌≤◌, Bool, true, false, cond, List, [], ◌∷◌, ◌++◌, length, take, drop, get_or, map, Option, Some, None, ◌==◌, refl, sym, ap, ◌∙◌, arith, drop_of_length-le, slice_get, slice_set, add-one}
 use Rattle.std.specs.Prelude.{option_map, is_some}
-use Rattle.std.proofs.lemmas.List.{drop_more}
+use Rattle.std.proofs.lemmas.List.{drop_more, length-map}
+use Rattle.std.proofs.lemmas.Option.{slice_get_read, slice_get-map}
 use Rattle.golf_data.specs.declared.value.Value.{Value}
 use Rattle.golf_data.specs.declared.goroutine.Mode.{Mode}
 use Rattle.golf_data.specs.declared.goroutine.Side.{Side}
 use Rattle.golf_data.specs.declared.goroutine.Wait.{Wait}
 use Rattle.golf_data.specs.declared.goroutine.WaitKind.{WaitKind}
-use Rattle.golf_theory.specs.Maps.{map_values}
-use Rattle.golf_theory.specs.Stored.{entries}
+use Rattle.golf_theory.specs.Maps.{map_values, Rises}
 use Rattle.golf_model.specs.Views.{FrameView, GoroutineView, goroutine_view}
 use Rattle.golf_model.specs.State.{is_running}
 use Rattle.golf_model.specs.Waiting.{wait_for, wait_on}
-use Rattle.golf_model.specs.Waking.{received, is_below, reads_next, resumed, released_by, closed_on, closed_for, woken_by}
+use Rattle.golf_model.specs.Waking.{Waking as Woken, received, is_below, reads_next, resumed, released_by, closed_on, closed_for, woken_by}
 use Rattle.golf_model.specs.ReadersWriters.{one_if, readers_next}
-use Rattle.golf_state.specs.Looked.{values_of, is_running_in}
-use Rattle.golf_state.specs.Places.{plain_place, running_of}
-use Rattle.golf_state.specs.Woken.{given_for, waking_of, wakening_by_close, wakening_on, released_where, wakening_of, wakened_by, reads_in}
+use Rattle.golf_state.specs.Looked.{values_of}
+use Rattle.golf_state.specs.Places.{plain_entry, plain_entries, running_of}
+use Rattle.golf_state.specs.Woken.{given_for, waking_of, wakening_by_close, wakening_on, released_where, wakening_of, wakened_by, woken_entry}
 use Rattle.golf_state.specs.declared.waking.Waking.{Waking}
 use Rattle.golf_state.specs.declared.frames.Wakening.{Wakening}
 use Rattle.golf_state.specs.declared.places.Place.{Place}
@@ -73,104 +73,88 @@ pub woken-blocked : (m : Mode) (o : ℕ) (how : Waking) (k : Wakening) → waken
 woken-blocked Mode.Running o how k h = cc
 woken-blocked (Mode.Blocked kind line waits ticket) o how k h = refl
 
-pub place-woken : (p q : Place) (o : ℕ) (how : Waking) → q.present ≡ p.present → goroutine_view q.goroutine ≡ wakened_by (wakening_of p.goroutine.mode o how) (goroutine_view p.goroutine)
-    → plain_place q ≡ option_map (woken_by (waking_of how) o) (plain_place p)
+pub place-woken : (p q : Place) (o : ℕ) (how : Waking) → q.number ≡ p.number → goroutine_view q.goroutine ≡ wakened_by (wakening_of p.goroutine.mode o how) (goroutine_view p.goroutine)
+    → plain_entry q ≡ woken_entry (waking_of how) o (plain_entry p)
 place-woken p q o how same is =
-    ap (λ b. cond b (Some (goroutine_view q.goroutine)) None) same
-    ∙ ap (λ (r : GoroutineView). cond p.present (Some r) None) (is ∙ woken-is (goroutine_view p.goroutine).frames p.goroutine.started p.goroutine.mode o how)
-    ∙ elim p.present as (λ b. cond b (Some (woken_by (waking_of how) o (goroutine_view p.goroutine))) None ≡ option_map (woken_by (waking_of how) o) (cond b (Some (goroutine_view p.goroutine)) None)) [ true ↦ refl | false ↦ refl ]
+    let seen = is ∙ woken-is (goroutine_view p.goroutine).frames p.goroutine.started p.goroutine.mode o how in
+    λ i. (same i, seen i)
 
 -- ---- along the places
 
 module _ {X : Type 0} (f : X → X) where
-  -- the first items are changed
-  pub half : ℕ → List X → List X
-  half zero xs = xs
-  half (suc n) [] = []
-  half (suc n) (x ∷ xs) = f x ∷ half n xs
+  -- the items from a place on are changed
+  pub rest : ℕ → List X → List X
+  rest zero xs = map f xs
+  rest (suc n) [] = []
+  rest (suc n) (x ∷ xs) = x ∷ rest n xs
 
-  pub half-none : (xs : List X) → xs ≡ half 0 xs
-  unfolding half
-  half-none xs = refl
+  pub rest-none : (n : ℕ) (xs : List X) → length xs ≤ n → xs ≡ rest n xs
+  unfolding rest
+  rest-none zero [] l = refl
+  rest-none zero (x ∷ xs) l = absurd (omega arith)
+  rest-none (suc n) [] l = refl
+  rest-none (suc n) (x ∷ xs) l = ap (λ (zs : List X). x ∷ zs) (rest-none n xs (omega arith))
 
-  pub length-half : (n : ℕ) (xs : List X) → length (half n xs) ≡ length xs
-  unfolding half
-  length-half zero xs = refl
-  length-half (suc n) [] = refl
-  length-half (suc n) (x ∷ xs) = ap suc (length-half n xs)
+  pub rest-all : (xs : List X) → rest 0 xs ≡ map f xs
+  unfolding rest
+  rest-all xs = refl
 
-  pub half-get : (n : ℕ) (xs : List X) → slice_get (half n xs) n ≡ slice_get xs n
-  unfolding half
-  half-get zero xs = refl
-  half-get (suc n) [] = refl
-  half-get (suc n) (x ∷ xs) = half-get n xs
+  pub length-rest : (n : ℕ) (xs : List X) → length (rest n xs) ≡ length xs
+  unfolding rest
+  length-rest zero xs = length-map xs f
+  length-rest (suc n) [] = refl
+  length-rest (suc n) (x ∷ xs) = ap suc (length-rest n xs)
 
-  half-set_at : (n : ℕ) (xs : List X) (x : X) → slice_get xs n ≡ Some x → slice_set (half n xs) n (f x) ≡ half (suc n) xs
-  unfolding half
-  half-set_at n [] x h = cc
-  half-set_at zero (y ∷ xs) x h = let same : y ≡ x = cc in ap (λ (z : X). f z ∷ xs) (sym same)
-  half-set_at (suc n) (y ∷ xs) x h = ap (λ (zs : List X). f y ∷ zs) (half-set_at n xs x h)
+  pub rest-get : (n : ℕ) (xs : List X) → slice_get (rest (suc n) xs) n ≡ slice_get xs n
+  unfolding rest
+  rest-get n [] = refl
+  rest-get zero (x ∷ xs) = refl
+  rest-get (suc n) (x ∷ xs) = rest-get n xs
 
-  pub half-set : (n : ℕ) (xs : List X) (x : X) → slice_get xs n ≡ Some x → slice_set (half n xs) n (f x) ≡ half (n + 1) xs
-  half-set n xs x h = rw add-one (half-set_at n xs x h)
+  pub rest-set : (n : ℕ) (xs : List X) (x : X) → slice_get xs n ≡ Some x → slice_set (rest (suc n) xs) n (f x) ≡ rest n xs
+  unfolding rest
+  rest-set n [] x h = cc
+  rest-set zero (y ∷ xs) x h = let same : y ≡ x = cc in ap (λ (z : X). f z ∷ map f xs) (sym same)
+  rest-set (suc n) (y ∷ xs) x h = ap (λ (zs : List X). y ∷ zs) (rest-set n xs x h)
 
-  pub half-all : (n : ℕ) (xs : List X) → length xs ≤ n → half n xs ≡ map f xs
-  unfolding half
-  half-all zero [] l = refl
-  half-all zero (x ∷ xs) l = absurd (omega arith)
-  half-all (suc n) [] l = refl
-  half-all (suc n) (x ∷ xs) l = ap (λ (zs : List X). f x ∷ zs) (half-all n xs (omega arith))
+module _ (f : GoroutineView → GoroutineView) where
+  pub Rises-rest : (n j : ℕ) (es : List (ℕ × GoroutineView)) → Rises j es → Rises j (rest (λ (e : ℕ × GoroutineView). (e.0, f e.1)) n es)
+  unfolding rest
+  Rises-rest zero j [] r = tt
+  Rises-rest zero j (e ∷ es) r = (r.0, Rises-rest zero (suc e.0) es r.1)
+  Rises-rest (suc n) j [] r = tt
+  Rises-rest (suc n) j (e ∷ es) r = (r.0, Rises-rest n (suc e.0) es r.1)
 
-pub entries-map : (f : GoroutineView → GoroutineView) (k : ℕ) (ps : List (Option GoroutineView)) → entries k (map (option_map f) ps) ≡ map_values (λ g. f) (entries k ps)
-entries-map f k [] = refl
-entries-map f k (None ∷ ps) = entries-map f (suc k) ps
-entries-map f k (Some r ∷ ps) = ap (λ (es : List (ℕ × GoroutineView)). (k, f r) ∷ es) (entries-map f (suc k) ps)
+pub map-woken : (how : Woken) (o : ℕ) (es : List (ℕ × GoroutineView)) → map (woken_entry how o) es ≡ map_values (λ g. woken_by how o) es
+map-woken how o [] = refl
+map-woken how o (e ∷ es) = ap (λ (fs : List (ℕ × GoroutineView)). woken_entry how o e ∷ fs) (map-woken how o es)
 
 -- ---- those that run, one more place
 
-runs-one : (k : ℕ) (p : Option GoroutineView) → is_running_in p ≡ true → running_of (entries k (p ∷ [])) ≡ k ∷ []
-runs-one k None h = cc
-runs-one k (Some r) h = ap (λ b. cond b (k ∷ []) []) h
-
-runs-none : (k : ℕ) (p : Option GoroutineView) → is_running_in p ≡ false → running_of (entries k (p ∷ [])) ≡ []
-runs-none k None h = refl
-runs-none k (Some r) h = ap (λ b. cond b (k ∷ []) []) h
-
-running-more_at : (k i : ℕ) (ps : List (Option GoroutineView)) (p : Option GoroutineView) → slice_get ps i ≡ Some p → is_running_in p ≡ true
-    → running_of (entries k (take i ps)) ++ (k + i) ∷ [] ≡ running_of (entries k (take (suc i) ps))
-running-more_at k i [] p h t = cc
-running-more_at k zero (q ∷ ps) p h t =
-    let same : q ≡ p = cc in
-    let here : k + 0 ≡ k = omega arith in
-    ap (λ n. n ∷ []) here ∙ sym (ap (λ (r : Option GoroutineView). running_of (entries k (r ∷ []))) same ∙ runs-one k p t)
-running-more_at k (suc i) (None ∷ ps) p h t =
-    let here : k + suc i ≡ suc k + i = omega arith in
-    ap (λ n. running_of (entries (suc k) (take i ps)) ++ n ∷ []) here ∙ running-more_at (suc k) i ps p h t
-running-more_at k (suc i) (Some r ∷ ps) p h t =
-    let here : k + suc i ≡ suc k + i = omega arith in
-    let more = ap (λ n. running_of (entries (suc k) (take i ps)) ++ n ∷ []) here ∙ running-more_at (suc k) i ps p h t in
-    elim (is_running r.mode) as (λ b. cond b (k ∷ running_of (entries (suc k) (take i ps))) (running_of (entries (suc k) (take i ps))) ++ (k + suc i) ∷ [] ≡ cond b (k ∷ running_of (entries (suc k) (take (suc i) ps))) (running_of (entries (suc k) (take (suc i) ps)))) [
-      | true ↦ ap (λ (ns : List ℕ). k ∷ ns) more
+running-more_at : (i : ℕ) (es : List (ℕ × GoroutineView)) (e : ℕ × GoroutineView) → slice_get es i ≡ Some e → is_running e.1.mode ≡ true → running_of (take i es) ++ e.0 ∷ [] ≡ running_of (take (suc i) es)
+running-more_at i [] e h t = cc
+running-more_at zero (f ∷ es) e h t =
+    let same : f ≡ e = cc in
+    sym (ap (λ (d : ℕ × GoroutineView). running_of (d ∷ [])) same ∙ ap (λ b. cond b (e.0 ∷ []) []) t)
+running-more_at (suc i) (f ∷ es) e h t =
+    let more = running-more_at i es e h t in
+    elim (is_running f.1.mode) as (λ b. cond b (f.0 ∷ running_of (take i es)) (running_of (take i es)) ++ e.0 ∷ [] ≡ cond b (f.0 ∷ running_of (take (suc i) es)) (running_of (take (suc i) es))) [
+      | true ↦ ap (λ (ns : List ℕ). f.0 ∷ ns) more
       | false ↦ more
     ]
 
-running-same_at : (k i : ℕ) (ps : List (Option GoroutineView)) (p : Option GoroutineView) → slice_get ps i ≡ Some p → is_running_in p ≡ false
-    → running_of (entries k (take i ps)) ≡ running_of (entries k (take (suc i) ps))
-running-same_at k i [] p h t = cc
-running-same_at k zero (q ∷ ps) p h t = let same : q ≡ p = cc in sym (ap (λ (r : Option GoroutineView). running_of (entries k (r ∷ []))) same ∙ runs-none k p t)
-running-same_at k (suc i) (None ∷ ps) p h t = running-same_at (suc k) i ps p h t
-running-same_at k (suc i) (Some r ∷ ps) p h t =
-    ap (λ (ns : List ℕ). cond (is_running r.mode) (k ∷ ns) ns) (running-same_at (suc k) i ps p h t)
+running-same_at : (i : ℕ) (es : List (ℕ × GoroutineView)) (e : ℕ × GoroutineView) → slice_get es i ≡ Some e → is_running e.1.mode ≡ false → running_of (take i es) ≡ running_of (take (suc i) es)
+running-same_at i [] e h t = cc
+running-same_at zero (f ∷ es) e h t =
+    let same : f ≡ e = cc in
+    sym (ap (λ (d : ℕ × GoroutineView). running_of (d ∷ [])) same ∙ ap (λ b. cond b (e.0 ∷ []) []) t)
+running-same_at (suc i) (f ∷ es) e h t = ap (λ (ns : List ℕ). cond (is_running f.1.mode) (f.0 ∷ ns) ns) (running-same_at i es e h t)
 
-pub running-more : (i : ℕ) (ps : List (Option GoroutineView)) (p : Option GoroutineView) → slice_get ps i ≡ Some p → is_running_in p ≡ true
-    → running_of (entries 0 (take i ps)) ++ i ∷ [] ≡ running_of (entries 0 (take (i + 1) ps))
-running-more i ps p h t =
-    let here : i ≡ 0 + i = omega arith in
-    rw add-one (ap (λ n. running_of (entries 0 (take i ps)) ++ n ∷ []) here ∙ running-more_at 0 i ps p h t)
+pub running-more : (i : ℕ) (es : List (ℕ × GoroutineView)) (e : ℕ × GoroutineView) → slice_get es i ≡ Some e → is_running e.1.mode ≡ true → running_of (take i es) ++ e.0 ∷ [] ≡ running_of (take (i + 1) es)
+running-more i es e h t = rw add-one (running-more_at i es e h t)
 
-pub running-same : (i : ℕ) (ps : List (Option GoroutineView)) (p : Option GoroutineView) → slice_get ps i ≡ Some p → is_running_in p ≡ false
-    → running_of (entries 0 (take i ps)) ≡ running_of (entries 0 (take (i + 1) ps))
-running-same i ps p h t = rw add-one (running-same_at 0 i ps p h t)
+pub running-same : (i : ℕ) (es : List (ℕ × GoroutineView)) (e : ℕ × GoroutineView) → slice_get es i ≡ Some e → is_running e.1.mode ≡ false → running_of (take i es) ≡ running_of (take (i + 1) es)
+running-same i es e h t = rw add-one (running-same_at i es e h t)
 
 -- ---- readers that are served, one more place
 
@@ -183,32 +167,32 @@ none-more None h = refl
 none-more (Some x) h = cc
 
 module _ (below : Option ℕ) (o : ℕ) where
-  reads-one : (k : ℕ) (p : Option GoroutineView) → reads_in below o p ≡ true → readers_next below o (entries k (p ∷ [])) ≡ 1
-  reads-one k None h = cc
-  reads-one k (Some r) h = let e = one-more (reads_next below o r) h in omega arith
+  readers-more_at : (i : ℕ) (es : List (ℕ × GoroutineView)) (e : ℕ × GoroutineView) → slice_get es i ≡ Some e → is_some (reads_next below o e.1) ≡ true
+      → readers_next below o (take i es) + 1 ≡ readers_next below o (take (suc i) es)
+  readers-more_at i [] e h t = cc
+  readers-more_at zero (f ∷ es) e h t =
+      let same : f ≡ e = cc in
+      let one = ap (λ (d : ℕ × GoroutineView). one_if (reads_next below o d.1)) same ∙ one-more (reads_next below o e.1) t in
+      omega (arith, one)
+  readers-more_at (suc i) (f ∷ es) e h t = let more = readers-more_at i es e h t in omega (arith, more)
 
-  reads-none : (k : ℕ) (p : Option GoroutineView) → reads_in below o p ≡ false → readers_next below o (entries k (p ∷ [])) ≡ 0
-  reads-none k None h = refl
-  reads-none k (Some r) h = let e = none-more (reads_next below o r) h in omega arith
+  readers-same_at : (i : ℕ) (es : List (ℕ × GoroutineView)) (e : ℕ × GoroutineView) → slice_get es i ≡ Some e → is_some (reads_next below o e.1) ≡ false
+      → readers_next below o (take i es) ≡ readers_next below o (take (suc i) es)
+  readers-same_at i [] e h t = cc
+  readers-same_at zero (f ∷ es) e h t =
+      let same : f ≡ e = cc in
+      let none = ap (λ (d : ℕ × GoroutineView). one_if (reads_next below o d.1)) same ∙ none-more (reads_next below o e.1) t in
+      omega (arith, none)
+  readers-same_at (suc i) (f ∷ es) e h t = ap (λ n. one_if (reads_next below o f.1) + n) (readers-same_at i es e h t)
 
-  readers-more_at : (k i : ℕ) (ps : List (Option GoroutineView)) (p : Option GoroutineView) → slice_get ps i ≡ Some p → reads_in below o p ≡ true
-      → readers_next below o (entries k (take i ps)) + 1 ≡ readers_next below o (entries k (take (suc i) ps))
-  readers-more_at k i [] p h t = cc
-  readers-more_at k zero (q ∷ ps) p h t = let same : q ≡ p = cc in sym (ap (λ (r : Option GoroutineView). readers_next below o (entries k (r ∷ []))) same ∙ reads-one k p t)
-  readers-more_at k (suc i) (None ∷ ps) p h t = readers-more_at (suc k) i ps p h t
-  readers-more_at k (suc i) (Some r ∷ ps) p h t = let e = readers-more_at (suc k) i ps p h t in omega (arith, e)
+  pub readers-more : (i : ℕ) (es : List (ℕ × GoroutineView)) (e : ℕ × GoroutineView) → slice_get es i ≡ Some e → is_some (reads_next below o e.1) ≡ true
+      → readers_next below o (take i es) + 1 ≡ readers_next below o (take (i + 1) es)
+  readers-more i es e h t = let n : suc i ≡ i + 1 = omega arith in readers-more_at i es e h t ∙ ap (λ n. readers_next below o (take n es)) n
 
-  readers-same_at : (k i : ℕ) (ps : List (Option GoroutineView)) (p : Option GoroutineView) → slice_get ps i ≡ Some p → reads_in below o p ≡ false
-      → readers_next below o (entries k (take i ps)) ≡ readers_next below o (entries k (take (suc i) ps))
-  readers-same_at k i [] p h t = cc
-  readers-same_at k zero (q ∷ ps) p h t = let same : q ≡ p = cc in sym (ap (λ (r : Option GoroutineView). readers_next below o (entries k (r ∷ []))) same ∙ reads-none k p t)
-  readers-same_at k (suc i) (None ∷ ps) p h t = readers-same_at (suc k) i ps p h t
-  readers-same_at k (suc i) (Some r ∷ ps) p h t = ap (λ n. one_if (reads_next below o r) + n) (readers-same_at (suc k) i ps p h t)
+  pub readers-same : (i : ℕ) (es : List (ℕ × GoroutineView)) (e : ℕ × GoroutineView) → slice_get es i ≡ Some e → is_some (reads_next below o e.1) ≡ false
+      → readers_next below o (take i es) ≡ readers_next below o (take (i + 1) es)
+  readers-same i es e h t = let n : suc i ≡ i + 1 = omega arith in readers-same_at i es e h t ∙ ap (λ n. readers_next below o (take n es)) n
 
-  pub readers-more : (i : ℕ) (ps : List (Option GoroutineView)) (p : Option GoroutineView) → slice_get ps i ≡ Some p → reads_in below o p ≡ true
-      → readers_next below o (entries 0 (take i ps)) + 1 ≡ readers_next below o (entries 0 (take (i + 1) ps))
-  readers-more i ps p h t = let e : suc i ≡ i + 1 = omega arith in readers-more_at 0 i ps p h t ∙ ap (λ n. readers_next below o (entries 0 (take n ps))) e
-
-  pub readers-same : (i : ℕ) (ps : List (Option GoroutineView)) (p : Option GoroutineView) → slice_get ps i ≡ Some p → reads_in below o p ≡ false
-      → readers_next below o (entries 0 (take i ps)) ≡ readers_next below o (entries 0 (take (i + 1) ps))
-  readers-same i ps p h t = rw add-one (readers-same_at 0 i ps p h t)
+-- the entry of a place, read
+pub entry-at : (gs : List Place) (i : ℕ) (p : Place) → i < length gs → p ≡ get_or gs i p → slice_get (plain_entries gs) i ≡ Some (plain_entry p)
+entry-at gs i p l h = slice_get-map plain_entry gs i ∙ ap (option_map plain_entry) (slice_get_read gs (length gs) i p refl l h)

@@ -15,3 +15,5 @@ pub mod Ready
 pub mod Woken
 pub mod Outcomes
 pub mod Handing
+pub mod Collecting
+pub mod Lined

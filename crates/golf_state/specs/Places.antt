@@ -1,31 +1,26 @@
 -- How the places of goroutines in memory stand for the map of the definitions.
-use Rattle.std.specs.Prelude.{ℕ, Bool, false, not, cond, ◌&&◌, List, [], ◌∷◌, map, Option, Some, None}
+use Rattle.std.specs.Prelude.{ℕ, Bool, false, not, ◌==◌, ◌&&◌, List, [], ◌∷◌, map}
 use Rattle.golf_theory.specs.Maps.{keys_where}
-use Rattle.golf_theory.specs.Stored.{entries}
 use Rattle.golf_model.specs.Views.{GoroutineView, goroutine_view}
 use Rattle.golf_model.specs.State.{is_running, not_empty}
 use Rattle.golf_state.specs.declared.places.Place.{Place}
 
--- the goroutine at a place, where one is present
-abbrev pub plain_place : Place → Option GoroutineView
-plain_place p = cond p.present (Some (goroutine_view p.goroutine)) None
+abbrev pub plain_entry : Place → ℕ × GoroutineView
+plain_entry p = (p.number, goroutine_view p.goroutine)
 
-abbrev pub plain_places : List Place → List (Option GoroutineView)
-plain_places ps = map plain_place ps
-
--- the goroutines by number, from 0
+-- the goroutines by number
 abbrev pub plain_entries : List Place → List (ℕ × GoroutineView)
-plain_entries ps = entries 0 (plain_places ps)
+plain_entries ps = map plain_entry ps
 
 -- the numbers of the goroutines that are not blocked, in rising order
 abbrev pub running_of : List (ℕ × GoroutineView) → List ℕ
 running_of gs = keys_where (λ g r. is_running r.mode) gs
 
--- there, running, and without a frame
-abbrev pub is_idle : Option GoroutineView → Bool
-is_idle None = false
-is_idle (Some r) = is_running r.mode && not (not_empty r.frames)
+-- running, and without a frame
+abbrev pub is_idle : GoroutineView → Bool
+is_idle r = is_running r.mode && not (not_empty r.frames)
 
-abbrev pub starts_idle : List (Option GoroutineView) → Bool
+-- the first one is goroutine 0, and idle
+abbrev pub starts_idle : List (ℕ × GoroutineView) → Bool
 starts_idle [] = false
-starts_idle (p ∷ ps) = is_idle p
+starts_idle (e ∷ es) = (e.0 == 0) && is_idle e.1

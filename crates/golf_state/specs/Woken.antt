@@ -1,5 +1,5 @@
 -- Who is woken, by what the state is told.
-use Rattle.std.specs.Prelude.{ℕ, Bool, false, cond, Option, Some, None, is_some}
+use Rattle.std.specs.Prelude.{ℕ, Bool, false, cond, Option, Some, None}
 use Rattle.golf_data.specs.declared.value.Value.{Value}
 use Rattle.golf_data.specs.declared.goroutine.Mode.{Mode}
 use Rattle.golf_data.specs.declared.goroutine.PanicKind.{PanicKind}
@@ -7,7 +7,7 @@ use Rattle.golf_data.specs.declared.goroutine.Side.{Side}
 use Rattle.golf_data.specs.declared.goroutine.Wait.{Wait}
 use Rattle.golf_model.specs.Views.{GoroutineView}
 use Rattle.golf_model.specs.Waiting.{wait_for, wait_on}
-use Rattle.golf_model.specs.Waking.{Waking as Woken, fault, is_below, reads_next}
+use Rattle.golf_model.specs.Waking.{Waking as Woken, fault, is_below, woken_by}
 use Rattle.golf_state.specs.declared.frames.Given.{Given}
 use Rattle.golf_state.specs.declared.frames.Wakening.{Wakening}
 use Rattle.golf_state.specs.declared.waking.Waking.{Waking}
@@ -49,7 +49,6 @@ abbrev pub wakened_by : Option Wakening → GoroutineView → GoroutineView
 wakened_by None r = r
 wakened_by (Some how) r = wakened how r
 
--- whether a goroutine that is there is a reader that is served
-abbrev pub reads_in : Option ℕ → ℕ → Option GoroutineView → Bool
-reads_in below o None = false
-reads_in below o (Some r) = is_some (reads_next below o r)
+-- a goroutine, where all who wait on the object are woken
+abbrev pub woken_entry : Woken → ℕ → ℕ × GoroutineView → ℕ × GoroutineView
+woken_entry how o e = (e.0, woken_by how o e.1)

@@ -9,6 +9,7 @@
 
 mod acting;
 mod calls;
+mod collecting;
 mod finalisers;
 mod frames;
 mod operands;

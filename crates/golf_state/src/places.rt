@@ -1,35 +1,88 @@
 //! Goroutines by number.
 
-ghost use Rattle.std.specs.Prelude.{◌≡◌, ◌≤◌, ◌^◌, ◌&&◌, not, Some, map, length, vec_capacity};
-ghost use Rattle.golf_state.specs.Looked.{is_running_in};
-ghost use Rattle.golf_state.specs.Places.{is_idle, starts_idle, plain_place, plain_places, plain_entries, running_of};
+ghost use Rattle.std.specs.Prelude.{◌≡◌, ◌≤◌, ◌==◌, ◌&&◌, not, map, length, vec_capacity, IfSome, option_map};
+ghost use Rattle.golf_theory.specs.Maps.{find, only, Rises};
+ghost use Rattle.golf_heap.specs.Objects.{rank};
 ghost use Rattle.golf_data.specs.declared.goroutine.Mode.{Mode};
-ghost use Rattle.golf_model.specs.Views.{frame_views};
+ghost use Rattle.golf_model.specs.Views.{frame_views, goroutine_view};
 ghost use Rattle.golf_model.specs.State.{is_running, not_empty};
+ghost use Rattle.golf_state.specs.Places.{is_idle, starts_idle, plain_entry, plain_entries, running_of};
+ghost use Rattle.golf_state.specs.Ready.{AllReady};
 
 use crate::rising::add_last;
 use golf_base::{GoroutineId, List};
 use golf_data::{Frame, Goroutine, Mode, Queued};
 
-/// The place of a goroutine, by its number. That of one which has ended is empty: it stands there
-/// without a frame, and is not present.
+/// A goroutine and its number.
 #[derive(Debug, Drop)]
 pub struct Place {
+    pub number: u32,
     pub goroutine: Goroutine,
-    pub present: bool,
 }
 
-/// The place of a goroutine that runs with these frames, started at this line.
-pub fn place_of(frames: List<Frame>, started: u32) -> Place
-    ensures { plain_place result ≡ Some (record { frames = frame_views frames; mode = Mode.Running; started = started }) }
+/// The place of a goroutine of this number that runs with these frames, started at this line.
+pub fn place_of(number: u32, frames: List<Frame>, started: u32) -> Place
+    ensures { plain_entry result ≡ (number, record { frames = frame_views frames; mode = Mode.Running; started = started }) }
 {
     Place {
+        number,
         goroutine: Goroutine {
             frames,
             mode: Mode::Running,
             started,
         },
-        present: true,
+    }
+}
+
+// The number as an index, where its goroutine stands there, as it does where no goroutine before it
+// has ended.
+fn index_of(places: &[Place], number: u32) -> Option<usize>
+    requires { Rises 0 (plain_entries places.now) }
+    ensures { IfSome result (λ at. at ≡ rank number (plain_entries places.now)) }
+{
+    let place = places.get(number as usize)?;
+    if place.number == number {
+        Some(number as usize)
+    } else {
+        None
+    }
+}
+
+/// How many places have a smaller number.
+pub fn rank_of(places: &[Place], number: u32) -> usize
+    requires { Rises 0 (plain_entries places.now) }
+    ensures { result ≡ rank number (plain_entries places.now) }
+{
+    match index_of(places, number) {
+        Some(at) => at,
+        None => places.partition_point(|place| place.number < number),
+    }
+}
+
+/// The goroutine of this number, where it is there.
+pub fn goroutine_at(places: &[Place], number: u32) -> Option<&Goroutine>
+    requires { Rises 0 (plain_entries places.now) }
+    ensures { option_map (λ r. goroutine_view r.now) result ≡ find number (plain_entries places.now) }
+{
+    let place = places.get(rank_of(places, number))?;
+    if place.number == number {
+        Some(&place.goroutine)
+    } else {
+        None
+    }
+}
+
+/// The goroutine of this number is gone, where it is there.
+pub fn take_place(places: &mut Vec<Place>, number: u32)
+    requires rises { Rises 0 (plain_entries places.old.items) }
+    requires ready { AllReady places.old.items }
+    ensures others { plain_entries places.new.items ≡ only (λ h. not (h == number)) (plain_entries places.old.items) }
+    ensures ready { AllReady places.new.items }
+    ensures fewer { length places.new.items ≤ length places.old.items }
+{
+    let at = rank_of(places.as_slice(), number);
+    if at < places.len() && places[at].number == number {
+        places.remove(at);
     }
 }
 
@@ -43,26 +96,26 @@ pub fn is_running(mode: &Mode) -> bool
     }
 }
 
-// Whether a goroutine is there, runs and has no frame.
-fn is_idle(place: &Place) -> bool
-    ensures { result ≡ is_idle (plain_place place.now) }
+// Whether a goroutine runs and has no frame.
+fn is_idle(goroutine: &Goroutine) -> bool
+    ensures { result ≡ is_idle (goroutine_view goroutine.now) }
 {
-    place.present && is_running(&place.goroutine.mode) && place.goroutine.frames.is_empty()
+    is_running(&goroutine.mode) && goroutine.frames.is_empty()
 }
 
 /// Whether goroutine 0 is there, runs and has no frame.
 pub fn starts_idle(places: &[Place]) -> bool
-    ensures { result ≡ starts_idle (plain_places places.now) }
+    ensures { result ≡ starts_idle (plain_entries places.now) }
 {
     match places.first() {
-        Some(place) => is_idle(place),
+        Some(place) => place.number == 0 && is_idle(&place.goroutine),
         None => false,
     }
 }
 
 /// Whether goroutine 0 has nothing to do: it runs without a frame, and the queue is empty.
 pub fn has_no_call(queue: &[Queued], places: &[Place]) -> bool
-    ensures { result ≡ (not (not_empty queue.now) && starts_idle (plain_places places.now)) }
+    ensures { result ≡ (not (not_empty queue.now) && starts_idle (plain_entries places.now)) }
 {
     match queue {
         [] => starts_idle(places),
@@ -70,24 +123,16 @@ pub fn has_no_call(queue: &[Queued], places: &[Place]) -> bool
     }
 }
 
-// Whether a goroutine is there and runs.
-fn runs(place: &Place) -> bool
-    ensures { result ≡ is_running_in (plain_place place.now) }
-{
-    place.present && is_running(&place.goroutine.mode)
-}
-
 /// The goroutines that run, in rising order, in a list that has room for all.
 pub fn list_running(places: &[Place], running: &mut Vec<GoroutineId>)
-    requires few { length places.now ≤ 2 ^ 32 }
-    requires room { length places.now ≤ vec_capacity running.old }
+    requires { length places.now ≤ vec_capacity running.old }
     ensures running { map (λ g. g.0) running.new.items ≡ running_of (plain_entries places.now) }
     ensures room { vec_capacity running.old ≤ vec_capacity running.new }
 {
     running.clear();
-    for (number, place) in places.iter().enumerate() {
-        if runs(place) {
-            add_last(running, GoroutineId(number as u32));
+    for place in places {
+        if is_running(&place.goroutine.mode) {
+            add_last(running, GoroutineId(place.number));
         }
     }
 }

@@ -9,22 +9,27 @@ ghost use Rattle.golf_model.specs.State.{runnable, ending, is_running};
 ghost use Rattle.golf_model.specs.Waiting.{first};
 ghost use Rattle.golf_model.specs.ReadersWriters.{readers_next};
 ghost use Rattle.golf_model.specs.Changes.{make, replace, set_global, become, block, spawn, leave, finish, set_finaliser, clear_finaliser, take_queued, output as printed, wake_all, pass_on, move_wait};
-ghost use Rattle.golf_heap.specs.Objects.{NumberedObjects};
+ghost use Rattle.golf_heap.specs.Objects.{NumberedObjects, kept};
+ghost use Rattle.golf_state.specs.Collecting.{queue_unflagged};
 ghost use Rattle.golf_state.specs.Looked.{looked_up, runs, is_blocked, frames_of, reframed, advanced, opening};
 ghost use Rattle.golf_state.specs.Wakening.{wakened};
 ghost use Rattle.golf_state.specs.Woken.{waking_of};
 ghost use Rattle.golf_state.specs.Waited.{waiting_of};
 ghost use Rattle.golf_state.specs.Lending.{LendsFrames, LendsObject};
 
+use crate::collecting::unflagged_finalisers;
 use crate::finalisers::{function_of, put_finaliser, take_finaliser};
 use crate::frames::{Wakening, settle, waken};
-use crate::places::{Place, has_no_call, list_running, place_of};
+use crate::places::{
+    Place, goroutine_at, has_no_call, list_running, place_of, rank_of, take_place,
+};
 use crate::rising::{add_last, behind_first, leave_out, put_in};
-use crate::waiters::{Waiting, first_waiter, move_mode};
+use crate::waiters::{Waiting, first_in_line, first_waiter, forget, leave_lines, move_mode};
 use crate::waking::{Waking, readers_next, wake_places};
 use golf_base::{GoroutineId, List, Memory, ObjectId};
 use golf_data::{Ending, Frame, Goroutine, Mode, Object, Queued, Side, Value, Wait, WaitKind};
-use golf_heap::Heap;
+use golf_heap::{Heap, close_up};
+use golf_queues::{Queues, is_queued};
 use std::alloc::Global;
 use std::marker::Model;
 
@@ -38,8 +43,10 @@ pub struct State {
     heap: Heap,
     finalisers: Vec<(u32, u32)>,
     goroutines: Vec<Place>,
+    next_goroutine: u32,
     present: Vec<GoroutineId>,
     running: Vec<GoroutineId>,
+    waiting: Queues,
     queue: List<Queued>,
     output: List<u8>,
     next_ticket: u64,
@@ -66,8 +73,10 @@ impl Drop for State {
             heap: _,
             finalisers: _,
             goroutines: _,
+            next_goroutine: _,
             present: _,
             running: _,
+            waiting: _,
             queue: _,
             output: _,
             next_ticket: _,
@@ -88,8 +97,8 @@ impl State {
         ensures { IfOk result (λ state. state ≡ opening globals (frame_views frames) line) }
     {
         let mut goroutines = Vec::new(alloc);
-        goroutines.push(place_of(List::new(alloc), 0))?;
-        goroutines.push(place_of(frames, line))?;
+        goroutines.push(place_of(0, List::new(alloc), 0))?;
+        goroutines.push(place_of(1, frames, line))?;
         let present = first_two(alloc)?;
         let running = first_two(alloc)?;
         Ok(State {
@@ -97,8 +106,10 @@ impl State {
             heap: Heap::new(alloc),
             finalisers: Vec::new(alloc),
             goroutines,
+            next_goroutine: 2,
             present,
             running,
+            waiting: Queues::new(alloc),
             queue: List::new(alloc),
             output: List::new(alloc),
             next_ticket: 0,
@@ -143,12 +154,7 @@ impl State {
     pub fn goroutine(&self, g: GoroutineId) -> Option<&Goroutine>
         ensures { option_map (λ r. goroutine_view r.now) result ≡ find g.0 self.now.goroutines }
     {
-        let place = self.goroutines.get(g.0 as usize)?;
-        if place.present {
-            Some(&place.goroutine)
-        } else {
-            None
-        }
+        goroutine_at(self.goroutines.as_slice(), g.0)
     }
 
     /// The innermost frame of a goroutine, where it has not ended and has one.
@@ -203,12 +209,12 @@ impl State {
         ensures blocked { IfSome (first object.0 side self.now.goroutines) (λ w. find w.number self.now.goroutines ≡ Some w.goroutine × is_running w.goroutine.mode ≡ false) }
         ensures rises { IsRising self.now.goroutines }
     {
-        first_waiter(
-            self.goroutines.as_slice(),
-            self.present.as_slice(),
-            object,
-            side,
-        )
+        let places = self.goroutines.as_slice();
+        if is_queued(side) {
+            first_in_line(self.waiting.line(object, side), places, object, side)
+        } else {
+            first_waiter(places, object, side)
+        }
     }
 
     /// What was printed and not cleared.
@@ -256,7 +262,8 @@ impl State {
         ensures same { reframed g.0 (frames_of g.0 self.old) self.old ≡ self.old }
         ensures rises { IsRising self.old.goroutines }
     {
-        let place = &mut self.goroutines[g.0 as usize];
+        let at = rank_of(self.goroutines.as_slice(), g.0);
+        let place = &mut self.goroutines[at];
         let goroutine = &mut place.goroutine;
         &mut goroutine.frames
     }
@@ -267,14 +274,16 @@ impl State {
         ensures ok { OnOk result (self.new ≡ spawn (record { frames = frame_views frames; mode = Mode.Running; started = line }) self.old) }
         ensures err { OnErr result (self.new ≡ self.old) }
     {
-        let number = u32::try_from(self.goroutines.len()).map_err(|_| Memory)?;
+        let number = self.next_goroutine;
+        let next = number.checked_add(1).ok_or(Memory)?;
         let g = GoroutineId(number);
         let more = (self.goroutines.len() + 2).saturating_sub(self.running.len());
         self.present.reserve(1)?;
         self.running.reserve(more)?;
-        self.goroutines.push(place_of(frames, line))?;
+        self.goroutines.push(place_of(number, frames, line))?;
         add_last(&mut self.present, g);
         add_last(&mut self.running, g);
+        self.next_goroutine = next;
         Ok(g)
     }
 
@@ -294,21 +303,24 @@ impl State {
     {
         let ticket = self.next_ticket;
         let next_ticket = ticket.checked_add(1).ok_or(Memory)?;
-        if g.0 as usize >= self.goroutines.len() {
+        let at = rank_of(self.goroutines.as_slice(), g.0);
+        if at >= self.goroutines.len() {
             return Ok(());
         }
-        let place = &mut self.goroutines[g.0 as usize];
-        if place.present {
-            settle(&mut place.goroutine, after, taken)?;
-            place.goroutine.mode = Mode::Blocked {
-                kind,
-                line,
-                waits,
-                ticket,
-            };
-            leave_out(&mut self.running, g);
-            self.next_ticket = next_ticket;
+        if self.goroutines[at].number != g.0 {
+            return Ok(());
         }
+        self.waiting.enter_all(waits.as_slice(), ticket, g)?;
+        let place = &mut self.goroutines[at];
+        settle(&mut place.goroutine, after, taken)?;
+        place.goroutine.mode = Mode::Blocked {
+            kind,
+            line,
+            waits,
+            ticket,
+        };
+        leave_out(&mut self.running, g);
+        self.next_ticket = next_ticket;
         Ok(())
     }
 
@@ -317,7 +329,9 @@ impl State {
         requires { is_blocked g.0 self.old ≡ true }
         ensures { self.new ≡ looked_up g.0 (λ r. become g.0 (wakened how r)) self.old }
     {
-        let place = &mut self.goroutines[g.0 as usize];
+        let at = rank_of(self.goroutines.as_slice(), g.0);
+        let place = &mut self.goroutines[at];
+        leave_lines(&mut self.waiting, g, &place.goroutine.mode);
         waken(&mut place.goroutine, how);
         put_in(&mut self.running, g);
     }
@@ -326,7 +340,7 @@ impl State {
     pub fn wake_all(&mut self, object: ObjectId, how: Waking)
         ensures { self.new ≡ wake_all object.0 (waking_of how) self.old }
     {
-        wake_places(&mut self.goroutines, object, how);
+        wake_places(&mut self.goroutines, &mut self.waiting, object, how);
         list_running(self.goroutines.as_slice(), &mut self.running);
     }
 
@@ -345,7 +359,9 @@ impl State {
         requires tickets { self.old.next_ticket + 1 < 2 ^ 64 }
         ensures { self.new ≡ looked_up g.0 (move_wait g.0 mutex.0) self.old }
     {
-        let place = &mut self.goroutines[g.0 as usize];
+        let at = rank_of(self.goroutines.as_slice(), g.0);
+        let place = &mut self.goroutines[at];
+        leave_lines(&mut self.waiting, g, &place.goroutine.mode);
         move_mode(&mut place.goroutine.mode, mutex, self.next_ticket);
         self.next_ticket += 1;
     }
@@ -386,13 +402,8 @@ impl State {
     pub fn leave(&mut self, g: GoroutineId)
         ensures { self.new ≡ leave g.0 self.old }
     {
-        if g.0 as usize >= self.goroutines.len() {
-            return;
-        }
-        let alloc = *self.goroutines.allocator();
-        let place = &mut self.goroutines[g.0 as usize];
-        place.goroutine.frames = List::new(alloc);
-        place.present = false;
+        forget(&mut self.waiting, self.goroutines.as_slice(), g);
+        take_place(&mut self.goroutines, g.0);
         leave_out(&mut self.present, g);
         leave_out(&mut self.running, g);
     }
@@ -445,6 +456,50 @@ impl State {
     {
         self.leave(g);
     }
+
+    // ---- collections
+
+    /// The finalisers in rising order of their objects' numbers, each with its function.
+    pub fn finalisers(&self) -> &[(u32, u32)]
+        ensures { result.now ≡ self.now.finalisers }
+    {
+        self.finalisers.as_slice()
+    }
+
+    /// The finalisers whose flag is false are set no longer, and are to be called, behind those
+    /// that are to be called already.
+    pub fn queue_finalisers(&mut self, stays: &[bool]) -> Result<(), Memory>
+        requires { length stays.now ≡ length self.old.finalisers }
+        ensures ok { OnOk result (self.new ≡ queue_unflagged stays.now self.old) }
+        ensures err { OnErr result (self.new ≡ self.old) }
+    {
+        let alloc = *self.finalisers.allocator();
+        let entries = unflagged_finalisers(alloc, self.finalisers.as_slice(), stays)?;
+        self.queue.extend_from_slice(entries.as_slice())?;
+        close_up(&mut self.finalisers, stays);
+        Ok(())
+    }
+
+    /// Frees the objects whose flag, in rising order of number, is false. It takes no memory.
+    pub fn retain_objects(&mut self, keep: &[bool])
+        requires { length keep.now ≡ length self.old.objects }
+        ensures { self.new ≡ record self.old { objects = kept keep.now self.old.objects } }
+    {
+        self.heap.retain(keep);
+    }
+
+    /// Takes away the goroutines whose flag, in rising order of number, is false. It takes no
+    /// memory.
+    pub fn retain_goroutines(&mut self, stays: &[bool])
+        requires { length stays.now ≡ length self.old.goroutines }
+        ensures { self.new ≡ record self.old { goroutines = kept stays.now self.old.goroutines } }
+    {
+        close_up(&mut self.goroutines, stays);
+        close_up(&mut self.present, stays);
+        list_running(self.goroutines.as_slice(), &mut self.running);
+    }
+
+    // ---- the queue and the output
 
     /// Takes the next finaliser that is to be called.
     pub fn take_queued(&mut self) -> Option<Queued>

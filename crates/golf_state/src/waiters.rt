@@ -1,16 +1,19 @@
 //! Who waits on an object.
 
-ghost use Rattle.std.specs.Prelude.{◌≡◌, ◌==◌, ◌&&◌, Some, None, map, option_map};
-ghost use Rattle.golf_theory.specs.Maps.{keys};
-ghost use Rattle.golf_model.specs.Waiting.{side_number, same_side, wait_for, first};
+ghost use Rattle.std.specs.Prelude.{◌≡◌, ◌==◌, ℕ, ◌&&◌, Some, None, option_map};
+ghost use Rattle.golf_theory.specs.Maps.{Rises};
+ghost use Rattle.golf_model.specs.Waiting.{same_side, wait_for, waiter_of, first};
 ghost use Rattle.golf_model.specs.Changes.{moved, moved_waits};
-ghost use Rattle.golf_state.specs.Places.{plain_place, plain_entries};
-ghost use Rattle.golf_state.specs.Seen.{sooner, waiter_in};
+ghost use Rattle.golf_state.specs.Places.{plain_entry, plain_entries};
+ghost use Rattle.golf_queues.specs.Lines.{held, Keeps, AreBelow};
+ghost use Rattle.golf_state.specs.Seen.{sooner, waiter_by};
+ghost use Rattle.golf_state.specs.Lined.{HasWaiters};
 ghost use Rattle.golf_state.specs.Waited.{waiting_of};
 
-use crate::places::Place;
+use crate::places::{Place, goroutine_at};
 use golf_base::{GoroutineId, List, ObjectId};
 use golf_data::{Mode, Side, Wait};
+use golf_queues::{Queues, TicketHolder, side_number};
 
 /// A goroutine that waits on an object, with its first fitting wait, and its ticket.
 #[derive(Clone, Copy, Debug, PartialEq, Eq)]
@@ -18,20 +21,6 @@ pub struct Waiting {
     pub goroutine: GoroutineId,
     pub wait: Wait,
     pub ticket: u64,
-}
-
-fn side_number(side: Side) -> u8
-    ensures { result ≡ side_number side }
-{
-    match side {
-        Side::Receive => 0,
-        Side::Send => 1,
-        Side::Lock => 2,
-        Side::Group => 3,
-        Side::Read => 4,
-        Side::Write => 5,
-        Side::Cond => 6,
-    }
 }
 
 // Whether a wait is for the object, with that side.
@@ -54,18 +43,15 @@ pub fn wait_for(waits: &[Wait], object: ObjectId, side: Side) -> Option<Wait>
 }
 
 // The goroutine at a place as a waiter, where it is one.
-fn waiter_in(g: GoroutineId, place: &Place, object: ObjectId, side: Side) -> Option<Waiting>
-    ensures { result ≡ option_map waiting_of (waiter_in g.0 object.0 side (plain_place place.now)) }
+fn waiter_in(place: &Place, object: ObjectId, side: Side) -> Option<Waiting>
+    ensures { result ≡ option_map waiting_of (waiter_of object.0 side (plain_entry place.now)) }
 {
-    if !place.present {
-        return None;
-    }
     match &place.goroutine.mode {
         Mode::Running => None,
         Mode::Blocked { waits, ticket, .. } => {
             let wait = wait_for(waits.as_slice(), object, side)?;
             Some(Waiting {
-                goroutine: g,
+                goroutine: GoroutineId(place.number),
                 wait,
                 ticket: *ticket,
             })
@@ -84,23 +70,85 @@ fn sooner(seen: Option<Waiting>, other: Option<Waiting>) -> Option<Waiting>
     }
 }
 
-/// The goroutine of least ticket among those that wait on the object with that side. It looks at
-/// the goroutines that are present.
-pub fn first_waiter(
+// One who stood in line, where it waits there with that ticket.
+fn waiter_by(
+    holder: TicketHolder,
     places: &[Place],
-    present: &[GoroutineId],
     object: ObjectId,
     side: Side,
 ) -> Option<Waiting>
-    requires { map (λ g. g.0) present.now ≡ keys (plain_entries places.now) }
+    requires { Rises 0 (plain_entries places.now) }
+    ensures { result ≡ option_map waiting_of (waiter_by object.0 side (plain_entries places.now) (holder.ticket, holder.goroutine.0)) }
+{
+    match &goroutine_at(places, holder.goroutine.0)?.mode {
+        Mode::Running => None,
+        Mode::Blocked { waits, ticket, .. } => {
+            if *ticket != holder.ticket {
+                return None;
+            }
+            let wait = wait_for(waits.as_slice(), object, side)?;
+            Some(Waiting {
+                goroutine: holder.goroutine,
+                wait,
+                ticket: *ticket,
+            })
+        }
+    }
+}
+
+/// The goroutine of least ticket among those that wait on the object with that side, by the line of
+/// those who stood there.
+pub fn first_in_line(
+    line: &[TicketHolder],
+    places: &[Place],
+    object: ObjectId,
+    side: Side,
+) -> Option<Waiting>
+    requires rises { Rises 0 (plain_entries places.now) }
+    requires order { Rises 0 (held line.now) }
+    requires all { HasWaiters object.0 side (plain_entries places.now) (held line.now) }
+    ensures { result ≡ option_map waiting_of (first object.0 side (plain_entries places.now)) }
+{
+    for holder in line {
+        match waiter_by(*holder, places, object, side) {
+            Some(waiting) => return Some(waiting),
+            None => {}
+        }
+    }
+    None
+}
+
+/// A goroutine in this mode is gone from the lines that it stands in.
+pub fn leave_lines(queues: &mut Queues, g: GoroutineId, mode: &Mode)
+    ensures kept { Keeps (λ t h. h ≡ g.0 → ⊥) queues.old queues.new }
+    ensures below { (n : ℕ) → AreBelow n queues.old → AreBelow n queues.new }
+{
+    match mode {
+        Mode::Running => {}
+        Mode::Blocked { waits, ticket, .. } => queues.leave_all(waits.as_slice(), *ticket, g),
+    }
+}
+
+/// The goroutine of this number is gone from the lines that it stands in, where it is there.
+pub fn forget(queues: &mut Queues, places: &[Place], g: GoroutineId)
+    requires { Rises 0 (plain_entries places.now) }
+    ensures kept { Keeps (λ t h. h ≡ g.0 → ⊥) queues.old queues.new }
+    ensures below { (n : ℕ) → AreBelow n queues.old → AreBelow n queues.new }
+{
+    if let Some(goroutine) = goroutine_at(places, g.0) {
+        leave_lines(queues, g, &goroutine.mode);
+    }
+}
+
+/// The goroutine of least ticket among those that wait on the object with that side. It looks at all.
+pub fn first_waiter(places: &[Place], object: ObjectId, side: Side) -> Option<Waiting>
     ensures { result ≡ option_map waiting_of (first object.0 side (plain_entries places.now)) }
 {
     let mut best = None;
-    let mut at = present.len();
+    let mut at = places.len();
     while at > 0 {
         at -= 1;
-        let g = present[at];
-        best = sooner(waiter_in(g, &places[g.0 as usize], object, side), best);
+        best = sooner(waiter_in(&places[at], object, side), best);
     }
     best
 }

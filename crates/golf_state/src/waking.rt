@@ -1,19 +1,24 @@
 //! Who is woken where all who wait on an object are.
 
-ghost use Rattle.std.specs.Prelude.{◌≡◌, ◌≤◌, length, map, option_map};
+ghost use Rattle.std.specs.Prelude.{◌≡◌, ◌≤◌, ℕ, length, map, is_some};
+ghost use Rattle.golf_theory.specs.Maps.{Rises};
+ghost use Rattle.golf_queues.specs.Lines.{AreBelow};
+ghost use Rattle.golf_state.specs.Lined.{AreLined, Goes};
+ghost use Rattle.golf_model.specs.Views.{goroutine_view};
 ghost use Rattle.golf_model.specs.Waiting.{wait_on};
-ghost use Rattle.golf_model.specs.Waking.{received, is_below, woken_by};
+ghost use Rattle.golf_model.specs.Waking.{received, is_below, reads_next};
 ghost use Rattle.golf_model.specs.ReadersWriters.{readers_next};
 ghost use Rattle.golf_state.specs.Looked.{values_of};
-ghost use Rattle.golf_state.specs.Places.{plain_place, plain_places, plain_entries};
+ghost use Rattle.golf_state.specs.Places.{plain_entry, plain_entries};
 ghost use Rattle.golf_state.specs.Ready.{IsReady, AllReady};
-ghost use Rattle.golf_state.specs.Woken.{given_for, waking_of, wakening_by_close, released_where, wakening_of, reads_in};
+ghost use Rattle.golf_state.specs.Woken.{given_for, waking_of, wakening_by_close, released_where, wakening_of, woken_entry};
 
 use crate::frames::{Given, Wakening, waken};
 use crate::places::Place;
-use crate::waiters::wait_for;
-use golf_base::ObjectId;
-use golf_data::{Fault, Mode, PanicKind, Side, Value, Wait};
+use crate::waiters::{leave_lines, wait_for};
+use golf_base::{GoroutineId, ObjectId};
+use golf_data::{Fault, Goroutine, Mode, PanicKind, Side, Value, Wait};
+use golf_queues::Queues;
 
 /// What wakes all goroutines that wait on an object.
 #[derive(Clone, Copy, Debug, PartialEq, Eq)]
@@ -117,36 +122,42 @@ fn wakening_of(mode: &Mode, object: ObjectId, how: Waking) -> Option<Wakening>
     }
 }
 
-// The goroutine at a place goes on, where it is woken.
-fn wake_place(place: &mut Place, object: ObjectId, how: Waking)
+// The goroutine at a place goes on, where it is woken, and is gone from its lines.
+fn wake_place(place: &mut Place, queues: &mut Queues, object: ObjectId, how: Waking)
     requires { IsReady place.old }
-    ensures place { plain_place place.new ≡ option_map (woken_by (waking_of how) object.0) (plain_place place.old) }
+    ensures entry { plain_entry place.new ≡ woken_entry (waking_of how) object.0 (plain_entry place.old) }
     ensures ready { IsReady place.new }
+    ensures goes { Goes (plain_entry place.old) (plain_entry place.new) queues.old queues.new }
+    ensures below { (n : ℕ) → AreBelow n queues.old → AreBelow n queues.new }
 {
     if let Some(wakening) = wakening_of(&place.goroutine.mode, object, how) {
+        leave_lines(queues, GoroutineId(place.number), &place.goroutine.mode);
         waken(&mut place.goroutine, wakening);
     }
 }
 
 /// All goroutines that are woken go on. It takes no memory.
-pub fn wake_places(places: &mut Vec<Place>, object: ObjectId, how: Waking)
-    requires { AllReady places.old.items }
-    ensures places { plain_places places.new.items ≡ map (option_map (woken_by (waking_of how) object.0)) (plain_places places.old.items) }
+///
+/// The last ones come first: they mostly stand last in line, from where they are gone at no cost.
+pub fn wake_places(places: &mut Vec<Place>, queues: &mut Queues, object: ObjectId, how: Waking)
+    requires rises { Rises 0 (plain_entries places.old.items) }
+    requires ready { AllReady places.old.items }
+    ensures places { plain_entries places.new.items ≡ map (woken_entry (waking_of how) object.0) (plain_entries places.old.items) }
     ensures ready { AllReady places.new.items }
+    ensures lined { (n : ℕ) → AreLined (plain_entries places.old.items) queues.old n → AreLined (plain_entries places.new.items) queues.new n }
 {
-    for at in 0..places.len() {
-        wake_place(&mut places[at], object, how);
+    let mut at = places.len();
+    while at > 0 {
+        at -= 1;
+        wake_place(&mut places[at], queues, object, how);
     }
 }
 
-// Whether the goroutine at a place is a reader that is served.
-fn reads_next(place: &Place, object: ObjectId, below: Option<u64>) -> bool
-    ensures { result ≡ reads_in below object.0 (plain_place place.now) }
+// Whether the goroutine is a reader that is served.
+fn reads_next(goroutine: &Goroutine, object: ObjectId, below: Option<u64>) -> bool
+    ensures { result ≡ is_some (reads_next below object.0 (goroutine_view goroutine.now)) }
 {
-    if !place.present {
-        return false;
-    }
-    match &place.goroutine.mode {
+    match &goroutine.mode {
         Mode::Running => false,
         Mode::Blocked { waits, ticket, .. } => {
             is_below(below, *ticket) && wait_for(waits.as_slice(), object, Side::Read).is_some()
@@ -161,7 +172,7 @@ pub fn readers_next(places: &[Place], object: ObjectId, below: Option<u64>) -> u
 {
     let mut count = 0;
     for place in places {
-        if reads_next(place, object, below) {
+        if reads_next(&place.goroutine, object, below) {
             count += 1;
         }
     }

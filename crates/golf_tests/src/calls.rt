@@ -4,6 +4,7 @@ use golf_base::{Gate, List, MemorySink, MemorySource, OpenGate};
 use golf_command::golf;
 use golf_texts::Status;
 use std::alloc::Global;
+use std::process::Abort;
 use std::test::Fail;
 use std::thread::Threads;
 
@@ -69,4 +70,28 @@ pub fn run_with<R: AllocGlobal + Threads + Sync, G: Gate + Sync>(
 /// A run of this file.
 pub fn run<R: AllocGlobal + Threads + Sync>(rt: &R, file: &[u8]) -> Result<Outcome, Fail> {
     run_with(rt, file, &OpenGate)
+}
+
+/// A run of this file ends so, and writes this output and these errors.
+pub fn expect<R: AllocGlobal + Abort + Threads + Sync>(
+    rt: &R,
+    file: &[u8],
+    status: Status,
+    out: &[u8],
+    err: &[u8],
+) -> Result<(), Fail> {
+    let got = run(rt, file)?;
+    assert!(rt; got.status == status);
+    assert_eq!(rt; got.out.written(), out);
+    assert_eq!(rt; got.err.written(), err);
+    Ok(())
+}
+
+/// A run of this file is refused with this line.
+pub fn refuses<R: AllocGlobal + Abort + Threads + Sync>(
+    rt: &R,
+    file: &[u8],
+    line: &[u8],
+) -> Result<(), Fail> {
+    expect(rt, file, Status::Refused, b"", line)
 }

@@ -122,3 +122,7 @@ lexical_line line byte = codes "refused: line " ++ (decimal line ++ (codes ": by
 -- the line of a file whose tokens no tree prints; the fault is on this line
 abbrev pub syntax_line : ℕ → List ℕ
 syntax_line line = codes "refused: line " ++ (decimal line ++ codes ": syntax\n")
+
+-- the line of a file that breaks this rule first, on this line
+abbrev pub rule_line : ℕ → ℕ → List ℕ
+rule_line line rule = codes "refused: line " ++ (decimal line ++ (codes ": rule " ++ (decimal rule ++ codes "\n")))

@@ -1,7 +1,7 @@
 //! The lines of files that are not accepted.
 
 ghost use Rattle.std.specs.Prelude.{◌≡◌, IfOk};
-ghost use Rattle.golf_texts.specs.Texts.{lexical_line as lexical_bytes, syntax_line as syntax_bytes};
+ghost use Rattle.golf_texts.specs.Texts.{lexical_line as lexical_bytes, syntax_line as syntax_bytes, rule_line as rule_bytes};
 
 use golf_base::{List, Memory};
 use std::alloc::Global;
@@ -29,5 +29,13 @@ pub fn syntax_line(alloc: Global, line: u32) -> Result<List<u8>, Memory>
     ensures { IfOk result (λ text. text ≡ syntax_bytes line) }
 {
     let text = format!(in alloc; "refused: line {line}: syntax\n")?;
+    list_of(alloc, text.as_bytes())
+}
+
+/// The line of a file that breaks a rule: `line` counts from 1.
+pub fn rule_line(alloc: Global, line: u32, rule: u32) -> Result<List<u8>, Memory>
+    ensures { IfOk result (λ text. text ≡ rule_bytes line rule) }
+{
+    let text = format!(in alloc; "refused: line {line}: rule {rule}\n")?;
     list_of(alloc, text.as_bytes())
 }

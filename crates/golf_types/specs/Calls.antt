@@ -1,5 +1,5 @@
 -- What calls ask of their arguments, and what they give (Go specification, "Calls", "Built-in functions"; packages fmt, runtime and sync).
-use Rattle.std.specs.Prelude.{ℕ, Bool, true, false, ◌&&◌, ◌||◌, cond, is_none, List, [], ◌∷◌, ◌++◌, map, flat_map, slice_get, Option, Some, None}
+use Rattle.std.specs.Prelude.{ℕ, ◌==◌, Bool, true, false, ◌&&◌, ◌||◌, cond, is_none, List, [], ◌∷◌, ◌++◌, length, map, flat_map, slice_get, Option, Some, None}
 use Rattle.std.specs.List.{list_all}
 use Rattle.golf_types.specs.declared.types.Layer.{Layer}
 use Rattle.golf_types.specs.declared.types.Base.{Base}
@@ -24,9 +24,7 @@ argument_faults l (p ∷ ps) (v ∷ vs) = broken l 9 (assignable v p) ++ argumen
 argument_faults l _ _ = []
 
 abbrev pub same_number : List (Option GoType) → List Given → Bool
-same_number [] [] = true
-same_number (p ∷ ps) (v ∷ vs) = same_number ps vs
-same_number _ _ = false
+same_number ps vs = length ps == length vs
 
 -- Rules 9 and 11 of these parameters.
 abbrev pub parameter_faults : ℕ → List (Option GoType) → List Given → List Fault
@@ -141,11 +139,12 @@ is_steady _ = false
 abbrev pub steady_faults : ℕ → Option ℕ → Operand → List Fault
 steady_faults l initialises f = broken l 7 (is_none initialises || is_steady f)
 
--- Rules 8, 9, 11 and 16.
+-- Rules 8, 9, 11 and 16. What may be a method breaks none.
 abbrev pub call_faults : ℕ → FileScope → Operand → List Given → List Fault
 call_faults l f (operand.Function k) vs = signature_faults l (slice_get f.functions k) vs
 call_faults l f (operand.Method k) vs = signature_faults l (slice_get f.functions k) vs
 call_faults l f (operand.BuiltIn b) vs = built_in_faults l b vs
+call_faults l f operand.Unknown vs = []
 call_faults l f _ vs = broken l 11 false
 
 abbrev pub called : FileScope → Operand → List Given → Operand

@@ -210,7 +210,7 @@ package_member packages.Sync n = sync_member n
 
 -- Rule 3: what stands behind a dot is known.
 abbrev pub called_name : ℕ → Option BuiltIn → Judged
-called_name l None = leaf (operand.Value None) (broken l 3 false)
+called_name l None = leaf operand.Unknown (broken l 3 false)
 called_name l (Some b) = leaf (operand.BuiltIn b) []
 
 unfoldable pub mutex_method : List ℕ → Option BuiltIn
@@ -239,12 +239,12 @@ unfoldable pub condition_member : ℕ → List ℕ → Judged
 condition_member l n = cond (bytes_eq n (codes "L")) (leaf (value base.Mutex) []) (called_name l (condition_method n))
 
 abbrev pub struct_member : ℕ → FileScope → ℕ → Option Member → Judged
-struct_member l f k None = leaf (operand.Value None) (broken l 3 false)
+struct_member l f k None = leaf operand.Unknown (broken l 3 false)
 struct_member l f k (Some (members.Field i)) = leaf (operand.Field i (option_and_then (λ ts. type_at ts i) (slice_get f.fields k))) []
 struct_member l f k (Some (members.Method m)) = leaf (operand.Method m) []
 
 abbrev pub wrong_selector : ℕ → Judged
-wrong_selector l = leaf (operand.Value None) (broken l 8 false)
+wrong_selector l = leaf operand.Unknown (broken l 8 false)
 
 -- Rule 8: a selector takes a pointer to a struct of the file, or of package sync.
 abbrev pub base_member : ℕ → FileScope → List ℕ → Base → Judged
@@ -259,10 +259,11 @@ abbrev pub type_member : ℕ → FileScope → List ℕ → List Layer → Base 
 type_member l f n [] b = base_member l f n b
 type_member l f n (x ∷ xs) b = wrong_selector l
 
+-- A value whose type is not known may have what stands behind the dot.
 abbrev pub value_member : ℕ → FileScope → List ℕ → Given → Judged
 value_member l f n (given_as.Typed t) = type_member l f n t.layers t.base
 value_member l f n given_as.Nil = wrong_selector l
-value_member l f n given_as.Unknown = leaf (operand.Value None) []
+value_member l f n given_as.Unknown = leaf operand.Unknown []
 
 -- what stands behind a dot: of a package, or of a value
 abbrev pub selected_from : ℕ → FileScope → List ℕ → Operand → Judged

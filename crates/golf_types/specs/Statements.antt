@@ -115,6 +115,7 @@ abbrev pub is_place : Operand → Bool
 is_place (operand.Variable w t) = true
 is_place (operand.Field i t) = true
 is_place (operand.Element t) = true
+is_place operand.Unknown = true
 is_place _ = false
 
 -- `p++` and `p--`: rules 8 and 10
@@ -186,9 +187,13 @@ kept_faults l s n t = kept_local l s.depth (look s.locals n) t
 unfoldable pub pair_differs : Scope → List ℕ → List ℕ → Bool
 pair_differs s n m = not (is_reserved n) && (not (is_reserved m) && not (bytes_eq n m && is_new s n))
 
+-- Rule 9 of two names. One name that stands twice is not assigned: where it is there, it is not new.
+abbrev pub kept_pair_faults : ℕ → Scope → List ℕ → List ℕ → Option GoType → List Fault
+kept_pair_faults l s n m t = cond (bytes_eq n m) [] (kept_faults l s n t ++ kept_faults l s m bool_type)
+
 abbrev pub pair_faults : ℕ → Scope → List ℕ → List ℕ → Option GoType → List Fault
 pair_faults l s n m t =
-    broken l 2 (pair_differs s n m) ++ (kept_faults l s n t ++ (kept_faults l s m bool_type ++ broken l 24 (is_new s n || is_new s m)))
+    broken l 2 (pair_differs s n m) ++ (kept_pair_faults l s n m t ++ broken l 24 (is_new s n || is_new s m))
 
 abbrev pub one_new : Bool → List ℕ → Option GoType → Walk
 one_new true n t s = declares_one s n t [] []
@@ -286,6 +291,7 @@ may_be_begun (operand.BuiltIn built_in.NewCondition) = false
 may_be_begun (operand.BuiltIn b) = true
 may_be_begun (operand.Function k) = true
 may_be_begun (operand.Method k) = true
+may_be_begun operand.Unknown = true
 may_be_begun _ = false
 
 -- A call that stands as a statement is no value; rules 21 and 22 come behind its others.

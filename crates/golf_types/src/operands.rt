@@ -92,6 +92,8 @@ pub enum Operand {
     Field(u32, Option<GoType>),
     /// An element of a slice.
     Element(Option<GoType>),
+    /// A field or a method of a value whose type is not known.
+    Unknown,
     /// `nil`
     Nil,
     /// `_`
@@ -141,7 +143,8 @@ pub fn value_of(alloc: Global, operand: Operand) -> Given
         Operand::Constant(_, base) => Given::Typed(plain(alloc, base)),
         Operand::Truth(_) => Given::Typed(plain(alloc, Base::Bool)),
         Operand::Nil => Given::Nil,
-        Operand::Blank
+        Operand::Unknown
+        | Operand::Blank
         | Operand::Nothing(_)
         | Operand::Function(_)
         | Operand::Method(_)

@@ -1,8 +1,6 @@
-use Rattle.std.proofs.Common.{arith, refl, ap, sym, ◌≡◌, ◌∙◌, ◌++◌, [], List, ℕ, Bool, not, map, get_or}
-use Rattle.golf_theory.specs.Membership.{is_in}
-use Rattle.golf_theory.specs.Maps.{find}
+use Rattle.std.proofs.Common.{refl, ◌∙◌, []}
 use Rattle.golf_base.specs.declared.ids.GoroutineId.{GoroutineId}
-use Rattle.golf_snapshot.specs.Stepping.{entry_at, sleepers_of}
+use Rattle.golf_snapshot.specs.Stepping.{sleepers_of}
 use Rattle.golf_snapshot.proofs.Stepping.{gather-init, gather-listed, gather-end}
 use Rattle.golf_snapshot.proofs.Gathering.{sleepers-append}
 use Rattle.golf_snapshot.proofs.goroutines.sleepers.Goals as goal

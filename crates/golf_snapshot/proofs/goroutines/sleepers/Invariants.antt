@@ -1,4 +1,4 @@
-use Rattle.std.proofs.Common.{◌≡◌, ◌++◌, take}
+use Rattle.std.proofs.Common.{◌≡◌, take}
 use Rattle.golf_snapshot.specs.Stepping.{sleepers_of}
 use Rattle.golf_snapshot.proofs.goroutines.sleepers.Given as goal
 

@@ -1,6 +1,6 @@
-use Rattle.std.proofs.Common.{sym, subst, ◌∙◌, refl}
+use Rattle.std.proofs.Common.{sym, subst, ◌∙◌}
 use Rattle.golf_model.specs.Graph.{IsInRange}
-use Rattle.golf_snapshot.specs.Parts.{live_roots, sleeper_of, sleeping}
+use Rattle.golf_snapshot.specs.Parts.{live_roots}
 use Rattle.golf_snapshot.proofs.InRange.{parts-are, live-in_range}
 use Rattle.golf_snapshot.proofs.graph.live_graph.Goals as goal
 

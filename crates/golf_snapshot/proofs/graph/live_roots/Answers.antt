@@ -1,10 +1,9 @@
-use Rattle.std.proofs.Common.{◌≡◌, ℕ, Bool, not, List, [], ◌++◌, map, ap, ◌∙◌}
-use Rattle.golf_theory.specs.Membership.{is_in}
+use Rattle.std.proofs.Common.{ℕ, List, ◌++◌, ap, ◌∙◌}
 use Rattle.golf_data.specs.declared.goroutine.Queued.{Queued}
 use Rattle.golf_data.specs.declared.value.Value.{Value}
 use Rattle.golf_heap.specs.Objects.{NumberedObjects}
 use Rattle.golf_model.specs.Values.{refs}
-use Rattle.golf_model.specs.Refs.{queue_refs, refs_where, goroutine_refs_where, has_finaliser}
+use Rattle.golf_model.specs.Refs.{queue_refs, refs_where, has_finaliser}
 use Rattle.golf_snapshot.specs.Parts.{ranks, awake_refs}
 use Rattle.golf_snapshot.proofs.Gathering.{four-pieces}
 use Rattle.golf_snapshot.proofs.graph.live_roots.Goals as goal

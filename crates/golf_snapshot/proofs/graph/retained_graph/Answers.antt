@@ -1,4 +1,4 @@
-use Rattle.std.proofs.Common.{sym, subst, ◌∙◌, refl, [], map, List, ℕ}
+use Rattle.std.proofs.Common.{sym, subst, ◌∙◌, [], map, List, ℕ}
 use Rattle.golf_model.specs.Graph.{IsInRange}
 use Rattle.golf_model.specs.Reaching.{sources}
 use Rattle.golf_snapshot.proofs.InRange.{parts-are, retained-in_range}

@@ -1,4 +1,4 @@
-use Rattle.std.proofs.Common.{arith, ap, ◌∙◌, ◌++◌, ◌∷◌, [], List, ℕ, map, Bool}
+use Rattle.std.proofs.Common.{arith, ap, ◌∙◌, ◌++◌, ◌∷◌, [], ℕ, map, Bool}
 use Rattle.golf_data.specs.declared.value.Object.{Object}
 use Rattle.golf_model.specs.Refs.{has_finaliser}
 use Rattle.golf_snapshot.proofs.Stepping.{entry-of-key, map-next, map-done}

@@ -1,4 +1,4 @@
-use Rattle.std.proofs.Common.{refl, arith, ◌∙◌, ap, sym, map, ◌++◌, length, ◌-◌}
+use Rattle.std.proofs.Common.{refl, arith, ◌∙◌, ap, sym, map, ◌++◌, ◌-◌}
 use Rattle.std.proofs.lemmas.List.{length-map, get_or-map}
 use Rattle.golf_model.specs.Views.{frame_view}
 use Rattle.golf_snapshot.proofs.Gathering.{one-back, past-end, FrameNodes, FramesNodes, frames-cons}

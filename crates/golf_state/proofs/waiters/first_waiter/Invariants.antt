@@ -8,7 +8,7 @@ use Rattle.golf_state.proofs.waiters.first_waiter.Given as goal
 -- the first of those from `at` on
 abbrev pub invariant-loop-at : goal.invariant-loop-at
 invariant-loop-at l = record {
-  within : l.at ≤ length l.present;
+  within : l.at ≤ length l.places;
   best : l.best ≡ option_map waiting_of (first l.object.0 l.side (drop l.at (plain_entries l.places)));
 }
 

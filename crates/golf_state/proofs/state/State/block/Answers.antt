@@ -1,113 +1,83 @@
-use Rattle.std.proofs.Common.{◌≡◌, ℕ, ◌+◌, ◌<◌, List, length, Option, Some, subst, refl, sym, ap, ◌∙◌, rules, arith}
-use Rattle.std.proofs.lemmas.List.{length-set}
-use Rattle.golf_theory.specs.Maps.{put, keys}
-use Rattle.golf_theory.proofs.MapKeys.{keys-put}
-use Rattle.golf_theory.specs.Stored.{without, entries}
-use Rattle.golf_data.specs.declared.goroutine.Mode.{Mode}
-use Rattle.golf_model.specs.Views.{GoroutineView, goroutine_view}
-use Rattle.golf_model.specs.State.{State}
-use Rattle.golf_model.specs.Changes.{block}
-use Rattle.golf_state.specs.Inside.{plain_state}
-use Rattle.golf_state.specs.Looked.{on_goroutine, advanced}
-use Rattle.golf_state.specs.Places.{plain_place, plain_entries, running_of}
-use Rattle.golf_state.specs.declared.places.Place.{Place}
-use Rattle.golf_state.proofs.PlaceLaws.{present, beyond, found-at, absent-at, set-at, set-state, same-state, runs-blocked}
-use Rattle.golf_theory.proofs.Placing.{Rises-entries}
-use Rattle.golf_model.specs.State.{is_running}
-use Rattle.golf_state.specs.Places.{plain_places}
-use Rattle.golf_state.proofs.Rises.{Rises-keys_where}
-use Rattle.golf_state.specs.Roominess.{HasRoom, IsReadyIn}
-use Rattle.golf_data.specs.declared.goroutine.Frame.{Frame}
-use Rattle.golf_state.proofs.Readiness.{ready-set, ready-read}
-use Rattle.golf_state.proofs.PlaceLaws.{set-plain_same}
+use Rattle.std.proofs.Common.{◌≡◌, ℕ, ◌+◌, ◌<◌, List, length, get_or, slice_set, Option, subst, refl, sym, ap, ◌∙◌, rules, arith}
 use Rattle.std.proofs.lemmas.Result.{err_from_is_err_and}
+use Rattle.std.proofs.lemmas.Option.{slice_get_read, slice_get_past, get_or_from_slice_get}
+use Rattle.golf_data.specs.declared.goroutine.Frame.{Frame}
+use Rattle.golf_data.specs.declared.goroutine.Mode.{Mode}
+use Rattle.golf_data.specs.declared.goroutine.Wait.{Wait}
+use Rattle.golf_heap.specs.Objects.{rank}
+use Rattle.golf_theory.specs.Maps.{put}
+use Rattle.golf_theory.specs.Stored.{without}
+use Rattle.golf_model.specs.Views.{GoroutineView, goroutine_view}
+use Rattle.golf_model.specs.State.{State, is_running}
+use Rattle.golf_model.specs.Changes.{block}
+use Rattle.golf_queues.specs.Lines.{StandsInAll}
+use Rattle.golf_state.specs.Inside.{plain_state}
+use Rattle.golf_state.specs.Lined.{AreLined}
+use Rattle.golf_state.specs.Looked.{on_goroutine, advanced}
+use Rattle.golf_state.specs.Places.{plain_entries}
+use Rattle.golf_state.specs.Roominess.{HasRoom, IsReadyIn}
+use Rattle.golf_state.specs.declared.places.Place.{Place}
+use Rattle.golf_state.proofs.LinedLaws.{lined-blocked, lined-joined}
+use Rattle.golf_state.proofs.PlaceLaws.{found-there, absent-there, absent-past, stands-read, set-at, same-at, kept-set, kept-same, runs-blocked}
+use Rattle.golf_state.proofs.Readiness.{ready-read}
+use Rattle.golf_state.proofs.Rises.{Rises-keys_where}
 use Rattle.golf_state.proofs.state.State.block.Goals as goal
 
-pub returns-then-g-len-clause-ok : goal.returns-then-g-len-clause-ok
-returns-then-g-len-clause-ok c =
-    let s = c.self.inside in
-    let gs = s.goroutines.items in
-    let act : GoroutineView → State → State = λ r. block c.args.g.0 c.args.kind c.args.line c.args.waits (advanced c.args.after c.args.taken r) in
-    rw (← c.self.view_is) (sym (ap (λ (o : Option GoroutineView). on_goroutine act o (plain_state s)) (beyond gs c.args.g.0 (omega (arith, c.if-g-len.true, c.len.ensures, s.goroutines.ok.0)))))
-
-pub invariant_of-self-then-place : goal.invariant_of-self-then-place
-invariant_of-self-then-place c =
+pub returns-then-at-len-clause-ok : goal.returns-then-at-len-clause-ok
+returns-then-at-len-clause-ok c =
     let s = c.self.inside in
     let gs = s.goroutines.items in
     let g = c.args.g.0 in
-    let p = c.index_mut-place.result.now in
-    let l : g < length gs = omega (arith, c.if-g-len.false, c.len.ensures, s.goroutines.ok.0) in
-    let h = c.index_mut-place.ensures.value in
-    let mode = Mode.Blocked c.args.kind c.args.line c.args.waits s.next_ticket in
-    let q : Place = record { goroutine = record { frames = c.settle.new.goroutine.frames; mode = mode; started = c.settle.new.goroutine.started }; present = p.present } in
-    let v : GoroutineView = record (advanced c.args.after c.args.taken (goroutine_view p.goroutine)) { mode = mode } in
-    let e : plain_place q ≡ Some v = present q c.if-place.true ∙ ap (λ (r : GoroutineView). Some (record r { mode = mode })) c.in_ok-settle.ensures.ok in
-    record {
-      present = c.self.invariant.present ∙ sym (keys-put g v (plain_entries gs)) ∙ ap keys (sym (set-at gs g p q v l h c.if-place.true e));
-      running = c.leave_out.ensures.others ∙ ap (without g) c.self.invariant.running ∙ runs-blocked gs g v refl ∙ ap running_of (sym (set-at gs g p q v l h c.if-place.true e));
-      few = omega (arith, length-set gs g q, c.self.invariant.few);
-      room = omega (arith, length-set gs g q, c.leave_out.ensures.room, c.self.invariant.room);
-      ready = ready-set gs g q c.self.invariant.ready c.in_ok-settle.ensures.room;
-      finalisers = c.self.invariant.finalisers;
-    }
+    let at : c.rank_of-at.result ≡ rank g (plain_entries gs) = c.rank_of-at.ensures ∙ ap (λ (ps : List Place). rank g (plain_entries ps)) c.as_slice.ensures.value in
+    let act : GoroutineView → State → State = λ r. block g c.args.kind c.args.line c.args.waits (advanced c.args.after c.args.taken r) in
+    let past = slice_get_past gs c.rank_of-at.result (omega (arith, c.if-at-len.true, c.len.ensures, s.goroutines.ok.0)) in
+    rw (← c.self.view_is) (sym (ap (λ (o : Option GoroutineView). on_goroutine act o (plain_state s)) (absent-past gs g c.rank_of-at.result c.self.invariant.kept.rises at past)))
 
-pub returns-in_ok-settle-clause-ok : goal.returns-in_ok-settle-clause-ok
-returns-in_ok-settle-clause-ok c =
+pub returns-then-index-g-clause-ok : goal.returns-then-index-g-clause-ok
+returns-then-index-g-clause-ok c =
     let s = c.self.inside in
     let gs = s.goroutines.items in
     let g = c.args.g.0 in
-    let p = c.index_mut-place.result.now in
-    let l : g < length gs = omega (arith, c.if-g-len.false, c.len.ensures, s.goroutines.ok.0) in
-    let h = c.index_mut-place.ensures.value in
-    let mode = Mode.Blocked c.args.kind c.args.line c.args.waits s.next_ticket in
-    let q : Place = record { goroutine = record { frames = c.settle.new.goroutine.frames; mode = mode; started = c.settle.new.goroutine.started }; present = p.present } in
-    let v : GoroutineView = record (advanced c.args.after c.args.taken (goroutine_view p.goroutine)) { mode = mode } in
-    let e : plain_place q ≡ Some v = present q c.if-place.true ∙ ap (λ (r : GoroutineView). Some (record r { mode = mode })) c.in_ok-settle.ensures.ok in
-    let act : GoroutineView → State → State = λ r. block c.args.g.0 c.args.kind c.args.line c.args.waits (advanced c.args.after c.args.taken r) in
-    let next : c.in_ok-next_ticket.next_ticket ≡ s.next_ticket + 1 = search rules in
-    let base : State = record (plain_state s) { next_ticket = c.in_ok-next_ticket.next_ticket } in
-    let last : State = record (plain_state s) { goroutines = put g v (plain_entries gs) } in
-    rw (← c.self.view_is)
-    (set-state base gs g p q v l h c.if-place.true e
-    ∙ ap (λ (n : ℕ). record last { next_ticket = n }) next
-    ∙ sym (ap (λ (o : Option GoroutineView). on_goroutine act o (plain_state s)) (found-at gs g p l h c.if-place.true)))
-
-pub returns-else-place-clause-ok : goal.returns-else-place-clause-ok
-returns-else-place-clause-ok c =
-    let s = c.self.inside in
-    let gs = s.goroutines.items in
-    let g = c.args.g.0 in
-    let p = c.index_mut-place.result.now in
-    let l : g < length gs = omega (arith, c.if-g-len.false, c.len.ensures, s.goroutines.ok.0) in
-    let h = c.index_mut-place.ensures.value in
-    let act : GoroutineView → State → State = λ r. block c.args.g.0 c.args.kind c.args.line c.args.waits (advanced c.args.after c.args.taken r) in
-    rw (← c.self.view_is)
-    (same-state (plain_state s) gs g p p h refl ∙ sym (ap (λ (o : Option GoroutineView). on_goroutine act o (plain_state s)) (absent-at gs g p l h c.if-place.false)))
-
-pub leave_out-requires : goal.leave_out-requires
-leave_out-requires c = rw c.self.invariant.running (Rises-keys_where (λ g r. is_running r.mode) 0 (plain_entries c.self.inside.goroutines.items) (Rises-entries 0 (plain_places c.self.inside.goroutines.items)))
+    let at : c.rank_of-at.result ≡ rank g (plain_entries gs) = c.rank_of-at.ensures ∙ ap (λ (ps : List Place). rank g (plain_entries ps)) c.as_slice.ensures.value in
+    let l : c.rank_of-at.result < length gs = omega (arith, c.if-at-len.false, c.len.ensures, s.goroutines.ok.0) in
+    let p = c.index.result.now in
+    let here = slice_get_read gs (length gs) c.rank_of-at.result p refl l c.index.ensures in
+    let act : GoroutineView → State → State = λ r. block g c.args.kind c.args.line c.args.waits (advanced c.args.after c.args.taken r) in
+    rw (← c.self.view_is) (sym (ap (λ (o : Option GoroutineView). on_goroutine act o (plain_state s)) (absent-there gs g c.rank_of-at.result c.self.invariant.kept.rises at p here c.if-index-g.true)))
 
 -- what was ready stays so
 still : (m : Mode) (fs gs : List Frame) → (HasRoom fs → HasRoom gs) → IsReadyIn m fs → IsReadyIn m gs
 still Mode.Running fs gs h r = tt
 still (Mode.Blocked kind line waits ticket) fs gs h r = h r
 
+-- some of its lines have the goroutine, which does not block
 pub invariant_of-self : goal.invariant_of-self
 invariant_of-self c =
-    let gs = c.self.inside.goroutines.items in
-    let g = c.args.g.0 in
-    let p = c.index_mut-place.result.now in
-    let l : g < length gs = omega (arith, c.if-g-len.false, c.len.ensures, c.self.inside.goroutines.ok.0) in
-    let h = c.index_mut-place.ensures.value in
-    let q : Place = record { goroutine = c.settle.new.goroutine; present = p.present } in
-    let same : plain_place q ≡ plain_place p = present q c.if-place.true ∙ ap (λ (r : GoroutineView). Some r) c.in_err-settle.ensures.err ∙ sym (present p c.if-place.true) in
-    let mode : IsReadyIn c.settle.new.goroutine.mode c.settle.new.goroutine.frames = subst (λ (m : Mode). IsReadyIn m c.settle.new.goroutine.frames) (sym c.in_err-settle.ensures.mode) (still p.goroutine.mode p.goroutine.frames c.settle.new.goroutine.frames c.in_err-settle.ensures.kept (ready-read gs g p c.self.invariant.ready l h)) in
+    let s = c.self.inside in
     record {
-      present = c.self.invariant.present ∙ sym (ap (λ (ps : List (Option GoroutineView)). keys (entries 0 ps)) (set-plain_same gs g p q h same));
-      running = c.self.invariant.running ∙ sym (ap (λ (ps : List (Option GoroutineView)). running_of (entries 0 ps)) (set-plain_same gs g p q h same));
-      few = omega (arith, length-set gs g q, c.self.invariant.few);
-      room = omega (arith, length-set gs g q, c.self.invariant.room);
-      ready = ready-set gs g q c.self.invariant.ready mode;
+      kept = c.self.invariant.kept;
+      lined = lined-joined (plain_entries s.goroutines.items) s.waiting c.enter_all.new.self s.next_ticket c.self.invariant.lined c.enter_all.ensures.below c.enter_all.ensures.kept;
+      finalisers = c.self.invariant.finalisers;
+    }
+
+pub leave_out-requires : goal.leave_out-requires
+leave_out-requires c = rw c.self.invariant.kept.running (Rises-keys_where (λ g r. is_running r.mode) 0 (plain_entries c.self.inside.goroutines.items) c.self.invariant.kept.rises)
+
+pub invariant_of-self-in_err-settle : goal.invariant_of-self-in_err-settle
+invariant_of-self-in_err-settle c =
+    let s = c.self.inside in
+    let gs = s.goroutines.items in
+    let k = c.self.invariant.kept in
+    let p = c.index_mut-place.result.now in
+    let l : c.rank_of-at.result < length gs = omega (arith, c.if-at-len.false, c.len.ensures, s.goroutines.ok.0) in
+    let h = c.index_mut-place.ensures.value in
+    let q : Place = record { number = p.number; goroutine = c.settle.new.goroutine } in
+    let mode : IsReadyIn c.settle.new.goroutine.mode c.settle.new.goroutine.frames = subst (λ (m : Mode). IsReadyIn m c.settle.new.goroutine.frames) (sym c.in_err-settle.ensures.mode) (still p.goroutine.mode p.goroutine.frames c.settle.new.goroutine.frames c.in_err-settle.ensures.kept (ready-read gs c.rank_of-at.result p k.ready l h)) in
+    let seen = ap (λ (r : GoroutineView). (p.number, r)) c.in_err-settle.ensures.err in
+    record {
+      kept = kept-same gs _ _ _ s.next_goroutine c.rank_of-at.result p q k h seen mode;
+      lined = subst (λ (es : List (ℕ × GoroutineView)). AreLined es c.enter_all.new.self s.next_ticket) (sym (same-at gs c.rank_of-at.result p q h seen))
+          (lined-joined (plain_entries gs) s.waiting c.enter_all.new.self s.next_ticket c.self.invariant.lined c.enter_all.ensures.below c.enter_all.ensures.kept);
       finalisers = c.self.invariant.finalisers;
     }
 
@@ -115,7 +85,60 @@ pub returns-in_err-settle-clause-err : goal.returns-in_err-settle-clause-err
 returns-in_err-settle-clause-err c =
     let s = c.self.inside in
     let p = c.index_mut-place.result.now in
-    let q : Place = record { goroutine = c.settle.new.goroutine; present = p.present } in
-    let same : plain_place q ≡ plain_place p = present q c.if-place.true ∙ ap (λ (r : GoroutineView). Some r) c.in_err-settle.ensures.err ∙ sym (present p c.if-place.true) in
+    let q : Place = record { number = p.number; goroutine = c.settle.new.goroutine } in
     let e = err_from_is_err_and c.from_residual-in_err-settle.result c.from_residual-in_err-settle.ensures.1 in
-    rw (e.1, ← c.self.view_is) (same-state (plain_state s) s.goroutines.items c.args.g.0 p q c.index_mut-place.ensures.value same)
+    rw (e.1, ← c.self.view_is)
+    (ap (λ (es : List (ℕ × GoroutineView)). record (plain_state s) { goroutines = es })
+    (same-at s.goroutines.items c.rank_of-at.result p q c.index_mut-place.ensures.value (ap (λ (r : GoroutineView). (p.number, r)) c.in_err-settle.ensures.err)))
+
+-- the place that was read, lent
+numbered : (gs : List Place) (at g : ℕ) (x p : Place) → at < length gs → x ≡ get_or gs at x → x.number ≡ g → p ≡ get_or gs at p → p.number ≡ g
+numbered gs at g x p l h n k =
+    let here = slice_get_read gs (length gs) at x refl l h in
+    ap (λ (y : Place). y.number) (k ∙ get_or_from_slice_get gs at x p here) ∙ n
+
+pub invariant_of-self-2 : goal.invariant_of-self-2
+invariant_of-self-2 c =
+    let s = c.self.inside in
+    let gs = s.goroutines.items in
+    let g = c.args.g.0 in
+    let k = c.self.invariant.kept in
+    let at : c.rank_of-at.result ≡ rank g (plain_entries gs) = c.rank_of-at.ensures ∙ ap (λ (ps : List Place). rank g (plain_entries ps)) c.as_slice.ensures.value in
+    let p = c.index_mut-place.result.now in
+    let l : c.rank_of-at.result < length gs = omega (arith, c.if-at-len.false, c.len.ensures, s.goroutines.ok.0) in
+    let n = numbered gs c.rank_of-at.result g c.index.result.now p l c.index.ensures c.if-index-g.false c.index_mut-place.ensures.value in
+    let stands = stands-read gs g c.rank_of-at.result k.rises at p l c.index_mut-place.ensures.value n in
+    let found = found-there gs g c.rank_of-at.result k.rises at p stands.here n in
+    let mode = Mode.Blocked c.args.kind c.args.line c.args.waits s.next_ticket in
+    let q : Place = record { number = p.number; goroutine = record { frames = c.settle.new.goroutine.frames; mode = mode; started = c.settle.new.goroutine.started } } in
+    let next : c.in_ok-next_ticket.next_ticket ≡ s.next_ticket + 1 = search rules in
+    let joins : StandsInAll s.next_ticket g c.args.waits c.enter_all.new.self = subst (λ (ws : List Wait). StandsInAll s.next_ticket g ws c.enter_all.new.self) c.as_slice-2.ensures c.in_ok-enter_all.ensures.joins in
+    let line = lined-blocked (plain_entries gs) s.waiting c.enter_all.new.self s.next_ticket g (goroutine_view p.goroutine) (goroutine_view q.goroutine) c.args.kind c.args.line c.args.waits c.self.invariant.lined k.rises found refl c.enter_all.ensures.below c.enter_all.ensures.kept joins in
+    record {
+      kept = kept-set gs _ _ _ _ _ s.next_goroutine g c.rank_of-at.result p q (goroutine_view p.goroutine) k stands refl c.in_ok-settle.ensures.room
+          (c.leave_out.ensures.others ∙ ap (without g) k.running ∙ runs-blocked (plain_entries gs) g (goroutine_view q.goroutine) refl) (omega (arith, c.leave_out.ensures.room));
+      lined = subst (λ (n : ℕ). AreLined (plain_entries (slice_set gs c.rank_of-at.result q)) c.enter_all.new.self n) (sym next)
+          (subst (λ (es : List (ℕ × GoroutineView)). AreLined es c.enter_all.new.self (s.next_ticket + 1)) (sym (set-at gs g c.rank_of-at.result p q (goroutine_view p.goroutine) k.rises stands refl)) line);
+      finalisers = c.self.invariant.finalisers;
+    }
+
+pub returns-clause-ok : goal.returns-clause-ok
+returns-clause-ok c =
+    let s = c.self.inside in
+    let gs = s.goroutines.items in
+    let g = c.args.g.0 in
+    let k = c.self.invariant.kept in
+    let at : c.rank_of-at.result ≡ rank g (plain_entries gs) = c.rank_of-at.ensures ∙ ap (λ (ps : List Place). rank g (plain_entries ps)) c.as_slice.ensures.value in
+    let p = c.index_mut-place.result.now in
+    let l : c.rank_of-at.result < length gs = omega (arith, c.if-at-len.false, c.len.ensures, s.goroutines.ok.0) in
+    let n = numbered gs c.rank_of-at.result g c.index.result.now p l c.index.ensures c.if-index-g.false c.index_mut-place.ensures.value in
+    let stands = stands-read gs g c.rank_of-at.result k.rises at p l c.index_mut-place.ensures.value n in
+    let mode = Mode.Blocked c.args.kind c.args.line c.args.waits s.next_ticket in
+    let q : Place = record { number = p.number; goroutine = record { frames = c.settle.new.goroutine.frames; mode = mode; started = c.settle.new.goroutine.started } } in
+    let act : GoroutineView → State → State = λ r. block g c.args.kind c.args.line c.args.waits (advanced c.args.after c.args.taken r) in
+    let next : c.in_ok-next_ticket.next_ticket ≡ s.next_ticket + 1 = search rules in
+    let set = set-at gs g c.rank_of-at.result p q (goroutine_view p.goroutine) k.rises stands refl
+    ∙ ap (λ (r : GoroutineView). put g (record r { mode = mode }) (plain_entries gs)) c.in_ok-settle.ensures.ok in
+    rw (← c.self.view_is)
+    ((λ i. record (plain_state s) { goroutines = set i; next_ticket = next i })
+    ∙ sym (ap (λ (o : Option GoroutineView). on_goroutine act o (plain_state s)) (found-there gs g c.rank_of-at.result k.rises at p stands.here n)))

@@ -5,10 +5,7 @@ use Rattle.golf_state.proofs.state.State.clear_finaliser.Goals as goal
 
 pub invariant_of-self : goal.invariant_of-self
 invariant_of-self c = record {
-  present = c.self.invariant.present;
-  running = c.self.invariant.running;
-  few = c.self.invariant.few;
-  room = c.self.invariant.room;
-  ready = c.self.invariant.ready;
+  kept = c.self.invariant.kept;
+  lined = c.self.invariant.lined;
   finalisers = subst (Rises 0) (sym c.take_finaliser.ensures) (Rises-only 0 (λ p. not (p == c.args.object.0)) c.self.inside.finalisers.items c.self.invariant.finalisers);
 }

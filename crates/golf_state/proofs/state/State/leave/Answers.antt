@@ -1,57 +1,46 @@
-use Rattle.std.proofs.Common.{◌≡◌, ◌==◌, not, ℕ, false, List, [], subst, refl, sym, ap, ◌∙◌, arith}
-use Rattle.std.proofs.lemmas.List.{length-set}
-use Rattle.golf_theory.specs.Maps.{keys}
-use Rattle.golf_theory.proofs.MapKeys.{keys-only}
+use Rattle.std.proofs.Common.{◌==◌, not, ℕ, List, subst, sym, ap, ◌∙◌, arith}
+use Rattle.golf_theory.specs.Maps.{keys, Rises, AllBelow}
 use Rattle.golf_theory.specs.Stored.{without}
+use Rattle.golf_theory.proofs.MapKeys.{keys-only}
+use Rattle.golf_theory.proofs.MapOrder.{Rises-only, AllBelow-only}
+use Rattle.golf_model.specs.State.{is_running}
 use Rattle.golf_model.specs.Views.{GoroutineView}
 use Rattle.golf_state.specs.Inside.{plain_state}
 use Rattle.golf_state.specs.Places.{plain_entries, running_of}
-use Rattle.golf_state.specs.declared.places.Place.{Place}
-use Rattle.golf_state.proofs.PlaceLaws.{clear-past, clear-at, clear-state, runs-left}
-use Rattle.golf_theory.proofs.Placing.{Rises-entries}
-use Rattle.golf_model.specs.State.{is_running}
-use Rattle.golf_state.specs.Places.{plain_places}
+use Rattle.golf_state.specs.Lined.{AreLined}
+use Rattle.golf_state.proofs.LinedLaws.{lined-left}
+use Rattle.golf_state.proofs.PlaceLaws.{runs-left}
 use Rattle.golf_state.proofs.Rises.{Rises-keys, Rises-keys_where}
-use Rattle.golf_data.specs.declared.goroutine.Frame.{Frame}
-use Rattle.golf_data.specs.declared.goroutine.Mode.{Mode}
-use Rattle.golf_state.specs.Roominess.{IsReadyIn}
-use Rattle.golf_state.proofs.Readiness.{ready-set}
 use Rattle.golf_state.proofs.state.State.leave.Goals as goal
-
--- no frame needs room
-gone : (m : Mode) (fs : List Frame) → fs ≡ [] → IsReadyIn m fs
-gone m fs e = subst (IsReadyIn m) (sym e) (elim m as (λ k. IsReadyIn k []) [ Mode.Running ↦ tt | Mode.Blocked kind line waits ticket ↦ tt ])
-
-pub returns-then-g-len : goal.returns-then-g-len
-returns-then-g-len c =
-    let s = c.self.inside in
-    rw (← c.self.view_is)
-    (ap (λ (es : List (ℕ × GoroutineView)). record (plain_state s) { goroutines = es }) (clear-past s.goroutines.items c.args.g.0 (omega (arith, c.if-g-len.true, c.len.ensures, s.goroutines.ok.0))))
 
 pub invariant_of-self : goal.invariant_of-self
 invariant_of-self c =
-    let gs = c.self.inside.goroutines.items in
+    let s = c.self.inside in
+    let es = plain_entries s.goroutines.items in
     let g = c.args.g.0 in
-    let r = c.index_mut-place.result.now.goroutine in
-    let q : Place = record { goroutine = record { frames = c.new.result; mode = r.mode; started = r.started }; present = false } in
+    let k = c.self.invariant.kept in
+    let e = c.take_place.ensures.others in
     record {
-      present = c.leave_out.ensures.others ∙ ap (without g) c.self.invariant.present ∙ sym (keys-only (λ h. not (h == g)) (plain_entries gs)) ∙ ap keys (sym (clear-at gs g q refl));
-      running = c.leave_out-2.ensures.others ∙ ap (without g) c.self.invariant.running ∙ runs-left gs g ∙ ap running_of (sym (clear-at gs g q refl));
-      few = omega (arith, length-set gs g q, c.self.invariant.few);
-      room = omega (arith, length-set gs g q, c.leave_out-2.ensures.room, c.self.invariant.room);
-      ready = ready-set gs g q c.self.invariant.ready (gone r.mode c.new.result c.new.ensures);
+      kept = record {
+        rises = subst (Rises 0) (sym e) (Rises-only 0 (λ h. not (h == g)) es k.rises);
+        below = subst (AllBelow s.next_goroutine) (sym e) (AllBelow-only s.next_goroutine (λ h. not (h == g)) es k.below);
+        present = c.leave_out.ensures.others ∙ ap (without g) k.present ∙ sym (keys-only (λ h. not (h == g)) es) ∙ ap keys (sym e);
+        running = c.leave_out-2.ensures.others ∙ ap (without g) k.running ∙ runs-left es g ∙ ap running_of (sym e);
+        few = omega (arith, c.take_place.ensures.fewer, k.few);
+        limit = k.limit;
+        room = omega (arith, c.take_place.ensures.fewer, c.leave_out-2.ensures.room, k.room);
+        ready = c.take_place.ensures.ready;
+      };
+      lined = subst (λ (fs : List (ℕ × GoroutineView)). AreLined fs c.forget.new.queues s.next_ticket) (sym e) (lined-left es s.waiting c.forget.new.queues s.next_ticket c.self.invariant.lined k.rises g c.forget.ensures.below c.forget.ensures.kept);
       finalisers = c.self.invariant.finalisers;
     }
 
 pub returns : goal.returns
 returns c =
-    let s = c.self.inside in
-    let r = c.index_mut-place.result.now.goroutine in
-    let q : Place = record { goroutine = record { frames = c.new.result; mode = r.mode; started = r.started }; present = false } in
-    rw (← c.self.view_is) (clear-state (plain_state s) s.goroutines.items c.args.g.0 q refl)
+    rw (← c.self.view_is) (ap (λ (es : List (ℕ × GoroutineView)). record (plain_state c.self.inside) { goroutines = es }) c.take_place.ensures.others)
 
 pub leave_out-requires : goal.leave_out-requires
-leave_out-requires c = rw c.self.invariant.present (Rises-keys 0 (plain_entries c.self.inside.goroutines.items) (Rises-entries 0 (plain_places c.self.inside.goroutines.items)))
+leave_out-requires c = rw c.self.invariant.kept.present (Rises-keys 0 (plain_entries c.self.inside.goroutines.items) c.self.invariant.kept.rises)
 
 pub leave_out-requires-2 : goal.leave_out-requires-2
-leave_out-requires-2 c = rw c.self.invariant.running (Rises-keys_where (λ g r. is_running r.mode) 0 (plain_entries c.self.inside.goroutines.items) (Rises-entries 0 (plain_places c.self.inside.goroutines.items)))
+leave_out-requires-2 c = rw c.self.invariant.kept.running (Rises-keys_where (λ g r. is_running r.mode) 0 (plain_entries c.self.inside.goroutines.items) c.self.invariant.kept.rises)

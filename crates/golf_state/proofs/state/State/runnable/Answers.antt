@@ -4,9 +4,8 @@ use Rattle.golf_data.specs.declared.goroutine.Queued.{Queued}
 use Rattle.golf_model.specs.State.{not_empty}
 use Rattle.golf_model.specs.Changes.{behind_first}
 use Rattle.golf_state.specs.Inside.{numbers}
-use Rattle.golf_state.specs.Places.{plain_places, starts_idle}
+use Rattle.golf_state.specs.Places.{plain_entries, starts_idle}
 use Rattle.golf_state.specs.declared.places.Place.{Place}
-use Rattle.golf_theory.proofs.Placing.{Rises-entries}
 use Rattle.golf_state.proofs.PlaceLaws.{runs-idle, runs-busy}
 use Rattle.golf_state.proofs.state.State.runnable.Goals as goal
 
@@ -14,23 +13,23 @@ pub returns-then-has_no_call-clause-runnable : goal.returns-then-has_no_call-cla
 returns-then-has_no_call-clause-runnable c =
     let s = c.self.inside in
     let test = c.has_no_call.ensures
-    ∙ ap (λ (qs : List Queued). not (not_empty qs) && starts_idle (plain_places c.as_slice-2.result.now)) c.as_slice.ensures
-    ∙ ap (λ (ps : List Place). not (not_empty s.queue) && starts_idle (plain_places ps)) c.as_slice-2.ensures.value in
+    ∙ ap (λ (qs : List Queued). not (not_empty qs) && starts_idle (plain_entries c.as_slice-2.result.now)) c.as_slice.ensures
+    ∙ ap (λ (ps : List Place). not (not_empty s.queue) && starts_idle (plain_entries ps)) c.as_slice-2.ensures.value in
     rw (← c.self.view_is)
-    (c.behind_first.ensures ∙ ap (λ (xs : List GoroutineId). behind_first (numbers xs)) c.as_slice-running.ensures.value ∙ ap behind_first c.self.invariant.running
-    ∙ runs-idle s.queue (plain_places s.goroutines.items) (sym test ∙ c.if-has_no_call.true))
+    (c.behind_first.ensures ∙ ap (λ (xs : List GoroutineId). behind_first (numbers xs)) c.as_slice-running.ensures.value ∙ ap behind_first c.self.invariant.kept.running
+    ∙ runs-idle s.queue (plain_entries s.goroutines.items) c.self.invariant.kept.rises (sym test ∙ c.if-has_no_call.true))
 
 pub returns-else-has_no_call-clause-runnable : goal.returns-else-has_no_call-clause-runnable
 returns-else-has_no_call-clause-runnable c =
     let s = c.self.inside in
     let test = c.has_no_call.ensures
-    ∙ ap (λ (qs : List Queued). not (not_empty qs) && starts_idle (plain_places c.as_slice-2.result.now)) c.as_slice.ensures
-    ∙ ap (λ (ps : List Place). not (not_empty s.queue) && starts_idle (plain_places ps)) c.as_slice-2.ensures.value in
+    ∙ ap (λ (qs : List Queued). not (not_empty qs) && starts_idle (plain_entries c.as_slice-2.result.now)) c.as_slice.ensures
+    ∙ ap (λ (ps : List Place). not (not_empty s.queue) && starts_idle (plain_entries ps)) c.as_slice-2.ensures.value in
     rw (← c.self.view_is)
-    (ap numbers c.as_slice-running.ensures.value ∙ c.self.invariant.running ∙ runs-busy s.queue (plain_places s.goroutines.items) (sym test ∙ c.if-has_no_call.false))
+    (ap numbers c.as_slice-running.ensures.value ∙ c.self.invariant.kept.running ∙ runs-busy s.queue (plain_entries s.goroutines.items) c.self.invariant.kept.rises (sym test ∙ c.if-has_no_call.false))
 
 pub returns-then-has_no_call-clause-rises : goal.returns-then-has_no_call-clause-rises
-returns-then-has_no_call-clause-rises c = rw (← c.self.view_is) (Rises-entries 0 (plain_places c.self.inside.goroutines.items))
+returns-then-has_no_call-clause-rises c = rw (← c.self.view_is) c.self.invariant.kept.rises
 
 pub returns-else-has_no_call-clause-rises : goal.returns-else-has_no_call-clause-rises
-returns-else-has_no_call-clause-rises c = rw (← c.self.view_is) (Rises-entries 0 (plain_places c.self.inside.goroutines.items))
+returns-else-has_no_call-clause-rises c = rw (← c.self.view_is) c.self.invariant.kept.rises

@@ -16,10 +16,7 @@ invariant_of-self c =
     let s = c.self.inside in
     let none : find c.args.object.0 s.finalisers.items ≡ None = ap (λ (t : State). find c.args.object.0 t.finalisers) c.self.view_is ∙ c.requires in
     record {
-      present = c.self.invariant.present;
-      running = c.self.invariant.running;
-      few = c.self.invariant.few;
-      room = c.self.invariant.room;
-      ready = c.self.invariant.ready;
+      kept = c.self.invariant.kept;
+      lined = c.self.invariant.lined;
       finalisers = rises c.put_finaliser.result s.finalisers.items c.put_finaliser.new.finalisers.items c.args.object.0 c.args.function none c.self.invariant.finalisers c.put_finaliser.ensures.ok c.put_finaliser.ensures.err;
     }

@@ -1,0 +1,106 @@
+-- Heads of functions, the scope behind one, the scope with the written types, and the passes over a file.
+use Rattle.std.proofs.Common.{◌≡◌, ℕ, List, [], ◌∷◌, ◌++◌, map, refl, sym, ap, subst, ◌∙◌, append-nil}
+use Rattle.std.specs.Prelude.{Option, Some, None, Result, flat_map}
+use Rattle.golf_grammar.specs.declared.declarations.Receiver.{Receiver}
+use Rattle.golf_grammar.specs.declared.declarations.Func.{Func}
+use Rattle.golf_grammar.specs.declared.declarations.Decl.{Decl}
+use Rattle.golf_grammar.specs.declared.declarations.Import.{Import}
+use Rattle.golf_grammar.specs.declared.declarations.File.{File}
+use Rattle.golf_grammar.specs.declared.statements.Var.{Var}
+use Rattle.golf_types.specs.declared.fault.TypeFault.{TypeFault}
+use Rattle.golf_types.specs.declared.types.GoType.{GoType}
+use Rattle.golf_types.specs.declared.operands.Signature.{Signature}
+use Rattle.golf_types.specs.declared.scopes.FileScope.{FileScope}
+use Rattle.golf_types.specs.declared.scopes.Imports.{Imports}
+use Rattle.golf_types.specs.declared.scopes.Scope.{Scope}
+use Rattle.golf_types.specs.Faults.{Tells}
+use Rattle.golf_types.specs.Statements.{Walk, Walked, Walks, in_order, behind}
+use Rattle.golf_types.specs.Files.{receiver_walk, parameter_walk, all_typed_names, result_type, func_walk, initial_walk, outside, struct_types, global_types, function_types, with_types, bare_file, file_scope, import_faults, no_imports, with_imports, walk_faults, walk_types, decl_faults, Broken, types_in}
+use Rattle.golf_types.proofs.Seams.{tells_behind}
+use Rattle.golf_types.proofs.WalkLaws.{then_tells}
+use Rattle.golf_check.specs.Heads.{receiver_name, optional_parameter, inner_walks, head_walks, Stays, typed_file, named_faults}
+
+receiver_walks : (l : ℕ) (file : Scope) (r : Option Receiver) → optional_parameter l (receiver_name file r) ≡ receiver_walk l file r
+receiver_walks l file None = refl
+receiver_walks l file (Some r) = refl
+
+func_walks : (f : Func) (file : Scope) → in_order (head_walks f (receiver_name file f.receiver) (all_typed_names file f.parameters)) (record file { result = result_type file f.result }) ≡ func_walk f file
+func_walks f file = ap (λ w. in_order (w ∷ inner_walks f (all_typed_names file f.parameters)) (record file { result = result_type file f.result })) (receiver_walks f.line file f.receiver)
+
+-- the answer for a head and its body is that for the function
+pub func_tells : {A : Type 0} (a : Result A TypeFault) (f : Func) (file t : Scope) (r : Option (List ℕ × Option GoType)) (ps : List (List ℕ × Option GoType)) (result : Option GoType) (old new : List (Option GoType)) → r ≡ receiver_name file f.receiver → ps ≡ all_typed_names file f.parameters → result ≡ result_type file f.result → Stays a (in_order (head_walks f r ps) (record file { result = result })) file t old new → Stays a (func_walk f file) file t old new
+func_tells a f file t r ps result old new head names gives h =
+    subst (λ w. Stays a w file t old new)
+    (ap (λ x. in_order (head_walks f x ps) (record file { result = result })) head
+    ∙ ap (λ xs. in_order (head_walks f (receiver_name file f.receiver) xs) (record file { result = result })) names
+    ∙ ap (λ g. in_order (head_walks f (receiver_name file f.receiver) (all_typed_names file f.parameters)) (record file { result = g })) gives
+    ∙ func_walks f file) h
+
+back : Scope → Scope
+back s = record s { locals = []; result = None; next = 0 }
+
+-- behind a function the scope is as before
+pub left_scope : (s t u : Scope) (g : Option GoType) (w : Walked) → s ≡ outside s.file → t ≡ behind (record s { result = g }) w → u ≡ record t { locals = []; result = None; next = 0 } → u ≡ s
+unfolding back
+left_scope s t u g w is at left = left ∙ ap back at ∙ ap back is ∙ sym is
+
+-- parameters have no expressions
+parameters_types : (l : ℕ) (ps : List (List ℕ × Option GoType)) (s : Scope) → (in_order (map (parameter_walk l) ps) s).types ≡ []
+parameters_types l [] s = refl
+parameters_types l (p ∷ ps) s = parameters_types l ps (behind s (parameter_walk l p s))
+
+-- where the parameters break nothing, the answer for what stands behind them tells of both
+pub inner_tells : {A : Type 0} (r : Result A TypeFault) (l : ℕ) (ps : List (List ℕ × Option GoType)) (ws : List Walk) (s mid t : Scope) (old new : List (Option GoType)) → (in_order (map (parameter_walk l) ps) s).faults ≡ [] → mid ≡ behind s (in_order (map (parameter_walk l) ps) s) → Walks r (in_order ws mid) mid t old new → Walks r (in_order (in_order (map (parameter_walk l) ps) ∷ ws) s) s t old new
+inner_tells r l ps ws s mid t old new none at h =
+    let a = in_order (map (parameter_walk l) ps) s in
+    then_tells r a (in_order ws (behind s a)) s (behind s a) t old old new none refl
+    (sym (ap (λ ts. old ++ ts) (parameters_types l ps s) ∙ append-nil old))
+    (subst (λ m. Walks r (in_order ws m) m t old new) at h)
+
+-- a scope whose file has these types
+with_written : Scope → List (List (Option GoType)) → List (Option GoType) → List Signature → Scope
+with_written s fs gs hs = record s { file = record s.file { fields = fs; globals = gs; functions = hs } }
+
+-- the same with the types that declarations have in this scope
+written_in : FileScope → List Decl → Scope → Scope
+written_in f xs s = record s { file = record f { fields = flat_map (struct_types s) xs; globals = flat_map (global_types s) xs; functions = flat_map (function_types s) xs } }
+
+-- the types that are written, in the scope outside all functions
+pub typed_scope : (s t : Scope) (xs : List Decl) (fs : List (List (Option GoType))) (gs : List (Option GoType)) (hs : List Signature) → s ≡ outside s.file → fs ≡ flat_map (struct_types s) xs → gs ≡ flat_map (global_types s) xs → hs ≡ flat_map (function_types s) xs → t ≡ record s { file = record s.file { fields = fs; globals = gs; functions = hs } } → t ≡ outside (with_types s.file xs)
+unfolding with_written written_in
+typed_scope s t xs fs gs hs is fields globals functions at =
+    at
+    ∙ ap (λ (a : List (List (Option GoType))). with_written s a gs hs) fields
+    ∙ ap (λ (a : List (Option GoType)). with_written s (flat_map (struct_types s) xs) a hs) globals
+    ∙ ap (λ (a : List Signature). with_written s (flat_map (struct_types s) xs) (flat_map (global_types s) xs) a) functions
+    ∙ ap (λ (u : Scope). written_in s.file xs u) is
+
+-- Declarations are walked in the scope outside all functions.
+
+pub var_stays : {A : Type 0} (r : Result A TypeFault) (v : Var) (g : ℕ) (s t : Scope) (old new : List (Option GoType)) → s ≡ outside s.file → Stays r (initial_walk v.line v.content (record s { initialises = Some g })) s t old new → Stays r (initial_walk v.line v.content (record (outside s.file) { initialises = Some g })) s t old new
+var_stays r v g s t old new is h = subst (λ u. Stays r (initial_walk v.line v.content (record u { initialises = Some g })) s t old new) is h
+
+pub func_stays : {A : Type 0} (r : Result A TypeFault) (f : Func) (s t : Scope) (old new : List (Option GoType)) → s ≡ outside s.file → Stays r (func_walk f s) s t old new → Stays r (func_walk f (outside s.file)) s t old new
+func_stays r f s t old new is h = subst (λ u. Stays r (func_walk f u) s t old new) is h
+
+-- Passes over the declarations of a file.
+
+-- behind the scope with all types the answer for the declarations is that for the file with its types
+pub walked_tells : (r : Result (List (Option GoType)) TypeFault) (f : FileScope) (t : Scope) (xs : List Decl) → t ≡ outside f → Tells r (walk_faults t.file 0 xs) (λ ts. ts ≡ walk_types t.file 0 xs) → Tells r (walk_faults f 0 xs) (λ ts. ts ≡ walk_types f 0 xs)
+walked_tells r f t xs is h = subst (λ (u : Scope). Tells r (walk_faults u.file 0 xs) (λ ts. ts ≡ walk_types u.file 0 xs)) is h
+
+-- the answer for the passes in the scope without types is that for the declarations
+pub named_tells : (r : Result (List (Option GoType)) TypeFault) (i : Imports) (s : Scope) (xs : List Decl) → s ≡ outside (bare_file i xs) → Tells r (named_faults s xs) (λ ts. ts ≡ walk_types (typed_file s.file xs) 0 xs) → Tells r (decl_faults i xs) (λ ts. ts ≡ walk_types (file_scope i xs) 0 xs)
+named_tells r i s xs is h = subst (λ (u : Scope). Tells r (named_faults u xs) (λ ts. ts ≡ walk_types (typed_file u.file xs) 0 xs)) is h
+
+-- where the imports break nothing, the answer for the declarations tells of the file
+pub broken_tells : (r : Result (List (Option GoType)) TypeFault) (f : File) (xs : List Import) (ys : List Decl) (i : Imports) → xs ≡ f.imports → ys ≡ f.declarations → import_faults no_imports xs ≡ [] → i ≡ with_imports no_imports xs → Tells r (decl_faults i ys) (λ ts. ts ≡ walk_types (file_scope i ys) 0 ys) → Tells r (Broken f) (λ ts. ts ≡ types_in f)
+unfolding Broken types_in
+broken_tells r f xs ys i from at none is h =
+    tells_behind r (import_faults no_imports f.imports) (decl_faults (with_imports no_imports f.imports) f.declarations)
+    (λ ts. ts ≡ walk_types (file_scope (with_imports no_imports f.imports) f.declarations) 0 f.declarations)
+    (λ ts. ts ≡ walk_types (file_scope (with_imports no_imports f.imports) f.declarations) 0 f.declarations)
+    (sym (ap (import_faults no_imports) from) ∙ none)
+    (λ ts k. k)
+    (subst (λ (j : Imports). Tells r (decl_faults j f.declarations) (λ ts. ts ≡ walk_types (file_scope j f.declarations) 0 f.declarations)) (is ∙ ap (with_imports no_imports) from)
+    (subst (λ (zs : List Decl). Tells r (decl_faults i zs) (λ ts. ts ≡ walk_types (file_scope i zs) 0 zs)) at h))

@@ -1,0 +1,45 @@
+-- What the head of a function declares (Go specification, "Function declarations", "Method declarations"), what the answers for declarations tell, and the passes over the declarations of a file.
+use Rattle.std.specs.Prelude.{◌≡◌, ℕ, List, ◌∷◌, ◌++◌, [], map, flat_map, Option, Some, None, Result}
+use Rattle.golf_grammar.specs.declared.declarations.Receiver.{Receiver}
+use Rattle.golf_grammar.specs.declared.declarations.Func.{Func}
+use Rattle.golf_grammar.specs.declared.declarations.Decl.{Decl}
+use Rattle.golf_types.specs.declared.fault.TypeFault.{TypeFault}
+use Rattle.golf_types.specs.declared.types.GoType.{GoType}
+use Rattle.golf_types.specs.declared.scopes.FileScope.{FileScope}
+use Rattle.golf_types.specs.declared.scopes.Scope.{Scope}
+use Rattle.golf_types.specs.Faults.{Fault, Tells}
+use Rattle.golf_types.specs.Statements.{Walk, Walked, nothing, breaks, in_order, walk}
+use Rattle.golf_types.specs.Files.{receiver_type, parameter_walk, end_faults, names_faults, none_above, type_faults, main_faults, with_types, with_forms, walk_faults}
+
+-- a receiver's name with its type
+abbrev pub receiver_name : Scope → Option Receiver → Option (List ℕ × Option GoType)
+receiver_name file None = None
+receiver_name file (Some r) = Some (r.name, receiver_type file r.type_name)
+
+abbrev pub optional_parameter : ℕ → Option (List ℕ × Option GoType) → Walk
+optional_parameter l None s = nothing
+optional_parameter l (Some p) s = parameter_walk l p s
+
+-- a body and its end
+abbrev pub body_walks : Func → List Walk
+body_walks f = in_order (map walk f.body) ∷ (λ s. breaks (end_faults f)) ∷ []
+
+-- parameters of these names and types, and a body behind them
+abbrev pub inner_walks : Func → List (List ℕ × Option GoType) → List Walk
+inner_walks f ps = in_order (map (parameter_walk f.line) ps) ∷ body_walks f
+
+-- a receiver, parameters, and a body behind them
+abbrev pub head_walks : Func → Option (List ℕ × Option GoType) → List (List ℕ × Option GoType) → List Walk
+head_walks f r ps = optional_parameter f.line r ∷ inner_walks f ps
+
+-- What the answers of the checker tell of a declaration: they come where no rule is broken, and then the scope is as before, and these types were added.
+abbrev pub Stays : {A : Type 0} → Result A TypeFault → Walked → Scope → Scope → List (Option GoType) → List (Option GoType) → Type 0
+Stays result w s t old new = Tells result w.faults (λ _. (t ≡ s) × (new ≡ old ++ w.types))
+
+-- the names of a file with their types, as written and by form
+abbrev pub typed_file : FileScope → List Decl → FileScope
+typed_file f xs = with_forms (with_types f xs) 0 xs
+
+-- the passes over declarations, in the scope outside all functions in which names have no types yet
+abbrev pub named_faults : Scope → List Decl → List Fault
+named_faults s xs = names_faults s.file none_above xs ++ (flat_map (type_faults s) xs ++ (main_faults xs ++ walk_faults (typed_file s.file xs) 0 xs))

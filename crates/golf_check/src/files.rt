@@ -1,0 +1,125 @@
+//! Whether a file keeps the rules.
+
+ghost use Rattle.std.specs.Prelude.{◌≡◌, ◌++◌};
+ghost use Rattle.golf_types.specs.Faults.{Tells};
+ghost use Rattle.golf_types.specs.Files.{outside, decl_walked, walk_faults, walk_types, decl_faults, file_scope, Broken, types_in};
+ghost use Rattle.golf_check.specs.Heads.{Stays, typed_file, named_faults};
+
+use crate::functions::func_at;
+use crate::initialisers::{const_at, global_at};
+use crate::scopes::{add_types, bare_scope};
+use golf_base::List;
+use golf_check_forms::next_global;
+use golf_check_names::{imported, main_is_there, names_are_good, types_are_there};
+use golf_grammar::{Decl, File};
+use golf_types::{GoType, Imports, Scope, TypeFault};
+use std::alloc::Global;
+
+/// A file that keeps the rules, and the types of its expressions: one for each expression of the
+/// tree, in the order in which their prints begin, an outer one before an inner one that begins at
+/// the same token. `None` stands for a callee, a package, a function's name, `_`, `nil` and a call
+/// without a result.
+#[derive(Drop)]
+pub struct Checked {
+    pub file: File,
+    pub types: List<Option<GoType>>,
+}
+
+#[tactic(auto, using(crate::proofs::Laws::var_stays, crate::proofs::Laws::func_stays))]
+fn decl_at(
+    alloc: Global,
+    scope: &mut Scope,
+    global: u32,
+    decl: &Decl,
+    types: &mut List<Option<GoType>>,
+) -> Result<(), TypeFault>
+    requires { scope.old ≡ outside scope.old.file }
+    ensures { Stays result (decl_walked scope.old.file global decl.now) scope.old scope.new types.old types.new }
+{
+    match decl {
+        Decl::Const(line, _, value) => const_at(*line, value),
+        Decl::Var(var) => global_at(alloc, scope, global, var.get(), types),
+        Decl::Struct(_, _, _) => Ok(()),
+        Decl::Func(func) => func_at(alloc, scope, func, types),
+    }
+}
+
+fn decls_at(
+    alloc: Global,
+    scope: &mut Scope,
+    decls: &[Decl],
+    types: &mut List<Option<GoType>>,
+) -> Result<(), TypeFault>
+    requires { scope.old ≡ outside scope.old.file }
+    ensures { Tells result (walk_faults scope.old.file 0 decls.now) (λ _. types.new ≡ types.old ++ walk_types scope.old.file 0 decls.now) }
+{
+    let mut global = 0u32;
+    for decl in decls {
+        decl_at(alloc, scope, global, decl, types)?;
+        global = next_global(global, decl)?;
+    }
+    Ok(())
+}
+
+// Constants, initialisers and bodies, where the names of the file have no types yet.
+#[tactic(auto, using(crate::proofs::Laws::walked_tells))]
+fn types_behind_names(
+    alloc: Global,
+    scope: &mut Scope,
+    decls: &[Decl],
+) -> Result<List<Option<GoType>>, TypeFault>
+    requires { scope.old ≡ outside scope.old.file }
+    ensures { Tells result (walk_faults (typed_file scope.old.file decls.now) 0 decls.now) (λ ts. ts ≡ walk_types (typed_file scope.old.file decls.now) 0 decls.now) }
+{
+    add_types(alloc, scope, decls)?;
+    let mut types = List::new(alloc);
+    decls_at(alloc, scope, decls, &mut types)?;
+    Ok(types)
+}
+
+// Names, written types, `main`, and then the rest.
+fn types_of_named(
+    alloc: Global,
+    scope: &mut Scope,
+    decls: &[Decl],
+) -> Result<List<Option<GoType>>, TypeFault>
+    requires { scope.old ≡ outside scope.old.file }
+    ensures { Tells result (named_faults scope.old decls.now) (λ ts. ts ≡ walk_types (typed_file scope.old.file decls.now) 0 decls.now) }
+{
+    names_are_good(alloc, &scope.file, decls)?;
+    types_are_there(alloc, scope, decls)?;
+    main_is_there(decls)?;
+    types_behind_names(alloc, scope, decls)
+}
+
+#[tactic(auto, using(crate::proofs::Laws::named_tells))]
+fn types_of_decls(
+    alloc: Global,
+    imports: Imports,
+    decls: &[Decl],
+) -> Result<List<Option<GoType>>, TypeFault>
+    ensures { Tells result (decl_faults imports decls.now) (λ ts. ts ≡ walk_types (file_scope imports decls.now) 0 decls.now) }
+{
+    let mut scope = bare_scope(alloc, imports, decls)?;
+    types_of_named(alloc, &mut scope, decls)
+}
+
+#[tactic(auto, unfolding(golf_types::specs::Files::Broken, golf_types::specs::Files::types_in))]
+fn types_of_file(alloc: Global, file: &File) -> Result<List<Option<GoType>>, TypeFault>
+    ensures { Tells result (Broken file.now) (λ ts. ts ≡ types_in file.now) }
+{
+    let written = file.imports.as_slice();
+    let imports = imported(written)?;
+    let decls = file.declarations.as_slice();
+    types_of_decls(alloc, imports, decls)
+}
+
+/// Whether a file keeps all rules; the first broken one in the order of the walk otherwise.
+pub fn check(alloc: Global, file: File) -> Result<Checked, TypeFault>
+    ensures { Tells result (Broken file) (λ c. (c.file ≡ file) × (c.types ≡ types_in file)) }
+{
+    match types_of_file(alloc, &file) {
+        Ok(types) => Ok(Checked { file, types }),
+        Err(fault) => Err(fault),
+    }
+}

@@ -1,0 +1,79 @@
+//! The scope outside all functions.
+
+ghost use Rattle.std.specs.Prelude.{◌≡◌, [], IfOk, OnOk};
+ghost use Rattle.golf_types.specs.Files.{bare_file, with_types, with_forms, outside as outside_of};
+
+use golf_base::{List, Memory};
+use golf_check_forms::{form_globals, function_types, global_types, struct_types};
+use golf_check_names::{add_methods, naming_of};
+use golf_grammar::Decl;
+use golf_types::{FileScope, Imports, Locals, Naming, Scope};
+use std::alloc::Global;
+
+fn bare(alloc: Global, imports: Imports, naming: Naming) -> FileScope
+    ensures { result ≡ record { imports = imports; names = naming.names; meanings = naming.meanings; structs = naming.structs; fields = []; globals = []; functions = [] } }
+{
+    let Naming {
+        constants: _,
+        globals: _,
+        functions: _,
+        names,
+        meanings,
+        structs,
+    } = naming;
+    FileScope {
+        imports,
+        names,
+        meanings,
+        structs,
+        fields: List::new(alloc),
+        globals: List::new(alloc),
+        functions: List::new(alloc),
+    }
+}
+
+fn outside(alloc: Global, file: FileScope) -> Scope
+    ensures { result ≡ outside_of file }
+{
+    Scope {
+        file,
+        locals: Locals::new(alloc),
+        depth: 0,
+        result: None,
+        breaks: false,
+        loops: false,
+        next: 0,
+        initialises: None,
+    }
+}
+
+/// Names without types.
+pub fn bare_scope(alloc: Global, imports: Imports, decls: &[Decl]) -> Result<Scope, Memory>
+    ensures { IfOk result (λ s. s ≡ outside_of (bare_file imports decls.now)) }
+{
+    let mut naming = naming_of(alloc, decls)?;
+    add_methods(alloc, &mut naming, decls)?;
+    Ok(outside(alloc, bare(alloc, imports, naming)))
+}
+
+fn add_written_types(alloc: Global, scope: &mut Scope, decls: &[Decl]) -> Result<(), Memory>
+    requires { scope.old ≡ outside_of scope.old.file }
+    ensures { OnOk result (scope.new ≡ outside_of (with_types scope.old.file decls.now)) }
+{
+    let fields = struct_types(alloc, scope, decls)?;
+    let globals = global_types(alloc, scope, decls)?;
+    let functions = function_types(alloc, scope, decls)?;
+    scope.file.fields = fields;
+    scope.file.globals = globals;
+    scope.file.functions = functions;
+    Ok(())
+}
+
+/// Adds the types of fields, globals and functions. On an `Err` nothing is said of the scope.
+pub fn add_types(alloc: Global, scope: &mut Scope, decls: &[Decl]) -> Result<(), Memory>
+    requires { scope.old ≡ outside_of scope.old.file }
+    ensures { OnOk result (scope.new ≡ outside_of (with_forms (with_types scope.old.file decls.now) 0 decls.now)) }
+{
+    add_written_types(alloc, scope, decls)?;
+    form_globals(alloc, scope, decls)
+}

@@ -1,5 +1,0 @@
-use Rattle.std.proofs.Common.{length}
-use Rattle.golf_check_expressions.proofs.calls.+arguments_fit.Given as goal
-
-abbrev pub decreases-arguments_fit : goal.decreases-arguments_fit
-decreases-arguments_fit l = length l.parameters.now

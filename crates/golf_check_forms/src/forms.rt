@@ -1,0 +1,206 @@
+//! What expressions are by their form, whatever rules they break.
+
+ghost use Rattle.std.specs.Prelude.{◌≡◌, IfOk, List, slice_get};
+ghost use Rattle.golf_types.specs.Types.{element as element_of, with_layer as with_layer_of};
+ghost use Rattle.golf_types.specs.Scopes.{meaning as meaning_of};
+ghost use Rattle.golf_types.specs.Written.{write, pointer_to as pointer_to_of};
+ghost use Rattle.golf_types.specs.Expressions.{Judged, given_by, named as named_of, pointer_value, unary_meaning, selected_from, in_parens};
+ghost use Rattle.golf_types.specs.Calls.{signature_result, called_with};
+ghost use Rattle.golf_types.specs.Judging.{judge};
+ghost use Rattle.golf_check_forms.specs.Forms.{Forms, called_form};
+
+use golf_base::Memory;
+use golf_check_expressions::{
+    element, made_base, plain_type, pointer_to, result_base, select, value, without_package,
+    written_type,
+};
+use golf_grammar::{Expr, TypeExpr, UnaryOperator};
+use golf_types::{
+    Base, BuiltIn, FileScope, Given, Layer, Operand, Scope, TypeFault, copy_optional, is_blank,
+    meaning_at, value_of, with_layer,
+};
+use std::alloc::Global;
+
+fn named(alloc: Global, line: u32, scope: &Scope, name: &[u8]) -> Result<Operand, Memory>
+    ensures { Forms result (named_of line scope.now name.now).meaning }
+{
+    if is_blank(name) {
+        return Ok(Operand::Blank);
+    }
+    match meaning_at(alloc, scope, name)? {
+        None => Ok(Operand::Value(None)),
+        Some(operand) => Ok(operand),
+    }
+}
+
+fn pointer(alloc: Global, scope: &Scope, name: &[u8]) -> Result<Operand, Memory>
+    ensures { Forms result (pointer_value (pointer_to_of (meaning_of scope.now name.now))) }
+{
+    let meaning = meaning_at(alloc, scope, name)?;
+    Ok(Operand::Value(plain_type(alloc, pointer_to(meaning))))
+}
+
+fn slice(alloc: Global, line: u32, scope: &Scope, t: &TypeExpr) -> Result<Operand, Memory>
+    ensures { Forms result (Operand.Value (with_layer_of Layer.Slice (write t.now line scope.now).type)) }
+{
+    let inner = written_type(alloc, line, scope, t)?;
+    Ok(Operand::Value(with_layer(alloc, Layer::Slice, inner)?))
+}
+
+fn made(alloc: Global, line: u32, scope: &Scope, t: &TypeExpr) -> Result<Operand, Memory>
+    ensures { Forms result (Operand.Value (write t.now line scope.now).type) }
+{
+    Ok(Operand::Value(written_type(alloc, line, scope, t)?))
+}
+
+fn unary(alloc: Global, operator: UnaryOperator, x: Given) -> Operand
+    ensures { result ≡ unary_meaning operator x }
+{
+    match operator {
+        UnaryOperator::Negate => value(alloc, Base::Int),
+        UnaryOperator::Not => value(alloc, Base::Bool),
+        UnaryOperator::Receive => Operand::Outcome(element(x)),
+    }
+}
+
+fn selected(
+    alloc: Global,
+    line: u32,
+    file: &FileScope,
+    name: &[u8],
+    operand: Operand,
+) -> Result<Operand, Memory>
+    ensures { Forms result (selected_from line file.now name.now operand).meaning }
+{
+    match select(alloc, line, file, name, operand) {
+        Ok(found) => Ok(found),
+        Err(fault) => match fault {
+            TypeFault::Memory => Err(Memory),
+            TypeFault::At { line: _, rule: _ } => Ok(Operand::Unknown),
+        },
+    }
+}
+
+fn function_result(alloc: Global, file: &FileScope, number: u32) -> Result<Operand, Memory>
+    ensures { Forms result (signature_result (slice_get file.now.functions number)) }
+{
+    match file.functions.as_slice().get(number as usize) {
+        None => Ok(Operand::Outcome(None)),
+        Some(signature) => match copy_optional(alloc, &signature.result)? {
+            None => Ok(Operand::Nothing(None)),
+            Some(t) => Ok(Operand::Outcome(Some(t))),
+        },
+    }
+}
+
+fn called(alloc: Global, file: &FileScope, callee: Operand) -> Result<Operand, Memory>
+    ensures { Forms result (called_form file.now callee) }
+{
+    match callee {
+        Operand::Function(number) => function_result(alloc, file, number),
+        Operand::Method(number) => function_result(alloc, file, number),
+        Operand::BuiltIn(built_in) => match built_in {
+            BuiltIn::Length => Ok(value(alloc, Base::Int)),
+            BuiltIn::NewCondition => Ok(value(alloc, Base::Condition)),
+            _ => Ok(Operand::Nothing(None)),
+        },
+        _ => Ok(Operand::Outcome(None)),
+    }
+}
+
+#[cycle(forming)]
+#[tactic(auto, using(crate::proofs::Laws::same_parens))]
+fn parens_form(alloc: Global, line: u32, scope: &Scope, e: &Expr) -> Result<Operand, Memory>
+    ensures { Forms result (in_parens (judge e.now line scope.now)).meaning }
+{
+    let inner = form(alloc, line, scope, e)?;
+    Ok(without_package(inner))
+}
+
+#[cycle(forming)]
+#[tactic(auto, using(crate::proofs::Laws::same_selected))]
+fn selector_form(
+    alloc: Global,
+    line: u32,
+    scope: &Scope,
+    e: &Expr,
+    name: &[u8],
+) -> Result<Operand, Memory>
+    ensures { Forms result (selected_from line scope.now.file name.now (judge e.now line scope.now).meaning).meaning }
+{
+    let operand = form(alloc, line, scope, e)?;
+    selected(alloc, line, &scope.file, name, operand)
+}
+
+#[cycle(forming)]
+#[tactic(auto, using(crate::proofs::Laws::same_given))]
+fn value_form(alloc: Global, line: u32, scope: &Scope, e: &Expr) -> Result<Given, Memory>
+    ensures { IfOk result (λ v. v ≡ given_by (judge e.now line scope.now)) }
+{
+    let operand = form(alloc, line, scope, e)?;
+    Ok(value_of(alloc, operand))
+}
+
+#[cycle(forming)]
+fn index_form(alloc: Global, line: u32, scope: &Scope, e: &Expr) -> Result<Operand, Memory>
+    ensures { Forms result (Operand.Element (element_of (given_by (judge e.now line scope.now)))) }
+{
+    let x = value_form(alloc, line, scope, e)?;
+    Ok(Operand::Element(element(x)))
+}
+
+#[cycle(forming)]
+fn unary_form(
+    alloc: Global,
+    line: u32,
+    scope: &Scope,
+    operator: UnaryOperator,
+    e: &Expr,
+) -> Result<Operand, Memory>
+    ensures { Forms result (unary_meaning operator (given_by (judge e.now line scope.now))) }
+{
+    let x = value_form(alloc, line, scope, e)?;
+    Ok(unary(alloc, operator, x))
+}
+
+#[cycle(forming)]
+#[tactic(auto, using(crate::proofs::Laws::called_forms))]
+fn call_form(alloc: Global, line: u32, scope: &Scope, f: &Expr) -> Result<Operand, Memory>
+    ensures { (xs : List Judged) → Forms result (called_with line scope.now (judge f.now line scope.now).meaning xs).meaning }
+{
+    let callee = form(alloc, line, scope, f)?;
+    called(alloc, &scope.file, callee)
+}
+
+/// What an expression is by its form; of a call without a result not which rule it breaks.
+#[cycle(forming)]
+#[tactic(auto, unfolding(golf_types::specs::Judging::judge))]
+pub fn form(alloc: Global, line: u32, scope: &Scope, e: &Expr) -> Result<Operand, Memory>
+    ensures { Forms result (judge e.now line scope.now).meaning }
+{
+    match e {
+        Expr::Integer(_) => Ok(value(alloc, Base::Int)),
+        Expr::Text(_) => Ok(value(alloc, Base::Text)),
+        Expr::Name(name) => named(alloc, line, scope, name.as_slice()),
+        Expr::Parens(e) => parens_form(alloc, line, scope, e.get()),
+        Expr::StructLiteral(name, _) => pointer(alloc, scope, name.as_slice()),
+        Expr::SyncLiteral(name) => {
+            let base = made_base(name.as_slice());
+            Ok(Operand::Value(plain_type(alloc, base)))
+        }
+        Expr::SliceLiteral(t, _) => slice(alloc, line, scope, t.get()),
+        Expr::EmptyLiteral => Ok(value(alloc, Base::Unit)),
+        Expr::Make(t) => made(alloc, line, scope, t.get()),
+        Expr::MakeSized(t, _) => made(alloc, line, scope, t.get()),
+        Expr::New(name) => pointer(alloc, scope, name.as_slice()),
+        Expr::NewSync(name) => {
+            let base = made_base(name.as_slice());
+            Ok(Operand::Value(plain_type(alloc, base)))
+        }
+        Expr::Selector(e, name) => selector_form(alloc, line, scope, e.get(), name.as_slice()),
+        Expr::Index(a, _) => index_form(alloc, line, scope, a.get()),
+        Expr::Call(f, _) => call_form(alloc, line, scope, f.get()),
+        Expr::Unary(o, e) => unary_form(alloc, line, scope, *o, e.get()),
+        Expr::Binary(o, _, _) => Ok(value(alloc, result_base(*o))),
+    }
+}

@@ -1,0 +1,17 @@
+-- The laws of the definitions of code, as statements: what an expression is, and what is known behind a statement, are the checker's.
+use Rattle.std.specs.Prelude.{◌≡◌}
+use Rattle.golf_grammar.specs.declared.expressions.Expr.{Expr}
+use Rattle.golf_grammar.specs.declared.statements.Stmt.{Stmt}
+use Rattle.golf_grammar.specs.declared.statements.Clause.{Clause}
+use Rattle.golf_types.specs.Judging.{judge}
+use Rattle.golf_types.specs.Statements.{walk, walk_clause}
+use Rattle.golf_code_of.specs.Values.{Tables}
+use Rattle.golf_code_of.specs.Coding.{coded}
+use Rattle.golf_code_of.specs.Laying.{stmt_part, clause_part}
+
+abbrev pub JudgmentsAgree : Type 0
+JudgmentsAgree = (t : Tables) (e : Expr) → (coded t e).judge ≡ judge e
+
+pub record WalksAgree : Type 0 where
+  pub statements : (t : Tables) (x : Stmt) → (stmt_part t x).walk ≡ walk x
+  pub clauses : (t : Tables) (c : Clause) → (clause_part t c).walk ≡ walk_clause c

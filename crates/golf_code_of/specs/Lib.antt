@@ -1,0 +1,11 @@
+pub mod Texts
+pub mod Values
+pub mod Expressions
+pub mod Calls
+pub mod Coding
+pub mod Statements
+pub mod Loops
+pub mod Selects
+pub mod Laying
+pub mod Files
+pub mod Laws

@@ -1,0 +1,40 @@
+-- A loop over a `range` leads on.
+use Rattle.std.proofs.Common.{ℕ, List, ◌++◌, refl}
+use Rattle.golf_theory.specs.Membership.{Every}
+use Rattle.golf_grammar.specs.declared.expressions.Expr.{Expr}
+use Rattle.golf_grammar.specs.declared.statements.RangeNames.{RangeNames}
+use Rattle.golf_types.specs.Scopes.{begun}
+use Rattle.golf_types.specs.Expressions.{used, given_by}
+use Rattle.golf_types.specs.Judging.{judge}
+use Rattle.golf_types.specs.Statements as W
+use Rattle.golf_types.specs.Statements.{behind, range_faults}
+use Rattle.golf_shapes.specs.Types.{FunctionTypes, Types}
+use Rattle.golf_code_of.specs.Values.{Tables}
+use Rattle.golf_code_of.specs.Coding.{piece_at}
+use Rattle.golf_code_of.specs.Statements.{Part, block, in_block}
+use Rattle.golf_code_of.specs.Loops.{in_loop, ranging}
+use Rattle.golf_code_shapes.specs.Sound.{ScopeFits}
+use Rattle.golf_code_shapes.specs.Flowing.{IsMaking}
+use Rattle.golf_code_shapes.proofs.Typings.{none-left, none-right}
+use Rattle.golf_code_shapes.proofs.Flows.{Right, quiet, slotted-left, slotted-right}
+use Rattle.golf_code_shapes.proofs.Simples.{value-of}
+use Rattle.golf_code_shapes.proofs.Branches.{looped}
+use Rattle.golf_code_shapes.proofs.Ranges.{over-given}
+
+module _ (types : Types) (t : Tables) (ft : FunctionTypes) where
+  -- what the names declare is known inside alone
+  pub right-range : (l : ℕ) (names : RangeNames) (e : Expr) (xs : List Part) → Right types t ft (block xs) → Right types t ft (in_block (ranging t l names e xs))
+  right-range l names e xs right a s A exits ok ways slots made none =
+      let s0 = begun s in
+      let ok0 : ScopeFits types t ft A s0 = record { file = ok.file; locals = ok.locals; result = ok.result } in
+      let j = judge e l s0 in
+      let g = given_by j in
+      let rs = W.range_slots names g s0 in
+      let s1 = behind s0 rs in
+      let x = in_loop 2 0 (block xs) in
+      let head = none-left (used l j ++ range_faults l names g) _ none in
+      let rest = none-right (used l j ++ range_faults l names g) _ none in
+      let h = over-given types t ft (Every IsMaking (x.lay a s1).made) l names g (piece_at t l s0 e) s0 (x.lay a s1).piece A exits ok0 (none-right (used l j) _ head) (value-of types t ft l e s0 A ok0 (none-left (used l j) _ head))
+      (slotted-left types t ft s0.next rs.slots (x.walk s1).slots slots)
+      (λ B E okb r2 r0. looped types t ft (block xs) right 2 0 a s1 B E (λ q. refl) okb r2 r0 (slotted-right types t ft s0.next s1.next rs.slots (x.walk s1).slots refl slots) made (none-right rs.faults _ rest)) in
+      (quiet types t ft A exits s ((in_block (ranging t l names e xs)).walk s) _ refl ok h.0, h.1)

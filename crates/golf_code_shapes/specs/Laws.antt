@@ -1,0 +1,26 @@
+-- The laws of the code of a file, as statements: what breaks no rule has shapes.
+use Rattle.std.specs.Prelude.{◌≡◌, ℕ, true, List, []}
+use Rattle.golf_grammar.specs.declared.expressions.Expr.{Expr}
+use Rattle.golf_grammar.specs.declared.statements.Stmt.{Stmt}
+use Rattle.golf_grammar.specs.Statements.{stmt_form}
+use Rattle.golf_types.specs.declared.scopes.Scope.{Scope}
+use Rattle.golf_types.specs.Judging.{Judge, judge}
+use Rattle.golf_types.specs.Statements.{walk}
+use Rattle.golf_shapes.specs.Types.{FunctionTypes, Types}
+use Rattle.golf_code_of.specs.Values.{Tables}
+use Rattle.golf_code_of.specs.Expressions.{Made}
+use Rattle.golf_code_of.specs.Coding.{coded}
+use Rattle.golf_code_of.specs.Laying.{stmt_part}
+use Rattle.golf_code_shapes.specs.Flowing.{StatementFits}
+use Rattle.golf_code_shapes.specs.Sound.{ScopeFits, Shown}
+
+-- where the names of a scope mean what the types of the code say, an expression that breaks no rule has the code of what it is
+abbrev pub ExpressionFits : Types → Tables → FunctionTypes → Judge → (ℕ → Scope → Made) → Type 0
+ExpressionFits types t ft j c = (l : ℕ) (s : Scope) (assigned : List ℕ) → ScopeFits types t ft assigned s → (j l s).faults ≡ [] → Shown types t ft assigned s.file (j l s).meaning (c l s)
+
+abbrev pub ExpressionsFit : Type 0
+ExpressionsFit = (types : Types) (t : Tables) (ft : FunctionTypes) (e : Expr) → ExpressionFits types t ft (judge e) (coded t e).code
+
+-- the same of a well-formed statement: it leads on
+abbrev pub StatementsFit : Type 0
+StatementsFit = (types : Types) (t : Tables) (ft : FunctionTypes) (x : Stmt) → (stmt_form x).good ≡ true → StatementFits types t ft (walk x) (stmt_part t x).lay

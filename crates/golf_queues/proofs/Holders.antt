@@ -1,0 +1,73 @@
+-- Those in a line, by rising ticket.
+use Rattle.std.proofs.Common.{◌≡◌, ℕ, zero, suc, ◌<◌, true, false, cond, List, [], ◌∷◌, ◌++◌, take, Some, nat_lt, ◌⊎◌, inl, inr, refl, ap, ◌∙◌, arith, slice_get}
+use Rattle.std.specs.Prelude.{remove}
+use Rattle.std.proofs.lemmas.Bool.{ltb-true, ltb-false}
+use Rattle.std.proofs.lemmas.List.{map-append}
+use Rattle.golf_theory.specs.Maps.{Entry, Rises, AllBelow}
+use Rattle.golf_theory.proofs.MapFinds.{Entry-above}
+use Rattle.golf_theory.proofs.MapOrder.{Rises-less}
+use Rattle.golf_heap.specs.Objects.{rank}
+use Rattle.golf_queues.specs.Lines.{held}
+use Rattle.golf_queues.specs.declared.line.TicketHolder.{TicketHolder}
+
+module _ {X : Type 0} where
+  -- ---- the front of a line
+
+  pub Entry-front : (k j : ℕ) (es : List (ℕ × X)) (u : ℕ) (x : X) → Rises j es → u < k → Entry es u x → Entry (take (rank k es) es) u x
+  Entry-front k j [] u x r l i = absurd i
+  Entry-front k j (e ∷ es) u x r l i = elim (nat_lt e.0 k) as (λ b. nat_lt e.0 k ≡ b → Entry (take (cond b (suc (rank k es)) 0) (e ∷ es)) u x) [
+    | true ↦ λ t. elim i [ inl h ↦ inl h | inr h ↦ inr (Entry-front k (suc e.0) es u x r.1 l h) ]
+    | false ↦ λ t. absurd (let past = ltb-false e.0 k t in elim i [
+      | inl h ↦ omega (arith, past, h.0, l)
+      | inr h ↦ let a = Entry-above (suc e.0) es u x r.1 h in omega (arith, past, a, l)
+    ])
+  ] refl
+
+  pub AllBelow-front : (k : ℕ) (es : List (ℕ × X)) → AllBelow k (take (rank k es) es)
+  AllBelow-front k [] = tt
+  AllBelow-front k (e ∷ es) = elim (nat_lt e.0 k) as (λ b. nat_lt e.0 k ≡ b → AllBelow k (take (cond b (suc (rank k es)) 0) (e ∷ es))) [
+    | true ↦ λ t. (ltb-true e.0 k t, AllBelow-front k es)
+    | false ↦ λ t. tt
+  ] refl
+
+  pub Rises-take : (n j : ℕ) (es : List (ℕ × X)) → Rises j es → Rises j (take n es)
+  Rises-take zero j es r = tt
+  Rises-take (suc n) j [] r = tt
+  Rises-take (suc n) j (e ∷ es) r = (r.0, Rises-take n (suc e.0) es r.1)
+
+  -- ---- without one
+
+  pub Entry-remove : (i : ℕ) (es : List (ℕ × X)) (e : ℕ × X) (u : ℕ) (x : X) → slice_get es i ≡ Some e → Entry es u x → ((u ≡ e.0) × (x ≡ e.1)) ⊎ Entry (remove es i) u x
+  Entry-remove i [] e u x h k = absurd k
+  Entry-remove zero (f ∷ es) e u x h (inl k) = let same : f ≡ e = cc in inl (k.0 ∙ ap (λ (d : ℕ × X). d.0) same, k.1 ∙ ap (λ (d : ℕ × X). d.1) same)
+  Entry-remove zero (f ∷ es) e u x h (inr k) = inr k
+  Entry-remove (suc i) (f ∷ es) e u x h (inl k) = inr (inl k)
+  Entry-remove (suc i) (f ∷ es) e u x h (inr k) = elim (Entry-remove i es e u x h k) [ inl a ↦ inl a | inr a ↦ inr (inr a) ]
+
+  pub Rises-remove : (i j : ℕ) (es : List (ℕ × X)) → Rises j es → Rises j (remove es i)
+  Rises-remove zero j [] r = tt
+  Rises-remove (suc i) j [] r = tt
+  Rises-remove zero j (e ∷ es) r = Rises-less j (suc e.0) es (omega (arith, r.0)) r.1
+  Rises-remove (suc i) j (e ∷ es) r = (r.0, Rises-remove i (suc e.0) es r.1)
+
+  pub AllBelow-remove : (i n : ℕ) (es : List (ℕ × X)) → AllBelow n es → AllBelow n (remove es i)
+  AllBelow-remove zero n [] a = tt
+  AllBelow-remove (suc i) n [] a = tt
+  AllBelow-remove zero n (e ∷ es) a = a.1
+  AllBelow-remove (suc i) n (e ∷ es) a = (a.0, AllBelow-remove i n es a.1)
+
+-- ---- in memory
+
+pub held-take : (n : ℕ) (hs : List TicketHolder) → held (take n hs) ≡ take n (held hs)
+held-take zero hs = refl
+held-take (suc n) [] = refl
+held-take (suc n) (h ∷ hs) = ap (λ (es : List (ℕ × ℕ)). (h.ticket, h.goroutine.0) ∷ es) (held-take n hs)
+
+pub held-push : (hs : List TicketHolder) (h : TicketHolder) → held (hs ++ h ∷ []) ≡ held hs ++ (h.ticket, h.goroutine.0) ∷ []
+held-push hs h = map-append (λ (h : TicketHolder). (h.ticket, h.goroutine.0)) hs (h ∷ [])
+
+pub held-remove : (i : ℕ) (hs : List TicketHolder) → held (remove hs i) ≡ remove (held hs) i
+held-remove zero [] = refl
+held-remove (suc i) [] = refl
+held-remove zero (h ∷ hs) = refl
+held-remove (suc i) (h ∷ hs) = ap (λ (es : List (ℕ × ℕ)). (h.ticket, h.goroutine.0) ∷ es) (held-remove i hs)

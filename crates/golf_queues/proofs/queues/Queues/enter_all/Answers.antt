@@ -1,0 +1,17 @@
+use Rattle.std.proofs.Common.{◌≡◌, ℕ, suc, ◌+◌, take, subst, arith}
+use Rattle.golf_queues.specs.Lines.{StandsInAll}
+use Rattle.golf_queues.proofs.LineLaws.{all-kept, all-more}
+use Rattle.golf_queues.proofs.queues.Queues.enter_all.Goals as goal
+
+pub loop-wait-preserved : goal.loop-wait-preserved
+loop-wait-preserved c =
+    let ws = c.args.waits.now in
+    let i = c.loop-wait.wait-index in
+    let t = c.args.ticket in
+    let g = c.args.goroutine.0 in
+    let next : suc i ≡ i + 1 = omega arith in
+    record {
+      joins = subst (λ (n : ℕ). StandsInAll t g (take n ws) c.enter_by.new.self) next (all-more t g i ws _ c.enter_by.new.self c.loop-wait-test.true (all-kept t g (take i ws) c.loop-wait.self c.enter_by.new.self c.in_ok-enter_by.ensures.again c.loop-wait.invariant.joins) c.in_ok-enter_by.ensures.joins);
+      kept = λ k u h p e. c.enter_by.ensures.kept k u h p (c.loop-wait.invariant.kept k u h p e);
+      below = c.enter_by.ensures.below;
+    }

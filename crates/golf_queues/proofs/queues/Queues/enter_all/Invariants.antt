@@ -1,0 +1,11 @@
+use Rattle.std.proofs.Common.{◌+◌, ◌<◌, take}
+use Rattle.golf_queues.specs.Lines.{AreBelow, Keeps, StandsInAll}
+use Rattle.golf_queues.proofs.queues.Queues.enter_all.Given as goal
+
+-- the goroutine stands in the lines of the waits so far
+abbrev pub invariant-loop-wait : goal.invariant-loop-wait
+invariant-loop-wait l = record {
+  joins : StandsInAll l.ticket l.goroutine.0 (take l.wait-index l.waits) l.self;
+  kept : Keeps (λ t g. t < l.ticket) l.initial.self l.self;
+  below : AreBelow (l.ticket + 1) l.self;
+}

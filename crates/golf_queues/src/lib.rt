@@ -1,0 +1,10 @@
+//! Lines of goroutines that wait, by object and side.
+//!
+//! - `Queues`: for each object and side those who stood in line there, by rising ticket.
+#![tactic(auto)]
+
+mod line;
+mod queues;
+
+pub use line::TicketHolder;
+pub use queues::{Queues, is_queued, side_number};

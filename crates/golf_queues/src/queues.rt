@@ -1,0 +1,202 @@
+//! The lines of all objects.
+
+ghost use Rattle.std.specs.Prelude.{◌≡◌, ◌<◌, ◌≤◌, ◌+◌, ℕ, [], length, OnOk, slice_get};
+ghost use Rattle.golf_theory.specs.Maps.{Entry, Rises};
+ghost use Rattle.golf_heap.specs.Objects.{rank};
+ghost use Rattle.golf_model.specs.Waiting.{side_number};
+ghost use Rattle.golf_queues.specs.Lines.{Lines, IsInOrder, key, held, lines_of, line_at, has_key, is_queued, AreBelow, Keeps, StandsIn, StandsInAll};
+
+use crate::line::{TicketHolder, join, part};
+use golf_base::{GoroutineId, Memory, ObjectId};
+use golf_data::{Side, Wait};
+use std::alloc::Global;
+use std::marker::Model;
+
+/// The line of an object with a side.
+#[derive(Debug, Drop)]
+pub struct Queue {
+    pub object: ObjectId,
+    pub side: Side,
+    pub line: Vec<TicketHolder>,
+}
+
+/// For each object and side those who stood in line there, by rising ticket. Whoever waits there is
+/// among them; one who does not wait there any more may be left.
+///
+/// A line is found by a binary search. It is made with the first who stands in it, and stays.
+#[derive(Debug, Drop)]
+pub struct Queues {
+    queues: Vec<Queue>,
+}
+
+impl Model for Queues {
+    ghost Value = { Lines };
+
+    ghost view = { λ q. lines_of q.queues.items };
+
+    ghost invariant = { λ q. IsInOrder (lines_of q.queues.items) };
+}
+
+/// The number of a side, in the order in which lines stand.
+pub fn side_number(side: Side) -> u8
+    ensures { result ≡ side_number side }
+{
+    match side {
+        Side::Receive => 0,
+        Side::Send => 1,
+        Side::Lock => 2,
+        Side::Group => 3,
+        Side::Read => 4,
+        Side::Write => 5,
+        Side::Cond => 6,
+    }
+}
+
+/// Whether there are lines for a side. There are none for mutexes: a goroutine that is passed on
+/// from a condition to its mutex waits for it without a turn of its own, and could take no memory.
+pub fn is_queued(side: Side) -> bool
+    ensures { result ≡ is_queued side }
+{
+    match side {
+        Side::Receive => true,
+        Side::Send => true,
+        Side::Lock => false,
+        Side::Group => true,
+        Side::Read => true,
+        Side::Write => true,
+        Side::Cond => true,
+    }
+}
+
+// Lines stand in rising order of object, and those of an object by their sides.
+fn key_of(object: ObjectId, side: Side) -> u64
+    ensures { result ≡ key object.0 side }
+{
+    u64::from(object.0) * 7 + u64::from(side_number(side))
+}
+
+// How many lines stand before the key.
+fn rank_of(queues: &[Queue], key: u64) -> usize
+    requires { Rises 0 (lines_of queues.now) }
+    ensures place { result ≡ rank key (lines_of queues.now) }
+    ensures within { result ≤ length queues.now }
+{
+    queues.partition_point(|queue| key_of(queue.object, queue.side) < key)
+}
+
+// Whether the line at a place has the key.
+fn stands_at(queues: &[Queue], at: usize, key: u64) -> bool
+    ensures { result ≡ has_key key (slice_get (lines_of queues.now) at) }
+{
+    match queues.get(at) {
+        Some(queue) => key_of(queue.object, queue.side) == key,
+        None => false,
+    }
+}
+
+impl Queues {
+    /// No line. It takes no memory.
+    pub fn new(alloc: Global) -> Queues
+        ensures { result ≡ [] }
+    {
+        Queues {
+            queues: Vec::new(alloc),
+        }
+    }
+
+    /// Those who stood in line for the object with that side.
+    pub fn line(&self, object: ObjectId, side: Side) -> &[TicketHolder]
+        ensures line { held result.now ≡ line_at (key object.0 side) self.now }
+        ensures rises { Rises 0 (line_at (key object.0 side) self.now) }
+    {
+        let key = key_of(object, side);
+        let at = rank_of(self.queues.as_slice(), key);
+        if stands_at(self.queues.as_slice(), at, key) {
+            self.queues[at].line.as_slice()
+        } else {
+            &[]
+        }
+    }
+
+    /// The goroutine stands last in line for the object with that side, with a ticket that nobody
+    /// who waits there has.
+    pub fn enter(
+        &mut self,
+        object: ObjectId,
+        side: Side,
+        ticket: u64,
+        goroutine: GoroutineId,
+    ) -> Result<(), Memory>
+        requires below { AreBelow (ticket + 1) self.old }
+        ensures joins { OnOk result (Entry (line_at (key object.0 side) self.new) ticket goroutine.0) }
+        ensures again { OnOk result (Keeps (λ t g. (t ≡ ticket) × (g ≡ goroutine.0)) self.old self.new) }
+        ensures kept { Keeps (λ t g. t < ticket) self.old self.new }
+        ensures below { AreBelow (ticket + 1) self.new }
+    {
+        let key = key_of(object, side);
+        let at = rank_of(self.queues.as_slice(), key);
+        if stands_at(self.queues.as_slice(), at, key) {
+            return join(&mut self.queues[at].line, ticket, goroutine);
+        }
+        let mut line = Vec::new(*self.queues.allocator());
+        join(&mut line, ticket, goroutine)?;
+        self.queues.insert(at, Queue { object, side, line })?;
+        Ok(())
+    }
+
+    // The goroutine stands last in the line of a wait, where there is one for its side.
+    fn enter_by(&mut self, wait: Wait, ticket: u64, goroutine: GoroutineId) -> Result<(), Memory>
+        requires below { AreBelow (ticket + 1) self.old }
+        ensures joins { OnOk result (StandsIn ticket goroutine.0 wait self.new) }
+        ensures again { OnOk result (Keeps (λ t g. (t ≡ ticket) × (g ≡ goroutine.0)) self.old self.new) }
+        ensures kept { Keeps (λ t g. t < ticket) self.old self.new }
+        ensures below { AreBelow (ticket + 1) self.new }
+    {
+        if is_queued(wait.side) {
+            return self.enter(wait.object, wait.side, ticket, goroutine);
+        }
+        Ok(())
+    }
+
+    /// The goroutine stands last in the line of each of these waits.
+    pub fn enter_all(
+        &mut self,
+        waits: &[Wait],
+        ticket: u64,
+        goroutine: GoroutineId,
+    ) -> Result<(), Memory>
+        requires below { AreBelow (ticket + 1) self.old }
+        ensures joins { OnOk result (StandsInAll ticket goroutine.0 waits.now self.new) }
+        ensures kept { Keeps (λ t g. t < ticket) self.old self.new }
+        ensures below { AreBelow (ticket + 1) self.new }
+    {
+        for wait in waits {
+            self.enter_by(*wait, ticket, goroutine)?;
+        }
+        Ok(())
+    }
+
+    /// The goroutine is gone from the line for the object with that side, where it stands there with
+    /// this ticket. It takes no memory.
+    pub fn leave(&mut self, object: ObjectId, side: Side, ticket: u64, goroutine: GoroutineId)
+        ensures kept { Keeps (λ t g. g ≡ goroutine.0 → ⊥) self.old self.new }
+        ensures below { (n : ℕ) → AreBelow n self.old → AreBelow n self.new }
+    {
+        let key = key_of(object, side);
+        let at = rank_of(self.queues.as_slice(), key);
+        if stands_at(self.queues.as_slice(), at, key) {
+            part(&mut self.queues[at].line, ticket, goroutine);
+        }
+    }
+
+    /// The goroutine is gone from the lines of these waits, where it stands there with this ticket.
+    /// It takes no memory.
+    pub fn leave_all(&mut self, waits: &[Wait], ticket: u64, goroutine: GoroutineId)
+        ensures kept { Keeps (λ t g. g ≡ goroutine.0 → ⊥) self.old self.new }
+        ensures below { (n : ℕ) → AreBelow n self.old → AreBelow n self.new }
+    {
+        for wait in waits {
+            self.leave(wait.object, wait.side, ticket, goroutine);
+        }
+    }
+}

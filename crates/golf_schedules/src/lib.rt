@@ -1,0 +1,11 @@
+//! The schedules of a run: whose turn each turn is, and behind which turns a collection is added.
+//!
+//! - `Schedule`: where the numbers of the turns come from.
+//! - `Events`: the turns and added collections of a run, one after the other.
+#![tactic(auto)]
+
+mod events;
+mod schedule;
+
+pub use events::{Event, Events};
+pub use schedule::Schedule;

@@ -1,0 +1,11 @@
+use Rattle.std.proofs.Common.{sym, subst}
+use Rattle.golf_theory.specs.Maps.{Rises}
+use Rattle.golf_state.proofs.Retaining.{Rises-kept}
+use Rattle.golf_state.proofs.state.State.queue_finalisers.Goals as goal
+
+pub invariant_of-self-2 : goal.invariant_of-self-2
+invariant_of-self-2 c = record {
+  kept = c.self.invariant.kept;
+  lined = c.self.invariant.lined;
+  finalisers = subst (Rises 0) (sym c.close_up.ensures) (Rises-kept 0 c.args.stays.now c.self.inside.finalisers.items c.self.invariant.finalisers);
+}

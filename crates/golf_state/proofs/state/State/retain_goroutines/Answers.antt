@@ -1,0 +1,49 @@
+use Rattle.std.proofs.Common.{◌≡◌, ◌≤◌, ℕ, List, length, map, sym, ap, ◌∙◌, subst, arith}
+use Rattle.std.proofs.lemmas.List.{length-map}
+use Rattle.golf_theory.specs.Maps.{keys, Rises, AllBelow}
+use Rattle.golf_heap.specs.Objects.{kept}
+use Rattle.golf_model.specs.Views.{GoroutineView}
+use Rattle.golf_model.specs.State.{State}
+use Rattle.golf_state.specs.Inside.{numbers, plain_state}
+use Rattle.golf_state.specs.Places.{plain_entry, plain_entries, running_of}
+use Rattle.golf_state.specs.Ready.{AllReady}
+use Rattle.golf_state.specs.Lined.{AreLined}
+use Rattle.golf_state.specs.declared.places.Place.{Place}
+use Rattle.golf_state.proofs.Retaining.{map-kept, kept-short, Rises-kept, AllBelow-kept, ready-kept, lined-kept}
+use Rattle.golf_state.proofs.state.State.retain_goroutines.Goals as goal
+
+pub invariant_of-self : goal.invariant_of-self
+invariant_of-self c =
+    let s = c.self.inside in
+    let k = c.self.invariant.kept in
+    let stays = c.args.stays.now in
+    let ps = s.goroutines.items in
+    let es = plain_entries ps in
+    let e : plain_entries c.close_up.new.items.items ≡ kept stays es = ap plain_entries c.close_up.ensures ∙ map-kept plain_entry stays ps in
+    let fewer : length c.close_up.new.items.items ≤ length ps = subst (λ (qs : List Place). length qs ≤ length ps) (sym c.close_up.ensures) (kept-short stays ps) in
+    record {
+      kept = record {
+        rises = subst (Rises 0) (sym e) (Rises-kept 0 stays es k.rises);
+        below = subst (AllBelow s.next_goroutine) (sym e) (AllBelow-kept s.next_goroutine stays es k.below);
+        present = ap numbers c.close_up-2.ensures ∙ map-kept (λ g. g.0) stays s.present.items ∙ ap (kept stays) k.present ∙ sym (map-kept (λ (x : ℕ × GoroutineView). x.0) stays es) ∙ ap keys (sym e);
+        running = c.list_running.ensures.running ∙ ap (λ (qs : List Place). running_of (plain_entries qs)) c.as_slice.ensures.value;
+        few = omega (arith, fewer, k.few);
+        limit = k.limit;
+        room = omega (arith, fewer, c.list_running.ensures.room, k.room);
+        ready = subst AllReady (sym c.close_up.ensures) (ready-kept stays ps k.ready);
+      };
+      lined = subst (λ (xs : List (ℕ × GoroutineView)). AreLined xs s.waiting s.next_ticket) (sym e) (lined-kept stays es s.waiting s.next_ticket c.self.invariant.lined);
+      finalisers = c.self.invariant.finalisers;
+    }
+
+pub list_running-requires : goal.list_running-requires
+list_running-requires c =
+    let ps = c.self.inside.goroutines.items in
+    let fewer : length c.close_up.new.items.items ≤ length ps = subst (λ (qs : List Place). length qs ≤ length ps) (sym c.close_up.ensures) (kept-short c.args.stays.now ps) in
+    omega (arith, fewer, ap length c.as_slice.ensures.value, c.self.invariant.kept.room)
+
+pub returns : goal.returns
+returns c =
+    let s = c.self.inside in
+    rw (← c.self.view_is)
+    (ap (λ (es : List (ℕ × GoroutineView)). record (plain_state s) { goroutines = es }) (ap plain_entries c.close_up.ensures ∙ map-kept plain_entry c.args.stays.now s.goroutines.items))
