@@ -1,11 +1,12 @@
 #!/usr/bin/env python3
 """bench/reader.py PROGRAM: the time of reading a file, as it grows.
 
-It runs the built program (crates/golf/out/golf-..) on generated files of 10 kB, 100 kB and 1 MB: on typed files of the whole
-language laid out as gofmt writes them, on files that declare names in one scope, and on plain files of `fmt.Println(1)`,
-which are read and run. A typed file is read twice. With an unknown import, which breaks the first rule, its tokens and its tree are
-made and no more is done; as it is, it is judged whole, and then refused as no plain file. It prints the best of five runs each, and the time a
-byte; that of the empty file, which is mostly the start of the program, is taken off."""
+It runs the built program (crates/golf/out/golf-..) on generated files of 10 kB, 100 kB and 1 MB: on files of the whole
+language laid out as gofmt writes them, on files that declare names in one scope, and on files of `fmt.Println(1)`,
+which are run. Each of the others is read three times. With an unknown import, which breaks the first rule, its tokens and its tree are
+made and no more is done; with `x := nil` in its last function it is judged whole, and then refused; as it is, it is compiled too, and
+its `main` returns at once. It prints the best of five runs each, and the time a byte; that of the empty file, which is mostly the
+start of the program, is taken off."""
 import subprocess
 import sys
 import time
@@ -48,12 +49,12 @@ def whole(size):
 
 def names(size):
     """A function that declares names, each by the one before: 10,000 of them are some 290 kB."""
-    parts, length, k = ['package main\n\nfunc main() {\n\tname0 := 0\n'], 0, 1
+    parts, length, k = ['package main\n\nfunc f() {\n\tname0 := 0\n'], 0, 1
     while length < size:
         parts.append('\tname%d := name%d + %d\n' % (k, k - 1, k))
         length += len(parts[-1])
         k += 1
-    return ''.join(parts[:-1]) + '}\n'
+    return ''.join(parts[:-1]) + '}\n\nfunc main() {\n}\n'
 
 
 def globals_of(size):
@@ -70,7 +71,11 @@ def with_unknown_import(text):
     return text.replace('package main\n\n', 'package main\nimport "os"\n', 1)
 
 
-def plain(size):
+def with_nil(text):
+    return text + '\nfunc last() {\n\tx := nil\n}\n'
+
+
+def printing(size):
     line = '\tfmt.Println(1)\n'
     return 'package main\nimport "fmt"\nfunc main() {\n%s}\n' % (line * ((size - 50) // len(line)))
 
@@ -101,10 +106,13 @@ def main():
         text = make(size)
         marred = with_unknown_import(text)
         shown(name + ', tokens and tree', marred, seconds(program, marred, 4, b'refused: line 2: rule 1\n'), empty)
-        shown(name + ', and types', text, seconds(program, text, 4, b'refused: not built\n'), empty)
+        judged = with_nil(text)
+        fault = b'refused: line %d: rule 23\n' % (judged.count('\n') - 1)
+        shown(name + ', and types', judged, seconds(program, judged, 4, fault), empty)
+        shown(name + ', and code', text, seconds(program, text, 0, b''), empty)
     for size in SIZES:
-        text = plain(size)
-        shown('plain file, read and run', text, seconds(program, text, 0, b''), empty)
+        text = printing(size)
+        shown('printing, read and run', text, seconds(program, text, 0, b''), empty)
 
 
 if __name__ == '__main__':

@@ -18,7 +18,8 @@ use Rattle.golf_types.specs.Statements.{Walk, Walked, Walks, in_order, behind}
 use Rattle.golf_types.specs.Files.{receiver_walk, parameter_walk, all_typed_names, result_type, func_walk, initial_walk, outside, struct_types, global_types, function_types, with_types, bare_file, file_scope, import_faults, no_imports, with_imports, walk_faults, walk_types, decl_faults, Broken, types_in}
 use Rattle.golf_types.proofs.Seams.{tells_behind}
 use Rattle.golf_types.proofs.WalkLaws.{then_tells}
-use Rattle.golf_check.specs.Heads.{receiver_name, optional_parameter, inner_walks, head_walks, Stays, typed_file, named_faults}
+use Rattle.golf_check.specs.declared.files.Found.{Found}
+use Rattle.golf_check.specs.Heads.{receiver_name, optional_parameter, inner_walks, head_walks, Stays, scope_of, typed_file, named_faults}
 
 receiver_walks : (l : ℕ) (file : Scope) (r : Option Receiver) → optional_parameter l (receiver_name file r) ≡ receiver_walk l file r
 receiver_walks l file None = refl
@@ -86,21 +87,25 @@ func_stays r f s t old new is h = subst (λ u. Stays r (func_walk f u) s t old n
 -- Passes over the declarations of a file.
 
 -- behind the scope with all types the answer for the declarations is that for the file with its types
-pub walked_tells : (r : Result (List (Option GoType)) TypeFault) (f : FileScope) (t : Scope) (xs : List Decl) → t ≡ outside f → Tells r (walk_faults t.file 0 xs) (λ ts. ts ≡ walk_types t.file 0 xs) → Tells r (walk_faults f 0 xs) (λ ts. ts ≡ walk_types f 0 xs)
-walked_tells r f t xs is h = subst (λ (u : Scope). Tells r (walk_faults u.file 0 xs) (λ ts. ts ≡ walk_types u.file 0 xs)) is h
+pub walked_tells : (r : Result (List (Option GoType)) TypeFault) (f : FileScope) (s t : Scope) (xs : List Decl) → t ≡ outside f → Tells r (walk_faults t.file 0 xs) (λ ts. (s ≡ t) × (ts ≡ walk_types t.file 0 xs)) → Tells r (walk_faults f 0 xs) (λ ts. (s ≡ outside f) × (ts ≡ walk_types f 0 xs))
+walked_tells r f s t xs is h = subst (λ (u : Scope). Tells r (walk_faults u.file 0 xs) (λ ts. (s ≡ u) × (ts ≡ walk_types u.file 0 xs))) is h
 
 -- the answer for the passes in the scope without types is that for the declarations
-pub named_tells : (r : Result (List (Option GoType)) TypeFault) (i : Imports) (s : Scope) (xs : List Decl) → s ≡ outside (bare_file i xs) → Tells r (named_faults s xs) (λ ts. ts ≡ walk_types (typed_file s.file xs) 0 xs) → Tells r (decl_faults i xs) (λ ts. ts ≡ walk_types (file_scope i xs) 0 xs)
-named_tells r i s xs is h = subst (λ (u : Scope). Tells r (named_faults u xs) (λ ts. ts ≡ walk_types (typed_file u.file xs) 0 xs)) is h
+pub named_tells : (r : Result (List (Option GoType)) TypeFault) (i : Imports) (s t : Scope) (xs : List Decl) → s ≡ outside (bare_file i xs) → Tells r (named_faults s xs) (λ ts. (t ≡ outside (typed_file s.file xs)) × (ts ≡ walk_types (typed_file s.file xs) 0 xs)) → Tells r (decl_faults i xs) (λ ts. (t ≡ outside (file_scope i xs)) × (ts ≡ walk_types (file_scope i xs) 0 xs))
+named_tells r i s t xs is h = subst (λ (u : Scope). Tells r (named_faults u xs) (λ ts. (t ≡ outside (typed_file u.file xs)) × (ts ≡ walk_types (typed_file u.file xs) 0 xs))) is h
+
+-- what was found of the declarations of a file
+abbrev pub FoundIn : Imports → List Decl → Found → Type 0
+FoundIn i ys x = (x.scope ≡ outside (file_scope i ys)) × (x.types ≡ walk_types (file_scope i ys) 0 ys)
 
 -- where the imports break nothing, the answer for the declarations tells of the file
-pub broken_tells : (r : Result (List (Option GoType)) TypeFault) (f : File) (xs : List Import) (ys : List Decl) (i : Imports) → xs ≡ f.imports → ys ≡ f.declarations → import_faults no_imports xs ≡ [] → i ≡ with_imports no_imports xs → Tells r (decl_faults i ys) (λ ts. ts ≡ walk_types (file_scope i ys) 0 ys) → Tells r (Broken f) (λ ts. ts ≡ types_in f)
-unfolding Broken types_in
+pub broken_tells : (r : Result Found TypeFault) (f : File) (xs : List Import) (ys : List Decl) (i : Imports) → xs ≡ f.imports → ys ≡ f.declarations → import_faults no_imports xs ≡ [] → i ≡ with_imports no_imports xs → Tells r (decl_faults i ys) (FoundIn i ys) → Tells r (Broken f) (λ x. (x.scope ≡ scope_of f) × (x.types ≡ types_in f))
+unfolding Broken types_in scope_of
 broken_tells r f xs ys i from at none is h =
     tells_behind r (import_faults no_imports f.imports) (decl_faults (with_imports no_imports f.imports) f.declarations)
-    (λ ts. ts ≡ walk_types (file_scope (with_imports no_imports f.imports) f.declarations) 0 f.declarations)
-    (λ ts. ts ≡ walk_types (file_scope (with_imports no_imports f.imports) f.declarations) 0 f.declarations)
+    (FoundIn (with_imports no_imports f.imports) f.declarations)
+    (FoundIn (with_imports no_imports f.imports) f.declarations)
     (sym (ap (import_faults no_imports) from) ∙ none)
-    (λ ts k. k)
-    (subst (λ (j : Imports). Tells r (decl_faults j f.declarations) (λ ts. ts ≡ walk_types (file_scope j f.declarations) 0 f.declarations)) (is ∙ ap (with_imports no_imports) from)
-    (subst (λ (zs : List Decl). Tells r (decl_faults i zs) (λ ts. ts ≡ walk_types (file_scope i zs) 0 zs)) at h))
+    (λ x k. k)
+    (subst (λ (j : Imports). Tells r (decl_faults j f.declarations) (FoundIn j f.declarations)) (is ∙ ap (with_imports no_imports) from)
+    (subst (λ (zs : List Decl). Tells r (decl_faults i zs) (FoundIn i zs)) at h))

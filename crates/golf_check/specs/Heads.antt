@@ -3,13 +3,14 @@ use Rattle.std.specs.Prelude.{◌≡◌, ℕ, List, ◌∷◌, ◌++◌, [], map
 use Rattle.golf_grammar.specs.declared.declarations.Receiver.{Receiver}
 use Rattle.golf_grammar.specs.declared.declarations.Func.{Func}
 use Rattle.golf_grammar.specs.declared.declarations.Decl.{Decl}
+use Rattle.golf_grammar.specs.declared.declarations.File.{File}
 use Rattle.golf_types.specs.declared.fault.TypeFault.{TypeFault}
 use Rattle.golf_types.specs.declared.types.GoType.{GoType}
 use Rattle.golf_types.specs.declared.scopes.FileScope.{FileScope}
 use Rattle.golf_types.specs.declared.scopes.Scope.{Scope}
 use Rattle.golf_types.specs.Faults.{Fault, Tells}
 use Rattle.golf_types.specs.Statements.{Walk, Walked, nothing, breaks, in_order, walk}
-use Rattle.golf_types.specs.Files.{receiver_type, parameter_walk, end_faults, names_faults, none_above, type_faults, main_faults, with_types, with_forms, walk_faults}
+use Rattle.golf_types.specs.Files.{receiver_type, parameter_walk, end_faults, names_faults, none_above, type_faults, main_faults, with_types, with_forms, walk_faults, outside, file_scope, with_imports, no_imports}
 
 -- a receiver's name with its type
 abbrev pub receiver_name : Scope → Option Receiver → Option (List ℕ × Option GoType)
@@ -43,3 +44,7 @@ typed_file f xs = with_forms (with_types f xs) 0 xs
 -- the passes over declarations, in the scope outside all functions in which names have no types yet
 abbrev pub named_faults : Scope → List Decl → List Fault
 named_faults s xs = names_faults s.file none_above xs ++ (flat_map (type_faults s) xs ++ (main_faults xs ++ walk_faults (typed_file s.file xs) 0 xs))
+
+-- what the names of a file mean outside all functions
+unfoldable pub scope_of : File → Scope
+scope_of f = outside (file_scope (with_imports no_imports f.imports) f.declarations)

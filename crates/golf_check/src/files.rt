@@ -3,7 +3,7 @@
 ghost use Rattle.std.specs.Prelude.{◌≡◌, ◌++◌};
 ghost use Rattle.golf_types.specs.Faults.{Tells};
 ghost use Rattle.golf_types.specs.Files.{outside, decl_walked, walk_faults, walk_types, decl_faults, file_scope, Broken, types_in};
-ghost use Rattle.golf_check.specs.Heads.{Stays, typed_file, named_faults};
+ghost use Rattle.golf_check.specs.Heads.{Stays, scope_of, typed_file, named_faults};
 
 use crate::functions::func_at;
 use crate::initialisers::{const_at, global_at};
@@ -22,7 +22,17 @@ use std::alloc::Global;
 #[derive(Drop)]
 pub struct Checked {
     pub file: File,
+    /// What names mean outside all functions.
+    pub scope: Scope,
     pub types: List<Option<GoType>>,
+}
+
+// What was found of the declarations of a file: the scope outside all functions, and the types of
+// their expressions.
+#[derive(Drop)]
+struct Found {
+    scope: Scope,
+    types: List<Option<GoType>>,
 }
 
 #[tactic(auto, using(crate::proofs::Laws::var_stays, crate::proofs::Laws::func_stays))]
@@ -51,7 +61,7 @@ fn decls_at(
     types: &mut List<Option<GoType>>,
 ) -> Result<(), TypeFault>
     requires { scope.old ≡ outside scope.old.file }
-    ensures { Tells result (walk_faults scope.old.file 0 decls.now) (λ _. types.new ≡ types.old ++ walk_types scope.old.file 0 decls.now) }
+    ensures { Tells result (walk_faults scope.old.file 0 decls.now) (λ _. (scope.new ≡ scope.old) × (types.new ≡ types.old ++ walk_types scope.old.file 0 decls.now)) }
 {
     let mut global = 0u32;
     for decl in decls {
@@ -69,7 +79,7 @@ fn types_behind_names(
     decls: &[Decl],
 ) -> Result<List<Option<GoType>>, TypeFault>
     requires { scope.old ≡ outside scope.old.file }
-    ensures { Tells result (walk_faults (typed_file scope.old.file decls.now) 0 decls.now) (λ ts. ts ≡ walk_types (typed_file scope.old.file decls.now) 0 decls.now) }
+    ensures { Tells result (walk_faults (typed_file scope.old.file decls.now) 0 decls.now) (λ ts. (scope.new ≡ outside (typed_file scope.old.file decls.now)) × (ts ≡ walk_types (typed_file scope.old.file decls.now) 0 decls.now)) }
 {
     add_types(alloc, scope, decls)?;
     let mut types = List::new(alloc);
@@ -84,7 +94,7 @@ fn types_of_named(
     decls: &[Decl],
 ) -> Result<List<Option<GoType>>, TypeFault>
     requires { scope.old ≡ outside scope.old.file }
-    ensures { Tells result (named_faults scope.old decls.now) (λ ts. ts ≡ walk_types (typed_file scope.old.file decls.now) 0 decls.now) }
+    ensures { Tells result (named_faults scope.old decls.now) (λ ts. (scope.new ≡ outside (typed_file scope.old.file decls.now)) × (ts ≡ walk_types (typed_file scope.old.file decls.now) 0 decls.now)) }
 {
     names_are_good(alloc, &scope.file, decls)?;
     types_are_there(alloc, scope, decls)?;
@@ -92,34 +102,35 @@ fn types_of_named(
     types_behind_names(alloc, scope, decls)
 }
 
-#[tactic(auto, using(crate::proofs::Laws::named_tells))]
-fn types_of_decls(
-    alloc: Global,
-    imports: Imports,
-    decls: &[Decl],
-) -> Result<List<Option<GoType>>, TypeFault>
-    ensures { Tells result (decl_faults imports decls.now) (λ ts. ts ≡ walk_types (file_scope imports decls.now) 0 decls.now) }
+fn found_of_decls(alloc: Global, imports: Imports, decls: &[Decl]) -> Result<Found, TypeFault>
+    ensures { Tells result (decl_faults imports decls.now) (λ f. (f.scope ≡ outside (file_scope imports decls.now)) × (f.types ≡ walk_types (file_scope imports decls.now) 0 decls.now)) }
 {
     let mut scope = bare_scope(alloc, imports, decls)?;
-    types_of_named(alloc, &mut scope, decls)
+    match types_of_named(alloc, &mut scope, decls) {
+        Ok(types) => Ok(Found { scope, types }),
+        Err(fault) => Err(fault),
+    }
 }
 
 #[tactic(auto, unfolding(golf_types::specs::Files::Broken, golf_types::specs::Files::types_in))]
-fn types_of_file(alloc: Global, file: &File) -> Result<List<Option<GoType>>, TypeFault>
-    ensures { Tells result (Broken file.now) (λ ts. ts ≡ types_in file.now) }
+fn found_of_file(alloc: Global, file: &File) -> Result<Found, TypeFault>
+    ensures { Tells result (Broken file.now) (λ f. (f.scope ≡ scope_of file.now) × (f.types ≡ types_in file.now)) }
 {
     let written = file.imports.as_slice();
     let imports = imported(written)?;
     let decls = file.declarations.as_slice();
-    types_of_decls(alloc, imports, decls)
+    found_of_decls(alloc, imports, decls)
 }
 
 /// Whether a file keeps all rules; the first broken one in the order of the walk otherwise.
 pub fn check(alloc: Global, file: File) -> Result<Checked, TypeFault>
-    ensures { Tells result (Broken file) (λ c. (c.file ≡ file) × (c.types ≡ types_in file)) }
+    ensures { Tells result (Broken file) (λ c. (c.file ≡ file) × ((c.scope ≡ scope_of file) × (c.types ≡ types_in file))) }
 {
-    match types_of_file(alloc, &file) {
-        Ok(types) => Ok(Checked { file, types }),
+    match found_of_file(alloc, &file) {
+        Ok(found) => {
+            let Found { scope, types } = found;
+            Ok(Checked { file, scope, types })
+        }
         Err(fault) => Err(fault),
     }
 }

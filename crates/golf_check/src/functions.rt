@@ -136,7 +136,8 @@ fn named_receiver(alloc: Global, scope: &Scope, receiver: &Receiver) -> Result<T
     Ok((name, plain_type(alloc, pointer_to(meaning))))
 }
 
-fn receiver_name(
+/// The name of a receiver with its type, where there is one.
+pub fn receiver_name(
     alloc: Global,
     scope: &Scope,
     receiver: &Option<Receiver>,
@@ -149,8 +150,8 @@ fn receiver_name(
     }
 }
 
-// The scope outside all functions again.
-fn leave(alloc: Global, scope: &mut Scope) -> Result<(), Memory>
+/// The scope outside all functions again. On an `Err` nothing is said of the scope.
+pub fn leave(alloc: Global, scope: &mut Scope) -> Result<(), Memory>
     ensures { OnOk result (scope.new ≡ record scope.old { locals = []; result = None; next = 0 }) }
 {
     scope.locals.truncate(alloc, 0)?;

@@ -7,3 +7,4 @@ mod initialisers;
 mod scopes;
 
 pub use files::{Checked, check};
+pub use functions::{leave, receiver_name};

@@ -9,6 +9,7 @@ mod selectors;
 mod values;
 mod written_types;
 
+pub use calls::{call, finalises, rule_unless, sets_finaliser};
 pub use expressions::{called, callee, given, operand};
 pub use literals::fits_int;
 pub use operators::{as_value, is_name, is_value, late, result_base, value, without_package};

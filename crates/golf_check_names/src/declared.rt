@@ -400,7 +400,8 @@ fn fits_main(decl: &Decl) -> bool
     }
 }
 
-fn declares_main(decl: &Decl) -> bool
+/// Whether a declaration declares `main`.
+pub fn declares_main(decl: &Decl) -> bool
     ensures { result ≡ declares_main_of decl.now }
 {
     match decl {
@@ -411,7 +412,8 @@ fn declares_main(decl: &Decl) -> bool
     }
 }
 
-fn line_of(decl: &Decl) -> u32
+/// The line of a declaration.
+pub fn line_of(decl: &Decl) -> u32
     ensures { result ≡ line_of_of decl.now }
 {
     match decl {

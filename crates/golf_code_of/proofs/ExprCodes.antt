@@ -8,7 +8,7 @@ use Rattle.golf_grammar.specs.declared.expressions.Element.{Element}
 use Rattle.golf_grammar.specs.declared.expressions.Expr.TheVariants as ex
 use Rattle.golf_grammar.specs.declared.expressions.Expr.TheOpen as F
 use Rattle.golf_grammar.specs.declared.expressions.Expr.TheFolds.{fold-Element, fold-roll-Expr, fold-roll-Element}
-use Rattle.golf_code_of.specs.Values.{Tables}
+use Rattle.golf_code_of.specs.declared.tables.Tables.{Tables}
 use Rattle.golf_code_of.specs.Coding.{Coded, CodedPut, coded, coded_step, element_coded_step}
 
 -- an element of a struct literal

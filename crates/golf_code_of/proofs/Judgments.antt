@@ -6,7 +6,7 @@ use Rattle.golf_grammar.specs.declared.expressions.Expr.TheOpen.{Expr-F, Element
 use Rattle.golf_grammar.specs.declared.expressions.Expr.TheOpen as F
 use Rattle.golf_grammar.specs.declared.expressions.Expr.TheFolds.{fold-Element, fold-roll-Expr, fold-roll-Element, ind-Expr, map-Expr, map-Element}
 use Rattle.golf_types.specs.Judging.{Judge, Put, judge, judge_step, element_step}
-use Rattle.golf_code_of.specs.Values.{Tables}
+use Rattle.golf_code_of.specs.declared.tables.Tables.{Tables}
 use Rattle.golf_code_of.specs.Coding.{Coded, CodedPut, put_judge, coded, coded_step, element_coded_step}
 use Rattle.golf_code_of.specs.Laws.{JudgmentsAgree}
 

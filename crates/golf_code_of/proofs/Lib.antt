@@ -6,3 +6,4 @@ pub mod StmtCodes
 pub mod TextEquations
 pub mod JudgeEquations
 pub mod Examples
+pub mod TableLaws

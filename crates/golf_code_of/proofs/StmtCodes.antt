@@ -12,7 +12,7 @@ use Rattle.golf_grammar.specs.declared.statements.Clause.{Clause}
 use Rattle.golf_grammar.specs.declared.statements.Clause.TheVariants as cl
 use Rattle.golf_grammar.specs.declared.statements.Clause.TheOpen as F
 use Rattle.golf_grammar.specs.declared.statements.Clause.TheFolds.{fold-roll-Stmt, fold-roll-Clause}
-use Rattle.golf_code_of.specs.Values.{Tables}
+use Rattle.golf_code_of.specs.declared.tables.Tables.{Tables}
 use Rattle.golf_code_of.specs.Statements.{Part}
 use Rattle.golf_code_of.specs.Selects.{ClausePart}
 use Rattle.golf_code_of.specs.Laying.{stmt_part, clause_part, stmt_part_step, clause_part_step}

@@ -19,7 +19,8 @@ use Rattle.golf_grammar.specs.declared.statements.Clause.{Clause}
 use Rattle.golf_grammar.specs.declared.statements.Clause.TheVariants as cl
 use Rattle.golf_grammar.specs.declared.statements.Clause.TheOpen as F
 use Rattle.golf_grammar.specs.declared.statements.Clause.TheFolds.{fold-Clause, fold-roll-Stmt, fold-roll-Clause}
-use Rattle.golf_code_of.specs.Texts.{Texts, expr_texts, expr_texts_step, element_texts_step, stmt_texts, stmt_texts_step, clause_texts_step}
+use Rattle.golf_code_of.specs.Table.{Texts}
+use Rattle.golf_code_of.specs.Texts.{expr_texts, expr_texts_step, element_texts_step, stmt_texts, stmt_texts_step, clause_texts_step}
 
 abbrev pub element_texts : Element → Texts
 element_texts x = expr_texts x.value

@@ -10,7 +10,7 @@ use Rattle.golf_grammar.specs.declared.statements.Clause.TheOpen as F
 use Rattle.golf_grammar.specs.declared.statements.Clause.TheFolds.{fold-roll-Stmt, fold-roll-Clause, ind-Stmt, ind-Clause, map-Stmt, map-Clause}
 use Rattle.golf_types.specs.Statements as W
 use Rattle.golf_types.specs.Statements.{Walk, walk, walk_clause, clause_step, stmt_step}
-use Rattle.golf_code_of.specs.Values.{Tables}
+use Rattle.golf_code_of.specs.declared.tables.Tables.{Tables}
 use Rattle.golf_code_of.specs.Statements.{Part, optional}
 use Rattle.golf_code_of.specs.Loops.{header_part}
 use Rattle.golf_code_of.specs.Selects.{ClausePart}

@@ -12,6 +12,7 @@ use Rattle.golf_types.specs.declared.operands.Given.{Given}
 use Rattle.golf_types.specs.Types.{plain, type_given, given}
 use Rattle.golf_types.specs.Calls.{sets_finaliser}
 use Rattle.golf_layout.specs.Piece.{Piece, all, op}
+use Rattle.golf_code_of.specs.declared.making.Making.{Making}
 use Rattle.golf_code_of.specs.Expressions.{Made, only}
 
 -- what a built-in call does with its operands, of which there are so many
@@ -66,12 +67,6 @@ abbrev pub call : ℕ → Operand → Piece → List Argument → Made
 call l f receiver xs = only (cond (sets_finaliser f) (finalising l xs) (all (receiver ∷ pushes xs ∷ calling l f (length xs) ∷ [])))
 
 -- Go and defer statements begin a function. For a built-in call one is made.
-
--- a function that is made for `go` or `defer`: what it does, the types of its parameters, and its line
-pub record Making : Type 0 where
-  pub operation : BuiltIn
-  pub parameters : List (Option GoType)
-  pub line : ℕ
 
 abbrev pub receiver_base : BuiltIn → Option Base
 receiver_base built_in.Lock = Some base.Mutex

@@ -12,8 +12,8 @@ use Rattle.golf_types.specs.Written.{write_at, pointer_to, made_base}
 use Rattle.golf_types.specs.Expressions.{value_from, named, selected_from}
 use Rattle.golf_types.specs.Judging.{Judge, Put, judge_step}
 use Rattle.golf_layout.specs.Piece.{Piece, op}
-use Rattle.golf_code_of.specs.Texts.{text_number}
-use Rattle.golf_code_of.specs.Values.{Tables}
+use Rattle.golf_code_of.specs.Table.{text_number}
+use Rattle.golf_code_of.specs.declared.tables.Tables.{Tables}
 use Rattle.golf_code_of.specs.Expressions.{Made, only, name, struct_literal, new_struct, new_sync, slice_literal, made, made_sized, selector, index, unary_operator, binary_operator}
 use Rattle.golf_code_of.specs.Calls.{Argument, call}
 

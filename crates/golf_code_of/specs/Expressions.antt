@@ -17,7 +17,8 @@ use Rattle.golf_types.specs.declared.scopes.Member.TheVariants as members
 use Rattle.golf_types.specs.declared.scopes.FileScope.{FileScope}
 use Rattle.golf_types.specs.Scopes.{member}
 use Rattle.golf_layout.specs.Piece.{Piece, all, op}
-use Rattle.golf_code_of.specs.Values.{Tables, push, constant, zero_value, makes}
+use Rattle.golf_code_of.specs.declared.tables.Tables.{Tables}
+use Rattle.golf_code_of.specs.Values.{push, constant, zero_value, makes}
 
 -- The code of an expression: what pushes its value; what pushes the receiver, where it is a method. Where it stands on a left side,
 -- `parts` pushes what tells its place, `twice` doubles that, `read` turns it into the value, and `store` takes it with a new value on top.

@@ -25,8 +25,10 @@ use Rattle.golf_types.specs.Files.{result_type, outside, receiver_walk, paramete
 use Rattle.golf_layout.specs.Piece.{Piece, all, op, placed}
 use Rattle.golf_layout.specs.Depth.{depth}
 use Rattle.golf_code_of.specs.Texts.{texts_of}
-use Rattle.golf_code_of.specs.Values.{Tables, push, zero_value}
-use Rattle.golf_code_of.specs.Calls.{Making, operation}
+use Rattle.golf_code_of.specs.declared.tables.Tables.{Tables}
+use Rattle.golf_code_of.specs.Values.{push, zero_value, const_value}
+use Rattle.golf_code_of.specs.declared.making.Making.{Making}
+use Rattle.golf_code_of.specs.Calls.{operation}
 use Rattle.golf_code_of.specs.Coding.{piece_at}
 use Rattle.golf_code_of.specs.Statements.{Laid, Part, in_order}
 use Rattle.golf_code_of.specs.Laying.{stmt_part}
@@ -126,8 +128,9 @@ abbrev pub constants_in : Decl → List Const
 constants_in (d.Const l n c) = c ∷ []
 constants_in _ = []
 
+-- the texts of a file, and its constants in source order
 abbrev pub tables_of : List Decl → Tables
-tables_of xs = record { texts = texts_of xs; constants = flat_map constants_in xs }
+tables_of xs = record { texts = texts_of xs; constants = map (const_value (texts_of xs)) (flat_map constants_in xs) }
 
 -- which functions give a value: not function 0, and no function that is made
 abbrev pub giving : FileScope → List Bool

@@ -5,7 +5,7 @@ use Rattle.golf_grammar.specs.declared.statements.Stmt.{Stmt}
 use Rattle.golf_grammar.specs.declared.statements.Clause.{Clause}
 use Rattle.golf_types.specs.Judging.{judge}
 use Rattle.golf_types.specs.Statements.{walk, walk_clause}
-use Rattle.golf_code_of.specs.Values.{Tables}
+use Rattle.golf_code_of.specs.declared.tables.Tables.{Tables}
 use Rattle.golf_code_of.specs.Coding.{coded}
 use Rattle.golf_code_of.specs.Laying.{stmt_part, clause_part}
 

@@ -1,3 +1,4 @@
+pub mod Table
 pub mod Texts
 pub mod Values
 pub mod Expressions

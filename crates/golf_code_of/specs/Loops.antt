@@ -16,9 +16,10 @@ use Rattle.golf_types.specs.Judging.{judge_at}
 use Rattle.golf_types.specs.Statements as W
 use Rattle.golf_types.specs.Statements.{behind, is_outer, hides, hidden, range_name, int_type}
 use Rattle.golf_layout.specs.Piece.{Piece, all, op}
-use Rattle.golf_code_of.specs.Values.{Tables}
+use Rattle.golf_code_of.specs.declared.tables.Tables.{Tables}
 use Rattle.golf_code_of.specs.Coding.{piece_at}
-use Rattle.golf_code_of.specs.Statements.{Around, Laid, Lay, Part, wrapped, past, then, in_block, block, optional}
+use Rattle.golf_code_of.specs.declared.making.Around.{Around}
+use Rattle.golf_code_of.specs.Statements.{Laid, Lay, Part, wrapped, past, then, in_block, block, optional}
 
 -- inside of a loop, which `break` and `continue` leave by these targets
 abbrev pub in_loop : ℕ → ℕ → Part → Part

@@ -11,9 +11,10 @@ use Rattle.golf_types.specs.Scopes.{begun}
 use Rattle.golf_types.specs.Statements as W
 use Rattle.golf_types.specs.Statements.{Walk, behind, carried}
 use Rattle.golf_layout.specs.Piece.{Piece, all, op}
-use Rattle.golf_code_of.specs.Values.{Tables}
+use Rattle.golf_code_of.specs.declared.tables.Tables.{Tables}
 use Rattle.golf_code_of.specs.Coding.{piece_at}
-use Rattle.golf_code_of.specs.Statements.{Around, Laid, Lay, Part, laid, wrapped, follow, past, then_lay, in_order, stores_name, stores_pair}
+use Rattle.golf_code_of.specs.declared.making.Around.{Around}
+use Rattle.golf_code_of.specs.Statements.{Laid, Lay, Part, laid, wrapped, follow, past, then_lay, in_order, stores_name, stores_pair}
 
 -- A clause: its walk, what it communicates, none for `default`, and what pushes its operands, each on the line of `select`; then the
 -- code behind the choice, and its own line.

@@ -20,16 +20,13 @@ use Rattle.golf_types.specs.Judging.{judge_at}
 use Rattle.golf_types.specs.Statements as W
 use Rattle.golf_types.specs.Statements.{Walk, behind, is_new, assigned_name, carried, one_new}
 use Rattle.golf_layout.specs.Piece.{Piece, all, op}
-use Rattle.golf_code_of.specs.Values.{Tables, push, zero_value}
+use Rattle.golf_code_of.specs.declared.making.Around.{Around}
+use Rattle.golf_code_of.specs.declared.tables.Tables.{Tables}
+use Rattle.golf_code_of.specs.Values.{push, zero_value}
 use Rattle.golf_code_of.specs.Expressions.{Made, only, name, variable}
-use Rattle.golf_code_of.specs.Calls.{Argument, Making, pushes, makings, beginning}
+use Rattle.golf_code_of.specs.declared.making.Making.{Making}
+use Rattle.golf_code_of.specs.Calls.{Argument, pushes, makings, beginning}
 use Rattle.golf_code_of.specs.Coding.{coded, code_at, piece_at, argument_at}
-
--- Which of the targets around a statement `break` and `continue` lead to, and how many functions stand before the next one that is made.
-pub record Around : Type 0 where
-  pub breaks : ℕ
-  pub continues : ℕ
-  pub functions : ℕ
 
 -- the code of a statement, and the functions that are made for it
 pub record Laid : Type 0 where

@@ -1,7 +1,5 @@
 -- The texts of a file: the empty one, and then each different one in the order of first appearance (Go specification, "String literals"; profile).
-use Rattle.std.specs.Prelude.{ℕ, ◌+◌, cond, fold, flat_map, List, [], ◌∷◌, ◌++◌, Option, Some, None}
-use Rattle.std.specs.List.{list_any}
-use Rattle.std.specs.Str.{bytes_eq}
+use Rattle.std.specs.Prelude.{flat_map, List, [], ◌∷◌, ◌++◌, Option, Some, None}
 use Rattle.golf_grammar.specs.declared.expressions.Expr.{Expr}
 use Rattle.golf_grammar.specs.declared.expressions.Expr.TheOpen as E
 use Rattle.golf_grammar.specs.declared.expressions.Expr.TheOpen.{Expr-F, Element-F}
@@ -23,10 +21,7 @@ use Rattle.golf_grammar.specs.declared.declarations.Const.{Const}
 use Rattle.golf_grammar.specs.declared.declarations.Const.TheVariants as const
 use Rattle.golf_grammar.specs.declared.declarations.Decl.{Decl}
 use Rattle.golf_grammar.specs.declared.declarations.Decl.TheVariants as d
-
--- some texts, in the order in which they are printed
-abbrev pub Texts : Type 0
-Texts = List (List ℕ)
+use Rattle.golf_code_of.specs.Table.{Texts, table_of}
 
 abbrev pub joined : List Texts → Texts
 joined ts = flat_map (λ t. t) ts
@@ -126,23 +121,6 @@ decl_texts (d.Var v) = content_texts v.content
 decl_texts (d.Struct l n fields) = []
 decl_texts (d.Func f) = flat_map stmt_texts f.body
 
--- The table.
-
--- a text at the end, unless it is there already
-abbrev pub with_text : Texts → List ℕ → Texts
-with_text table t = cond (list_any (bytes_eq t) table) table (table ++ t ∷ [])
-
-abbrev pub table_of : Texts → Texts
-table_of ts = fold with_text ([] ∷ []) ts
-
 -- the texts of the declarations of a file
 unfoldable pub texts_of : List Decl → Texts
 texts_of xs = table_of (flat_map decl_texts xs)
-
--- the number of a text from this one on; that of the empty text, where it is not there
-abbrev pub number_from : ℕ → Texts → List ℕ → ℕ
-number_from n [] t = 0
-number_from n (x ∷ xs) t = cond (bytes_eq t x) n (number_from (n + 1) xs t)
-
-unfoldable pub text_number : Texts → List ℕ → ℕ
-text_number table t = number_from 0 table t

@@ -1,5 +1,5 @@
 -- Zero values, and values that are pushed (Go specification, "The zero value", "Constants").
-use Rattle.std.specs.Prelude.{ℕ, pos, neg_ℤ, true, false, List, [], ◌∷◌, Option, Some, None, slice_get}
+use Rattle.std.specs.Prelude.{ℕ, pos, neg_ℤ, true, false, List, [], ◌∷◌, Option, Some, None, unwrap_or, slice_get}
 use Rattle.golf_grammar.specs.declared.declarations.Const.{Const}
 use Rattle.golf_grammar.specs.declared.declarations.Const.TheVariants as const
 use Rattle.golf_data.specs.declared.value.Value.{Value}
@@ -10,12 +10,8 @@ use Rattle.golf_types.specs.declared.types.Base.{Base}
 use Rattle.golf_types.specs.declared.types.Base.TheVariants as base
 use Rattle.golf_types.specs.declared.types.GoType.{GoType}
 use Rattle.golf_types.specs.Expressions.{value_from}
-use Rattle.golf_code_of.specs.Texts.{Texts, text_number}
-
--- what code looks up: the texts of the file, and its constants in source order
-pub record Tables : Type 0 where
-  pub texts : Texts
-  pub constants : List Const
+use Rattle.golf_code_of.specs.declared.tables.Tables.{Tables}
+use Rattle.golf_code_of.specs.Table.{Texts, text_number}
 
 -- The zero value of a type: 0, false, the empty text, `struct{}{}`, and nil.
 
@@ -53,13 +49,9 @@ const_value texts (const.Text bytes) = Value.Text (text_number texts bytes)
 const_value texts const.True = Value.Bool true
 const_value texts const.False = Value.Bool false
 
-abbrev pub found_value : Texts → Option Const → Value
-found_value texts None = Value.Nil
-found_value texts (Some c) = const_value texts c
-
 -- the value of the constant of this number
 abbrev pub constant : Tables → ℕ → Value
-constant t k = found_value t.texts (slice_get t.constants k)
+constant t k = unwrap_or (slice_get t.constants k) Value.Nil
 
 -- what makes a slice or a channel of this type
 abbrev pub new_container : List Layer → Base → Instr

@@ -27,7 +27,7 @@ use Rattle.golf_shapes.specs.Shapes.{InstructionFits, TakesArguments, pushed}
 use Rattle.golf_layout.specs.Piece.{Piece, all, op}
 use Rattle.golf_layout_shapes.specs.Has.{shape, filled}
 use Rattle.golf_layout_shapes.proofs.Pieces.{has-empty, has-op, has-then}
-use Rattle.golf_code_of.specs.Values.{Tables}
+use Rattle.golf_code_of.specs.declared.tables.Tables.{Tables}
 use Rattle.golf_code_of.specs.Expressions.{Made}
 use Rattle.golf_code_of.specs.Calls.{Argument, pushes, receiver_base, with_receiver, begun_parameters, makings, beginning}
 use Rattle.golf_code_of.specs.Coding.{code_at, piece_at, argument_at}

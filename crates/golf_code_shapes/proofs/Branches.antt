@@ -17,9 +17,10 @@ use Rattle.golf_shapes.specs.Types.{ValueType, Shape, FunctionTypes, Types}
 use Rattle.golf_layout.specs.Piece.{Piece, all}
 use Rattle.golf_layout_shapes.specs.Has.{shape, Has, Reaches}
 use Rattle.golf_layout_shapes.proofs.Pieces.{every-self, has-empty, has-then, has-weaker, has-exit, has-unless, has-block, has-again}
-use Rattle.golf_code_of.specs.Values.{Tables}
+use Rattle.golf_code_of.specs.declared.tables.Tables.{Tables}
 use Rattle.golf_code_of.specs.Coding.{piece_at}
-use Rattle.golf_code_of.specs.Statements.{Around, Part, laid, within, past, then, in_block, behind_test, ends_here, or_else, break_part, continue_part}
+use Rattle.golf_code_of.specs.declared.making.Around.{Around}
+use Rattle.golf_code_of.specs.Statements.{Part, laid, within, past, then, in_block, behind_test, ends_here, or_else, break_part, continue_part}
 use Rattle.golf_code_of.specs.Loops.{in_loop, forever, while, optional_test, stepping}
 use Rattle.golf_code_shapes.specs.Sound.{LocalFits, ScopeFits, Pushes}
 use Rattle.golf_code_shapes.specs.Flowing.{IsMaking, Slotted, MadeFit, WaysFit, Moves, SimpleFits}

@@ -26,7 +26,7 @@ use Rattle.golf_shapes.specs.Shapes.{InstructionFits, pushed, IsPrintable}
 use Rattle.golf_layout.specs.Piece.{Piece, all, op}
 use Rattle.golf_layout_shapes.specs.Has.{shape, filled, To, Has}
 use Rattle.golf_layout_shapes.proofs.Pieces.{has-empty, has-op, has-then}
-use Rattle.golf_code_of.specs.Values.{Tables}
+use Rattle.golf_code_of.specs.declared.tables.Tables.{Tables}
 use Rattle.golf_code_of.specs.Expressions.{Made, only}
 use Rattle.golf_code_of.specs.Calls.{Argument, pushes, operation, finaliser, finalising, receiver_base, call}
 use Rattle.golf_code_shapes.specs.Types.{base_type, layers_type, value_type, known_type, known_types}

@@ -22,9 +22,10 @@ use Rattle.golf_shapes.specs.Shapes.{case_takes, case_leaves}
 use Rattle.golf_layout.specs.Piece.{Piece, all, op}
 use Rattle.golf_layout_shapes.specs.Has.{shape, Has, Reaches, CasesReach, DefaultReaches}
 use Rattle.golf_layout_shapes.proofs.Pieces.{every-self, has-empty, has-op, has-then, has-weaker, has-exit, has-choose, has-block}
-use Rattle.golf_code_of.specs.Values.{Tables}
+use Rattle.golf_code_of.specs.declared.tables.Tables.{Tables}
 use Rattle.golf_code_of.specs.Coding.{piece_at}
-use Rattle.golf_code_of.specs.Statements.{Around, Part, laid, past, then_lay, in_order, stores_name, stores_pair}
+use Rattle.golf_code_of.specs.declared.making.Around.{Around}
+use Rattle.golf_code_of.specs.Statements.{Part, laid, past, then_lay, in_order, stores_name, stores_pair}
 use Rattle.golf_code_of.specs.Selects.{ClausePart, case_clause, default_clause, breaking, case_to, cases_from, default_or, default_from, choice, in_clause, clauses_lay, select_part}
 use Rattle.golf_code_shapes.specs.Types.{value_type, known_type}
 use Rattle.golf_code_shapes.specs.Sound.{LocalFits, ScopeFits, Pushes}

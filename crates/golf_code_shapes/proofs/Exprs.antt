@@ -17,8 +17,8 @@ use Rattle.golf_types.specs.Expressions.{without_package, used, named_or_used, v
 use Rattle.golf_types.specs.Calls.{called_with}
 use Rattle.golf_types.specs.Judging.{Judge, Put, judge, judge_step, element_step}
 use Rattle.golf_shapes.specs.Types.{ValueType, FunctionTypes, Types}
-use Rattle.golf_code_of.specs.Texts.{text_number}
-use Rattle.golf_code_of.specs.Values.{Tables}
+use Rattle.golf_code_of.specs.Table.{text_number}
+use Rattle.golf_code_of.specs.declared.tables.Tables.{Tables}
 use Rattle.golf_code_of.specs.Expressions.{Made}
 use Rattle.golf_code_of.specs.Expressions as C
 use Rattle.golf_code_of.specs.Calls.{Argument, call}

@@ -15,8 +15,8 @@ use Rattle.golf_shapes.specs.Shapes.{slot_types}
 use Rattle.golf_layout.specs.Piece.{Piece, all, op}
 use Rattle.golf_layout_shapes.specs.Has.{shape, Has, Reaches}
 use Rattle.golf_layout_shapes.proofs.Pieces.{every-self, has-empty, has-op, has-then, has-weaker}
-use Rattle.golf_code_of.specs.Values.{Tables}
-use Rattle.golf_code_of.specs.Calls.{Making}
+use Rattle.golf_code_of.specs.declared.tables.Tables.{Tables}
+use Rattle.golf_code_of.specs.declared.making.Making.{Making}
 use Rattle.golf_code_of.specs.Statements.{Lay, Part, laid, nothing, then, then_lay, lay_all, in_order, in_block, past}
 use Rattle.golf_code_shapes.specs.Types.{known_type, value_type}
 use Rattle.golf_code_shapes.specs.Sound.{LocalFits, ScopeFits, Pushes, Silent}

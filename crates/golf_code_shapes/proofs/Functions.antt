@@ -20,7 +20,8 @@ use Rattle.golf_layout.specs.Piece.{Piece, all, op}
 use Rattle.golf_layout_shapes.specs.Has.{shape, filled, To, Has, Ends}
 use Rattle.golf_layout_shapes.proofs.Pieces.{has-empty, has-op, has-then}
 use Rattle.golf_layout_shapes.proofs.Bodies.{ends-op, ends-then, ends-last, bodies-fit}
-use Rattle.golf_code_of.specs.Values.{Tables, zero_value}
+use Rattle.golf_code_of.specs.declared.tables.Tables.{Tables}
+use Rattle.golf_code_of.specs.Values.{zero_value}
 use Rattle.golf_code_of.specs.Calls.{operation}
 use Rattle.golf_code_of.specs.Statements.{Part}
 use Rattle.golf_code_of.specs.Laying.{stmt_part}

@@ -28,7 +28,8 @@ use Rattle.golf_types.specs.Expressions.{Judged, used, given_by, made_sync, made
 use Rattle.golf_model.specs.Values.{zero_of}
 use Rattle.golf_shapes.specs.Types.{ValueType, FunctionTypes, Types, ValueFits}
 use Rattle.golf_layout.specs.Piece.{Piece, all, op}
-use Rattle.golf_code_of.specs.Values.{Tables, type_zero, new_container}
+use Rattle.golf_code_of.specs.declared.tables.Tables.{Tables}
+use Rattle.golf_code_of.specs.Values.{type_zero, new_container}
 use Rattle.golf_code_of.specs.Expressions as C
 use Rattle.golf_code_of.specs.Expressions.{Made, only, struct_of, place_of, field_place, put, puts, elements, new_sync, new_struct}
 use Rattle.golf_code_shapes.specs.Types.{layers_type, value_type}

@@ -28,7 +28,8 @@ use Rattle.golf_shapes.specs.Shapes.{slot_types}
 use Rattle.golf_layout.specs.Piece.{Piece, op}
 use Rattle.golf_layout_shapes.specs.Has.{shape, filled, To}
 use Rattle.golf_layout_shapes.proofs.Pieces.{has-empty}
-use Rattle.golf_code_of.specs.Values.{Tables, push, constant}
+use Rattle.golf_code_of.specs.declared.tables.Tables.{Tables}
+use Rattle.golf_code_of.specs.Values.{push, constant}
 use Rattle.golf_code_of.specs.Expressions.{Made, variable, name}
 use Rattle.golf_code_of.specs.Calls.{receiver_base}
 use Rattle.golf_code_shapes.specs.Types.{base_type, value_type}

@@ -9,7 +9,7 @@ use Rattle.golf_types.specs.Judging.{judge}
 use Rattle.golf_types.specs.Statements as W
 use Rattle.golf_types.specs.Statements.{behind, range_faults}
 use Rattle.golf_shapes.specs.Types.{FunctionTypes, Types}
-use Rattle.golf_code_of.specs.Values.{Tables}
+use Rattle.golf_code_of.specs.declared.tables.Tables.{Tables}
 use Rattle.golf_code_of.specs.Coding.{piece_at}
 use Rattle.golf_code_of.specs.Statements.{Part, block, in_block}
 use Rattle.golf_code_of.specs.Loops.{in_loop, ranging}

@@ -23,7 +23,7 @@ use Rattle.golf_shapes.specs.Shapes.{slot_types}
 use Rattle.golf_layout.specs.Piece.{Piece, all, op}
 use Rattle.golf_layout_shapes.specs.Has.{shape, Has, Reaches}
 use Rattle.golf_layout_shapes.proofs.Pieces.{every-self, has-empty, has-op, has-then, has-weaker, has-exit, has-unless, has-block, has-again}
-use Rattle.golf_code_of.specs.Values.{Tables}
+use Rattle.golf_code_of.specs.declared.tables.Tables.{Tables}
 use Rattle.golf_code_of.specs.Loops.{slice_names, over_slice, channel_name, over_channel, behind_hidden, range_piece}
 use Rattle.golf_code_shapes.specs.Types.{layers_type, value_type}
 use Rattle.golf_code_shapes.specs.Sound.{LocalFits, ScopeFits, Gives, Pushes}

@@ -25,7 +25,7 @@ use Rattle.golf_shapes.specs.Shapes.{slot_types}
 use Rattle.golf_layout.specs.Piece.{Piece, op}
 use Rattle.golf_layout_shapes.specs.Has.{shape, Has}
 use Rattle.golf_layout_shapes.proofs.Pieces.{every-self, has-empty, has-op, has-then}
-use Rattle.golf_code_of.specs.Values.{Tables}
+use Rattle.golf_code_of.specs.declared.tables.Tables.{Tables}
 use Rattle.golf_code_of.specs.Expressions.{name}
 use Rattle.golf_code_of.specs.Statements.{stores_to, stores_name, stores_new, stores_pair}
 use Rattle.golf_code_shapes.specs.Types.{value_type}

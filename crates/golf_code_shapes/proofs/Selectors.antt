@@ -21,7 +21,7 @@ use Rattle.golf_types.specs.Expressions.{Judged, value_faults, value_member, typ
 use Rattle.golf_shapes.specs.Types.{ValueType, FunctionTypes, Types}
 use Rattle.golf_layout.specs.Piece.{Piece, op}
 use Rattle.golf_layout_shapes.proofs.Pieces.{has-op}
-use Rattle.golf_code_of.specs.Values.{Tables}
+use Rattle.golf_code_of.specs.declared.tables.Tables.{Tables}
 use Rattle.golf_code_of.specs.Expressions.{Made, selector}
 use Rattle.golf_code_of.specs.Calls.{receiver_base}
 use Rattle.golf_code_shapes.specs.Types.{base_type, value_type}

@@ -20,7 +20,7 @@ use Rattle.golf_shapes.specs.Types.{ValueType, FunctionTypes, Types}
 use Rattle.golf_layout.specs.Piece.{Piece, all, op}
 use Rattle.golf_layout_shapes.specs.Has.{shape}
 use Rattle.golf_layout_shapes.proofs.Pieces.{has-empty, has-then}
-use Rattle.golf_code_of.specs.Values.{Tables}
+use Rattle.golf_code_of.specs.declared.tables.Tables.{Tables}
 use Rattle.golf_code_of.specs.Coding.{piece_at}
 use Rattle.golf_code_of.specs.Statements as C
 use Rattle.golf_code_of.specs.Statements.{Part, stores_name, stores_pair}

@@ -28,11 +28,13 @@ use Rattle.golf_shapes.specs.Types.{ValueType, Shape, FunctionTypes, Types}
 use Rattle.golf_layout.specs.Piece.{Piece, all, op}
 use Rattle.golf_layout_shapes.specs.Has.{shape, Has}
 use Rattle.golf_layout_shapes.proofs.Pieces.{has-empty, has-op, has-then}
-use Rattle.golf_code_of.specs.Values.{Tables, push, zero_value}
+use Rattle.golf_code_of.specs.declared.tables.Tables.{Tables}
+use Rattle.golf_code_of.specs.Values.{push, zero_value}
 use Rattle.golf_code_of.specs.Expressions.{Made}
 use Rattle.golf_code_of.specs.Coding.{code_at, piece_at}
 use Rattle.golf_code_of.specs.Statements as C
-use Rattle.golf_code_of.specs.Statements.{Around, Lay, Part, laid, drops, updates, assigns, update_instr}
+use Rattle.golf_code_of.specs.declared.making.Around.{Around}
+use Rattle.golf_code_of.specs.Statements.{Lay, Part, laid, drops, updates, assigns, update_instr}
 use Rattle.golf_code_shapes.specs.Types.{value_type}
 use Rattle.golf_code_shapes.specs.Sound.{ScopeFits, Shown, Gives, Turns, Pushes, Silent, Places}
 use Rattle.golf_code_shapes.specs.Flowing.{SimpleFits}

@@ -18,7 +18,7 @@ use Rattle.golf_types.specs.declared.scopes.Scope.{Scope}
 use Rattle.golf_types.specs.Statements as W
 use Rattle.golf_types.specs.Statements.{Walk, walk}
 use Rattle.golf_shapes.specs.Types.{FunctionTypes, Types}
-use Rattle.golf_code_of.specs.Values.{Tables}
+use Rattle.golf_code_of.specs.declared.tables.Tables.{Tables}
 use Rattle.golf_code_of.specs.Statements as C
 use Rattle.golf_code_of.specs.Statements.{Part, Lay, block, in_order, in_block, optional, if_part, else_part}
 use Rattle.golf_code_of.specs.Loops.{for_part, header_part, in_loop}

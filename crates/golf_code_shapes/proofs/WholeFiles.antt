@@ -29,9 +29,11 @@ use Rattle.golf_layout.specs.Piece.{Piece, all, op}
 use Rattle.golf_layout_shapes.specs.Has.{shape, filled, Has}
 use Rattle.golf_layout_shapes.proofs.Pieces.{has-empty, has-op, has-then}
 use Rattle.golf_layout_shapes.proofs.Bodies.{ends-op, ends-then, ends-last, bodies-fit}
-use Rattle.golf_code_of.specs.Texts.{Texts, decl_texts, with_text, table_of, texts_of, number_from, text_number}
-use Rattle.golf_code_of.specs.Values.{Tables, zero_value}
-use Rattle.golf_code_of.specs.Calls.{Making}
+use Rattle.golf_code_of.specs.Table.{Texts, with_text, table_of, number_from, text_number}
+use Rattle.golf_code_of.specs.Texts.{decl_texts, texts_of}
+use Rattle.golf_code_of.specs.declared.tables.Tables.{Tables}
+use Rattle.golf_code_of.specs.Values.{zero_value}
+use Rattle.golf_code_of.specs.declared.making.Making.{Making}
 use Rattle.golf_code_of.specs.Coding.{piece_at}
 use Rattle.golf_code_of.specs.Files.{function, body_laid, functions_from, made_function, initial, initials, entry_body, main_number, main_line, tables_of, giving, code_in, CodeOf}
 use Rattle.golf_code_shapes.specs.Types.{value_type, known_types}
@@ -177,7 +179,7 @@ table-grows (t ∷ ts) table h = table-grows ts (with_text table t) (by-test (li
     by-test true = h
     by-test false = let f = length-append table (t ∷ []) in omega (arith, f)
 
-text-below : (xs : List Decl) (b : List ℕ) → text_number (texts_of xs) b < length (texts_of xs)
+pub text-below : (xs : List Decl) (b : List ℕ) → text_number (texts_of xs) b < length (texts_of xs)
 unfolding text_number texts_of
 text-below xs b =
     let ts = flat_map decl_texts xs in

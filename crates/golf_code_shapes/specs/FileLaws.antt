@@ -23,8 +23,8 @@ use Rattle.golf_types.specs.Scopes.{file_operand, member}
 use Rattle.golf_types.specs.Files.{outside, file_scope, with_imports, no_imports, globals_above, receiver_type, all_typed_names, Typed}
 use Rattle.golf_shapes.specs.Types.{Shape, Signature, Types}
 use Rattle.golf_shapes.specs.Shapes.{HasShapes}
-use Rattle.golf_code_of.specs.Values.{Tables}
-use Rattle.golf_code_of.specs.Calls.{Making}
+use Rattle.golf_code_of.specs.declared.tables.Tables.{Tables}
+use Rattle.golf_code_of.specs.declared.making.Making.{Making}
 use Rattle.golf_code_of.specs.Files.{functions_from, main_number, tables_of, giving, CodeOf}
 use Rattle.golf_code_shapes.specs.Types.{known_types}
 use Rattle.golf_code_shapes.specs.Sound.{IsKnown, NameFits, MemberFits}

@@ -10,9 +10,10 @@ use Rattle.golf_shapes.specs.Types.{ValueType, Shape, Signature, FunctionTypes, 
 use Rattle.golf_shapes.specs.Shapes.{slot_types}
 use Rattle.golf_layout.specs.Piece.{Piece}
 use Rattle.golf_layout_shapes.specs.Has.{shape, Has, Reaches}
-use Rattle.golf_code_of.specs.Values.{Tables}
-use Rattle.golf_code_of.specs.Calls.{Making}
-use Rattle.golf_code_of.specs.Statements.{Around, Lay}
+use Rattle.golf_code_of.specs.declared.tables.Tables.{Tables}
+use Rattle.golf_code_of.specs.declared.making.Making.{Making}
+use Rattle.golf_code_of.specs.declared.making.Around.{Around}
+use Rattle.golf_code_of.specs.Statements.{Lay}
 use Rattle.golf_code_shapes.specs.Types.{known_type, known_types}
 use Rattle.golf_code_shapes.specs.Sound.{ScopeFits}
 

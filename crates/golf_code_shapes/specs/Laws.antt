@@ -7,7 +7,7 @@ use Rattle.golf_types.specs.declared.scopes.Scope.{Scope}
 use Rattle.golf_types.specs.Judging.{Judge, judge}
 use Rattle.golf_types.specs.Statements.{walk}
 use Rattle.golf_shapes.specs.Types.{FunctionTypes, Types}
-use Rattle.golf_code_of.specs.Values.{Tables}
+use Rattle.golf_code_of.specs.declared.tables.Tables.{Tables}
 use Rattle.golf_code_of.specs.Expressions.{Made}
 use Rattle.golf_code_of.specs.Coding.{coded}
 use Rattle.golf_code_of.specs.Laying.{stmt_part}

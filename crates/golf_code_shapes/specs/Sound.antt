@@ -20,8 +20,9 @@ use Rattle.golf_shapes.specs.Types.{ValueType, IsNilable, Shape, Signature, Func
 use Rattle.golf_shapes.specs.Shapes.{slot_types}
 use Rattle.golf_layout.specs.Piece.{Piece}
 use Rattle.golf_layout_shapes.specs.Has.{shape, Has}
-use Rattle.golf_code_of.specs.Texts.{text_number}
-use Rattle.golf_code_of.specs.Values.{Tables, constant}
+use Rattle.golf_code_of.specs.Table.{text_number}
+use Rattle.golf_code_of.specs.declared.tables.Tables.{Tables}
+use Rattle.golf_code_of.specs.Values.{constant}
 use Rattle.golf_code_of.specs.Expressions.{Made}
 use Rattle.golf_code_of.specs.Calls.{receiver_base}
 use Rattle.golf_code_shapes.specs.Types.{base_type, value_type, known_types}

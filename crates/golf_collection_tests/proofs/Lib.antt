@@ -1,1 +1,3 @@
 mod StuckStates
+pub mod Readiness
+pub mod Leading

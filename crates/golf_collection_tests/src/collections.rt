@@ -1,57 +1,36 @@
 //! What a collection reports.
 
-ghost use Rattle.golf_model.specs.Futures.{Numbered};
-ghost use Rattle.golf_model.specs.Presence.{IsWhole};
-
-use crate::states::stuck_state;
-use golf_base::{GoroutineId, Memory, OpenGate};
-use golf_data::{Book, Entry, Report, WaitKind};
-use golf_reclaim::{Options, collect};
-use golf_state::State;
+use crate::collecting::collect_once;
+use crate::programs::{forever, program, receiver, state_of};
+use golf_base::{GoroutineId, Memory};
+use golf_data::{Code, Entry, Instr, Value, WaitKind};
+use golf_reclaim::Ledger;
 use std::alloc::Global;
 use std::test::Fail;
-use std::thread::Threads;
 
-// A collection of a state in order, where the book allows one.
-fn collect_once<R: Threads + Sync>(
-    rt: &R,
-    alloc: Global,
-    state: &State,
-    book: &mut Book,
-) -> Result<Report, Memory>
-    requires numbered { Numbered state.now }
-    requires whole { IsWhole state.now }
-{
-    if !book.reclaimed.is_empty() {
-        return Err(Memory);
-    }
-    if book.collections >= 100 {
-        return Err(Memory);
-    }
-    collect(rt, alloc, state, book, Options { markers: 2 }, &OpenGate)
+// A goroutine receives from a channel that nobody else knows.
+fn stuck_receiver(alloc: Global) -> Result<Code, Memory> {
+    let main = vec![in alloc;
+        Instr::Int(0),
+        Instr::NewChan(Value::Int(0)),
+        Instr::Nil,
+        Instr::Go(1, 2),
+    ]?;
+    program(alloc, forever(alloc, main)?, receiver(alloc)?)
 }
 
 #[test]
-fn a_stuck_goroutine_is_reported_once(rt: HostRuntime) -> Result<(), Fail> {
-    let state = stuck_state(rt.alloc())?;
-    let mut book = Book::new(rt.alloc());
-    let first = collect_once(&rt, rt.alloc(), &state, &mut book)?;
-    assert_eq!(rt; first.number, 1);
-    assert_eq!(rt; first.marked, 0);
+fn a_report_tells_where_a_goroutine_was_started_and_waits(rt: HostRuntime) -> Result<(), Fail> {
+    let code = stuck_receiver(rt.alloc())?;
+    let mut state = state_of(rt.alloc(), &code)?;
+    let mut book = Ledger::new(rt.alloc());
+    let report = collect_once(&rt, rt.alloc(), &code, &mut state, &mut book, false)?;
     let stuck = Entry {
         goroutine: GoroutineId(2),
         wait: WaitKind::Receive,
-        line: 5,
-        started: 3,
+        line: 2,
+        started: 4,
     };
-    assert_eq!(rt; first.reported.as_slice(), [stuck].as_slice());
-    assert_eq!(rt; first.kept, 1);
-    assert_eq!(rt; first.reclaimed, 0);
-    assert_eq!(rt; first.objects, 1);
-    let second = collect_once(&rt, rt.alloc(), &state, &mut book)?;
-    assert_eq!(rt; second.number, 2);
-    assert!(rt; second.reported.is_empty());
-    assert_eq!(rt; second.kept, 1);
-    assert_eq!(rt; book.reported.as_slice(), [GoroutineId(2)].as_slice());
+    assert_eq!(rt; report.reported.as_slice(), [stuck].as_slice());
     Ok(())
 }

@@ -1,9 +1,17 @@
-//! Tests of collections: the graphs of a state, and the reports.
+//! Tests of collections: the graphs of a state, the reports, and what is removed, queued and freed.
 #![tactic(auto)]
 
+#[cfg(test)]
+mod collecting;
 #[cfg(test)]
 mod collections;
 #[cfg(test)]
 mod graphs;
+#[cfg(test)]
+mod programs;
+#[cfg(test)]
+mod ready;
+#[cfg(test)]
+mod recovery;
 #[cfg(test)]
 mod states;

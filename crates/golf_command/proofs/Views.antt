@@ -4,24 +4,24 @@ use Rattle.std.specs.Prelude.{Option, Some, None, IfSome}
 use Rattle.std.specs.Io.KnownBytes.{Appends, Keeps, Consumes, IsAtEnd}
 use Rattle.std.proofs.KnownBytes.{Keeps-refl, Appends-nil, Appends-trans}
 use Rattle.golf_base.specs.Causes.{Rose, WritesFront, ReadsSome}
-use Rattle.golf_plain.specs.declared.plain.Plain.{Plain}
+use Rattle.golf_grammar.specs.declared.declarations.File.{File}
 use Rattle.golf_texts.specs.declared.status.Status.{Status}
 use Rattle.golf_texts.specs.declared.status.Status.TheVariants as s
-use Rattle.golf_texts.specs.declared.status.TheConstants.{LIMIT, USAGE, READ_FAULT, TOO_LONG, NOT_BUILT, NO_MEMORY}
+use Rattle.golf_texts.specs.declared.status.TheConstants.{LIMIT, USAGE, READ_FAULT, TOO_LONG, NO_MEMORY}
 use Rattle.golf_data.specs.declared.code.Code.{Code}
-use Rattle.golf_plain.specs.Plain.{Reads}
-use Rattle.golf_plain.specs.CodeOf.{code_of}
+use Rattle.golf_code_of.specs.Files.{CodeOf}
 use Rattle.golf_texts.specs.Meaning.{out_of, err_of, status_by, status_of, last_of, reports_of, anyone_reported, events}
 use Rattle.golf_laws.proofs.MainLaws as Law
+use Rattle.golf_never_stuck.proofs.Reaching.{reached-moves-on}
 use Rattle.golf_run.specs.HasRun.{sinks, GotFronts, GotWhole as GotBoth}
 use Rattle.golf_data.specs.declared.goroutine.Ending.{Ending}
 use Rattle.golf_model.specs.State.{ending}
 use Rattle.golf_texts.specs.Texts.{lexical_line, syntax_line, rule_line}
 use Rattle.golf_reader.specs.declared.refusal.Refusal.{Refusal}
 use Rattle.golf_reader.specs.declared.refusal.Refusal.TheVariants as refusals
-use Rattle.golf_reader.specs.Refusals.{IsRefusedBy}
-use Rattle.golf_command.specs.Meaning.{IsRun, Accepts, AreTrue, RefusedBy, Meaning}
-use Rattle.golf_command.specs.Meaning.RefusedBy.{TooLong, Unlexed, Unparsed, Untyped, Unbuilt}
+use Rattle.golf_reader.specs.Refusals.{IsRefusedBy, HasTypedTree}
+use Rattle.golf_command.specs.Meaning.{IsRun, Accepts, AreTrue, MovesAlways, RefusedBy, Meaning}
+use Rattle.golf_command.specs.Meaning.RefusedBy.{TooLong, Unlexed, Unparsed, Untyped}
 use Rattle.golf_command.specs.Meaning.Meaning.{Misused, Refused, Runs}
 use Rattle.golf_command.specs.Means.{View, seen, Begins, GotFront, IsFront, RunsWhole, IsRefused, FileLine, Cut, HasFailed, HasWanted, FileMeans, UsageMeans, Causes, GotWhole, IsComplete, Tells}
 use Rattle.golf_command.specs.Means.FileLine.{WhenUnread, WhenRefused, WhenWanting}
@@ -33,7 +33,7 @@ nothing-front : (a : Option (List ℕ)) (text : List ℕ) → WritesFront a a te
 nothing-front a text = ([], text, refl, Appends-nil a)
 
 pub got-nothing : (bytes : List ℕ) (a : Option (List ℕ)) → GotFront bytes a a
-got-nothing bytes a = record { runs = λ p h. nothing-front a (out_of (code_of p)); refused = λ h. Keeps-refl a }
+got-nothing bytes a = record { runs = λ p h. nothing-front a (out_of (CodeOf p)); refused = λ h. Keeps-refl a }
 
 pub if-nothing : (left a : Option (List ℕ)) → IfSome left (λ bytes. GotFront bytes a a)
 if-nothing None a = tt
@@ -41,7 +41,7 @@ if-nothing (Some bytes) a = got-nothing bytes a
 
 -- the empty front
 empty-front : (bytes : List ℕ) → IsFront [] bytes
-empty-front bytes = record { runs = λ p h. (err_of (code_of p), refl); refused = λ h. refl }
+empty-front bytes = record { runs = λ p h. (err_of (CodeOf p), refl); refused = λ h. refl }
 
 no-front : (left : Option (List ℕ)) → IfSome left (IsFront [])
 no-front None = tt
@@ -82,26 +82,31 @@ pub are-true : (code : Code) → AreTrue code
 unfolding reports_of
 are-true code = record { each = Law.book_tells_of_each code events false; still = Law.reported_are_still code events }
 
-module _ (bytes : List ℕ) (p : Plain) (code : Code) (accepted : Accepts bytes p) (is : code ≡ code_of p) (all : (q : Plain) → Reads bytes q → code ≡ code_of q) (rf : ℕ) (out out' : Option (List ℕ)) (of of' : ℕ) (err : Option (List ℕ)) (ef : ℕ) where
+-- the code of a file that the program accepts is never stuck
+moves-always : (bytes : List ℕ) (file : File) → Accepts bytes file → MovesAlways (CodeOf file)
+moves-always bytes file a = λ s c leads going. reached-moves-on (CodeOf file) s c (record { file = file; program = record { good = a.typed.tree.reads.form.good; typed = a.typed.keeps }; coded = refl; leads = leads }) going
+
+module _ (bytes : List ℕ) (file : File) (code : Code) (accepted : Accepts bytes file) (is : code ≡ CodeOf file) (all : (other : File) → HasTypedTree bytes other → code ≡ CodeOf other) (rf : ℕ) (out out' : Option (List ℕ)) (of of' : ℕ) (err : Option (List ℕ)) (ef : ℕ) where
   abbrev start : View
   start = seen (Some bytes) rf out of err ef
 
   out-front : WritesFront out out' (out_of code) → GotFront bytes out out'
-  out-front f = record { runs = λ q h. subst (λ c. WritesFront out out' (out_of c)) (all q h.reads) f; refused = λ none. absurd (none p accepted) }
+  out-front f = record { runs = λ q h. subst (λ c. WritesFront out out' (out_of c)) (all q h.typed) f; refused = λ none. absurd (none file accepted) }
 
   err-front : (front : List ℕ) → Begins front (err_of code) → IsFront front bytes
-  err-front front b = record { runs = λ q h. subst (λ c. Begins front (err_of c)) (all q h.reads) b; refused = λ none. absurd (none p accepted) }
+  err-front front b = record { runs = λ q h. subst (λ c. Begins front (err_of c)) (all q h.typed) b; refused = λ none. absurd (none file accepted) }
 
   whole-run : (err' : Option (List ℕ)) (ef' : ℕ) (r : Status) → GotBoth r code (sinks out of err ef) (sinks out' of' err' ef') → RunsWhole r start (seen (Some bytes) rf out' of' err' ef')
   whole-run err' ef' r g = record {
     bytes = bytes;
-    plain = p;
+    file = file;
     told = refl;
     accepts = accepted;
     status = g.status ∙ ap status_of is;
     out = subst (λ c. Appends out out' (out_of c)) is g.out;
     err = subst (λ c. Appends err err' (err_of c)) is g.err;
     reports = subst AreTrue is (are-true code);
+    moves = moves-always bytes file accepted;
   }
 
   status-runs : (o : Option Ending) (b : Bool) (v w : View) → RunsWhole (status_by b o) v w → FileMeans (status_by b o) v w
@@ -210,10 +215,10 @@ module _ (bytes : List ℕ) (left' : Option (List ℕ)) (rf rf' : ℕ) (out out'
   wanted-untold h = record { front = h.front; of_file = tt; written = h.written }
 
   runs-told : (r : Status) → RunsWhole r judged judged' → RunsWhole r (told (Some bytes)) told'
-  runs-told r h = record { bytes = h.bytes; plain = h.plain; told = h.told; accepts = h.accepts; status = h.status; out = h.out; err = h.err; reports = h.reports }
+  runs-told r h = record { bytes = h.bytes; file = h.file; told = h.told; accepts = h.accepts; status = h.status; out = h.out; err = h.err; reports = h.reports; moves = h.moves }
 
   runs-untold : (r : Status) → RunsWhole r judged judged' → RunsWhole r (told None) told'
-  runs-untold r h = record { bytes = h.bytes; plain = h.plain; told = tt; accepts = h.accepts; status = h.status; out = h.out; err = h.err; reports = h.reports }
+  runs-untold r h = record { bytes = h.bytes; file = h.file; told = tt; accepts = h.accepts; status = h.status; out = h.out; err = h.err; reports = h.reports; moves = h.moves }
 
   means-told : (r : Status) → FileMeans r judged judged' → FileMeans r (told (Some bytes)) told'
   means-told s.Clean m = runs-told s.Clean m
@@ -268,9 +273,9 @@ module _ (words : List (List ℕ)) (rf rf' : ℕ) (out out' : Option (List ℕ))
   -- a run that went to its end
   full : IsRun words → (r : Status) → RunsWhole r before after → (r ≡ s.Memory) ⊎ GotWhole words bytes r before after
   full run r h = inr (
-    out_of (code_of h.plain),
-    err_of (code_of h.plain),
-    subst (λ t. Meaning words bytes t (out_of (code_of h.plain)) (err_of (code_of h.plain))) (sym h.status) (Runs h.plain run (subst (λ b. Accepts b h.plain) (sym h.told) h.accepts)),
+    out_of (CodeOf h.file),
+    err_of (CodeOf h.file),
+    subst (λ t. Meaning words bytes t (out_of (CodeOf h.file)) (err_of (CodeOf h.file))) (sym h.status) (Runs h.file run (subst (λ b. Accepts b h.file) (sym h.told) h.accepts)),
     h.out,
     h.err,
   )
@@ -345,8 +350,6 @@ module _ (bytes : List ℕ) (within : length bytes ≤ LIMIT) (out : Option (Lis
   refusal-means (refusals.Syntax line) r why (inr e) = wants r e
   refusal-means (refusals.Untyped line rule) r why (inl e) = refused (rule_line line rule) r (Untyped line rule within why) e
   refusal-means (refusals.Untyped line rule) r why (inr e) = wants r e
-  refusal-means refusals.NotBuilt r why (inl e) = refused NOT_BUILT.now r (Unbuilt within why) e
-  refusal-means refusals.NotBuilt r why (inr e) = wants r e
   refusal-means refusals.Memory r why (inl e) = wants r e
   refusal-means refusals.Memory r why (inr e) = wants r e
 
@@ -368,8 +371,6 @@ module _ (bytes : List ℕ) (within : length bytes ≤ LIMIT) (out : Option (Lis
   refusal-causes (refusals.Syntax line) r (inr e) = wanted-causes r e
   refusal-causes (refusals.Untyped line rule) r (inl e) = refused-causes (rule_line line rule) r e
   refusal-causes (refusals.Untyped line rule) r (inr e) = wanted-causes r e
-  refusal-causes refusals.NotBuilt r (inl e) = refused-causes NOT_BUILT.now r e
-  refusal-causes refusals.NotBuilt r (inr e) = wanted-causes r e
   refusal-causes refusals.Memory r (inl e) = wanted-causes r e
   refusal-causes refusals.Memory r (inr e) = wanted-causes r e
 

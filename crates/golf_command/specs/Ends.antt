@@ -5,7 +5,7 @@ use Rattle.golf_base.specs.Causes.{Rose, WritesFront}
 use Rattle.golf_reader.specs.declared.refusal.Refusal.{Refusal}
 use Rattle.golf_reader.specs.declared.refusal.Refusal.TheVariants as refusals
 use Rattle.golf_texts.specs.Texts.{lexical_line, syntax_line, rule_line}
-use Rattle.golf_texts.specs.declared.status.TheConstants.{NOT_BUILT, NO_MEMORY}
+use Rattle.golf_texts.specs.declared.status.TheConstants.{NO_MEMORY}
 use Rattle.golf_texts.specs.declared.status.Status.{Status}
 use Rattle.golf_texts.specs.declared.status.Status.TheVariants as s
 
@@ -18,7 +18,6 @@ abbrev pub refusal_line : Refusal → List ℕ
 refusal_line (refusals.Lexical line byte) = lexical_line line byte
 refusal_line (refusals.Syntax line) = syntax_line line
 refusal_line (refusals.Untyped line rule) = rule_line line rule
-refusal_line refusals.NotBuilt = NOT_BUILT.now
 refusal_line refusals.Memory = NO_MEMORY.now
 
 -- how the program ends with it
@@ -26,7 +25,6 @@ abbrev pub refusal_status : Refusal → Status
 refusal_status (refusals.Lexical line byte) = s.Refused
 refusal_status (refusals.Syntax line) = s.Refused
 refusal_status (refusals.Untyped line rule) = s.Refused
-refusal_status refusals.NotBuilt = s.Refused
 refusal_status refusals.Memory = s.Memory
 
 -- the refusal's line was written with its status, or memory was wanting for the line

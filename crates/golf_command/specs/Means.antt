@@ -4,13 +4,13 @@ use Rattle.std.specs.declared.string.String.{String}
 use Rattle.std.specs.declared.alloc.Global.{Global}
 use Rattle.std.specs.Io.KnownBytes.{Appends, Keeps}
 use Rattle.golf_base.specs.Causes.{Rose, WritesFront}
-use Rattle.golf_plain.specs.declared.plain.Plain.{Plain}
-use Rattle.golf_plain.specs.CodeOf.{code_of}
+use Rattle.golf_grammar.specs.declared.declarations.File.{File}
+use Rattle.golf_code_of.specs.Files.{CodeOf}
 use Rattle.golf_texts.specs.declared.status.Status.{Status}
 use Rattle.golf_texts.specs.declared.status.Status.TheVariants as s
 use Rattle.golf_texts.specs.declared.status.TheConstants.{USAGE, READ_FAULT, NO_MEMORY}
 use Rattle.golf_texts.specs.Meaning.{out_of, err_of, status_of}
-use Rattle.golf_command.specs.Meaning.{IsRun, Accepts, AreTrue, RefusedBy, Meaning}
+use Rattle.golf_command.specs.Meaning.{IsRun, Accepts, AreTrue, MovesAlways, RefusedBy, Meaning}
 
 -- the bytes of the words
 abbrev pub words_of : List (String Global) → List (List ℕ)
@@ -34,27 +34,28 @@ Begins front whole = (more : List ℕ) × (whole ≡ front ++ more)
 
 -- the first sink got a front of what the run of the file prints, and nothing where no file is run
 pub record GotFront (bytes : List ℕ) (old new : Option (List ℕ)) : Type 0 where
-  pub runs : (p : Plain) → Accepts bytes p → WritesFront old new (out_of (code_of p))
-  pub refused : ((p : Plain) → Accepts bytes p → ⊥) → Keeps old new
+  pub runs : (file : File) → Accepts bytes file → WritesFront old new (out_of (CodeOf file))
+  pub refused : ((file : File) → Accepts bytes file → ⊥) → Keeps old new
 
 abbrev pub OutGotFront : View → View → Type 0
 OutGotFront old new = IfSome old.left (λ bytes. GotFront bytes old.out new.out)
 
 -- a front of the reports and last line of the file's run, and nothing where no file is run
 pub record IsFront (front bytes : List ℕ) : Type 0 where
-  pub runs : (p : Plain) → Accepts bytes p → Begins front (err_of (code_of p))
-  pub refused : ((p : Plain) → Accepts bytes p → ⊥) → front ≡ []
+  pub runs : (file : File) → Accepts bytes file → Begins front (err_of (CodeOf file))
+  pub refused : ((file : File) → Accepts bytes file → ⊥) → front ≡ []
 
--- the file was run, the sinks got all that it prints and reports, and its reports are true
+-- the file was run, the sinks got all that it prints and reports, its reports are true, and no turn of it is ever stuck
 pub record RunsWhole (answer : Status) (old new : View) : Type 0 where
   pub bytes : List ℕ
-  pub plain : Plain
+  pub file : File
   pub told : IfSome old.left (λ left. left ≡ bytes)
-  pub accepts : Accepts bytes plain
-  pub status : answer ≡ status_of (code_of plain)
-  pub out : Appends old.out new.out (out_of (code_of plain))
-  pub err : Appends old.err new.err (err_of (code_of plain))
-  pub reports : AreTrue (code_of plain)
+  pub accepts : Accepts bytes file
+  pub status : answer ≡ status_of (CodeOf file)
+  pub out : Appends old.out new.out (out_of (CodeOf file))
+  pub err : Appends old.err new.err (err_of (CodeOf file))
+  pub reports : AreTrue (CodeOf file)
+  pub moves : MovesAlways (CodeOf file)
 
 -- the file is refused, and the second sink got the line that says why
 abbrev pub IsRefused : List ℕ → Option (List ℕ) → Option (List ℕ) → Type 0

@@ -5,7 +5,7 @@ ghost use Rattle.golf_command.specs.Ends.{EndsWith, Refuses, refusal_line, refus
 
 use golf_base::{List, Memory, Sink, write_all};
 use golf_reader::Refusal;
-use golf_texts::{NO_MEMORY, NOT_BUILT, Status, lexical_line, list_of, rule_line, syntax_line};
+use golf_texts::{NO_MEMORY, Status, lexical_line, list_of, rule_line, syntax_line};
 use std::alloc::Global;
 
 /// Writes a last line, and answers the status, or that the write failed.
@@ -26,7 +26,6 @@ fn refusal_text(alloc: Global, refusal: Refusal) -> Result<List<u8>, Memory>
         Refusal::Lexical { line, byte } => lexical_line(alloc, line, byte),
         Refusal::Syntax { line } => syntax_line(alloc, line),
         Refusal::Untyped { line, rule } => rule_line(alloc, line, rule),
-        Refusal::NotBuilt => list_of(alloc, NOT_BUILT),
         Refusal::Memory => list_of(alloc, NO_MEMORY),
     }
 }
@@ -35,10 +34,9 @@ fn refusal_status(refusal: Refusal) -> Status
     ensures { result ≡ status_of_refusal refusal }
 {
     match refusal {
-        Refusal::Lexical { .. }
-        | Refusal::Syntax { .. }
-        | Refusal::Untyped { .. }
-        | Refusal::NotBuilt => Status::Refused,
+        Refusal::Lexical { .. } | Refusal::Syntax { .. } | Refusal::Untyped { .. } => {
+            Status::Refused
+        }
         Refusal::Memory => Status::Memory,
     }
 }

@@ -162,7 +162,7 @@ pub struct Line {
 }
 
 /// A function's code.
-#[derive(Debug, Drop)]
+#[derive(Debug)]
 pub struct Function {
     /// How many arguments it takes; they stand in its first slots.
     pub params: u32,
@@ -176,7 +176,7 @@ pub struct Function {
 }
 
 /// The code of a file. Function 0 runs the initialisers and calls `main`.
-#[derive(Debug, Drop)]
+#[derive(Debug)]
 pub struct Code {
     pub functions: List<Function>,
     /// The zero value of each global.
@@ -187,4 +187,29 @@ pub struct Code {
     pub texts: List<List<u8>>,
     /// The line of `func main`.
     pub main_line: u32,
+}
+
+// Both are written out once here, so that no other crate goes through the fields where it lets code go.
+impl Drop for Function {
+    fn drop(self) {
+        let Function {
+            params: _,
+            slots: _,
+            depth: _,
+            line: _,
+            body: _,
+        } = self;
+    }
+}
+
+impl Drop for Code {
+    fn drop(self) {
+        let Code {
+            functions: _,
+            globals: _,
+            structs: _,
+            texts: _,
+            main_line: _,
+        } = self;
+    }
 }

@@ -5,7 +5,15 @@ use Rattle.golf_theory.specs.Reached.{Reached}
 use Rattle.golf_model.specs.declared.graph.GraphParts.{GraphParts}
 use Rattle.golf_model.specs.declared.graph.Marked.{Marked}
 use Rattle.golf_model.specs.Graph.{sleeper_count, children_of, sleeper_references}
+use Rattle.golf_model.specs.State.{State}
+use Rattle.golf_model.specs.Living.{Dead}
+use Rattle.golf_model.specs.Collecting.{Keeps}
+use Rattle.golf_model.specs.Futures.{Numbered}
+use Rattle.golf_model.specs.Presence.{IsWhole}
 use Rattle.golf_marks.specs.Flags.{IsSet}
+use Rattle.golf_mark.specs.Marking.{MarksLeast}
+use Rattle.golf_snapshot.specs.Parts.{live_parts}
+use Rattle.golf_snapshot.specs.Stands.{IsSleeper}
 
 -- a node has another one as a child
 abbrev pub HasChild : GraphParts → ℕ → ℕ → Type 0
@@ -28,3 +36,8 @@ IsKept g m sets_finalisers s =
 pub record HasKept (g : GraphParts) (m : Marked) (sets_finalisers : Bool) (flags : List Bool) : Type 0 where
   pub count : length flags ≡ sleeper_count g
   pub kept : (s : ℕ) → s < sleeper_count g → IsSet flags s ↔ IsKept g m sets_finalisers s
+
+-- on the marked graph of a state a sleeper's flag is set where its goroutine is dead and the keep rule of the definitions keeps it
+abbrev pub KeepsAlike : Type 0
+KeepsAlike = (s : State) (m : Marked) (sets_finalisers : Bool) (flags : List Bool) → Numbered s → IsWhole s → MarksLeast (live_parts s) m → HasKept (live_parts s) m sets_finalisers flags
+    → (j g : ℕ) → IsSleeper s j g → IsSet flags j ↔ (Dead s g × Keeps s sets_finalisers g)

@@ -25,8 +25,8 @@ fn parents(alloc: Global, graph: &Graph) -> Result<List<List<u32>>, Memory>
     Ok(rows)
 }
 
-// Whether a flag is set; there is none past the last one.
-fn is_set(flags: &[bool], at: u32) -> bool
+/// Whether a flag is set; there is none past the last one.
+pub(crate) fn is_set(flags: &[bool], at: u32) -> bool
     ensures { IsTrue result ↔ IsSet flags.now at }
 {
     flags.get(at as usize) == Some(&true)

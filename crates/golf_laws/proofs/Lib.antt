@@ -36,5 +36,4 @@ pub mod RealRuns
 pub mod Stopping
 pub mod Presence
 pub mod Printing
-pub mod Unset
 pub mod Tellings

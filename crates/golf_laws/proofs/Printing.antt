@@ -204,7 +204,7 @@ module _ (w : List ℕ) (code : Code) where
       ap (λ (cs : List Change). apply_all cs (prefixed w s)) (same-turn (k / length (runnable s)) s (whose_turn s k))
       ∙ same-apply_all (turn_changes code (k / length (runnable s)) s (whose_turn s k)) s
 
-same-reach : (w : List ℕ) (s : State) (xs : List ℕ) → reach (prefixed w s) xs ≡ reach s xs
+pub same-reach : (w : List ℕ) (s : State) (xs : List ℕ) → reach (prefixed w s) xs ≡ reach s xs
 unfolding reach
 same-reach w s xs = refl
 

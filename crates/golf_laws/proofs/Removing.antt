@@ -81,17 +81,17 @@ module _ (s : State) (n : Numbered s) (gone : List ℕ) (dead_all : (g : ℕ) �
   from_sources : (o : ℕ) → In o (sources s gone) → In o (reach s (sources s gone))
   from_sources o h = reach-from s (sources s gone) o h
 
-  source-global : (o : ℕ) → In o (refs s.globals) → In o (sources s gone)
+  pub source-global : (o : ℕ) → In o (refs s.globals) → In o (sources s gone)
   source-global o h = In-left o (refs s.globals) _ h
 
-  source-queue : (o : ℕ) → In o (queue_refs s.queue) → In o (sources s gone)
+  pub source-queue : (o : ℕ) → In o (queue_refs s.queue) → In o (sources s gone)
   source-queue o h = In-right o (refs s.globals) _ (In-left o (queue_refs s.queue) _ h)
 
-  source-goroutine : (o g : ℕ) (r : GoroutineView) → Entry s.goroutines g r → stays_by gone g ≡ true → In o (goroutine_refs r) → In o (sources s gone)
+  pub source-goroutine : (o g : ℕ) (r : GoroutineView) → Entry s.goroutines g r → stays_by gone g ≡ true → In o (goroutine_refs r) → In o (sources s gone)
   source-goroutine o g r e t h = In-right o (refs s.globals) _ (In-right o (queue_refs s.queue) _
       (In-left o (goroutine_refs_where (stays_by gone) s.goroutines) _ (In-goroutine_refs_where (stays_by gone) s.goroutines g o r e t h)))
 
-  source-finalised : (o p : ℕ) (x : Object) → In p (keys s.finalisers) → Entry s.objects p x → In o (object_refs x) → In o (sources s gone)
+  pub source-finalised : (o p : ℕ) (x : Object) → In p (keys s.finalisers) → Entry s.objects p x → In o (object_refs x) → In o (sources s gone)
   source-finalised o p x k e h = In-right o (refs s.globals) _ (In-right o (queue_refs s.queue) _
       (In-right o (goroutine_refs_where (stays_by gone) s.goroutines) _ (In-refs_where (has_finaliser s) s.objects p o x e (is_in-from p (keys s.finalisers) k) h)))
 

@@ -39,7 +39,7 @@ entries-named p (g ∷ gs) n h =
     ∙ ap (λ (xs : List ℕ). xs ++ map (λ (e : Reported). e.goroutine.0) (entries p gs)) (entry_of-one p g d.0 n d.1 d.2)
     ∙ ap (λ (xs : List ℕ). g ∷ xs) (entries-named p gs n (λ k i. h k (inr i)))
 
-report-named : (recover sets_finalisers : Bool) (book : Book) (p : State) → Numbered p → named (report recover sets_finalisers book p) ≡ without (dead p) (numbers book.reported)
+pub report-named : (recover sets_finalisers : Bool) (book : Book) (p : State) → Numbered p → named (report recover sets_finalisers book p) ≡ without (dead p) (numbers book.reported)
 report-named recover sets_finalisers book p n = entries-named p (new_dead book p) n (λ g i. (In-filter (λ h. not (is_in h (numbers book.reported))) g (dead p) i).0)
 
 reports-tell : (recover sets_finalisers : Bool) (ps : List State) (book : Book) (told : List ℕ) → numbers book.reported ≡ told → Every Numbered ps → TellsOfEach told ps (reports_from recover sets_finalisers book ps)

@@ -21,7 +21,6 @@ use std::marker::Model;
 use std::thread::Threads;
 
 /// All that some markers need to mark one graph, which is what contracts see.
-#[derive(Drop)]
 pub struct Markers {
     marks: Marks,
     pool: GreyPool,
@@ -59,6 +58,20 @@ fn run_markers<G: Gate + Sync, R: Threads + Sync>(
     let mut markers = markers;
     run_all(rt, gate, 0, shared, markers.as_mut_slice());
     markers
+}
+
+// Written out once here, so that no other crate goes through the fields where it lets markers go.
+impl Drop for Markers {
+    fn drop(self) {
+        let Markers {
+            marks: _,
+            pool: _,
+            waiters: _,
+            markers: _,
+            hands: _,
+            seats: _,
+        } = self;
+    }
 }
 
 impl Markers {

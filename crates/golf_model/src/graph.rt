@@ -17,7 +17,7 @@ pub struct Sleeper {
 }
 
 /// What a graph is made of. A node is an object, by its place.
-#[derive(Debug, Drop)]
+#[derive(Debug)]
 pub struct GraphParts {
     /// For each node its object's number, rising.
     pub numbers: List<ObjectId>,
@@ -31,7 +31,7 @@ pub struct GraphParts {
 }
 
 /// A graph whose places are the nodes, from 0, and behind them the sleepers.
-#[derive(Debug, Drop)]
+#[derive(Debug)]
 pub struct Graph {
     parts: GraphParts,
 }
@@ -132,7 +132,7 @@ impl Graph {
 }
 
 /// Which places of a graph are marked.
-#[derive(Debug, Drop)]
+#[derive(Debug)]
 pub struct Marked {
     /// For each node whether it is marked.
     pub flags: List<bool>,
@@ -140,4 +140,33 @@ pub struct Marked {
     pub order: List<u32>,
     /// For each sleeper whether it is awake.
     pub awake: List<bool>,
+}
+
+// These are written out once here, so that no other crate goes through the fields where it lets a graph go.
+impl Drop for GraphParts {
+    fn drop(self) {
+        let GraphParts {
+            numbers: _,
+            children: _,
+            finalised: _,
+            roots: _,
+            sleepers: _,
+        } = self;
+    }
+}
+
+impl Drop for Graph {
+    fn drop(self) {
+        let Graph { parts: _ } = self;
+    }
+}
+
+impl Drop for Marked {
+    fn drop(self) {
+        let Marked {
+            flags: _,
+            order: _,
+            awake: _,
+        } = self;
+    }
 }

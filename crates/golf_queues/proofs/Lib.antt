@@ -1,3 +1,4 @@
 pub mod Keyed
 pub mod Holders
 pub mod LineLaws
+pub mod Standing

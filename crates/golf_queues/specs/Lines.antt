@@ -1,5 +1,5 @@
 -- Lines of goroutines that wait, by object and side.
-use Rattle.std.specs.Prelude.{◌≡◌, ℕ, ◌+◌, ◌*◌, Bool, true, false, List, [], ◌∷◌, map, Option, Some, None, ◌==◌}
+use Rattle.std.specs.Prelude.{◌≡◌, ℕ, ◌+◌, ◌*◌, Bool, true, false, List, [], ◌∷◌, map, filter, Option, Some, None, ◌==◌}
 use Rattle.golf_theory.specs.Maps.{Entry, find, Rises, AllBelow}
 use Rattle.golf_data.specs.declared.goroutine.Side.{Side}
 use Rattle.golf_data.specs.declared.goroutine.Wait.{Wait}
@@ -28,6 +28,15 @@ line_in (Some es) = es
 -- the goroutines in the line of this key, by their tickets
 abbrev pub line_at : ℕ → Lines → List (ℕ × ℕ)
 line_at k ls = line_in (find k ls)
+
+-- whether anyone stands in a line
+abbrev pub has_anyone : List (ℕ × ℕ) → Bool
+has_anyone [] = false
+has_anyone (e ∷ es) = true
+
+-- the lines in which someone stands
+abbrev pub standing : Lines → Lines
+standing ls = filter (λ e. has_anyone e.1) ls
 
 abbrev pub has_key : ℕ → Option (ℕ × List (ℕ × ℕ)) → Bool
 has_key k None = false

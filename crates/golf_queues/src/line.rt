@@ -3,7 +3,7 @@
 ghost use Rattle.std.specs.Prelude.{◌≡◌, ◌<◌, ◌≤◌, ◌+◌, ℕ, length, OnOk};
 ghost use Rattle.golf_theory.specs.Maps.{Entry, Rises, AllBelow};
 ghost use Rattle.golf_heap.specs.Objects.{rank};
-ghost use Rattle.golf_queues.specs.Lines.{held, KeepsIn};
+ghost use Rattle.golf_queues.specs.Lines.{held, has_anyone, KeepsIn};
 
 use golf_base::{GoroutineId, Memory};
 
@@ -47,5 +47,15 @@ pub fn part(line: &mut Vec<TicketHolder>, ticket: u64, goroutine: GoroutineId)
     let at = rank_of(line.as_slice(), ticket);
     if at < line.len() && line[at].goroutine.0 == goroutine.0 {
         line.remove(at);
+    }
+}
+
+/// Whether anyone stands in the line.
+pub fn has_anyone(line: &[TicketHolder]) -> bool
+    ensures { result ≡ has_anyone (held line.now) }
+{
+    match line {
+        [] => false,
+        [..] => true,
     }
 }

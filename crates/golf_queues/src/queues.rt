@@ -4,9 +4,9 @@ ghost use Rattle.std.specs.Prelude.{◌≡◌, ◌<◌, ◌≤◌, ◌+◌, ℕ,
 ghost use Rattle.golf_theory.specs.Maps.{Entry, Rises};
 ghost use Rattle.golf_heap.specs.Objects.{rank};
 ghost use Rattle.golf_model.specs.Waiting.{side_number};
-ghost use Rattle.golf_queues.specs.Lines.{Lines, IsInOrder, key, held, lines_of, line_at, has_key, is_queued, AreBelow, Keeps, StandsIn, StandsInAll};
+ghost use Rattle.golf_queues.specs.Lines.{Lines, IsInOrder, key, held, lines_of, line_at, has_key, is_queued, standing, AreBelow, Keeps, StandsIn, StandsInAll};
 
-use crate::line::{TicketHolder, join, part};
+use crate::line::{TicketHolder, has_anyone, join, part};
 use golf_base::{GoroutineId, Memory, ObjectId};
 use golf_data::{Side, Wait};
 use std::alloc::Global;
@@ -23,7 +23,8 @@ pub struct Queue {
 /// For each object and side those who stood in line there, by rising ticket. Whoever waits there is
 /// among them; one who does not wait there any more may be left.
 ///
-/// A line is found by a binary search. It is made with the first who stands in it, and stays.
+/// A line is found by a binary search. It is made with the first who stands in it, and stays until a
+/// collection finds nobody in it.
 #[derive(Debug, Drop)]
 pub struct Queues {
     queues: Vec<Queue>,
@@ -198,5 +199,15 @@ impl Queues {
         for wait in waits {
             self.leave(wait.object, wait.side, ticket, goroutine);
         }
+    }
+
+    /// Lines in which nobody stands are gone. It takes no memory.
+    pub fn drop_empty(&mut self)
+        ensures lines { self.new ≡ standing self.old }
+        ensures kept { Keeps (λ t g. Unit {0}) self.old self.new }
+        ensures below { (n : ℕ) → AreBelow n self.old → AreBelow n self.new }
+    {
+        self.queues
+            .retain(|queue| has_anyone(queue.line.as_slice()));
     }
 }

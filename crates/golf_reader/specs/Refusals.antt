@@ -5,29 +5,28 @@ use Rattle.golf_tokens.specs.declared.token.Token.{Token}
 use Rattle.golf_tokens.specs.Lexes.{Lexes, IsFault, line_at}
 use Rattle.golf_grammar.specs.declared.declarations.File.{File}
 use Rattle.golf_grammar.specs.Reads.{Reads as HasTree, ReadsTokens, IsFaultOn}
-use Rattle.golf_plain.specs.declared.plain.Plain.{Plain}
-use Rattle.golf_plain.specs.Plain.{Reads}
-use Rattle.golf_plain.specs.CodeOf.{code_of}
 use Rattle.golf_types.specs.Faults.{IsFirst}
 use Rattle.golf_types.specs.Files.{Broken, Typed}
+use Rattle.golf_check.specs.declared.files.Checked.{Checked}
+use Rattle.golf_check.specs.Heads.{scope_of}
+use Rattle.golf_code_of.specs.Files.{CodeOf}
 use Rattle.golf_reader.specs.declared.refusal.Refusal.{Refusal}
 use Rattle.golf_reader.specs.declared.refusal.Refusal.TheVariants as refusals
 
--- no plain tree reads the bytes
-abbrev pub IsNotPlain : List ℕ → Type 0
-IsNotPlain bytes = (p : Plain) → Reads bytes p → ⊥
-
--- the file is typed: a tree that reads its bytes breaks no rule
-pub record IsTyped (bytes : List ℕ) : Type 0 where
-  pub file : File
+-- this tree reads the bytes, and breaks no rule
+pub record HasTypedTree (bytes : List ℕ) (file : File) : Type 0 where
   pub tree : HasTree bytes file
   pub keeps : Typed file
+
+-- no typed file reads the bytes
+abbrev pub IsNotTyped : List ℕ → Type 0
+IsNotTyped bytes = (file : File) → HasTypedTree bytes file → ⊥
 
 -- the bytes do not lex: the fault is at this byte, on this line
 pub record IsUnlexed (bytes : List ℕ) (line byte : ℕ) : Type 0 where
   pub fault : IsFault bytes byte
   pub on : line ≡ line_at bytes byte
-  pub none : IsNotPlain bytes
+  pub none : IsNotTyped bytes
 
 -- they lex, and no file reads the tokens: the fault is on this line
 pub record IsUnparsed (bytes : List ℕ) (line : ℕ) : Type 0 where
@@ -35,34 +34,27 @@ pub record IsUnparsed (bytes : List ℕ) (line : ℕ) : Type 0 where
   pub lexes : Lexes bytes tokens
   pub refused : (file : File) → ReadsTokens tokens file → ⊥
   pub fault : IsFaultOn tokens line
-  pub none : IsNotPlain bytes
+  pub none : IsNotTyped bytes
 
--- a file reads them, and this rule is the first that it breaks, on this line; so no typed file reads them
+-- a file reads them, and this rule is the first that it breaks, on this line
 pub record IsUntyped (bytes : List ℕ) (line rule : ℕ) : Type 0 where
   pub file : File
   pub tree : HasTree bytes file
   pub first : IsFirst rule line (Broken file)
-  pub none : IsTyped bytes → ⊥
+  pub none : IsNotTyped bytes
 
--- a typed file reads them, and it is no plain file
-pub record IsUnbuilt (bytes : List ℕ) : Type 0 where
-  pub typed : IsTyped bytes
-  pub none : IsNotPlain bytes
-
--- the file is typed, and has this code
+-- a typed file reads them, no other one does, and this is its code
 pub record HasCode (bytes : List ℕ) (code : Code) : Type 0 where
-  pub plain : Plain
-  pub reads : Reads bytes plain
-  pub typed : IsTyped bytes
-  pub is : code ≡ code_of plain
-  pub only : (p : Plain) → Reads bytes p → code ≡ code_of p
+  pub file : File
+  pub typed : HasTypedTree bytes file
+  pub is : code ≡ CodeOf file
+  pub only : (other : File) → HasTypedTree bytes other → code ≡ CodeOf other
 
 -- the bytes are refused so; want of memory tells nothing
 abbrev pub IsRefusedBy : List ℕ → Refusal → Type 0
 IsRefusedBy bytes (refusals.Lexical line byte) = IsUnlexed bytes line byte
 IsRefusedBy bytes (refusals.Syntax line) = IsUnparsed bytes line
 IsRefusedBy bytes (refusals.Untyped line rule) = IsUntyped bytes line rule
-IsRefusedBy bytes refusals.NotBuilt = IsUnbuilt bytes
 IsRefusedBy bytes refusals.Memory = Unit {0}
 
 -- the code of the file, or why it has none
@@ -78,7 +70,6 @@ Parses tokens (Ok file) = ReadsTokens tokens file
 Parses tokens (Err (refusals.Lexical line byte)) = ⊥
 Parses tokens (Err (refusals.Syntax line)) = ((file : File) → ReadsTokens tokens file → ⊥) × IsFaultOn tokens line
 Parses tokens (Err (refusals.Untyped line rule)) = ⊥
-Parses tokens (Err refusals.NotBuilt) = ⊥
 Parses tokens (Err refusals.Memory) = Unit {0}
 
 -- the tree that reads the bytes, or why there is none
@@ -87,23 +78,20 @@ WasParsed bytes (Ok file) = HasTree bytes file
 WasParsed bytes (Err (refusals.Lexical line byte)) = IsUnlexed bytes line byte
 WasParsed bytes (Err (refusals.Syntax line)) = IsUnparsed bytes line
 WasParsed bytes (Err (refusals.Untyped line rule)) = ⊥
-WasParsed bytes (Err refusals.NotBuilt) = ⊥
 WasParsed bytes (Err refusals.Memory) = Unit {0}
 
--- the tree keeps the rules, or the first that it breaks
-abbrev pub Keeps : {A : Type 0} → File → Result A Refusal → Type 0
-Keeps file (Ok a) = Typed file
+-- the tree, which keeps the rules, with the scope of its names; or the first rule that it breaks
+abbrev pub Keeps : File → Result Checked Refusal → Type 0
+Keeps file (Ok checked) = (checked.file ≡ file) × (checked.scope ≡ scope_of file) × Typed file
 Keeps file (Err (refusals.Lexical line byte)) = ⊥
 Keeps file (Err (refusals.Syntax line)) = ⊥
 Keeps file (Err (refusals.Untyped line rule)) = IsFirst rule line (Broken file)
-Keeps file (Err refusals.NotBuilt) = ⊥
 Keeps file (Err refusals.Memory) = Unit {0}
 
--- the file is typed, or why it is not
-abbrev pub WasTyped : {A : Type 0} → List ℕ → Result A Refusal → Type 0
-WasTyped bytes (Ok a) = IsTyped bytes
+-- the tree of the bytes, which is typed, with the scope of its names; or why there is none
+abbrev pub WasTyped : List ℕ → Result Checked Refusal → Type 0
+WasTyped bytes (Ok checked) = HasTypedTree bytes checked.file × (checked.scope ≡ scope_of checked.file)
 WasTyped bytes (Err (refusals.Lexical line byte)) = IsUnlexed bytes line byte
 WasTyped bytes (Err (refusals.Syntax line)) = IsUnparsed bytes line
 WasTyped bytes (Err (refusals.Untyped line rule)) = IsUntyped bytes line rule
-WasTyped bytes (Err refusals.NotBuilt) = ⊥
 WasTyped bytes (Err refusals.Memory) = Unit {0}

@@ -2,16 +2,14 @@
 
 ghost use Rattle.std.specs.Prelude.{◌≡◌, ◌≤◌, ◌<◌, ◌-◌, ◌^◌, length, IfOk};
 ghost use Rattle.golf_data.specs.Places.{HasPlaces};
-ghost use Rattle.golf_data.specs.Built.{IsBuilt};
 ghost use Rattle.golf_reader.specs.Refusals.{Parses, Keeps, WasParsed, WasTyped, WasRead};
 
 use crate::refusal::Refusal;
-use golf_base::List;
-use golf_check::check;
+use golf_check::{Checked, check};
+use golf_code::generate;
 use golf_data::Code;
 use golf_grammar::File;
 use golf_lex::{LexFault, tokens};
-use golf_plain_reader::read_plain;
 use golf_syntax::{SyntaxFault, parse};
 use golf_tokens::Token;
 use golf_types::TypeFault;
@@ -40,19 +38,19 @@ fn parsed(alloc: Global, bytes: &[u8]) -> Result<File, Refusal>
     }
 }
 
-// Whether a tree keeps the rules of types.
-fn judged(alloc: Global, file: File) -> Result<(), Refusal>
+// A tree that keeps the rules of types.
+fn judged(alloc: Global, file: File) -> Result<Checked, Refusal>
     ensures { Keeps file result }
 {
     match check(alloc, file) {
-        Ok(_) => Ok(()),
+        Ok(checked) => Ok(checked),
         Err(TypeFault::At { line, rule }) => Err(Refusal::Untyped { line, rule }),
         Err(TypeFault::Memory) => Err(Refusal::Memory),
     }
 }
 
-// Whether the file is typed.
-fn typed(alloc: Global, bytes: &[u8]) -> Result<(), Refusal>
+// The typed tree of the file.
+fn typed(alloc: Global, bytes: &[u8]) -> Result<Checked, Refusal>
     requires { length bytes.now < 2 ^ 32 - 1 }
     ensures { WasTyped bytes.now result }
 {
@@ -72,12 +70,8 @@ pub fn read(alloc: Global, bytes: &[u8]) -> Result<Code, Refusal>
 
     // The code can be run.
     ensures places { IfOk result HasPlaces }
-    ensures built { IfOk result IsBuilt }
 {
-    typed(alloc, bytes)?;
-    match read_plain(alloc, bytes) {
-        Ok(Some(code)) => Ok(code),
-        Ok(None) => Err(Refusal::NotBuilt),
-        Err(_) => Err(Refusal::Memory),
-    }
+    let mut checked = typed(alloc, bytes)?;
+    let code = generate(alloc, &mut checked)?;
+    Ok(code)
 }

@@ -14,8 +14,6 @@ pub enum Refusal {
     Syntax { line: u32 },
     /// The file parses, and breaks a rule of types: the first broken one, and its line.
     Untyped { line: u32, rule: u32 },
-    /// The file parses and breaks no rule, but is no plain file.
-    NotBuilt,
     /// Memory was wanting.
     Memory,
 }

@@ -23,19 +23,6 @@ entries-more s gs i d old new l so made =
     ∙ ap (λ (z : List Entry). entries s (numbers (take i gs)) ++ z) (sym (append-nil (entry_of (get_or gs i d).0 (find (get_or gs i d).0 s.goroutines))))
     ∙ sym (entries-append s (numbers (take i gs)) ((get_or gs i d).0 ∷ [])) ∙ ap (entries s) (sym (numbers-more gs i d l))
 
-either_way : (a b : Bool) → (a || b) ≡ (b || (a || false))
-either_way true true = refl
-either_way true false = refl
-either_way false true = refl
-either_way false false = refl
-
--- the flags of some, and of one more
-pub among-more : (gs : List GoroutineId) (i : ℕ) (d : GoroutineId) (old new : List Bool) → i < length gs → ((k : ℕ) → get_or old k false ≡ is_in k (numbers (take i gs)))
-    → ((k : ℕ) → get_or new k false ≡ ((k == (get_or gs i d).0) || get_or old k false)) → (k : ℕ) → get_or new k false ≡ is_in k (numbers (take (i + 1) gs))
-among-more gs i d old new l so made k =
-    made k ∙ ap (λ b. (k == (get_or gs i d).0) || b) (so k) ∙ either_way (k == (get_or gs i d).0) (is_in k (numbers (take i gs)))
-    ∙ sym (is_in-append k (numbers (take i gs)) ((get_or gs i d).0 ∷ [])) ∙ ap (is_in k) (sym (numbers-more gs i d l))
-
 pub numbers-ids : (gs : List GoroutineId) → map (λ (n : ℕ). let g : GoroutineId = record { 0 = n } in g) (numbers gs) ≡ gs
 numbers-ids [] = refl
 numbers-ids (g ∷ gs) = ap (λ (z : List GoroutineId). g ∷ z) (numbers-ids gs)

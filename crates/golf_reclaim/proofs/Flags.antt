@@ -4,26 +4,9 @@ use Rattle.std.proofs.lemmas.List.{take_all}
 use Rattle.std.proofs.lemmas.List.Sums.{sum_by-cons}
 use Rattle.golf_theory.specs.Maps.{keys, keys_where}
 use Rattle.golf_theory.specs.Membership.{Every}
-use Rattle.golf_reclaim.specs.Flags.{count_set, unflagged, either}
+use Rattle.golf_reclaim.specs.Flags.{count_set, either}
 
 -- ---- one place more
-
-unflagged-next : {X : Type 0} (flags : List Bool) (xs : List X) (i : ℕ) (x : X) (d : Bool) → i < length flags → slice_get xs i ≡ Some x → unflagged (take (suc i) flags) (take (suc i) xs) ≡ unflagged (take i flags) (take i xs) ++ cond (get_or flags i d) [] (x ∷ [])
-unflagged-next [] xs i x d l e = absurd (omega arith)
-unflagged-next (b ∷ bs) [] i x d l e = cc
-unflagged-next {X = X} (b ∷ bs) (y ∷ ys) zero x d l e = let same : y ≡ x = cc in ap (λ (z : X). cond b [] (z ∷ [])) same
-unflagged-next {X = X} (b ∷ bs) (y ∷ ys) (suc i) x d l e = let rest = unflagged-next bs ys i x d (omega arith) e in
-    elim b as (λ c. cond c (unflagged (take (suc i) bs) (take (suc i) ys)) (y ∷ unflagged (take (suc i) bs) (take (suc i) ys)) ≡ cond c (unflagged (take i bs) (take i ys)) (y ∷ unflagged (take i bs) (take i ys)) ++ cond (get_or bs i d) [] (x ∷ [])) [
-      | true ↦ rest
-      | false ↦ ap (λ (z : List X). y ∷ z) rest
-    ]
-
-pub unflagged-more : {X : Type 0} (flags : List Bool) (xs : List X) (i : ℕ) (x : X) (d b : Bool) (old new : List X) → i < length flags → slice_get xs i ≡ Some x → get_or flags i d ≡ b → old ≡ unflagged (take i flags) (take i xs) → new ≡ old ++ cond b [] (x ∷ []) → new ≡ unflagged (take (i + 1) flags) (take (i + 1) xs)
-unflagged-more {X = X} flags xs i x d b old new l e is so made =
-    let next : suc i ≡ i + 1 = omega arith in
-    made ∙ ap (λ (z : List X). z ++ cond b [] (x ∷ [])) so
-    ∙ ap (λ c. unflagged (take i flags) (take i xs) ++ cond c [] (x ∷ [])) (sym is)
-    ∙ sym (unflagged-next flags xs i x d l e) ∙ ap (λ k. unflagged (take k flags) (take k xs)) next
 
 either-next : (xs ys : List Bool) (i : ℕ) (y d : Bool) → i < length xs → slice_get ys i ≡ Some y → either (take (suc i) xs) (take (suc i) ys) ≡ either (take i xs) (take i ys) ++ (get_or xs i d || y) ∷ []
 either-next [] ys i y d l e = absurd (omega arith)
@@ -42,20 +25,8 @@ either-more xs ys i y d b old new l e is so made =
 pub count-all : (flags : List Bool) (i n : ℕ) → length flags ≤ i → n ≡ count_set (take i flags) → n ≡ count_set flags
 count-all flags i n l e = e ∙ ap count_set (take_all i flags l)
 
-pub unflagged-all : {X : Type 0} (flags : List Bool) (xs : List X) (i : ℕ) (all : List X) → length flags ≤ i → length xs ≤ i → all ≡ unflagged (take i flags) (take i xs) → all ≡ unflagged flags xs
-unflagged-all {X = X} flags xs i all l m e = e ∙ ap (λ (z : List Bool). unflagged z (take i xs)) (take_all i flags l) ∙ ap (λ (z : List X). unflagged flags z) (take_all i xs m)
-
 pub either-all : (xs ys : List Bool) (i : ℕ) (all : List Bool) → length xs ≤ i → length ys ≤ i → all ≡ either (take i xs) (take i ys) → all ≡ either xs ys
 either-all xs ys i all l m e = e ∙ ap (λ (z : List Bool). either z (take i ys)) (take_all i xs l) ∙ ap (either xs) (take_all i ys m)
-
-pub unflagged-short : {X : Type 0} (flags : List Bool) (xs : List X) → length (unflagged flags xs) ≤ length xs
-unflagged-short [] xs = omega arith
-unflagged-short (b ∷ bs) [] = omega arith
-unflagged-short (b ∷ bs) (x ∷ xs) = let rest = unflagged-short bs xs in
-    elim b as (λ c. length (cond c (unflagged bs xs) (x ∷ unflagged bs xs)) ≤ length (x ∷ xs)) [
-      | true ↦ omega (arith, rest)
-      | false ↦ omega (arith, rest)
-    ]
 
 pub either-long : (xs ys : List Bool) → length xs ≡ length ys → length (either xs ys) ≡ length xs
 either-long [] ys e = refl
@@ -80,13 +51,9 @@ counted p [] = refl
 counted {X = X} p (e ∷ es) =
     sum_by-cons (λ (b : Bool). cond b 1 0) (p e.0) (map (λ (d : ℕ × X). p d.0) es) ∙ one_more (p e.0) (count_set (map (λ (d : ℕ × X). p d.0) es)) e.0 (filter p (keys es)) (counted p es)
 
-pub unflagged-filter : {X Y : Type 0} (f : X → Bool) (h : X → Y) (xs : List X) → unflagged (map f xs) (map h xs) ≡ map h (filter (λ x. not (f x)) xs)
-unflagged-filter f h [] = refl
-unflagged-filter {Y = Y} f h (x ∷ xs) = let rest = unflagged-filter f h xs in
-    elim (f x) as (λ b. cond b (unflagged (map f xs) (map h xs)) (h x ∷ unflagged (map f xs) (map h xs)) ≡ map h (cond (not b) (x ∷ filter (λ y. not (f y)) xs) (filter (λ y. not (f y)) xs))) [
-      | true ↦ rest
-      | false ↦ ap (λ (z : List Y). h x ∷ z) rest
-    ]
+pub map-alike : {X Y : Type 0} (f g : X → Y) (xs : List X) → ((x : X) → f x ≡ g x) → map f xs ≡ map g xs
+map-alike f g [] h = refl
+map-alike {Y = Y} f g (x ∷ xs) h = ap (λ (y : Y). y ∷ map f xs) (h x) ∙ ap (λ (ys : List Y). g x ∷ ys) (map-alike f g xs h)
 
 pub either-map : {X : Type 0} (f g : X → Bool) (xs : List X) → either (map f xs) (map g xs) ≡ map (λ x. f x || g x) xs
 either-map f g [] = refl

@@ -2,3 +2,7 @@ pub mod Flags
 pub mod Entries
 pub mod Meaning
 pub mod Reports
+pub mod Gone
+pub mod States
+pub mod Noting
+pub mod Promises

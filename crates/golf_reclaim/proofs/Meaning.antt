@@ -28,8 +28,10 @@ use Rattle.golf_snapshot.proofs.LiveComplete.{live-graph}
 use Rattle.golf_snapshot.proofs.LiveSound.{place-is}
 use Rattle.golf_snapshot.proofs.RetainedLaw.{retained-graph}
 use Rattle.golf_mark.specs.Marking.{MarksLeast}
-use Rattle.golf_reclaim.specs.Flags.{count_set, unflagged, either}
-use Rattle.golf_reclaim.proofs.Flags.{flags-are, counted, unflagged-filter, either-map, filter-both, keys_where-filter}
+use Rattle.golf_heap.specs.Objects.{left_out}
+use Rattle.golf_heap.proofs.Flagged.{left_out-filter}
+use Rattle.golf_reclaim.specs.Flags.{count_set, either}
+use Rattle.golf_reclaim.proofs.Flags.{flags-are, counted, either-map, map-alike, filter-both, keys_where-filter}
 
 -- ---- what the flags are
 
@@ -55,25 +57,27 @@ module _ (s : State) (n : Numbered s) (w : IsWhole s) where
       (λ t. has_goroutine-complete (live_list s) e.0 (live_list-complete s (Node.AGoroutine e.0) (a.0 (subst (λ p. Least (live_parts s) p) place (i.0 t)))))
       (λ t. i.1 (subst (λ p. Least (live_parts s) p) (sym place) (a.1 (live_list-sound s (Node.AGoroutine e.0) (has_goroutine-sound (live_list s) e.0 t))))))
 
-  pub retained-flags : (m : Marked) → MarksLeast (retained_parts s []) m → m.flags ≡ map (λ e. is_in e.0 (reach s (sources s []))) s.objects
-  retained-flags m h = flags-are (λ (e : ℕ × Object). is_in e.0 (reach s (sources s []))) s.objects m.flags (h.flag_count ∙ length-map s.objects (row_of s.objects)) (λ k e at.
-      let a = retained-graph s [] k e.0 n w (e.1, at) in
-      same_test (get_or m.flags k false) (is_in e.0 (reach s (sources s [])))
-      (λ t. is_in-from e.0 (reach s (sources s [])) (reach-complete s (sources s []) e.0 (a.0 ((h.flags k).0 t).1)))
-      (λ t. (h.flags k).1 (below-count k e at, a.1 (reach-sound s (sources s []) e.0 (In-from e.0 (reach s (sources s [])) t)))))
+  pub retained-flags : (gone : List ℕ) (m : Marked) → MarksLeast (retained_parts s gone) m → m.flags ≡ map (λ e. is_in e.0 (reach s (sources s gone))) s.objects
+  retained-flags gone m h = flags-are (λ (e : ℕ × Object). is_in e.0 (reach s (sources s gone))) s.objects m.flags (h.flag_count ∙ length-map s.objects (row_of s.objects)) (λ k e at.
+      let a = retained-graph s gone k e.0 n w (e.1, at) in
+      same_test (get_or m.flags k false) (is_in e.0 (reach s (sources s gone)))
+      (λ t. is_in-from e.0 (reach s (sources s gone)) (reach-complete s (sources s gone) e.0 (a.0 ((h.flags k).0 t).1)))
+      (λ t. (h.flags k).1 (below-count k e at, a.1 (reach-sound s (sources s gone) e.0 (In-from e.0 (reach s (sources s gone)) t)))))
 
   -- ---- what they count and leave
 
   pub live-count : (m : Marked) → MarksLeast (live_parts s) m → count_set m.flags ≡ length (live_objects s)
   live-count m h = ap count_set (live-flags m h) ∙ counted (has_object (live_list s)) s.objects
 
-  pub retained-count : (m : Marked) → MarksLeast (retained_parts s []) m → count_set (either m.flags (map (λ e. has_finaliser s e.0) s.objects)) ≡ length (retained_objects s [])
-  retained-count m h =
-      ap (λ (l : List Bool). count_set (either l (map (λ (e : ℕ × Object). has_finaliser s e.0) s.objects))) (retained-flags m h)
-      ∙ ap count_set (either-map (λ (e : ℕ × Object). is_in e.0 (reach s (sources s []))) (λ (e : ℕ × Object). has_finaliser s e.0) s.objects)
-      ∙ counted (λ o. is_in o (reach s (sources s [])) || has_finaliser s o) s.objects
-      ∙ ap length (filter-same (λ o. is_in o (reach s (sources s [])) || has_finaliser s o) (λ o. is_in o (retained s [])) (keys s.objects)
-      (Every-from (λ o. (is_in o (reach s (sources s [])) || has_finaliser s o) ≡ is_in o (retained s [])) (keys s.objects) (λ o i. sym (is_in-append o (reach s (sources s [])) (keys s.finalisers)))))
+  -- the flags of what is left
+  pub left-flags : (gone : List ℕ) (m : Marked) → MarksLeast (retained_parts s gone) m → either m.flags (map (λ e. has_finaliser s e.0) s.objects) ≡ map (λ e. is_in e.0 (retained s gone)) s.objects
+  left-flags gone m h =
+      ap (λ (l : List Bool). either l (map (λ (e : ℕ × Object). has_finaliser s e.0) s.objects)) (retained-flags gone m h)
+      ∙ either-map (λ (e : ℕ × Object). is_in e.0 (reach s (sources s gone))) (λ (e : ℕ × Object). has_finaliser s e.0) s.objects
+      ∙ map-alike (λ (e : ℕ × Object). is_in e.0 (reach s (sources s gone)) || has_finaliser s e.0) (λ (e : ℕ × Object). is_in e.0 (retained s gone)) s.objects (λ e. sym (is_in-append e.0 (reach s (sources s gone)) (keys s.finalisers)))
+
+  pub left-count : (gone : List ℕ) (keep : List Bool) → keep ≡ map (λ e. is_in e.0 (retained s gone)) s.objects → count_set keep ≡ length (retained_objects s gone)
+  left-count gone keep e = ap count_set e ∙ counted (λ o. is_in o (retained s gone)) s.objects
 
 -- goroutine 0 is live
 zero-live : (s : State) → has_goroutine (live_list s) 0 ≡ true
@@ -87,7 +91,7 @@ dead_test live g false z = elim (g == 0) as (λ b. g == 0 ≡ b → (not b && no
   | false ↦ λ t. refl
 ] refl
 
-dead-asleep : (s : State) → map (λ e. e.0) (filter (λ e. not (has_goroutine (live_list s) e.0)) (sleeping s)) ≡ dead s
+pub dead-asleep : (s : State) → map (λ e. e.0) (filter (λ e. not (has_goroutine (live_list s) e.0)) (sleeping s)) ≡ dead s
 dead-asleep s =
     let live = live_list s in
     ap (map (λ (e : ℕ × GoroutineView). e.0))
@@ -97,22 +101,22 @@ dead-asleep s =
     ∙ keys_where-filter (is_dead live) s.goroutines
 
 -- the goroutine of a sleeper
-abbrev goroutine_of : ℕ × GoroutineView → GoroutineId
+abbrev pub goroutine_of : ℕ × GoroutineView → GoroutineId
 goroutine_of e = record { 0 = e.0 }
 
-sleepers-goroutines : (objects : List (ℕ × Object)) (es : List (ℕ × GoroutineView)) → map (λ (x : Sleeper). x.goroutine) (map (sleeper_of objects) es) ≡ map goroutine_of es
+pub sleepers-goroutines : (objects : List (ℕ × Object)) (es : List (ℕ × GoroutineView)) → map (λ (x : Sleeper). x.goroutine) (map (sleeper_of objects) es) ≡ map goroutine_of es
 sleepers-goroutines objects [] = refl
 sleepers-goroutines objects (e ∷ es) = ap (λ (l : List GoroutineId). goroutine_of e ∷ l) (sleepers-goroutines objects es)
 
-numbers-goroutines : (es : List (ℕ × GoroutineView)) → numbers (map goroutine_of es) ≡ map (λ e. e.0) es
+pub numbers-goroutines : (es : List (ℕ × GoroutineView)) → numbers (map goroutine_of es) ≡ map (λ e. e.0) es
 numbers-goroutines [] = refl
 numbers-goroutines (e ∷ es) = ap (λ (l : List ℕ). e.0 ∷ l) (numbers-goroutines es)
 
-pub dead-flags : (s : State) (n : Numbered s) (w : IsWhole s) (m : Marked) → MarksLeast (live_parts s) m → numbers (unflagged m.awake (map (λ x. x.goroutine) (live_parts s).sleepers)) ≡ dead s
+pub dead-flags : (s : State) (n : Numbered s) (w : IsWhole s) (m : Marked) → MarksLeast (live_parts s) m → numbers (left_out m.awake (map (λ x. x.goroutine) (live_parts s).sleepers)) ≡ dead s
 dead-flags s n w m h =
     let has : ℕ × GoroutineView → Bool = λ e. has_goroutine (live_list s) e.0 in
-    ap (λ (l : List Bool). numbers (unflagged l (map (λ (x : Sleeper). x.goroutine) (live_parts s).sleepers))) (awake-flags s n w m h)
-    ∙ ap (λ (l : List GoroutineId). numbers (unflagged (map has (sleeping s)) l)) (sleepers-goroutines s.objects (sleeping s))
-    ∙ ap numbers (unflagged-filter has goroutine_of (sleeping s))
+    ap (λ (l : List Bool). numbers (left_out l (map (λ (x : Sleeper). x.goroutine) (live_parts s).sleepers))) (awake-flags s n w m h)
+    ∙ ap (λ (l : List GoroutineId). numbers (left_out (map has (sleeping s)) l)) (sleepers-goroutines s.objects (sleeping s))
+    ∙ ap numbers (left_out-filter has goroutine_of (sleeping s))
     ∙ numbers-goroutines (filter (λ (e : ℕ × GoroutineView). not (has_goroutine (live_list s) e.0)) (sleeping s))
     ∙ dead-asleep s

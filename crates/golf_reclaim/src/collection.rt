@@ -1,14 +1,19 @@
 //! A collection.
 
-ghost use Rattle.std.specs.Prelude.{◌≡◌, ◌-◌, ◌<◌, ◌≤◌, ◌^◌, [], false, IfOk, OnErr, OnOk};
+ghost use Rattle.std.specs.Prelude.{◌≡◌, ◌-◌, ◌<◌, ◌≤◌, ◌^◌, IfOk, OnErr, OnOk};
+ghost use Rattle.golf_model.specs.Collecting.{real_collect};
 ghost use Rattle.golf_model.specs.Futures.{Numbered};
 ghost use Rattle.golf_model.specs.Presence.{IsWhole};
 ghost use Rattle.golf_model.specs.Reporting.{book_after, report};
+ghost use Rattle.golf_reclaim.specs.Noting.{AreGone};
+ghost use Rattle.golf_reclaim.specs.Promises.{AreStill, IsUnseen, LeavesExactly, MovesOnAfter};
 
-use crate::marking::{count_retained, find_live};
-use crate::reported::{entries, unreported};
+use crate::ledger::Ledger;
+use crate::marking::{find_dead, find_retained};
+use crate::reported::entries;
 use golf_base::{Gate, Memory};
-use golf_data::{Book, Report};
+use golf_data::Report;
+use golf_snapshot::outside;
 use golf_state::State;
 use std::alloc::Global;
 use std::thread::Threads;
@@ -18,45 +23,59 @@ use std::thread::Threads;
 pub struct Options {
     /// How many markers mark, each in a thread of its own: 1 to 16.
     pub markers: u32,
+    /// Whether dead goroutines that the keep rule does not keep are removed.
+    pub recover: bool,
+    /// Whether the code can give an object a finaliser.
+    pub sets_finalisers: bool,
 }
 
-/// Finds what is live, and reports the dead goroutines that no collection in the book reported.
+/// Finds what is live, reports the dead goroutines that no collection in the book reported, removes
+/// those that are not kept where it is asked to recover, queues the finalisers of objects that nothing
+/// else reaches, and frees what is left without a reference (package runtime, `SetFinalizer`; profile).
 ///
-/// It removes no goroutine and frees no object. Each marker passes the gate before each of its
-/// turns at what is live; the count of what is left passes none. A call that answers `Memory`
-/// leaves the book unchanged; the answer is `Memory` too where objects and blocked goroutines
-/// together are too many for a `u32`.
+/// Each marker passes the gate before each of its turns at what is live; the second marking passes
+/// none. All memory is taken before anything is changed: a call that answers `Memory` leaves state and
+/// book unchanged. The answer is `Memory` too where objects and blocked goroutines together are too
+/// many for a `u32`.
 pub fn collect<R: Threads + Sync, G: Gate + Sync>(
     rt: &R,
     alloc: Global,
-    state: &State,
-    book: &mut Book,
+    state: &mut State,
+    book: &mut Ledger,
     options: Options,
     gate: &G,
 ) -> Result<Report, Memory>
-    requires numbered { Numbered state.now }
-    requires whole { IsWhole state.now }
-    requires none_gone { book.old.reclaimed ≡ [] }
+    requires numbered { Numbered state.old }
+    requires whole { IsWhole state.old }
+    requires gone { AreGone book.old state.old }
     requires count { book.old.collections < 2 ^ 32 - 1 }
     requires some { 0 < options.markers }
     requires few { options.markers ≤ 16 }
-    ensures report { IfOk result (λ r. r ≡ report false false book.old state.now) }
-    ensures book { OnOk result (book.new ≡ book_after false false book.old state.now) }
-    ensures err { OnErr result (book.new ≡ book.old) }
+    ensures state { OnOk result (state.new ≡ real_collect state.old options.recover options.sets_finalisers) }
+    ensures report { IfOk result (λ r. r ≡ report options.recover options.sets_finalisers book.old state.old) }
+    ensures book { OnOk result (book.new ≡ book_after options.recover options.sets_finalisers book.old state.old) }
+    ensures err_state { OnErr result (state.new ≡ state.old) }
+    ensures err_book { OnErr result (book.new ≡ book.old) }
+    ensures still { IfOk result (λ r. AreStill r state.old) }
+    ensures unseen { OnOk result (IsUnseen options.recover options.sets_finalisers state.old state.new) }
+    ensures exactly { OnOk result (LeavesExactly options.recover options.sets_finalisers state.old state.new) }
+    ensures moves_on { OnOk result (MovesOnAfter options.sets_finalisers state.old state.new) }
 {
-    let live = find_live(rt, alloc, state, options.markers, gate)?;
-    let objects = count_retained(rt, alloc, state, options.markers)?;
-    let new = unreported(alloc, live.dead.as_slice(), book.reported.as_slice())?;
+    let found = find_dead(rt, alloc, state, options, gate)?;
+    let gone = found.gone.as_slice();
+    let rest = find_retained(rt, alloc, state, gone, options.markers)?;
+    let stays = outside(alloc, state.goroutines(), gone)?;
+    let new = book.unreported(alloc, found.dead.as_slice())?;
     let reported = entries(alloc, state, new.as_slice())?;
-    let kept = live.dead.len() as u32;
-    book.reported.extend_from_slice(new.as_slice())?;
-    book.collections += 1;
+    book.note(alloc, state, &rest.marked, new.as_slice(), gone)?;
+    state.retain_goroutines(stays.as_slice());
+    state.retain_objects(rest.keep.as_slice());
     Ok(Report {
-        number: book.collections,
-        marked: live.objects,
+        number: book.collections(),
+        marked: found.objects,
         reported,
-        kept,
-        reclaimed: 0,
-        objects,
+        kept: (found.dead.len() - gone.len()) as u32,
+        reclaimed: gone.len() as u32,
+        objects: rest.objects,
     })
 }

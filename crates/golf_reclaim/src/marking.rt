@@ -1,15 +1,21 @@
-//! What is live, and what is left.
+//! What is live, who is removed, and what is left.
 
 ghost use Rattle.std.specs.Prelude.{◌≡◌, ◌<◌, ◌≤◌, ◌^◌, [], IfOk, length, map};
 ghost use Rattle.golf_model.specs.Futures.{Numbered};
 ghost use Rattle.golf_model.specs.Graph.{node_count, sleeper_count};
 ghost use Rattle.golf_model.specs.Living.{dead, live_objects};
+ghost use Rattle.golf_model.specs.Collecting.{removed, retained};
 ghost use Rattle.golf_model.specs.Presence.{IsWhole};
 ghost use Rattle.golf_model.specs.Reporting.{numbers, retained_objects};
+ghost use Rattle.golf_heap.specs.Objects.{left_out};
+ghost use Rattle.golf_snapshot.specs.Parts.{retained_parts};
 ghost use Rattle.golf_mark.specs.Marking.{MarksLeast};
-ghost use Rattle.golf_reclaim.specs.Flags.{count_set, either, unflagged};
+ghost use Rattle.golf_theory.specs.Membership.{is_in};
+ghost use Rattle.golf_reclaim.specs.Flags.{count_set, either, IsUnkept};
 
+use crate::collection::Options;
 use golf_base::{Gate, GoroutineId, List, Memory, OpenGate};
+use golf_final::keeps;
 use golf_mark::Markers;
 use golf_model::{Graph, Marked};
 use golf_snapshot::{live_graph, retained_graph};
@@ -19,11 +25,23 @@ use std::thread::Threads;
 
 /// What the marking of the live graph tells.
 #[derive(Drop)]
-pub(crate) struct Live {
+pub(crate) struct Found {
     /// How many objects are live.
     pub(crate) objects: u32,
     /// The dead goroutines, in rising number.
     pub(crate) dead: List<GoroutineId>,
+    /// Those of them that are removed.
+    pub(crate) gone: List<GoroutineId>,
+}
+
+/// What the marking of what is reached tells.
+#[derive(Drop)]
+pub(crate) struct Rest {
+    pub(crate) marked: Marked,
+    /// For each object whether it is left.
+    pub(crate) keep: List<bool>,
+    /// How many are left.
+    pub(crate) objects: u32,
 }
 
 // Marks a graph by so many markers.
@@ -42,61 +60,107 @@ fn mark<R: Threads + Sync, G: Gate + Sync>(
     Ok(ready.mark(rt, graph, gate))
 }
 
-/// Counts the live objects and lists the dead goroutines, by so many markers.
-pub(crate) fn find_live<R: Threads + Sync, G: Gate + Sync>(
+/// Counts the live objects, and lists the dead goroutines and those that are removed.
+pub(crate) fn find_dead<R: Threads + Sync, G: Gate + Sync>(
     rt: &R,
     alloc: Global,
     state: &State,
-    markers: u32,
+    options: Options,
     gate: &G,
-) -> Result<Live, Memory>
+) -> Result<Found, Memory>
     requires numbered { Numbered state.now }
     requires whole { IsWhole state.now }
-    requires some { 0 < markers }
-    requires few { markers ≤ 16 }
-    ensures objects { IfOk result (λ live. live.objects ≡ length (live_objects state.now)) }
-    ensures dead { IfOk result (λ live. numbers live.dead ≡ dead state.now) }
-    ensures few { IfOk result (λ live. length live.dead < 2 ^ 32) }
+    requires some { 0 < options.markers }
+    requires few { options.markers ≤ 16 }
+    ensures objects { IfOk result (λ found. found.objects ≡ length (live_objects state.now)) }
+    ensures dead { IfOk result (λ found. numbers found.dead ≡ dead state.now) }
+    ensures gone { IfOk result (λ found. numbers found.gone ≡ removed state.now options.recover options.sets_finalisers) }
+    ensures few { IfOk result (λ found. length found.dead < 2 ^ 32) }
 {
     let graph = live_graph(alloc, state)?;
-    let marked = mark(rt, alloc, &graph, markers, gate)?;
+    let marked = mark(rt, alloc, &graph, options.markers, gate)?;
     let objects = count_set(&graph, marked.flags.as_slice());
-    let dead = asleep(alloc, &graph, marked.awake.as_slice())?;
-    Ok(Live { objects, dead })
+    let dead = unflagged(alloc, &graph, marked.awake.as_slice())?;
+    let gone = find_gone(alloc, &graph, &marked, options)?;
+    Ok(Found {
+        objects,
+        dead,
+        gone,
+    })
 }
 
-/// Counts the objects that a collection which removes nobody leaves, by so many markers.
-pub(crate) fn count_retained<R: Threads + Sync>(
+// The goroutines that are removed: with recovery, those that are not awake and not kept.
+fn find_gone(
+    alloc: Global,
+    graph: &Graph,
+    marked: &Marked,
+    options: Options,
+) -> Result<List<GoroutineId>, Memory>
+    requires { MarksLeast graph.now marked.now }
+    ensures { IfOk result (IsUnkept options.recover options.sets_finalisers graph.now marked.now) }
+{
+    if !options.recover {
+        return Ok(List::new(alloc));
+    }
+    let kept = keeps(alloc, graph, marked, options.sets_finalisers)?;
+    let stays = either(alloc, marked.awake.as_slice(), kept.as_slice())?;
+    unflagged(alloc, graph, stays.as_slice())
+}
+
+/// Marks what is reached without these goroutines, and finds the objects that are left.
+pub(crate) fn find_retained<R: Threads + Sync>(
     rt: &R,
     alloc: Global,
     state: &State,
+    gone: &[GoroutineId],
     markers: u32,
-) -> Result<u32, Memory>
+) -> Result<Rest, Memory>
     requires numbered { Numbered state.now }
     requires whole { IsWhole state.now }
     requires some { 0 < markers }
     requires few { markers ≤ 16 }
-    ensures { IfOk result (λ count. count ≡ length (retained_objects state.now [])) }
+    ensures marked { IfOk result (λ rest. MarksLeast (retained_parts state.now (numbers gone.now)) rest.marked) }
+    ensures keep { IfOk result (λ rest. rest.keep ≡ map (λ e. is_in e.0 (retained state.now (numbers gone.now))) state.now.objects) }
+    ensures objects { IfOk result (λ rest. rest.objects ≡ length (retained_objects state.now (numbers gone.now))) }
 {
-    let graph = retained_graph(alloc, state, &[])?;
+    let graph = retained_graph(alloc, state, gone)?;
     let marked = mark(rt, alloc, &graph, markers, &OpenGate)?;
     let keep = retained(alloc, &graph, marked.flags.as_slice())?;
-    Ok(count_set(&graph, keep.as_slice()))
+    let objects = count_set(&graph, keep.as_slice());
+    Ok(Rest {
+        marked,
+        keep,
+        objects,
+    })
 }
 
-// The goroutines of those sleepers that are not awake.
-fn asleep(alloc: Global, graph: &Graph, awake: &[bool]) -> Result<List<GoroutineId>, Memory>
-    requires { length awake.now ≡ sleeper_count graph.now }
-    ensures dead { IfOk result (λ dead. dead ≡ unflagged awake.now (map (λ x. x.goroutine) graph.now.sleepers)) }
-    ensures few { IfOk result (λ dead. length dead < 2 ^ 32) }
+// The goroutines of those sleepers whose flag is false.
+fn unflagged(alloc: Global, graph: &Graph, flags: &[bool]) -> Result<List<GoroutineId>, Memory>
+    requires { length flags.now ≡ sleeper_count graph.now }
+    ensures goroutines { IfOk result (λ goroutines. goroutines ≡ left_out flags.now (map (λ x. x.goroutine) graph.now.sleepers)) }
+    ensures few { IfOk result (λ goroutines. length goroutines < 2 ^ 32) }
 {
-    let mut dead = List::new(alloc);
+    let mut goroutines = List::new(alloc);
     for sleeper in 0..graph.sleepers() {
-        if !awake[sleeper as usize] {
-            dead.push(graph.goroutine_of(sleeper))?;
+        if !flags[sleeper as usize] {
+            goroutines.push(graph.goroutine_of(sleeper))?;
         }
     }
-    Ok(dead)
+    Ok(goroutines)
+}
+
+// Place by place, whether one of the two flags is true.
+fn either(alloc: Global, flags: &[bool], others: &[bool]) -> Result<List<bool>, Memory>
+    requires { length flags.now ≡ length others.now }
+    ensures flags { IfOk result (λ both. both ≡ either flags.now others.now) }
+    ensures length { IfOk result (λ both. length both ≡ length flags.now) }
+{
+    let mut both = List::new(alloc);
+    for at in 0..flags.len() {
+        let is_set = flags[at] || others[at];
+        both.push(is_set)?;
+    }
+    Ok(both)
 }
 
 // For each node whether it is marked or finalised.

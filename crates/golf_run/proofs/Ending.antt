@@ -7,7 +7,6 @@ use Rattle.golf_base.specs.Causes.{Rose, WritesFront}
 use Rattle.golf_data.specs.declared.code.Code.{Code}
 use Rattle.golf_data.specs.declared.report.Book.{Book}
 use Rattle.golf_data.specs.declared.report.Report.{Report}
-use Rattle.golf_data.specs.Built.{IsBuilt}
 use Rattle.golf_model.specs.State.{State, start, ending}
 use Rattle.golf_model.specs.Turn.{step}
 use Rattle.golf_model.specs.Collecting.{plain_collect, sets_finalisers}
@@ -23,8 +22,10 @@ use Rattle.golf_run.specs.declared.fault.RunFault.{RunFault}
 use Rattle.golf_run.specs.declared.fault.RunFault.TheVariants as faults
 use Rattle.golf_run.specs.Told.{told, told_text, HasTold}
 use Rattle.golf_run.specs.HasRun.{Sinks, GotFronts, GotWhole, IsSteady, HasBroken, HasRun}
-use Rattle.golf_run.specs.UnderWay.{at, stops_to, reports_to, book_to, IsUnderWay}
+use Rattle.golf_model.specs.Futures.{Leads}
+use Rattle.golf_run.specs.UnderWay.{at, stops_to, reports_to, book_to, freed_at, freed_stops_to, freed_book_to, IsUnderWay}
 use Rattle.golf_run.proofs.Rotating.{last-from, reports-from, rest, texts-append, ended-run, ended-stops}
+use Rattle.golf_run.proofs.Freeing.{same-ending}
 use Rattle.golf_run.proofs.Goings.{emptied, grown, spoken, at-start}
 
 -- a text that begins so
@@ -63,11 +64,11 @@ module _ (code : Code) (k : ℕ) (state : State) (ledger : Book) (reported : Boo
   pub fronts : (of ef : ℕ) → k ≤ TURNS → GotFronts code old (record now { out_faults = of; err_faults = ef })
   fronts of ef l = record { out = front-of _ _ _ _ w.out (out-begins code k l); err = front-of _ _ _ _ w.err (err-begins code k l) }
 
-  module _ (built : IsBuilt code) (goes : ending state ≡ None) (l : k + 1 ≤ TURNS) where
+  module _ (goes : ending state ≡ None) (l : k + 1 ≤ TURNS) where
     -- the write of what a turn printed failed
     pub out-broken : (out : Option (List ℕ)) (of ef : ℕ) → WritesFront now.out out (step code state k).output → GotFronts code old (record { out = out; out_faults = of; err = now.err; err_faults = ef })
     out-broken out of ef f = record {
-      out = front-then _ _ _ _ _ _ _ w.out (grown code built k state goes w.same) (out-begins code (k + 1) l) f;
+      out = front-then _ _ _ _ _ _ _ w.out (grown code k state goes w.same) (out-begins code (k + 1) l) f;
       err = front-of _ _ _ _ w.err (err-begins code k (omega (arith, l)));
     }
 
@@ -77,16 +78,16 @@ module _ (code : Code) (k : ℕ) (state : State) (ledger : Book) (reported : Boo
     unfolding told_text
     err-broken out err of ef a e f =
         let t = told ledger (emptied (step code state k)) in
-        let next : reports_text (reports_to code (k + 1)) ≡ reports_text (reports_to code k) ++ report_text t = ap reports_text (spoken code built k state goes w.same ledger w.book e).0 ∙ texts-append (reports_to code k) (t ∷ []) ∙ ap (λ x. reports_text (reports_to code k) ++ x) (append-nil (report_text t)) in
+        let next : reports_text (reports_to code (k + 1)) ≡ reports_text (reports_to code k) ++ report_text t = ap reports_text (spoken code k state goes w.same ledger w.book e).0 ∙ texts-append (reports_to code k) (t ∷ []) ∙ ap (λ x. reports_text (reports_to code k) ++ x) (append-nil (report_text t)) in
         record {
-          out = front-of _ _ _ _ (subst (Appends old.out out) (sym (grown code built k state goes w.same)) (Appends-trans _ _ _ _ _ w.out a)) (out-begins code (k + 1) l);
+          out = front-of _ _ _ _ (subst (Appends old.out out) (sym (grown code k state goes w.same)) (Appends-trans _ _ _ _ _ w.out a)) (out-begins code (k + 1) l);
           err = front-then _ _ _ _ _ _ _ w.err next (err-begins code (k + 1) l) f;
         }
 
   -- at the end
   module _ (l : k ≤ TURNS) (done : (is_some (ending state) ≡ true) ⊎ (k ≡ TURNS)) where
     over : (has_ended (at code k) ≡ true) ⊎ (k ≡ TURNS)
-    over = elim done [ inl e ↦ inl (ap has_ended w.same ∙ e) | inr e ↦ inr e ]
+    over = elim done [ inl e ↦ inl (ap is_some (same-ending code k ∙ ap ending w.same) ∙ e) | inr e ↦ inr e ]
 
     no-more : k ≡ TURNS → rest code k l ≡ []
     no-more e = let none : TURNS - k ≡ 0 = omega (arith, e) in ap (rotate_from (0 + k)) none
@@ -104,7 +105,7 @@ module _ (code : Code) (k : ℕ) (state : State) (ledger : Book) (reported : Boo
     ]
 
     ending-is : ending (last_of code) ≡ ending state
-    ending-is = ap ending (last-is ∙ w.same)
+    ending-is = ap ending last-is ∙ same-ending code k ∙ ap ending w.same
 
     pub err-end : err_of code ≡ reports_text (reports_to code k) ++ last_line code.texts TURNS (ending state)
     unfolding err_of
@@ -140,9 +141,10 @@ broken (Err faults.Memory) code old new i a f s = cc
 -- the run before its first turn
 pub begins : (code : Code) (state : State) (book : Book) (out err : Option (List ℕ)) (of ef : ℕ) → state ≡ start code → book ≡ new_book
     → IsUnderWay code 0 state book false (record { out = out; out_faults = of; err = err; err_faults = ef }) (record { out = out; out_faults = of; err = err; err_faults = ef })
-unfolding at stops_to reports_to book_to
+unfolding at stops_to reports_to freed_at freed_stops_to freed_book_to
 begins code state book out err of ef is none = record {
   same = sym is;
+  leads = subst (Leads code) (sym is) Leads.Start;
   taken = ap (λ (s : State). s.output) is;
   book = none;
   found = refl;
@@ -153,9 +155,9 @@ begins code state book out err of ef is none = record {
 }
 
 -- a collection that did not go on stops the run
-pub tell-stopped : (e : RunFault) (r : Result Bool RunFault) (result : Result Status RunFault) (code : Code) (old new : Sinks) (s : State) (book next : Book) (err : Option (List ℕ)) (f : ℕ) → r ≡ Err e → HasTold r s book next err new.err f new.err_faults → IsErr result → IsErrAnd result (λ x. x ≡ e)
+pub tell-stopped : (e : RunFault) (r : Result Bool RunFault) (result : Result Status RunFault) (code : Code) (old new : Sinks) (s after : State) (book next : Book) (err : Option (List ℕ)) (f : ℕ) → r ≡ Err e → HasTold r s after book next err new.err f new.err_faults → IsErr result → IsErrAnd result (λ x. x ≡ e)
     → (WritesFront err new.err (told_text book s) → GotFronts code old new) → new.out_faults ≡ old.out_faults → f ≡ old.err_faults → HasRun result code old new
-tell-stopped faults.Write r result code old new s book next err f is h i a front so se =
-    let t = subst (λ x. HasTold x s book next err new.err f new.err_faults) is h in broken result code old new i a (front t.0) (inr (so, subst (λ x. Rose x new.err_faults) se t.1))
-tell-stopped faults.Memory r result code old new s book next err f is h i a front so se =
-    let t = subst (λ x. HasTold x s book next err new.err f new.err_faults) is h in wanting result code old new i a (front t.0) (record { out = so; err = t.1 ∙ se })
+tell-stopped faults.Write r result code old new s after book next err f is h i a front so se =
+    let t = subst (λ x. HasTold x s after book next err new.err f new.err_faults) is h in broken result code old new i a (front t.0) (inr (so, subst (λ x. Rose x new.err_faults) se t.1))
+tell-stopped faults.Memory r result code old new s after book next err f is h i a front so se =
+    let t = subst (λ x. HasTold x s after book next err new.err f new.err_faults) is h in wanting result code old new i a (front t.0) (record { out = so; err = t.1 ∙ se })

@@ -1,4 +1,5 @@
 mod Rotating
+mod Freeing
 mod Collecting
 mod Goings
 mod Telling

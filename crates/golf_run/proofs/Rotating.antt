@@ -6,7 +6,7 @@ use Rattle.golf_data.specs.declared.report.Report.{Report}
 use Rattle.golf_model.specs.State.{State, start}
 use Rattle.golf_model.specs.Turn.{step}
 use Rattle.golf_model.specs.Collecting.{plain_collect, sets_finalisers}
-use Rattle.golf_model.specs.Running.{Event, has_ended, wants_collection, happens, happens_in, run, stop_in, stop_if, stops_by, stops}
+use Rattle.golf_model.specs.Running.{Event, has_ended, wants_collection, happens, happens_by, happens_in, run, run_by, stop_in, stop_if, stops_by, stops}
 use Rattle.golf_model.specs.Reporting.{report, book_after, reports_from, book_of, new_book}
 use Rattle.golf_texts.specs.declared.status.TheConstants.{TURNS}
 use Rattle.golf_texts.specs.Texts.{report_text, reports_text}
@@ -20,21 +20,23 @@ rotate-split k (suc m) n (suc t) e =
     let here : k + 1 + m ≡ k + suc m = omega arith in
     ap (λ es. Event.Turn k ∷ es) (rotate-split (k + 1) m n t (omega (arith, e)) ∙ ap (λ j. rotate_from (k + 1) m ++ rotate_from j n) here)
 
-run-append : (code : Code) (es fs : List Event) (s : State) → run code s (es ++ fs) ≡ run code (run code s es) fs
-run-append code [] fs s = refl
-run-append code (e ∷ es) fs s = run-append code es fs (happens code s e)
+-- of any kind of collections
+module _ (collect : State → State) (code : Code) where
+  pub run-append : (es fs : List Event) (s : State) → run_by collect code s (es ++ fs) ≡ run_by collect code (run_by collect code s es) fs
+  run-append [] fs s = refl
+  run-append (e ∷ es) fs s = run-append es fs (happens_by collect code s e)
 
-stops-append : (code : Code) (es fs : List Event) (s : State) → stops_by plain_collect code s (es ++ fs) ≡ stops_by plain_collect code s es ++ stops_by plain_collect code (run code s es) fs
-stops-append code [] fs s = refl
-stops-append code (e ∷ es) fs s =
-    ap (λ ps. stop_in plain_collect code (has_ended s) s e ++ ps) (stops-append code es fs (happens code s e))
-    ∙ sym (append_assoc (stop_in plain_collect code (has_ended s) s e) (stops_by plain_collect code (happens code s e) es) (stops_by plain_collect code (run code s (e ∷ es)) fs))
+  pub stops-append : (es fs : List Event) (s : State) → stops_by collect code s (es ++ fs) ≡ stops_by collect code s es ++ stops_by collect code (run_by collect code s es) fs
+  stops-append [] fs s = refl
+  stops-append (e ∷ es) fs s =
+      ap (λ ps. stop_in collect code (has_ended s) s e ++ ps) (stops-append es fs (happens_by collect code s e))
+      ∙ sym (append_assoc (stop_in collect code (has_ended s) s e) (stops_by collect code (happens_by collect code s e) es) (stops_by collect code (run_by collect code s (e ∷ es)) fs))
 
-reports-append : (sets_finalisers : Bool) (ps qs : List State) (book : Book) → reports_from false sets_finalisers book (ps ++ qs) ≡ reports_from false sets_finalisers book ps ++ reports_from false sets_finalisers (books sets_finalisers book ps) qs
+pub reports-append : (sets_finalisers : Bool) (ps qs : List State) (book : Book) → reports_from false sets_finalisers book (ps ++ qs) ≡ reports_from false sets_finalisers book ps ++ reports_from false sets_finalisers (books sets_finalisers book ps) qs
 reports-append sets_finalisers [] qs book = refl
 reports-append sets_finalisers (p ∷ ps) qs book = ap (λ rs. report false sets_finalisers book p ∷ rs) (reports-append sets_finalisers ps qs (book_after false sets_finalisers book p))
 
-books-append : (sets_finalisers : Bool) (ps qs : List State) (book : Book) → books sets_finalisers book (ps ++ qs) ≡ books sets_finalisers (books sets_finalisers book ps) qs
+pub books-append : (sets_finalisers : Bool) (ps qs : List State) (book : Book) → books sets_finalisers book (ps ++ qs) ≡ books sets_finalisers (books sets_finalisers book ps) qs
 books-append sets_finalisers [] qs book = refl
 books-append sets_finalisers (p ∷ ps) qs book = books-append sets_finalisers ps qs (book_after false sets_finalisers book p)
 
@@ -52,7 +54,7 @@ anyone-append (r ∷ rs) qs = ap (λ b. names_someone r.reported || b) (anyone-a
 
 -- one turn more
 module _ (code : Code) (k : ℕ) where
-  one-turn : rotate_from 0 (k + 1) ≡ rotate_from 0 k ++ Event.Turn k ∷ []
+  pub one-turn : rotate_from 0 (k + 1) ≡ rotate_from 0 k ++ Event.Turn k ∷ []
   one-turn = rotate-split 0 k 1 (k + 1) refl ∙ ap (λ j. rotate_from 0 k ++ Event.Turn j ∷ []) (zero-plus k)
     where
       zero-plus : (n : ℕ) → 0 + n ≡ n
@@ -60,12 +62,12 @@ module _ (code : Code) (k : ℕ) where
 
   pub at-next : at code (k + 1) ≡ happens code (at code k) (Event.Turn k)
   unfolding at
-  at-next = ap (run code (start code)) one-turn ∙ run-append code (rotate_from 0 k) (Event.Turn k ∷ []) (start code)
+  at-next = ap (run code (start code)) one-turn ∙ run-append plain_collect code (rotate_from 0 k) (Event.Turn k ∷ []) (start code)
 
   pub stops-next : stops_to code (k + 1) ≡ stops_to code k ++ stop_in plain_collect code (has_ended (at code k)) (at code k) (Event.Turn k)
   unfolding at stops_to
   stops-next =
-      ap (stops code) one-turn ∙ stops-append code (rotate_from 0 k) (Event.Turn k ∷ []) (start code)
+      ap (stops code) one-turn ∙ stops-append plain_collect code (rotate_from 0 k) (Event.Turn k ∷ []) (start code)
       ∙ ap (λ ps. stops code (rotate_from 0 k) ++ ps) (append-nil _)
 
 -- what a collection that comes after the others adds
@@ -89,13 +91,13 @@ module _ (code : Code) (k : ℕ) (within : k ≤ TURNS) where
 
   pub last-from : last_of code ≡ run code (at code k) rest
   unfolding last_of at
-  last-from = ap (run code (start code)) events-split ∙ run-append code (rotate_from 0 k) rest (start code)
+  last-from = ap (run code (start code)) events-split ∙ run-append plain_collect code (rotate_from 0 k) rest (start code)
 
   pub reports-from : reports_of code ≡ reports_to code k ++ reports_from false (sets_finalisers code) (book_to code k) (stops_by plain_collect code (at code k) rest)
   unfolding reports_of reports_to book_to stops_to at
   reports-from =
       ap (λ es. book_of (stops code es) false (sets_finalisers code)) events-split
-      ∙ ap (λ ps. book_of ps false (sets_finalisers code)) (stops-append code (rotate_from 0 k) rest (start code))
+      ∙ ap (λ ps. book_of ps false (sets_finalisers code)) (stops-append plain_collect code (rotate_from 0 k) rest (start code))
       ∙ reports-append (sets_finalisers code) (stops code (rotate_from 0 k)) (stops_by plain_collect code (run code (start code) (rotate_from 0 k)) rest) new_book
 
 -- a state with an ending stays

@@ -12,7 +12,12 @@ use Rattle.golf_texts.specs.Texts.{report_text}
 use Rattle.golf_texts.specs.Meaning.{names_someone}
 use Rattle.golf_run.specs.declared.fault.RunFault.{RunFault}
 use Rattle.golf_run.specs.declared.fault.RunFault.TheVariants as faults
-use Rattle.golf_run.specs.Told.{told, told_text, names_any, noted, HasTold}
+use Rattle.golf_base.specs.declared.ids.GoroutineId.{GoroutineId}
+use Rattle.golf_theory.specs.Membership.{In}
+use Rattle.golf_model.specs.Collecting.{real_collect}
+use Rattle.golf_model.specs.Reporting.{numbers}
+use Rattle.golf_reclaim.specs.Noting.{AreGone}
+use Rattle.golf_run.specs.Told.{told, told_text, names_any, noted, freed, HasTold}
 
 -- the text of a report that is the one told
 pub text-told : (book : Book) (s : State) (r : Report) (text : List ℕ) → r ≡ report false false book s → text ≡ report_text r → text ≡ told_text book s
@@ -33,7 +38,15 @@ pub noted-told : (book now : Book) (s : State) → now ≡ book_after false fals
 unfolding noted
 noted-told book now s e = e
 
-pub told-broken : (r : Result Bool RunFault) (s : State) (book now : Book) (err err' : Option (List ℕ)) (f f' : ℕ) → IsErr r → IsErrAnd r (λ e. e ≡ faults.Write) → WritesFront err err' (told_text book s) → Rose f f' → HasTold r s book now err err' f f'
-told-broken (Ok x) s book now err err' f f' i a front rose = cc
-told-broken (Err faults.Write) s book now err err' f f' i a front rose = (front, rose)
-told-broken (Err faults.Memory) s book now err err' f f' i a front rose = cc
+pub freed-told : (s after : State) → after ≡ real_collect s false false → after ≡ freed s
+unfolding freed
+freed-told s after e = e
+
+-- where nobody was removed, nobody who is there was
+pub none-removed : (book : Book) (s : State) → book.reclaimed ≡ [] → AreGone book s
+none-removed book s none = λ g h i. subst (λ (gs : List GoroutineId). In g (numbers gs)) none i
+
+pub told-broken : (r : Result Bool RunFault) (s after : State) (book now : Book) (err err' : Option (List ℕ)) (f f' : ℕ) → IsErr r → IsErrAnd r (λ e. e ≡ faults.Write) → WritesFront err err' (told_text book s) → Rose f f' → HasTold r s after book now err err' f f'
+told-broken (Ok x) s after book now err err' f f' i a front rose = cc
+told-broken (Err faults.Write) s after book now err err' f f' i a front rose = (front, rose)
+told-broken (Err faults.Memory) s after book now err err' f f' i a front rose = cc

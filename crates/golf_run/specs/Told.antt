@@ -5,6 +5,7 @@ use Rattle.golf_base.specs.Causes.{Rose, WritesFront}
 use Rattle.golf_data.specs.declared.report.Book.{Book}
 use Rattle.golf_data.specs.declared.report.Report.{Report}
 use Rattle.golf_model.specs.State.{State}
+use Rattle.golf_model.specs.Collecting.{real_collect}
 use Rattle.golf_model.specs.Reporting.{report, book_after}
 use Rattle.golf_texts.specs.Texts.{report_text}
 use Rattle.golf_texts.specs.Meaning.{names_someone}
@@ -27,8 +28,12 @@ names_any book s = names_someone (told book s).reported
 unfoldable pub noted : Book → State → Book
 noted book s = book_after false false book s
 
--- the report was written and the book has it; or a write failed in the middle of it; or memory was wanting
-abbrev pub HasTold : Result Bool RunFault → State → Book → Book → Option (List ℕ) → Option (List ℕ) → ℕ → ℕ → Type 0
-HasTold (Ok named) s book book' err err' before now = (named ≡ names_any book s) × (book' ≡ noted book s) × Appends err err' (told_text book s) × (now ≡ before)
-HasTold (Err faults.Write) s book book' err err' before now = WritesFront err err' (told_text book s) × Rose before now
-HasTold (Err faults.Memory) s book book' err err' before now = WritesFront err err' (told_text book s) × (now ≡ before)
+-- the state after it
+unfoldable pub freed : State → State
+freed s = real_collect s false false
+
+-- the report was written, the book has it and the state is the one after; or a write failed in the middle of it; or memory was wanting
+abbrev pub HasTold : Result Bool RunFault → State → State → Book → Book → Option (List ℕ) → Option (List ℕ) → ℕ → ℕ → Type 0
+HasTold (Ok named) s after book book' err err' before now = (named ≡ names_any book s) × (after ≡ freed s) × (book' ≡ noted book s) × Appends err err' (told_text book s) × (now ≡ before)
+HasTold (Err faults.Write) s after book book' err err' before now = WritesFront err err' (told_text book s) × Rose before now
+HasTold (Err faults.Memory) s after book book' err err' before now = WritesFront err err' (told_text book s) × (now ≡ before)

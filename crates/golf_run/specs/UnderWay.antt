@@ -5,8 +5,9 @@ use Rattle.golf_data.specs.declared.code.Code.{Code}
 use Rattle.golf_data.specs.declared.report.Book.{Book}
 use Rattle.golf_data.specs.declared.report.Report.{Report}
 use Rattle.golf_model.specs.State.{State, start}
-use Rattle.golf_model.specs.Collecting.{sets_finalisers}
-use Rattle.golf_model.specs.Running.{run, stops}
+use Rattle.golf_model.specs.Collecting.{sets_finalisers, real_collect}
+use Rattle.golf_model.specs.Running.{run, stops, run_by, stops_by}
+use Rattle.golf_model.specs.Futures.{Leads}
 use Rattle.golf_model.specs.Reporting.{book_after, book_of, new_book}
 use Rattle.golf_texts.specs.Texts.{reports_text}
 use Rattle.golf_texts.specs.Meaning.{rotate_from, anyone_reported}
@@ -33,11 +34,26 @@ books sets_finalisers book (p ∷ ps) = books sets_finalisers (book_after false 
 unfoldable pub book_to : Code → ℕ → Book
 book_to code k = books (sets_finalisers code) new_book (stops_to code k)
 
--- the state is that of the plain machine but for what was printed, and that was written; the reports were written, and the book has them
+-- the collection of a run: it queues finalisers and frees, and removes nobody
+abbrev pub freeing : Code → State → State
+freeing code s = real_collect s false (sets_finalisers code)
+
+-- the machine whose collections free, after so many turns, the states right before its collections, and the book of their reports
+unfoldable pub freed_at : Code → ℕ → State
+freed_at code k = run_by (freeing code) code (start code) (rotate_from 0 k)
+
+unfoldable pub freed_stops_to : Code → ℕ → List State
+freed_stops_to code k = stops_by (freeing code) code (start code) (rotate_from 0 k)
+
+unfoldable pub freed_book_to : Code → ℕ → Book
+freed_book_to code k = books (sets_finalisers code) new_book (freed_stops_to code k)
+
+-- the state is that of the machine that frees but for what was printed; what the plain machine prints and reports was written, and the book has its reports
 pub record IsUnderWay (code : Code) (k : ℕ) (state : State) (ledger : Book) (reported : Bool) (old now : Sinks) : Type 0 where
-  pub same : at code k ≡ prefixed (at code k).output state
+  pub same : freed_at code k ≡ prefixed (freed_at code k).output state
+  pub leads : Leads code state
   pub taken : state.output ≡ []
-  pub book : ledger ≡ book_to code k
+  pub book : ledger ≡ freed_book_to code k
   pub found : reported ≡ anyone_reported (reports_to code k)
   pub few : ledger.collections ≤ k
   pub none_gone : ledger.reclaimed ≡ []

@@ -2,7 +2,6 @@
 
 ghost use Rattle.std.specs.Prelude.{◌≡◌, ◌<◌, ◌-◌, ◌^◌, [], IfOk};
 ghost use Rattle.golf_data.specs.Places.{HasPlaces};
-ghost use Rattle.golf_data.specs.Built.{IsBuilt};
 ghost use Rattle.golf_model.specs.Futures.{Numbered};
 ghost use Rattle.golf_model.specs.Presence.{IsWhole};
 ghost use Rattle.golf_texts.specs.Texts.{last_line as last_bytes};
@@ -12,9 +11,9 @@ ghost use Rattle.golf_run.specs.HasRun.{HasRun, sinks};
 
 use crate::fault::RunFault;
 use golf_base::{Gate, List, Memory, Sink, write_all};
-use golf_data::{Book, Code, Ending};
+use golf_data::{Code, Ending};
 use golf_machine::{Turned, start, turn};
-use golf_reclaim::{Options, collect};
+use golf_reclaim::{Ledger, Options, collect};
 use golf_state::State;
 use golf_texts::{Status, TURNS, ending_line, report_text, stopped_line};
 use std::alloc::Global;
@@ -23,22 +22,27 @@ use std::thread::Threads;
 /// How many markers mark in each collection.
 const MARKERS: u32 = 2;
 
-// Collects, and writes the report. It answers whether the report names a goroutine.
+// Collects, and writes the report. It answers whether the report names a goroutine. Nobody is
+// removed, so whether the code sets finalisers is not asked.
 fn tell<R: Threads + Sync, E: Sink, G: Gate + Sync>(
     rt: &R,
     alloc: Global,
-    state: &State,
-    book: &mut Book,
+    state: &mut State,
+    book: &mut Ledger,
     err: &mut E,
     gate: &G,
 ) -> Result<bool, RunFault>
-    requires numbered { Numbered state.now }
-    requires whole { IsWhole state.now }
+    requires numbered { Numbered state.old }
+    requires whole { IsWhole state.old }
     requires none_gone { book.old.reclaimed ≡ [] }
     requires count { book.old.collections < 2 ^ 32 - 1 }
-    ensures { HasTold result state.now book.old book.new (E.written err.old) (E.written err.new) (E.faults err.old) (E.faults err.new) }
+    ensures { HasTold result state.old state.new book.old book.new (E.written err.old) (E.written err.new) (E.faults err.old) (E.faults err.new) }
 {
-    let options = Options { markers: MARKERS };
+    let options = Options {
+        markers: MARKERS,
+        recover: false,
+        sets_finalisers: false,
+    };
     let report = collect(rt, alloc, state, book, options, gate)?;
     let text = report_text(alloc, &report)?;
     write_all(err, text.as_slice())?;
@@ -78,13 +82,12 @@ pub fn run<R: Threads + Sync, O: Sink, E: Sink, G: Gate + Sync>(
     gate: &G,
 ) -> Result<Status, RunFault>
     requires places { HasPlaces code.now }
-    requires built { IsBuilt code.now }
     ensures { HasRun result code.now
         (sinks (O.written out.old) (O.faults out.old) (E.written err.old) (E.faults err.old))
         (sinks (O.written out.new) (O.faults out.new) (E.written err.new) (E.faults err.new)) }
 {
     let mut state = start(alloc, code)?;
-    let mut book = Book::new(alloc);
+    let mut book = Ledger::new(alloc);
     let mut found = false;
     for number in 0..TURNS {
         if state.ending().is_some() {
@@ -94,7 +97,7 @@ pub fn run<R: Threads + Sync, O: Sink, E: Sink, G: Gate + Sync>(
         write_all(out, state.output())?;
         state.clear_output();
         match turned {
-            Turned::WantsCollection => found |= tell(rt, alloc, &state, &mut book, err, gate)?,
+            Turned::WantsCollection => found |= tell(rt, alloc, &mut state, &mut book, err, gate)?,
             Turned::Went | Turned::Ended(_) => {}
         }
     }

@@ -14,3 +14,4 @@ mod Retaining
 pub mod LinedLaws
 pub mod FirstLaws
 pub mod Guesses
+mod Leaving

@@ -83,22 +83,3 @@ module _ (flags : List Bool) (fs : List (ℕ × ℕ)) where
       let d : ℕ × ℕ = (0, 0) in
       let before : List (ℕ × ℕ) = left_out (take i flags) (take i fs) in
       so ∙ ap queued (sym (append-nil before) ∙ sym (left_out-at flags fs i (get_or fs i d) false true l (slice_get-get_or fs i d m) f))
-
--- ---- those who wait
-
-Entry-kept : {X : Type 0} (flags : List Bool) (es : List (ℕ × X)) (k : ℕ) (x : X) → Entry (kept flags es) k x → Entry es k x
-Entry-kept [] es k x h = absurd h
-Entry-kept (b ∷ bs) [] k x h = h
-Entry-kept {X} (b ∷ bs) (e ∷ es) k x h =
-    elim b as (λ c. Entry (cond c (e ∷ kept bs es) (kept bs es)) k x → Entry (e ∷ es) k x) [
-      | true ↦ λ i. elim i [ inl d ↦ inl d | inr j ↦ inr (Entry-kept bs es k x j) ]
-      | false ↦ λ i. inr (Entry-kept bs es k x i)
-    ] h
-
--- they stand in line where some are gone
-pub lined-kept : (flags : List Bool) (es : List (ℕ × GoroutineView)) (ls : Lines) (next : ℕ) → AreLined es ls next → AreLined (kept flags es) ls next
-lined-kept flags es ls next a = record {
-  below = a.below;
-  early = λ g r h. a.early g r (Entry-kept flags es g r h);
-  all = λ o side q g r w h e. a.all o side q g r w (Entry-kept flags es g r h) e;
-}

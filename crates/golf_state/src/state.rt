@@ -24,7 +24,9 @@ use crate::places::{
     Place, goroutine_at, has_no_call, list_running, place_of, rank_of, take_place,
 };
 use crate::rising::{add_last, behind_first, leave_out, put_in};
-use crate::waiters::{Waiting, first_in_line, first_waiter, forget, leave_lines, move_mode};
+use crate::waiters::{
+    Waiting, first_in_line, first_waiter, forget, leave_lines, leave_unflagged, move_mode,
+};
 use crate::waking::{Waking, readers_next, wake_places};
 use golf_base::{GoroutineId, List, Memory, ObjectId};
 use golf_data::{Ending, Frame, Goroutine, Mode, Object, Queued, Side, Value, Wait, WaitKind};
@@ -488,12 +490,14 @@ impl State {
         self.heap.retain(keep);
     }
 
-    /// Takes away the goroutines whose flag, in rising order of number, is false. It takes no
-    /// memory.
+    /// Takes away the goroutines whose flag, in rising order of number, is false, and the lines in
+    /// which nobody stands then. It takes no memory.
     pub fn retain_goroutines(&mut self, stays: &[bool])
         requires { length stays.now ≡ length self.old.goroutines }
         ensures { self.new ≡ record self.old { goroutines = kept stays.now self.old.goroutines } }
     {
+        leave_unflagged(&mut self.waiting, self.goroutines.as_slice(), stays);
+        self.waiting.drop_empty();
         close_up(&mut self.goroutines, stays);
         close_up(&mut self.present, stays);
         list_running(self.goroutines.as_slice(), &mut self.running);

@@ -1,7 +1,9 @@
 //! Who waits on an object.
 
-ghost use Rattle.std.specs.Prelude.{◌≡◌, ◌==◌, ℕ, ◌&&◌, Some, None, option_map};
-ghost use Rattle.golf_theory.specs.Maps.{Rises};
+ghost use Rattle.std.specs.Prelude.{◌≡◌, ◌==◌, ℕ, ◌&&◌, false, length, Some, None, option_map};
+ghost use Rattle.golf_theory.specs.Maps.{Rises, keys};
+ghost use Rattle.golf_theory.specs.Membership.{In};
+ghost use Rattle.golf_heap.specs.Objects.{left_out};
 ghost use Rattle.golf_model.specs.Waiting.{same_side, wait_for, waiter_of, first};
 ghost use Rattle.golf_model.specs.Changes.{moved, moved_waits};
 ghost use Rattle.golf_state.specs.Places.{plain_entry, plain_entries};
@@ -93,6 +95,31 @@ fn waiter_by(
                 ticket: *ticket,
             })
         }
+    }
+}
+
+// The goroutine at a place is gone from its lines, unless it stays.
+fn leave_unless(queues: &mut Queues, place: &Place, stays: bool)
+    ensures kept { Keeps (λ t h. stays ≡ false → h ≡ place.now.number → ⊥) queues.old queues.new }
+    ensures below { (n : ℕ) → AreBelow n queues.old → AreBelow n queues.new }
+{
+    if !stays {
+        leave_lines(queues, GoroutineId(place.number), &place.goroutine.mode);
+    }
+}
+
+/// The goroutines whose flag is false are gone from their lines. It takes no memory.
+///
+/// The last ones come first: they mostly stand last in line, from where they are gone at no cost.
+pub fn leave_unflagged(queues: &mut Queues, places: &[Place], stays: &[bool])
+    requires { length stays.now ≡ length places.now }
+    ensures kept { Keeps (λ t h. In h (keys (left_out stays.now (plain_entries places.now))) → ⊥) queues.old queues.new }
+    ensures below { (n : ℕ) → AreBelow n queues.old → AreBelow n queues.new }
+{
+    let mut at = places.len();
+    while at > 0 {
+        at -= 1;
+        leave_unless(queues, &places[at], stays[at]);
     }
 }
 

@@ -6,8 +6,14 @@ mod calls;
 #[cfg(test)]
 mod faults;
 #[cfg(test)]
+mod files;
+#[cfg(test)]
 mod markers;
 #[cfg(test)]
 mod refusals;
 #[cfg(test)]
+mod rules;
+#[cfg(test)]
 mod runs;
+#[cfg(test)]
+mod worked;

@@ -3,12 +3,12 @@
 use crate::calls::{Outcome, refuses, run};
 use crate::runs::LEAK;
 use golf_base::List;
-use golf_texts::{LIMIT, NOT_BUILT, Status, TOO_LONG};
+use golf_texts::{LIMIT, Status, TOO_LONG};
 use std::test::Fail;
 
 #[test]
 fn bodies_of_main_are_refused_with_their_line(rt: HostRuntime) -> Result<(), Fail> {
-    // Files that break a rule of types, laid out as plain files and otherwise; and typed files that are no plain ones.
+    // Bodies that break a rule of types.
     let bodies = [
         ("\tfmt.Println(y)\n", "refused: line 4: rule 3\n"),
         ("\tx := 1\n\tx := 2\n", "refused: line 5: rule 24\n"),
@@ -17,9 +17,6 @@ fn bodies_of_main_are_refused_with_their_line(rt: HostRuntime) -> Result<(), Fai
         ("\t_ := 1\n", "refused: line 4: rule 2\n"),
         ("\tx := 9223372036854775808\n", "refused: line 4: rule 19\n"),
         ("\tx:=nil\n", "refused: line 4: rule 23\n"),
-        ("\tx:=1\n", "refused: not built\n"),
-        ("\tfmt.Println(1,2)\n", "refused: not built\n"),
-        ("\tfmt.Println(1)", "refused: not built\n"),
     ];
     for (body, line) in bodies {
         let mut file = List::new(rt.alloc());
@@ -53,14 +50,6 @@ fn tokens_that_are_no_file_are_refused_on_a_line(rt: HostRuntime) -> Result<(), 
 }
 
 #[test]
-fn files_of_the_language_that_are_not_plain_are_not_built(rt: HostRuntime) -> Result<(), Fail> {
-    let method =
-        b"package main\n\ntype T struct {\n\tc chan int\n}\n\nfunc (t *T) f() {\n\tselect {\n\tcase <-t.c:\n\tdefault:\n\t}\n}\n\nfunc main() {\n}\n";
-    refuses(&rt, method, NOT_BUILT)?;
-    Ok(())
-}
-
-#[test]
 fn the_first_broken_rule_is_named_with_its_line(rt: HostRuntime) -> Result<(), Fail> {
     refuses(&rt, b"package main", b"refused: line 1: rule 6\n")?;
     let import = b"package main\nfunc main() {\n\tfmt.Println(1)\n}\n";
@@ -88,7 +77,8 @@ fn is_refusal(text: &[u8]) -> bool {
 
 #[test]
 fn each_front_of_a_file_is_refused_with_one_line(rt: HostRuntime) -> Result<(), Fail> {
-    for length in 0..LEAK.len() {
+    // The file without its last newline is a file.
+    for length in 0..LEAK.len() - 1 {
         let (front, _) = LEAK.split_at(length);
         let Outcome { status, out, err } = run(&rt, front)?;
         assert!(rt; status == Status::Refused && out.written().is_empty());

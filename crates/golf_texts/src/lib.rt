@@ -8,4 +8,4 @@ mod status;
 
 pub use lines::{ending_line, report_text, stopped_line};
 pub use refusals::{lexical_line, list_of, rule_line, syntax_line};
-pub use status::{LIMIT, NO_MEMORY, NOT_BUILT, READ_FAULT, RUN, Status, TOO_LONG, TURNS, USAGE};
+pub use status::{LIMIT, NO_MEMORY, READ_FAULT, RUN, Status, TOO_LONG, TURNS, USAGE};

@@ -16,8 +16,6 @@ pub const READ_FAULT: &[u8; 11] = b"read fault\n";
 
 pub const TOO_LONG: &[u8; 33] = b"refused: more than 1048576 bytes\n";
 
-pub const NOT_BUILT: &[u8; 19] = b"refused: not built\n";
-
 pub const NO_MEMORY: &[u8; 14] = b"out of memory\n";
 
 /// How the program ends. The number of a status is its place in this list, from 0.

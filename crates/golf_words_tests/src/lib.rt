@@ -1,7 +1,11 @@
-//! Tests of schedules and the generated file.
+//! Tests of words, schedules and the generated file.
 #![tactic(auto)]
 
 #[cfg(test)]
 mod files;
+#[cfg(test)]
+mod lines;
+#[cfg(test)]
+mod refusals;
 #[cfg(test)]
 mod schedules;

@@ -33,9 +33,11 @@ use Rattle.golf_types.specs.Statements as W
 use Rattle.golf_layout.specs.Piece.{Piece, all, op, placed}
 use Rattle.golf_code_of.specs.Values.{push, zero_value}
 use Rattle.golf_code_of.specs.Coding.{Coded, coded, argument}
-use Rattle.golf_code_of.specs.Calls.{Argument, Making, makings, beginning, pushes}
+use Rattle.golf_code_of.specs.declared.making.Making.{Making}
+use Rattle.golf_code_of.specs.Calls.{Argument, makings, beginning, pushes}
 use Rattle.golf_code_of.specs.Statements as C
-use Rattle.golf_code_of.specs.Statements.{Around, Laid, Part, laid, wrapped}
+use Rattle.golf_code_of.specs.declared.making.Around.{Around}
+use Rattle.golf_code_of.specs.Statements.{Laid, Part, laid, wrapped}
 use Rattle.golf_code_of.specs.Loops as L
 use Rattle.golf_code_of.specs.Selects as S
 use Rattle.golf_code_of.specs.Selects.{ClausePart}

@@ -11,7 +11,8 @@ use Rattle.golf_types.specs.declared.operands.BuiltIn.TheVariants as built_in
 use Rattle.golf_types.specs.Files.{is_main}
 use Rattle.golf_layout.specs.Piece.{placed}
 use Rattle.golf_layout.specs.Depth.{depth}
-use Rattle.golf_code_of.specs.Texts.{table_of, texts_of, text_number}
+use Rattle.golf_code_of.specs.Table.{table_of, text_number}
+use Rattle.golf_code_of.specs.Texts.{texts_of}
 use Rattle.golf_code_of.specs.Files.{CodeOf, made_function, last_return}
 use Rattle.golf_code_of.proofs.Examples.Writing.{plain, layered, line}
 

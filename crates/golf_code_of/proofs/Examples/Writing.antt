@@ -1,5 +1,5 @@
 -- How the small trees of the examples are written: each with its code, by the equations for its kind.
-use Rattle.std.proofs.Common.{◌≡◌, ℕ, ◌+◌, pos, true, false, List, [], ◌∷◌, ◌++◌, map, length, Option, Some, None, refl, sym, ap, ◌∙◌}
+use Rattle.std.proofs.Common.{◌≡◌, ℕ, ◌+◌, pos, neg_ℤ, true, false, List, [], ◌∷◌, ◌++◌, map, length, Option, Some, None, refl, sym, ap, ◌∙◌}
 use Rattle.std.specs.Prelude.{codes}
 use Rattle.golf_grammar.specs.declared.types.TypeExpr.{TypeExpr}
 use Rattle.golf_grammar.specs.declared.types.TypeExpr.TheVariants as ty
@@ -12,6 +12,7 @@ use Rattle.golf_grammar.specs.declared.expressions.Expr.TheVariants as ex
 use Rattle.golf_grammar.specs.declared.expressions.Expr.TheOpen as F
 use Rattle.golf_grammar.specs.declared.declarations.Const.{Const}
 use Rattle.golf_grammar.specs.declared.declarations.Const.TheVariants as const
+use Rattle.golf_data.specs.declared.value.Value.{Value}
 use Rattle.golf_data.specs.declared.code.Instr.{Instr}
 use Rattle.golf_data.specs.declared.code.Line.{Line}
 use Rattle.golf_types.specs.declared.types.Layer.{Layer}
@@ -29,10 +30,10 @@ use Rattle.golf_types.specs.Written.{Write, write, write_step}
 use Rattle.golf_types.specs.Expressions as T
 use Rattle.golf_types.specs.Judging.{Judge, judge}
 use Rattle.golf_layout.specs.Piece.{Piece, on, placed}
-use Rattle.golf_code_of.specs.Values.{Tables}
+use Rattle.golf_code_of.specs.declared.tables.Tables.{Tables}
 use Rattle.golf_code_of.specs.Expressions as C
 use Rattle.golf_code_of.specs.Coding.{Coded, CodedPut, coded, coded_step, piece_at}
-use Rattle.golf_code_of.specs.Statements.{Around}
+use Rattle.golf_code_of.specs.declared.making.Around.{Around}
 use Rattle.golf_code_of.proofs.ExprCodes as e
 use Rattle.golf_code_of.proofs.TypeWrites as w
 use Rattle.golf_code_of.proofs.Judgments.{agree}
@@ -77,7 +78,7 @@ scope = record {
 }
 
 abbrev pub tables : Tables
-tables = record { texts = [] ∷ codes "a" ∷ codes "hi" ∷ []; constants = const.Negative (codes "3") ∷ const.Text (codes "a") ∷ [] }
+tables = record { texts = [] ∷ codes "a" ∷ codes "hi" ∷ []; constants = Value.Int (neg_ℤ (pos 3)) ∷ Value.Text 1 ∷ [] }
 
 -- where three functions of a code stand before the next one that is made
 abbrev pub outermost : Around

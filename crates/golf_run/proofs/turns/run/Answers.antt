@@ -12,12 +12,14 @@ use Rattle.golf_laws.proofs.Presence.{Sane}
 use Rattle.golf_model.specs.Running.{wants_collection}
 use Rattle.golf_machine.specs.Turns.{turned_of}
 use Rattle.golf_texts.specs.Meaning.{status_by}
-use Rattle.golf_run.specs.Told.{told_text, names_any, noted, HasTold}
+use Rattle.golf_run.specs.Told.{told_text, names_any, noted, freed, HasTold}
 use Rattle.golf_run.specs.HasRun.{sinks}
 use Rattle.golf_run.specs.UnderWay.{IsUnderWay}
-use Rattle.golf_run.proofs.Goings.{quiet, loud, emptied, sane-next, renamed}
+use Rattle.golf_run.proofs.Goings.{quiet, loud, emptied, emptied-leads, renamed}
 use Rattle.golf_run.proofs.Turning.{none-by, some-by, loud-turn, quiet-turn, other-turn}
 use Rattle.golf_run.proofs.Ending.{fronts, out-broken, err-broken, whole, end-broken, wanting, broken, tell-stopped, begins}
+use Rattle.golf_laws.proofs.Leading.{leads-numbered}
+use Rattle.golf_state_laws.proofs.Leading.{leads-whole}
 use Rattle.golf_run.proofs.turns.run.Goals as goal
 use Rattle.golf_run.proofs.turns.run.Goals.{else-loop-number-test, then-loop-number-test+then-is_some, in-WantsCollection+in_ok-found-in-WantsCollection, in-Went}
 
@@ -42,7 +44,7 @@ returns-in_err-write_all g c =
     let next : c.turn.new.state ≡ step code state k = c.in_ok-turned.ensures.ok ∙ ap (step code state) c.from.ensures in
     let printed = c.output.ensures ∙ ap (λ (s : State). s.output) next in
     broken c.from_residual-in_err-write_all.result code _ _ c.from_residual-in_err-write_all.ensures.0 c.from_residual-in_err-write_all.ensures.1
-    (out-broken code k state c.loop-number.book c.loop-number.found _ _ c.loop-number.invariant.under_way c.requires.built goes (omega (arith, c.loop-number-test.true)) _ _ _
+    (out-broken code k state c.loop-number.book c.loop-number.found _ _ c.loop-number.invariant.under_way goes (omega (arith, c.loop-number-test.true)) _ _ _
     (subst (λ t. WritesFront (g.O.Sink.written c.loop-number.out) (g.O.Sink.written c.write_all.new.sink) t) printed c.in_err-write_all.ensures.front))
     (inl (subst (λ f. Rose f (g.O.Sink.faults c.write_all.new.sink)) c.loop-number.invariant.steady.out c.in_err-write_all.ensures.cause.failed, c.loop-number.invariant.steady.err))
 
@@ -54,7 +56,7 @@ tell-requires-clause-numbered g c = λ κs within.
     let goes = none-by (ending state) c.is_some.result (c.is_some.ensures ∙ ap is_some c.ending.ensures) c.if-is_some.false in
     let next : c.turn.new.state ≡ step code state k = c.in_ok-turned.ensures.ok ∙ ap (step code state) c.from.ensures in
     let cleared : c.clear_output.new.self ≡ emptied (step code state k) = c.clear_output.ensures ∙ ap emptied next in
-    subst Numbered (sym cleared) (sane-next code c.requires.built k state goes c.loop-number.invariant.under_way.same).numbered
+    subst Numbered (sym cleared) (leads-numbered code _ (emptied-leads code k state goes c.loop-number.invariant.under_way.same c.loop-number.invariant.under_way.leads))
 
 pub tell-requires-clause-whole : goal.tell-requires-clause-whole
 tell-requires-clause-whole g c = λ κs within.
@@ -64,7 +66,7 @@ tell-requires-clause-whole g c = λ κs within.
     let goes = none-by (ending state) c.is_some.result (c.is_some.ensures ∙ ap is_some c.ending.ensures) c.if-is_some.false in
     let next : c.turn.new.state ≡ step code state k = c.in_ok-turned.ensures.ok ∙ ap (step code state) c.from.ensures in
     let cleared : c.clear_output.new.self ≡ emptied (step code state k) = c.clear_output.ensures ∙ ap emptied next in
-    subst IsWhole (sym cleared) (sane-next code c.requires.built k state goes c.loop-number.invariant.under_way.same).whole
+    subst IsWhole (sym cleared) (leads-whole code _ (emptied-leads code k state goes c.loop-number.invariant.under_way.same c.loop-number.invariant.under_way.leads))
 
 pub returns-in_err-found-in-WantsCollection : goal.returns-in_err-found-in-WantsCollection
 returns-in_err-found-in-WantsCollection g c =
@@ -78,9 +80,9 @@ returns-in_err-found-in-WantsCollection g c =
     let wants = loud-turn c.in_ok-turned.turned code state c.turn.new.state k c.in-WantsCollection.is tells in
     let printed = c.output.ensures ∙ ap (λ (s : State). s.output) next in
     let wrote = subst (λ t. Appends (g.O.Sink.written c.loop-number.out) (g.O.Sink.written c.write_all.new.sink) t) printed c.in_ok-write_all.ensures.ok in
-    tell-stopped c.in_err-found-in-WantsCollection.field-0.0 c.tell.result c.from_residual-in_err-found-in-WantsCollection.result code _ _ c.clear_output.new.self c.loop-number.book c.tell.new.book (g.E.Sink.written c.loop-number.err) (g.E.Sink.faults c.loop-number.err)
+    tell-stopped c.in_err-found-in-WantsCollection.field-0.0 c.tell.result c.from_residual-in_err-found-in-WantsCollection.result code _ _ c.clear_output.new.self c.tell.new.state c.loop-number.book c.tell.new.book (g.E.Sink.written c.loop-number.err) (g.E.Sink.faults c.loop-number.err)
     c.in_err-found-in-WantsCollection.was c.tell.ensures c.from_residual-in_err-found-in-WantsCollection.ensures.0 c.from_residual-in_err-found-in-WantsCollection.ensures.1
-    (λ f. err-broken code k state c.loop-number.book c.loop-number.found _ _ c.loop-number.invariant.under_way c.requires.built goes (omega (arith, c.loop-number-test.true)) _ _ _ _ wrote wants
+    (λ f. err-broken code k state c.loop-number.book c.loop-number.found _ _ c.loop-number.invariant.under_way goes (omega (arith, c.loop-number-test.true)) _ _ _ _ wrote wants
     (subst (λ s. WritesFront (g.E.Sink.written c.loop-number.err) (g.E.Sink.written c.tell.new.err) (told_text c.loop-number.book s)) cleared f))
     (c.in_ok-write_all.ensures.cause.steady ∙ c.loop-number.invariant.steady.out) c.loop-number.invariant.steady.err
 
@@ -119,20 +121,20 @@ loop-number-preserved g c =
     let wrote = subst (λ t. Appends (g.O.Sink.written c.loop-number.out) (g.O.Sink.written c.write_all.new.sink) t) printed c.in_ok-write_all.ensures.ok in
     elim c.match-turned.branch [
       | in-WantsCollection+in_ok-found-in-WantsCollection w ↦ (
-          let told = subst (λ r. HasTold r c.clear_output.new.self c.loop-number.book w.tell.new.book (g.E.Sink.written c.loop-number.err) (g.E.Sink.written w.tell.new.err) (g.E.Sink.faults c.loop-number.err) (g.E.Sink.faults w.tell.new.err)) w.in_ok-found-in-WantsCollection.was w.tell.ensures in
+          let told = subst (λ r. HasTold r c.clear_output.new.self w.tell.new.state c.loop-number.book w.tell.new.book (g.E.Sink.written c.loop-number.err) (g.E.Sink.written w.tell.new.err) (g.E.Sink.faults c.loop-number.err) (g.E.Sink.faults w.tell.new.err)) w.in_ok-found-in-WantsCollection.was w.tell.ensures in
           let wants = loud-turn c.in_ok-turned.turned code state c.turn.new.state k w.in-WantsCollection.is tells in
           record {
-            under_way = renamed code (k + 1) (emptied (step code state k)) c.clear_output.new.self w.tell.new.book c.match-turned.book (c.loop-number.found || w.in_ok-found-in-WantsCollection.field-0) c.match-turned.found _ _ _ cleared w.book-is w.found-is
+            under_way = renamed code (k + 1) w.tell.new.state c.match-turned.state w.tell.new.book c.match-turned.book (c.loop-number.found || w.in_ok-found-in-WantsCollection.field-0) c.match-turned.found _ _ _ w.state-is w.book-is w.found-is
                 (ap (λ e. sinks (g.O.Sink.written c.write_all.new.sink) (g.O.Sink.faults c.write_all.new.sink) (g.E.Sink.written e) (g.E.Sink.faults e)) w.err-is)
-                (loud code c.requires.built k state c.loop-number.book c.loop-number.found _ _ goes c.loop-number.invariant.under_way _ _ _ _ w.in_ok-found-in-WantsCollection.field-0 w.tell.new.book wrote wants
-                (told.0 ∙ ap (names_any c.loop-number.book) cleared) (told.1 ∙ ap (noted c.loop-number.book) cleared) (subst (λ s. Appends (g.E.Sink.written c.loop-number.err) (g.E.Sink.written w.tell.new.err) (told_text c.loop-number.book s)) cleared told.2));
-            steady = record { out = c.in_ok-write_all.ensures.cause.steady ∙ c.loop-number.invariant.steady.out; err = ap (λ e. g.E.Sink.faults e) w.err-is ∙ told.3 ∙ c.loop-number.invariant.steady.err };
+                (loud code k state c.loop-number.book c.loop-number.found _ _ goes c.loop-number.invariant.under_way _ _ _ _ w.in_ok-found-in-WantsCollection.field-0 w.tell.new.state w.tell.new.book wrote wants
+                (told.0 ∙ ap (names_any c.loop-number.book) cleared) (told.1 ∙ ap freed cleared) (told.2 ∙ ap (noted c.loop-number.book) cleared) (subst (λ s. Appends (g.E.Sink.written c.loop-number.err) (g.E.Sink.written w.tell.new.err) (told_text c.loop-number.book s)) cleared told.3));
+            steady = record { out = c.in_ok-write_all.ensures.cause.steady ∙ c.loop-number.invariant.steady.out; err = ap (λ e. g.E.Sink.faults e) w.err-is ∙ told.4 ∙ c.loop-number.invariant.steady.err };
           }
           )
       | in-Went w ↦ record {
-        under_way = renamed code (k + 1) (emptied (step code state k)) c.clear_output.new.self c.loop-number.book c.match-turned.book c.loop-number.found c.match-turned.found _ _ _ cleared w.book-is w.found-is
+        under_way = renamed code (k + 1) (emptied (step code state k)) c.match-turned.state c.loop-number.book c.match-turned.book c.loop-number.found c.match-turned.found _ _ _ (w.state-is ∙ cleared) w.book-is w.found-is
             (ap (λ e. sinks (g.O.Sink.written c.write_all.new.sink) (g.O.Sink.faults c.write_all.new.sink) (g.E.Sink.written e) (g.E.Sink.faults e)) w.err-is)
-            (quiet code c.requires.built k state c.loop-number.book c.loop-number.found _ _ goes c.loop-number.invariant.under_way _ _ _ wrote
+            (quiet code k state c.loop-number.book c.loop-number.found _ _ goes c.loop-number.invariant.under_way _ _ _ wrote
             (quiet-turn c.in_ok-turned.turned code state c.turn.new.state k (other-turn c.in_ok-turned.turned w.in-Went.is) next goes tells));
         steady = record { out = c.in_ok-write_all.ensures.cause.steady ∙ c.loop-number.invariant.steady.out; err = ap (λ e. g.E.Sink.faults e) w.err-is ∙ c.loop-number.invariant.steady.err };
       }

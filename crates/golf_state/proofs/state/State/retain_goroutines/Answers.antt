@@ -9,7 +9,11 @@ use Rattle.golf_state.specs.Places.{plain_entry, plain_entries, running_of}
 use Rattle.golf_state.specs.Ready.{AllReady}
 use Rattle.golf_state.specs.Lined.{AreLined}
 use Rattle.golf_state.specs.declared.places.Place.{Place}
-use Rattle.golf_state.proofs.Retaining.{map-kept, kept-short, Rises-kept, AllBelow-kept, ready-kept, lined-kept}
+use Rattle.golf_state.proofs.Retaining.{map-kept, kept-short, Rises-kept, AllBelow-kept, ready-kept}
+use Rattle.golf_state.proofs.Leaving.{lined-kept}
+use Rattle.golf_theory.specs.Membership.{In}
+use Rattle.golf_heap.specs.Objects.{left_out}
+use Rattle.golf_queues.specs.Lines.{Lines, Keeps}
 use Rattle.golf_state.proofs.state.State.retain_goroutines.Goals as goal
 
 pub invariant_of-self : goal.invariant_of-self
@@ -26,13 +30,16 @@ invariant_of-self c =
         rises = subst (Rises 0) (sym e) (Rises-kept 0 stays es k.rises);
         below = subst (AllBelow s.next_goroutine) (sym e) (AllBelow-kept s.next_goroutine stays es k.below);
         present = ap numbers c.close_up-2.ensures ∙ map-kept (λ g. g.0) stays s.present.items ∙ ap (kept stays) k.present ∙ sym (map-kept (λ (x : ℕ × GoroutineView). x.0) stays es) ∙ ap keys (sym e);
-        running = c.list_running.ensures.running ∙ ap (λ (qs : List Place). running_of (plain_entries qs)) c.as_slice.ensures.value;
+        running = c.list_running.ensures.running ∙ ap (λ (qs : List Place). running_of (plain_entries qs)) c.as_slice-2.ensures.value;
         few = omega (arith, fewer, k.few);
         limit = k.limit;
         room = omega (arith, fewer, c.list_running.ensures.room, k.room);
         ready = subst AllReady (sym c.close_up.ensures) (ready-kept stays ps k.ready);
       };
-      lined = subst (λ (xs : List (ℕ × GoroutineView)). AreLined xs s.waiting s.next_ticket) (sym e) (lined-kept stays es s.waiting s.next_ticket c.self.invariant.lined);
+      lined = subst (λ (xs : List (ℕ × GoroutineView)). AreLined xs c.drop_empty.new.self s.next_ticket) (sym e)
+          (lined-kept stays es s.waiting c.leave_unflagged.new.queues c.drop_empty.new.self s.next_ticket k.rises c.self.invariant.lined
+          (subst (λ (qs : List Place). Keeps (λ t h. In h (keys (left_out stays (plain_entries qs))) → ⊥) s.waiting c.leave_unflagged.new.queues) c.as_slice.ensures.value c.leave_unflagged.ensures.kept)
+          c.drop_empty.ensures.kept (λ n b. c.drop_empty.ensures.below n (c.leave_unflagged.ensures.below n b)));
       finalisers = c.self.invariant.finalisers;
     }
 
@@ -40,7 +47,7 @@ pub list_running-requires : goal.list_running-requires
 list_running-requires c =
     let ps = c.self.inside.goroutines.items in
     let fewer : length c.close_up.new.items.items ≤ length ps = subst (λ (qs : List Place). length qs ≤ length ps) (sym c.close_up.ensures) (kept-short c.args.stays.now ps) in
-    omega (arith, fewer, ap length c.as_slice.ensures.value, c.self.invariant.kept.room)
+    omega (arith, fewer, ap length c.as_slice-2.ensures.value, c.self.invariant.kept.room)
 
 pub returns : goal.returns
 returns c =

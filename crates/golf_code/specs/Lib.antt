@@ -1,0 +1,3 @@
+pub mod Heads
+pub mod Short
+pub mod Wholes

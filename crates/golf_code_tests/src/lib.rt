@@ -1,0 +1,7 @@
+//! Tests of the code of files, against code that was written by hand.
+#![tactic(auto)]
+
+#[cfg(test)]
+mod files;
+#[cfg(test)]
+mod told;

@@ -1,0 +1,57 @@
+//! The code of a text, as a text.
+
+use golf_base::Memory;
+use golf_check::check;
+use golf_code::generate;
+use golf_data::{Code, Function};
+use std::alloc::{AllocError, Global};
+use std::process::Abort;
+
+// The line, the slots, the depth, and each instruction with its line.
+fn told_function(alloc: Global, function: &Function) -> Result<String, AllocError> {
+    let mut out = format!(in alloc;
+        "{}: {} {} {}",
+        function.line, function.params, function.slots, function.depth
+    )?;
+    for line in function.body.as_slice() {
+        out.push_str(&format!(in alloc; "; {:?} on {}", line.instr, line.line)?)?;
+    }
+    out.push_str("\n")?;
+    Ok(out)
+}
+
+fn told(alloc: Global, code: &Code) -> Result<String, AllocError> {
+    let mut out = String::new(alloc);
+    for function in code.functions.as_slice() {
+        out.push_str(&told_function(alloc, function)?)?;
+    }
+    Ok(out)
+}
+
+fn code_of(rt: &impl Abort, alloc: Global, source: &str) -> Code {
+    assert!(rt; source.len() < 100_000);
+    match golf_lex::tokens(alloc, source.as_bytes()) {
+        Err(_) => panic!(rt; "it does not lex"),
+        Ok(tokens) => match golf_syntax::parse(alloc, tokens.as_slice()) {
+            Err(_) => panic!(rt; "it is no file"),
+            Ok(file) => match check(alloc, file) {
+                Err(_) => panic!(rt; "it is not typed"),
+                Ok(mut checked) => match generate(alloc, &mut checked) {
+                    Ok(code) => code,
+                    Err(Memory) => panic!(rt; "memory is wanting"),
+                },
+            },
+        },
+    }
+}
+
+/// The functions of a text: on which line each is declared, its parameters, slots and depth, and
+/// its instructions with their lines.
+pub(crate) fn functions(
+    rt: &impl Abort,
+    alloc: Global,
+    source: &str,
+) -> Result<String, AllocError> {
+    let code = code_of(rt, alloc, source);
+    told(alloc, &code)
+}

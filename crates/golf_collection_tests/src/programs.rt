@@ -1,0 +1,118 @@
+//! Codes for the tests, and the states that they lead to.
+
+ghost use Rattle.std.specs.Prelude.{IfOk};
+ghost use Rattle.golf_model.specs.Futures.{Leads};
+
+use crate::ready::can_run;
+use golf_base::{List, Memory};
+use golf_data::{Code, Function, Instr, Line, Value};
+use golf_machine::{start, turn};
+use golf_state::State;
+use std::alloc::Global;
+
+/// How many turns lead to the states.
+const TURNS: u64 = 200;
+
+// Instructions at the lines 1, 2 and so on.
+fn lines(alloc: Global, instrs: Vec<Instr>) -> Result<List<Line>, Memory> {
+    let mut body = List::new(alloc);
+    let mut line = 0u32;
+    for instr in instrs {
+        line = line.saturating_add(1);
+        body.push(Line { instr, line })?;
+    }
+    Ok(body)
+}
+
+// A function with four slots, of which its arguments take the first.
+fn function(params: u32, body: List<Line>) -> Function {
+    Function {
+        params,
+        slots: 4,
+        depth: 4,
+        line: 1,
+        body,
+    }
+}
+
+/// The code of `main`, of a function 1 with two arguments and of a function 2 that takes an object and
+/// returns; there is a global, and a struct type with a pointer.
+pub fn program(alloc: Global, main: Vec<Instr>, other: Vec<Instr>) -> Result<Code, Memory> {
+    let mut functions = List::new(alloc);
+    functions.push(function(0, lines(alloc, main)?))?;
+    functions.push(function(2, lines(alloc, other)?))?;
+    let mut last = Vec::new(alloc);
+    last.push(Instr::Return)?;
+    functions.push(function(1, lines(alloc, last)?))?;
+    let mut globals = List::new(alloc);
+    globals.push(Value::Nil)?;
+    let mut fields = List::new(alloc);
+    fields.push(Value::Nil)?;
+    let mut structs = List::new(alloc);
+    structs.push(fields)?;
+    Ok(Code {
+        functions,
+        globals,
+        structs,
+        texts: List::new(alloc),
+        main_line: 1,
+    })
+}
+
+/// `main` runs on after these instructions.
+pub fn forever(alloc: Global, instrs: Vec<Instr>) -> Result<Vec<Instr>, Memory> {
+    let mut main = Vec::new(alloc);
+    let mut end = 0u32;
+    for instr in instrs {
+        main.push(instr)?;
+        end = end.saturating_add(1);
+    }
+    main.push(Instr::Jump(end))?;
+    Ok(main)
+}
+
+/// Receives from the first argument.
+pub fn receiver(alloc: Global) -> Result<Vec<Instr>, Memory> {
+    let mut other = Vec::new(alloc);
+    other.push(Instr::Load(0))?;
+    other.push(Instr::Receive)?;
+    other.push(Instr::Return)?;
+    Ok(other)
+}
+
+/// The state after turns with rising numbers, until the program has ended or the turns are spent.
+pub fn state_of(alloc: Global, code: &Code) -> Result<State, Memory>
+    ensures { IfOk result (Leads code.now) }
+{
+    let mut state = start(alloc, code)?;
+    go_on(alloc, code, &mut state)?;
+    Ok(state)
+}
+
+// A turn, where the program goes on. It answers whether it did.
+fn take_turn(alloc: Global, code: &Code, state: &mut State, number: u64) -> Result<bool, Memory>
+    requires { Leads code.now state.old }
+    ensures { Leads code.now state.new }
+{
+    if state.ending().is_some() {
+        return Ok(false);
+    }
+    if !can_run(code) {
+        return Ok(false);
+    }
+    turn(alloc, code, state, number)?;
+    Ok(true)
+}
+
+/// Takes turns with rising numbers, until the program has ended or the turns are spent.
+pub fn go_on(alloc: Global, code: &Code, state: &mut State) -> Result<(), Memory>
+    requires { Leads code.now state.old }
+    ensures { Leads code.now state.new }
+{
+    for number in 0..TURNS {
+        if !take_turn(alloc, code, state, number)? {
+            return Ok(());
+        }
+    }
+    Ok(())
+}

@@ -1,0 +1,492 @@
+//! What collections remove, queue and free, with recovery and without.
+
+use crate::collecting::collect_once;
+use crate::programs::{forever, go_on, program, receiver, state_of};
+use golf_base::{Memory, ObjectId};
+use golf_data::{Code, Instr, Object, Report, Value};
+use golf_reclaim::Ledger;
+use golf_state::State;
+use std::alloc::Global;
+use std::test::Fail;
+use std::thread::Threads;
+
+// What a report counts, and what the state is after it.
+#[derive(Clone, Copy, Debug, PartialEq, Eq)]
+struct After {
+    marked: u32,
+    reported: usize,
+    kept: u32,
+    reclaimed: u32,
+    objects: u32,
+    // How many objects are there, and whether the first one that was made is a locked mutex.
+    there: u32,
+    locked: bool,
+    // The goroutines, 0 and 1 among them.
+    goroutines: usize,
+    finalisers: usize,
+    // How many finalisers are to be called, and the object of the first.
+    queued: usize,
+    first: Option<ObjectId>,
+}
+
+// Two collections, with turns between them, of two states that the code leads to: one without
+// recovery and one with it.
+#[derive(Clone, Copy, Debug, PartialEq, Eq)]
+struct Story {
+    first: After,
+    second: After,
+}
+
+#[derive(Clone, Copy, Debug, PartialEq, Eq)]
+struct Stories {
+    without: Story,
+    with: Story,
+}
+
+fn is_locked(object: Option<&Object>) -> bool {
+    match object {
+        Some(Object::Mutex(locked)) => *locked,
+        Some(_) | None => false,
+    }
+}
+
+fn seen_after(state: &State, report: &Report) -> After {
+    After {
+        marked: report.marked,
+        reported: report.reported.len(),
+        kept: report.kept,
+        reclaimed: report.reclaimed,
+        objects: report.objects,
+        there: state.heap().count(),
+        locked: is_locked(state.heap().get(ObjectId(1))),
+        goroutines: state.goroutines().len(),
+        finalisers: state.finalisers().len(),
+        queued: state.queue().len(),
+        first: state.queue().first().map(|queued| queued.object),
+    }
+}
+
+fn story_of<R: Threads + Sync>(
+    rt: &R,
+    alloc: Global,
+    code: &Code,
+    recover: bool,
+) -> Result<Story, Memory> {
+    let mut state = state_of(alloc, code)?;
+    let mut book = Ledger::new(alloc);
+    let report = collect_once(rt, alloc, code, &mut state, &mut book, recover)?;
+    let first = seen_after(&state, &report);
+    go_on(alloc, code, &mut state)?;
+    let report = collect_once(rt, alloc, code, &mut state, &mut book, recover)?;
+    let second = seen_after(&state, &report);
+    Ok(Story { first, second })
+}
+
+fn both_stories<R: Threads + Sync>(rt: &R, alloc: Global, code: &Code) -> Result<Stories, Memory> {
+    let without = story_of(rt, alloc, code, false)?;
+    let with = story_of(rt, alloc, code, true)?;
+    Ok(Stories { without, with })
+}
+
+// Nothing is found, and goroutines 0 and 1 alone are there.
+const NOTHING: After = After {
+    marked: 0,
+    reported: 0,
+    kept: 0,
+    reclaimed: 0,
+    objects: 0,
+    there: 0,
+    locked: false,
+    goroutines: 2,
+    finalisers: 0,
+    queued: 0,
+    first: None,
+};
+
+// A goroutine receives from a channel that nobody else knows, and holds a struct that has a finaliser.
+fn holder_of_a_finalised_object(alloc: Global) -> Result<Code, Memory> {
+    let main = vec![in alloc;
+        Instr::Int(0),
+        Instr::NewChan(Value::Int(0)),
+        Instr::Store(0),
+        Instr::NewStruct(0),
+        Instr::Store(1),
+        Instr::Load(1),
+        Instr::SetFinalizer(2),
+        Instr::Load(0),
+        Instr::Load(1),
+        Instr::Go(1, 2),
+        Instr::Nil,
+        Instr::Store(0),
+        Instr::Nil,
+        Instr::Store(1),
+    ]?;
+    program(alloc, forever(alloc, main)?, receiver(alloc)?)
+}
+
+#[test]
+fn a_dead_holder_of_a_finalised_object_is_kept(rt: HostRuntime) -> Result<(), Fail> {
+    let code = holder_of_a_finalised_object(rt.alloc())?;
+    let second = After {
+        kept: 1,
+        objects: 2,
+        there: 2,
+        goroutines: 3,
+        finalisers: 1,
+        ..NOTHING
+    };
+    let kept = Story {
+        first: After {
+            reported: 1,
+            ..second
+        },
+        second,
+    };
+    assert_eq!(rt;
+        both_stories(&rt, rt.alloc(), &code)?,
+        Stories {
+            without: kept,
+            with: kept
+        }
+    );
+    Ok(())
+}
+
+// A goroutine receives from a channel that nobody else knows, and holds a struct that `main` has too;
+// an instruction that is never reached may give it a finaliser.
+fn sharer_of_a_live_object(alloc: Global, last: Instr) -> Result<Code, Memory> {
+    let main = vec![in alloc;
+        Instr::Int(0),
+        Instr::NewChan(Value::Int(0)),
+        Instr::Store(0),
+        Instr::NewStruct(0),
+        Instr::Store(1),
+        Instr::Load(0),
+        Instr::Load(1),
+        Instr::Go(1, 2),
+        Instr::Nil,
+        Instr::Store(0),
+        Instr::Jump(10),
+        Instr::Load(1),
+        last,
+    ]?;
+    program(alloc, main, receiver(alloc)?)
+}
+
+#[test]
+fn a_dead_goroutine_with_a_live_object_is_kept_where_finalisers_are_set(
+    rt: HostRuntime,
+) -> Result<(), Fail> {
+    let code = sharer_of_a_live_object(rt.alloc(), Instr::SetFinalizer(2))?;
+    let second = After {
+        marked: 1,
+        kept: 1,
+        objects: 2,
+        there: 2,
+        goroutines: 3,
+        ..NOTHING
+    };
+    let kept = Story {
+        first: After {
+            reported: 1,
+            ..second
+        },
+        second,
+    };
+    assert_eq!(rt;
+        both_stories(&rt, rt.alloc(), &code)?,
+        Stories {
+            without: kept,
+            with: kept
+        }
+    );
+    Ok(())
+}
+
+#[test]
+fn it_is_removed_where_none_is_set(rt: HostRuntime) -> Result<(), Fail> {
+    let code = sharer_of_a_live_object(rt.alloc(), Instr::Drop)?;
+    let kept = After {
+        marked: 1,
+        kept: 1,
+        objects: 2,
+        there: 2,
+        goroutines: 3,
+        ..NOTHING
+    };
+    let gone = After {
+        marked: 1,
+        objects: 1,
+        there: 1,
+        ..NOTHING
+    };
+    let without = Story {
+        first: After {
+            reported: 1,
+            ..kept
+        },
+        second: kept,
+    };
+    let with = Story {
+        first: After {
+            reported: 1,
+            reclaimed: 1,
+            ..gone
+        },
+        second: gone,
+    };
+    assert_eq!(rt;
+        both_stories(&rt, rt.alloc(), &code)?,
+        Stories { without, with }
+    );
+    Ok(())
+}
+
+// A struct with a finaliser, which nothing refers to, has the channel on which a goroutine waits.
+fn unreachable_holder_of_a_channel(alloc: Global) -> Result<Code, Memory> {
+    let main = vec![in alloc;
+        Instr::Int(0),
+        Instr::NewChan(Value::Int(0)),
+        Instr::Store(0),
+        Instr::NewStruct(0),
+        Instr::Store(1),
+        Instr::Load(1),
+        Instr::Load(0),
+        Instr::SetField(0),
+        Instr::Load(1),
+        Instr::SetFinalizer(2),
+        Instr::Load(0),
+        Instr::Nil,
+        Instr::Go(1, 2),
+        Instr::Nil,
+        Instr::Store(0),
+        Instr::Nil,
+        Instr::Store(1),
+    ]?;
+    program(alloc, forever(alloc, main)?, receiver(alloc)?)
+}
+
+#[test]
+fn an_unreachable_finalised_object_keeps_a_waiter_alive(rt: HostRuntime) -> Result<(), Fail> {
+    let code = unreachable_holder_of_a_channel(rt.alloc())?;
+    let first = After {
+        marked: 1,
+        objects: 2,
+        there: 2,
+        goroutines: 3,
+        queued: 1,
+        first: Some(ObjectId(2)),
+        ..NOTHING
+    };
+    let left = After {
+        reported: 1,
+        kept: 1,
+        objects: 1,
+        there: 1,
+        goroutines: 3,
+        ..NOTHING
+    };
+    let gone = After {
+        reported: 1,
+        reclaimed: 1,
+        ..NOTHING
+    };
+    let stories = both_stories(&rt, rt.alloc(), &code)?;
+    let without = Story {
+        first,
+        second: left,
+    };
+    let with = Story {
+        first,
+        second: gone,
+    };
+    assert_eq!(rt; stories, Stories { without, with });
+    Ok(())
+}
+
+// Two goroutines each receive from a channel of which the other alone knows.
+fn cycle(alloc: Global) -> Result<Code, Memory> {
+    let main = vec![in alloc;
+        Instr::Int(0),
+        Instr::NewChan(Value::Int(0)),
+        Instr::Store(0),
+        Instr::Int(0),
+        Instr::NewChan(Value::Int(0)),
+        Instr::Store(1),
+        Instr::Load(0),
+        Instr::Load(1),
+        Instr::Go(1, 2),
+        Instr::Load(1),
+        Instr::Load(0),
+        Instr::Go(1, 2),
+        Instr::Nil,
+        Instr::Store(0),
+        Instr::Nil,
+        Instr::Store(1),
+    ]?;
+    program(alloc, forever(alloc, main)?, receiver(alloc)?)
+}
+
+#[test]
+fn a_cycle_is_collected_twice(rt: HostRuntime) -> Result<(), Fail> {
+    let code = cycle(rt.alloc())?;
+    let kept = After {
+        kept: 2,
+        objects: 2,
+        there: 2,
+        goroutines: 4,
+        ..NOTHING
+    };
+    let without = Story {
+        first: After {
+            reported: 2,
+            ..kept
+        },
+        second: kept,
+    };
+    let with = Story {
+        first: After {
+            reported: 2,
+            reclaimed: 2,
+            ..NOTHING
+        },
+        second: NOTHING,
+    };
+    assert_eq!(rt;
+        both_stories(&rt, rt.alloc(), &code)?,
+        Stories { without, with }
+    );
+    Ok(())
+}
+
+// A goroutine locks a mutex that a global holds, and then receives from a channel that nobody else knows.
+fn holder_of_a_global_mutex(alloc: Global) -> Result<Code, Memory> {
+    let main = vec![in alloc;
+        Instr::NewMutex,
+        Instr::StoreGlobal(0),
+        Instr::Int(0),
+        Instr::NewChan(Value::Int(0)),
+        Instr::LoadGlobal(0),
+        Instr::Go(1, 2),
+    ]?;
+    let other = vec![in alloc;
+        Instr::Load(1),
+        Instr::Lock,
+        Instr::Nil,
+        Instr::Store(1),
+        Instr::Load(0),
+        Instr::Receive,
+        Instr::Return,
+    ]?;
+    program(alloc, forever(alloc, main)?, other)
+}
+
+#[test]
+fn a_removed_goroutines_mutex_stays_locked(rt: HostRuntime) -> Result<(), Fail> {
+    let code = holder_of_a_global_mutex(rt.alloc())?;
+    let kept = After {
+        marked: 1,
+        kept: 1,
+        objects: 2,
+        there: 2,
+        locked: true,
+        goroutines: 3,
+        ..NOTHING
+    };
+    let gone = After {
+        marked: 1,
+        objects: 1,
+        there: 1,
+        locked: true,
+        ..NOTHING
+    };
+    let without = Story {
+        first: After {
+            reported: 1,
+            ..kept
+        },
+        second: kept,
+    };
+    let with = Story {
+        first: After {
+            reported: 1,
+            reclaimed: 1,
+            ..gone
+        },
+        second: gone,
+    };
+    assert_eq!(rt;
+        both_stories(&rt, rt.alloc(), &code)?,
+        Stories { without, with }
+    );
+    Ok(())
+}
+
+// Two structs get finalisers, the later one first, and nothing refers to them; a third has none.
+fn unreachable_structs(alloc: Global) -> Result<Code, Memory> {
+    let main = vec![in alloc;
+        Instr::NewStruct(0),
+        Instr::Store(0),
+        Instr::NewStruct(0),
+        Instr::Store(1),
+        Instr::Load(1),
+        Instr::SetFinalizer(2),
+        Instr::Load(0),
+        Instr::SetFinalizer(2),
+        Instr::NewStruct(0),
+        Instr::Store(0),
+        Instr::Nil,
+        Instr::Store(1),
+        Instr::Nil,
+        Instr::Store(0),
+    ]?;
+    program(alloc, forever(alloc, main)?, receiver(alloc)?)
+}
+
+#[test]
+fn finalisers_are_queued_by_rising_number(rt: HostRuntime) -> Result<(), Fail> {
+    let code = unreachable_structs(rt.alloc())?;
+    let first = After {
+        objects: 2,
+        there: 2,
+        queued: 2,
+        first: Some(ObjectId(1)),
+        ..NOTHING
+    };
+    let told = Story {
+        first,
+        second: NOTHING,
+    };
+    assert_eq!(rt;
+        both_stories(&rt, rt.alloc(), &code)?,
+        Stories {
+            without: told,
+            with: told
+        }
+    );
+    Ok(())
+}
+
+// Whether a collection that may get no memory frees and queues all, or changes nothing.
+fn frees_all_or_nothing<R: Threads + Sync>(rt: &R, alloc: Global) -> Result<bool, Memory> {
+    let code = unreachable_structs(alloc)?;
+    let mut state = state_of(alloc, &code)?;
+    let mut book = Ledger::new(alloc);
+    let got = collect_once(rt, alloc, &code, &mut state, &mut book, true);
+    let there = (
+        state.heap().count(),
+        state.finalisers().len(),
+        state.queue().len(),
+        book.collections(),
+    );
+    match got {
+        Ok(_) => Ok(there == (2, 0, 2, 1)),
+        Err(Memory) => Ok(there == (3, 2, 0, 0)),
+    }
+}
+
+#[test]
+fn a_refused_growth_changes_neither_state_nor_book(rt: HostRuntime) -> Result<(), Fail> {
+    assert!(rt; frees_all_or_nothing(&rt, rt.alloc())?);
+    Ok(())
+}

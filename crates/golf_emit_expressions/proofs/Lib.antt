@@ -1,0 +1,4 @@
+pub mod Taking
+pub mod Wholes
+pub mod Selecting
+pub mod Arms

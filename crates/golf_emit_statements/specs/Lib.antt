@@ -1,0 +1,4 @@
+pub mod Lays
+pub mod Begins
+pub mod Ranges
+pub mod Clauses

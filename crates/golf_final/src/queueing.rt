@@ -1,0 +1,44 @@
+//! The finalisers that are to be called.
+
+ghost use Rattle.std.specs.Prelude.{◌≡◌, IfOk, OnOk, OnErr, length, map};
+ghost use Rattle.golf_theory.specs.Maps.{keys};
+ghost use Rattle.golf_theory.specs.Membership.{is_in};
+ghost use Rattle.golf_heap.specs.Objects.{kept};
+ghost use Rattle.golf_model.specs.Collecting.{queue_outside};
+ghost use Rattle.golf_model.specs.Futures.{Numbered};
+ghost use Rattle.golf_model.specs.Presence.{IsWhole};
+
+use crate::keeping::is_set;
+use golf_base::{List, Memory, ObjectId};
+use golf_model::Marked;
+use golf_state::State;
+use std::alloc::Global;
+
+// For each finaliser whether its object's flag is set.
+fn flagged(alloc: Global, state: &State, flags: &[bool]) -> Result<List<bool>, Memory>
+    requires count { length flags.now ≡ length state.now.objects }
+    requires numbered { Numbered state.now }
+    requires whole { IsWhole state.now }
+    ensures { IfOk result (λ stays. stays ≡ map (λ e. is_in e.0 (kept flags.now (keys state.now.objects))) state.now.finalisers) }
+{
+    let mut stays = List::new(alloc);
+    for finaliser in state.finalisers() {
+        let node = state.heap().rank(ObjectId(finaliser.0));
+        stays.push(is_set(flags, node))?;
+    }
+    Ok(stays)
+}
+
+/// Each object with a finaliser that is not marked loses it and joins the queue with that function,
+/// in rising order of number (package runtime, `SetFinalizer`). A call that answers `Memory` leaves
+/// the state unchanged.
+pub fn queue_finalisers(alloc: Global, state: &mut State, retained: &Marked) -> Result<(), Memory>
+    requires count { length retained.now.flags ≡ length state.old.objects }
+    requires numbered { Numbered state.old }
+    requires whole { IsWhole state.old }
+    ensures ok { OnOk result (state.new ≡ queue_outside (kept retained.now.flags (keys state.old.objects)) state.old) }
+    ensures err { OnErr result (state.new ≡ state.old) }
+{
+    let stays = flagged(alloc, state, retained.flags.as_slice())?;
+    state.queue_finalisers(stays.as_slice())
+}

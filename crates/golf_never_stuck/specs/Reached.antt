@@ -1,0 +1,22 @@
+-- The states that the code of a typed file reaches (Go specification, "Program execution"; profile).
+use Rattle.std.specs.Prelude.{◌≡◌, true}
+use Rattle.std.specs.List.{list_all}
+use Rattle.golf_data.specs.declared.code.Code.{Code}
+use Rattle.golf_grammar.specs.declared.declarations.File.{File}
+use Rattle.golf_grammar.specs.Declarations.{decl_good}
+use Rattle.golf_types.specs.Files.{Typed}
+use Rattle.golf_model.specs.State.{State}
+use Rattle.golf_model.specs.Futures.{Leads}
+use Rattle.golf_code_of.specs.Files.{CodeOf}
+
+-- a well-formed file that breaks no rule
+pub record IsProgram (file : File) : Type 0 where
+  pub good : list_all decl_good file.declarations ≡ true
+  pub typed : Typed file
+
+-- the code is that of such a file, and moves lead to the state from its opening state
+pub record Reached (code : Code) (s : State) : Type 0 where
+  pub file : File
+  pub program : IsProgram file
+  pub coded : code ≡ CodeOf file
+  pub leads : Leads code s

@@ -1,4 +1,0 @@
-pub mod Lengths
-pub mod Places
-pub mod Builts
-pub mod Examples

@@ -1,4 +1,0 @@
-pub mod Gives
-pub mod Reading
-pub mod Bounds
-pub mod Scope

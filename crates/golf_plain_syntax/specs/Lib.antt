@@ -1,2 +1,0 @@
-pub mod FileOf
-pub mod Laws

@@ -1,0 +1,3 @@
+pub mod Passes
+pub mod Heights
+pub mod Functions

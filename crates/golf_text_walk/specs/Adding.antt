@@ -1,0 +1,7 @@
+-- Texts that are added to a table.
+use Rattle.std.specs.Prelude.{fold}
+use Rattle.golf_code_of.specs.Table.{Texts, with_text}
+
+-- a table, and then these texts, each unless it is there
+unfoldable pub with_texts : Texts → Texts → Texts
+with_texts table ts = fold with_text table ts

@@ -1,0 +1,67 @@
+-- Worked examples: what the definition of a line says of these words.
+use Rattle.std.proofs.Common.{◌≡◌, refl, List, [], ◌∷◌, Some, None, codes, true, false}
+use Rattle.golf_schedules.specs.declared.schedule.Schedule.{Schedule}
+use Rattle.golf_words.specs.Values.{Text, numbers_of}
+use Rattle.golf_words.specs.Words.{line_of, uses_after}
+use Rattle.golf_words.specs.declared.line.Line.{Line}
+
+abbrev run_alone : List Text
+run_alone = codes "run" ∷ []
+
+run_alone_is : line_of run_alone ≡ Some (Line.Run (record { schedule = Schedule.Rotate; turns = 1000000; every = None; markers = 1; recover = false }))
+unfolding uses_after
+run_alone_is = refl
+
+abbrev seed_and_markers : List Text
+seed_and_markers = codes "run" ∷ codes "--schedule=seed:0" ∷ codes "--markers" ∷ codes "002" ∷ codes "--recover" ∷ codes "--" ∷ []
+
+seed_and_markers_is : line_of seed_and_markers ≡ Some (Line.Run (record { schedule = Schedule.Seed 0; turns = 1000000; every = None; markers = 2; recover = true }))
+unfolding uses_after
+seed_and_markers_is = refl
+
+abbrev twice : List Text
+twice = codes "run" ∷ codes "--recover" ∷ codes "--recover" ∷ []
+
+twice_is : line_of twice ≡ None
+unfolding uses_after
+twice_is = refl
+
+abbrev hyphens_as_value : List Text
+hyphens_as_value = codes "run" ∷ codes "--turns" ∷ codes "--" ∷ []
+
+hyphens_as_value_is : line_of hyphens_as_value ≡ None
+unfolding uses_after
+hyphens_as_value_is = refl
+
+abbrev twenty_digits : List Text
+twenty_digits = codes "run" ∷ codes "--turns" ∷ codes "00000000000000000007" ∷ []
+
+twenty_digits_are : line_of twenty_digits ≡ Some (Line.Run (record { schedule = Schedule.Rotate; turns = 7; every = None; markers = 1; recover = false }))
+unfolding uses_after
+twenty_digits_are = refl
+
+abbrev twenty_one_digits : List Text
+twenty_one_digits = codes "run" ∷ codes "--turns" ∷ codes "000000000000000000007" ∷ []
+
+twenty_one_digits_are : line_of twenty_one_digits ≡ None
+unfolding uses_after
+twenty_one_digits_are = refl
+
+abbrev generate_five : List Text
+generate_five = codes "generate" ∷ codes "--" ∷ codes "5" ∷ []
+
+generate_five_is : line_of generate_five ≡ Some (Line.Generate 5)
+generate_five_is = refl
+
+-- a list of at most three numbers
+three_numbers : numbers_of 3 (codes "0,007,1") ≡ Some (0 ∷ 7 ∷ 1 ∷ [])
+unfolding numbers_of
+three_numbers = refl
+
+four_numbers : numbers_of 3 (codes "0,007,1,2") ≡ None
+unfolding numbers_of
+four_numbers = refl
+
+no_number : numbers_of 3 (codes "0,") ≡ None
+unfolding numbers_of
+no_number = refl

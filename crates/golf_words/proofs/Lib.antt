@@ -1,0 +1,12 @@
+mod Cuts
+mod Examples
+mod Generates
+mod Law
+mod Numbers
+mod Outcomes
+mod Program
+mod Runs
+mod RunLines
+mod RunOptions
+mod RunWords
+mod Settings

@@ -1,0 +1,7 @@
+use Rattle.std.proofs.Common.{map, string_bytes}
+use Rattle.golf_words.proofs.Law.{as_line, line_law, words_are_utf8}
+use Rattle.golf_words.proofs.reading.parse.Goals as goal
+
+pub returns : goal.returns
+returns c =
+    as_line (map string_bytes c.args.words.now) c.line_as_split.result (line_law (map string_bytes c.args.words.now) (words_are_utf8 c.args.words.now)) c.line_as_split.ensures

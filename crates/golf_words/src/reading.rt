@@ -1,0 +1,122 @@
+//! The line that the words stand for.
+
+ghost use Rattle.std.specs.Prelude.{◌≡◌, IfOk, map, option_map, string_bytes};
+ghost use Rattle.clap.specs.Words.{found_of, rows_of};
+ghost use Rattle.clap.specs.Walk.{first_of};
+ghost use Rattle.golf_words.specs.Values.{number_within as number_between, schedule_of};
+ghost use Rattle.golf_words.specs.Words.{line_of, setting};
+ghost use Rattle.golf_words.specs.Splitting.{every_or_none, generate_by, is_true as is_text_true, line_by, run_by, split_of};
+
+use crate::line::{Line, Options};
+use crate::splitting::split;
+use crate::values::{number_within, schedule};
+use clap::ArgMatches;
+use golf_base::Memory;
+use golf_schedules::Schedule;
+use std::alloc::Global;
+
+/// How many turns a run has that is not told.
+const TURNS: u32 = 1_000_000;
+
+// The value that was found for an argument.
+fn value<'a>(matches: &ArgMatches<'a>, name: &str) -> Option<&'a str>
+    ensures { option_map (λ text. text.now) result ≡ first_of name.now (rows_of (found_of matches.now)) }
+{
+    matches.get_str(name)
+}
+
+fn is_true(value: Option<&str>) -> bool
+    ensures { result ≡ is_text_true (option_map (λ text. text.now) value.entry) }
+{
+    match value {
+        Some(text) => text == "true",
+        None => false,
+    }
+}
+
+// The value of an option that is a number from 1 to `most`, or `default` without it.
+fn number_or(value: Option<&str>, default: u32, most: u32) -> Option<u32>
+    ensures { result ≡ setting (option_map (λ text. text.now) value.entry) default (number_between 1 most) }
+{
+    match value {
+        Some(text) => number_within(1, most, text),
+        None => Some(default),
+    }
+}
+
+// Behind each how many turns a collection is added, if any.
+fn every_of(value: Option<&str>) -> Option<Option<u32>>
+    ensures { result ≡ every_or_none (option_map (λ text. text.now) value.entry) }
+{
+    match value {
+        Some(text) => match number_within(1, 10_000_000, text) {
+            Some(number) => Some(Some(number)),
+            None => None,
+        },
+        None => Some(None),
+    }
+}
+
+fn schedule_or_rotation(alloc: Global, value: Option<&str>) -> Result<Option<Schedule>, Memory>
+    ensures { IfOk result (λ schedule. schedule ≡ setting (option_map (λ text. text.now) value.entry) Schedule.Rotate schedule_of) }
+{
+    match value {
+        Some(text) => schedule(alloc, text),
+        None => Ok(Some(Schedule::Rotate)),
+    }
+}
+
+// A run line, by its options.
+fn run_line(alloc: Global, matches: &ArgMatches<'_>) -> Result<Option<Line>, Memory>
+    ensures { IfOk result (λ line. line ≡ run_by (rows_of (found_of matches.now))) }
+{
+    let Some(turns) = number_or(value(matches, "turns"), TURNS, 10_000_000) else {
+        return Ok(None);
+    };
+    let Some(every) = every_of(value(matches, "every")) else {
+        return Ok(None);
+    };
+    let Some(markers) = number_or(value(matches, "markers"), 1, 16) else {
+        return Ok(None);
+    };
+    let Some(schedule) = schedule_or_rotation(alloc, value(matches, "schedule"))? else {
+        return Ok(None);
+    };
+    let recover = is_true(value(matches, "recover"));
+    Ok(Some(Line::Run(Options {
+        schedule,
+        turns,
+        every,
+        markers,
+        recover,
+    })))
+}
+
+fn generate_line(matches: &ArgMatches<'_>) -> Option<Line>
+    ensures { result ≡ generate_by (rows_of (found_of matches.now)) }
+{
+    let text = value(matches, "number")?;
+    let number = number_within(1, 5_000, text)?;
+    Some(Line::Generate(number))
+}
+
+// The line by what `clap` finds in the words.
+fn line_as_split(alloc: Global, words: &[String]) -> Result<Option<Line>, Memory>
+    ensures { IfOk result (λ line. line ≡ line_by (split_of (map string_bytes words.now))) }
+{
+    let Some(matches) = split(alloc, words)? else {
+        return Ok(None);
+    };
+    match matches.subcommand() {
+        Some((name, options)) if name == "run" => run_line(alloc, options),
+        Some((name, number)) if name == "generate" => Ok(generate_line(number)),
+        _ => Ok(None),
+    }
+}
+
+/// The line that the words behind the program's name stand for; none where they stand for none.
+pub fn parse(alloc: Global, words: &[String]) -> Result<Option<Line>, Memory>
+    ensures { IfOk result (λ line. line ≡ line_of (map string_bytes words.now)) }
+{
+    line_as_split(alloc, words)
+}
