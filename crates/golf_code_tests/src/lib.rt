@@ -2,6 +2,8 @@
 #![tactic(auto)]
 
 #[cfg(test)]
+mod constructs;
+#[cfg(test)]
 mod files;
 #[cfg(test)]
 mod told;
