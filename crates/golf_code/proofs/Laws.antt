@@ -1,5 +1,5 @@
 -- Heads, functions one after the other, short bodies, and the whole code.
-use Rattle.std.proofs.Common.{◌≡◌, ℕ, zero, suc, ◌+◌, ◌<◌, ◌^◌, Bool, List, [], ◌∷◌, ◌++◌, length, map, refl, ap, sym, subst, ◌∙◌, arith}
+use Rattle.std.proofs.Common.{◌≡◌, ℕ, ◌+◌, Bool, List, [], ◌∷◌, ◌++◌, length, map, refl, ap, sym, ◌∙◌, arith}
 use Rattle.std.specs.Prelude.{Option, Some, None}
 use Rattle.golf_grammar.specs.declared.declarations.Receiver.{Receiver}
 use Rattle.golf_grammar.specs.declared.declarations.Func.{Func}
@@ -7,19 +7,16 @@ use Rattle.golf_grammar.specs.declared.declarations.Decl.{Decl}
 use Rattle.golf_grammar.specs.declared.declarations.Decl.TheVariants as d
 use Rattle.golf_grammar.specs.declared.declarations.File.{File}
 use Rattle.golf_data.specs.declared.code.Code.{Code}
-use Rattle.golf_data.specs.declared.code.Function.{Function}
-use Rattle.golf_data.specs.Places.{IsShort}
 use Rattle.golf_types.specs.declared.types.GoType.{GoType}
 use Rattle.golf_types.specs.declared.scopes.Scope.{Scope}
 use Rattle.golf_types.specs.Statements as W
-use Rattle.golf_types.specs.Statements.{behind, both}
+use Rattle.golf_types.specs.Statements.{behind}
 use Rattle.golf_types.specs.Files.{receiver_walk, parameter_walk, all_typed_names, result_type, outside}
 use Rattle.golf_types.proofs.WalkLaws.{stays, behind-both}
 use Rattle.golf_check.specs.Heads.{receiver_name, scope_of}
 use Rattle.golf_code_of.specs.declared.tables.Tables.{Tables}
 use Rattle.golf_code_of.specs.Files.{body_scope, functions_from, code_in, tables_of, CodeOf}
 use Rattle.golf_code.specs.Heads.{with_name, with_optional_name, with_names, decl_own, decl_made}
-use Rattle.golf_code.specs.Short.{AreShort}
 
 -- The head of a function.
 
@@ -45,27 +42,6 @@ head_known file t f r ps result head names gives at =
     ∙ ap (λ g. with_names (all_typed_names file f.parameters) (with_optional_name (receiver_name file f.receiver) (with_result file g))) gives
     ∙ ap (with_names (all_typed_names file f.parameters)) (sym (receiver_known f.line file f.receiver s))
     ∙ sym (names_known f.line (all_typed_names file f.parameters) (behind s (receiver_walk f.line file f.receiver s)))
-
--- Short bodies.
-
-one_short : (f : Function) → length f.body < 2 ^ 32 → AreShort (f ∷ [])
-one_short f short zero = short
-one_short f short (suc k) = tt
-
-cons_short : (g : Function) (fs : List Function) → IsShort (Some g) → AreShort fs → AreShort (g ∷ fs)
-cons_short g fs one all zero = one
-cons_short g fs one all (suc k) = all k
-
-more_short : (fs : List Function) (f : Function) → AreShort fs → length f.body < 2 ^ 32 → AreShort (fs ++ f ∷ [])
-more_short [] f all short = one_short f short
-more_short (g ∷ fs) f all short = cons_short g (fs ++ f ∷ []) (all zero) (more_short fs f (λ j. all (suc j)) short)
-
-pub one_more_short : (fs gs : List Function) (f : Function) → gs ≡ fs ++ f ∷ [] → AreShort fs → length f.body < 2 ^ 32 → AreShort gs
-one_more_short fs gs f is all short = subst AreShort (sym is) (more_short fs f all short)
-
-pub none_short : AreShort []
-none_short zero = tt
-none_short (suc k) = tt
 
 -- Functions one after the other.
 

@@ -1,3 +1,2 @@
 pub mod Heads
-pub mod Short
 pub mod Wholes

@@ -1,6 +1,6 @@
 //! Function 0, which runs the initialisers and calls `main`.
 
-ghost use Rattle.std.specs.Prelude.{◌≡◌, ◌<◌, ◌^◌, Some, None, length, IfOk, OnOk};
+ghost use Rattle.std.specs.Prelude.{◌≡◌, Some, None, IfOk, OnOk};
 ghost use Rattle.golf_types.specs.Files.{outside};
 ghost use Rattle.golf_emission.specs.Marks.{Adds};
 ghost use Rattle.golf_code_of.specs.Files.{function as function_with, initial as initial_of, initials as initials_of, entry_body as entry_body_of};
@@ -149,7 +149,6 @@ pub fn entry(
 ) -> Result<Function, Memory>
     requires { scope.old ≡ outside scope.old.file }
     ensures function { IfOk result (λ f. f ≡ function_with gives.now 0 0 line (entry_body_of tables.now scope.old.file main line decls.now)) }
-    ensures short { IfOk result (λ f. length f.body < 2 ^ 32) }
     ensures scope { OnOk result (scope.new ≡ scope.old) }
 {
     let mut marks = List::new(alloc);

@@ -1,15 +1,13 @@
 //! The code of a file.
 
 ghost use Rattle.std.specs.Prelude.{◌≡◌, ◌++◌, ◌∷◌, map, length, [], IfOk, OnOk};
-ghost use Rattle.golf_data.specs.Places.{HasPlaces};
 ghost use Rattle.golf_types.specs.Files.{outside};
 ghost use Rattle.golf_code_of.specs.Files.{CodeOf, code_in, tables_of, giving as giving_in, main_line as main_line_in};
 ghost use Rattle.golf_check.specs.Heads.{scope_of};
-ghost use Rattle.golf_code.specs.Short.{AreShort};
 ghost use Rattle.golf_code.specs.Wholes.{functions_with, code_of_parts};
 
 use crate::entry::entry;
-use crate::functions::{add_function, own_functions};
+use crate::functions::own_functions;
 use crate::made::made_functions;
 use crate::numbers::{first_made, giving, main_line, main_number};
 use crate::values::{struct_zeros, zero_values};
@@ -22,7 +20,6 @@ use golf_text_walk::tables;
 use golf_types::{FileScope, Scope};
 use std::alloc::Global;
 
-#[tactic(auto, using(crate::proofs::Laws::none_short))]
 fn all_functions(
     alloc: Global,
     tables: &Tables,
@@ -33,14 +30,13 @@ fn all_functions(
 ) -> Result<List<Function>, Memory>
     requires { scope.old ≡ outside scope.old.file }
     ensures functions { IfOk result (λ fs. fs ≡ functions_with tables.now gives.now scope.old line decls.now) }
-    ensures short { IfOk result AreShort }
     ensures scope { OnOk result (scope.new ≡ scope.old) }
 {
     let main = main_number(&scope.file)?;
     let first = first_made(&scope.file)?;
     let mut functions = List::new(alloc);
     let own = entry(alloc, tables, gives, scope, main, line, decls)?;
-    add_function(&mut functions, own)?;
+    functions.push(own)?;
     let made = own_functions(alloc, tables, gives, first, scope, decls, &mut functions)?;
     made_functions(alloc, gives, made.as_slice(), &mut functions)?;
     Ok(functions)
@@ -70,7 +66,6 @@ fn code_with(
 fn code_of_decls(alloc: Global, scope: &mut Scope, decls: &[Decl]) -> Result<Code, Memory>
     requires { scope.old ≡ outside scope.old.file }
     ensures code { IfOk result (λ code. code ≡ code_in (tables_of decls.now) scope.old.file decls.now) }
-    ensures places { IfOk result HasPlaces }
     ensures scope { OnOk result (scope.new ≡ scope.old) }
 {
     let tables = tables(alloc, decls)?;
@@ -85,7 +80,6 @@ fn code_of_decls(alloc: Global, scope: &mut Scope, decls: &[Decl]) -> Result<Cod
 pub fn generate(alloc: Global, checked: &mut Checked) -> Result<Code, Memory>
     requires { checked.old.scope ≡ scope_of checked.old.file }
     ensures code { IfOk result (λ code. code ≡ CodeOf checked.old.file) }
-    ensures places { IfOk result HasPlaces }
     ensures same { OnOk result (checked.new ≡ checked.old) }
 {
     let decls = checked.file.declarations.as_slice();

@@ -1,12 +1,11 @@
 //! The functions and methods of a file.
 
-ghost use Rattle.std.specs.Prelude.{◌≡◌, ◌+◌, ◌++◌, ◌∷◌, ◌<◌, ◌^◌, [], length, IfOk, OnOk};
+ghost use Rattle.std.specs.Prelude.{◌≡◌, ◌+◌, ◌++◌, ◌∷◌, [], length, IfOk, OnOk};
 ghost use Rattle.golf_types.specs.Files.{outside, result_type};
 ghost use Rattle.golf_emission.specs.Marks.{Adds, flat};
 ghost use Rattle.golf_layout.specs.Piece.{all};
 ghost use Rattle.golf_code_of.specs.Files.{body_scope, body_laid, slots_of, last_return as last_return_of, function_of, functions_from};
 ghost use Rattle.golf_code.specs.Heads.{decl_own, decl_made};
-ghost use Rattle.golf_code.specs.Short.{AreShort};
 
 use crate::heads::enter;
 use crate::values::{push, zero_value};
@@ -54,7 +53,7 @@ fn marks_of(
     func: &Func,
     out: &mut Emission,
 ) -> Result<Slots, Memory>
-    requires outside { scope.old ≡ outside scope.old.file }
+    requires { scope.old ≡ outside scope.old.file }
     ensures params { IfOk result (λ s. s.params ≡ (body_scope scope.old func.now).next) }
     ensures all { IfOk result (λ s. s.all ≡ slots_of tables.now scope.old func.now) }
     ensures marks { OnOk result (out.new.marks ≡ flat (all ((body_laid tables.now scope.old functions func.now).piece ∷ last_return_of func.now.line (result_type scope.old func.now.result) ∷ []))) }
@@ -81,9 +80,8 @@ fn own_function(
     func: &Func,
     out: &mut Emission,
 ) -> Result<Function, Memory>
-    requires outside { scope.old ≡ outside scope.old.file }
+    requires { scope.old ≡ outside scope.old.file }
     ensures function { IfOk result (λ f. f ≡ function_of tables.now gives.now scope.old func.now (body_laid tables.now scope.old functions func.now).piece) }
-    ensures short { IfOk result (λ f. length f.body < 2 ^ 32) }
     ensures made { OnOk result (out.new.made ≡ out.old.made ++ (body_laid tables.now scope.old functions func.now).made) }
     ensures scope { OnOk result (scope.new ≡ scope.old) }
 {
@@ -108,17 +106,6 @@ fn next_made(first: u32, made: &[Making]) -> Result<u32, Memory>
     }
 }
 
-/// Adds a function.
-#[tactic(auto, using(crate::proofs::Laws::one_more_short))]
-pub fn add_function(functions: &mut List<Function>, function: Function) -> Result<(), Memory>
-    requires all { AreShort functions.old }
-    requires one { length function.body < 2 ^ 32 }
-    ensures functions { OnOk result (functions.new ≡ functions.old ++ function ∷ []) }
-    ensures short { OnOk result (AreShort functions.new) }
-{
-    functions.push(function)
-}
-
 // Adds the function of a declaration, where it is one.
 fn add_decl(
     alloc: Global,
@@ -130,10 +117,8 @@ fn add_decl(
     out: &mut Emission,
     functions: &mut List<Function>,
 ) -> Result<(), Memory>
-    requires outside { scope.old ≡ outside scope.old.file }
-    requires short { AreShort functions.old }
+    requires { scope.old ≡ outside scope.old.file }
     ensures functions { OnOk result (functions.new ≡ functions.old ++ decl_own tables.now gives.now scope.old next decl.now) }
-    ensures short { OnOk result (AreShort functions.new) }
     ensures made { OnOk result (out.new.made ≡ out.old.made ++ decl_made tables.now scope.old next decl.now) }
     ensures scope { OnOk result (scope.new ≡ scope.old) }
 {
@@ -143,7 +128,7 @@ fn add_decl(
         Decl::Struct(_, _, _) => Ok(()),
         Decl::Func(func) => {
             let own = own_function(alloc, tables, gives, next, scope, func, out)?;
-            add_function(functions, own)
+            functions.push(own)
         }
     }
 }
@@ -159,10 +144,8 @@ pub fn own_functions(
     decls: &[Decl],
     functions: &mut List<Function>,
 ) -> Result<List<Making>, Memory>
-    requires outside { scope.old ≡ outside scope.old.file }
-    requires short { AreShort functions.old }
+    requires { scope.old ≡ outside scope.old.file }
     ensures functions { OnOk result (functions.new ≡ functions.old ++ (functions_from tables.now gives.now scope.old first decls.now).own) }
-    ensures short { OnOk result (AreShort functions.new) }
     ensures made { IfOk result (λ made. made ≡ (functions_from tables.now gives.now scope.old first decls.now).made) }
     ensures scope { OnOk result (scope.new ≡ scope.old) }
 {

@@ -1,12 +1,10 @@
 //! The functions that are made for `go` and `defer`.
 
-ghost use Rattle.std.specs.Prelude.{◌≡◌, ◌++◌, ◌+◌, ◌<◌, ◌^◌, map, length, IfOk, OnOk};
+ghost use Rattle.std.specs.Prelude.{◌≡◌, ◌++◌, ◌+◌, map, length, IfOk, OnOk};
 ghost use Rattle.golf_emission.specs.Marks.{Adds, onto};
 ghost use Rattle.golf_code_of.specs.Calls.{operation as operation_of};
 ghost use Rattle.golf_code_of.specs.Files.{loads as loads_of, made_body as made_body_of, made_function as made_function_of};
-ghost use Rattle.golf_code.specs.Short.{AreShort};
 
-use crate::functions::add_function;
 use golf_base::{List, Memory};
 use golf_code_of::Making;
 use golf_data::{Function, Instr};
@@ -71,8 +69,7 @@ fn made_body(marks: &mut List<Mark>, making: &Making, count: u32) -> Result<(), 
 }
 
 fn made_function(alloc: Global, gives: &[bool], making: &Making) -> Result<Function, Memory>
-    ensures function { IfOk result (λ f. f ≡ made_function_of gives.now making.now) }
-    ensures short { IfOk result (λ f. length f.body < 2 ^ 32) }
+    ensures { IfOk result (λ f. f ≡ made_function_of gives.now making.now) }
 {
     let Ok(count) = u32::try_from(making.parameters.len()) else {
         return Err(Memory);
@@ -89,13 +86,11 @@ pub fn made_functions(
     makings: &[Making],
     functions: &mut List<Function>,
 ) -> Result<(), Memory>
-    requires { AreShort functions.old }
-    ensures functions { OnOk result (functions.new ≡ functions.old ++ map (made_function_of gives.now) makings.now) }
-    ensures short { OnOk result (AreShort functions.new) }
+    ensures { OnOk result (functions.new ≡ functions.old ++ map (made_function_of gives.now) makings.now) }
 {
     for making in makings {
         let made = made_function(alloc, gives, making)?;
-        add_function(functions, made)?;
+        functions.push(made)?;
     }
     Ok(())
 }

@@ -8,7 +8,6 @@ use Rattle.golf_types.specs.declared.operands.Operand.{Operand}
 use Rattle.golf_types.specs.declared.operands.Operand.TheVariants as operand
 use Rattle.golf_types.specs.declared.operands.BuiltIn.{BuiltIn}
 use Rattle.golf_types.specs.declared.operands.BuiltIn.TheVariants as built_in
-use Rattle.golf_types.specs.declared.operands.Given.{Given}
 use Rattle.golf_types.specs.Types.{plain, type_given, given}
 use Rattle.golf_types.specs.Calls.{sets_finaliser}
 use Rattle.golf_layout.specs.Piece.{Piece, all, op}

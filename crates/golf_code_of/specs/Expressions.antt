@@ -1,5 +1,5 @@
 -- The code of each kind of expression, by what its parts are and by their code (Go specification, "Expressions").
-use Rattle.std.specs.Prelude.{ℕ, ◌+◌, pos, true, false, List, [], ◌∷◌, length, Option, Some, None}
+use Rattle.std.specs.Prelude.{ℕ, ◌+◌, pos, true, false, List, [], ◌∷◌, length, Option, Some}
 use Rattle.golf_grammar.specs.declared.expressions.UnaryOperator.{UnaryOperator}
 use Rattle.golf_grammar.specs.declared.expressions.UnaryOperator.TheVariants as unary
 use Rattle.golf_grammar.specs.declared.expressions.BinaryOperator.{BinaryOperator}
@@ -18,7 +18,7 @@ use Rattle.golf_types.specs.declared.scopes.FileScope.{FileScope}
 use Rattle.golf_types.specs.Scopes.{member}
 use Rattle.golf_layout.specs.Piece.{Piece, all, op}
 use Rattle.golf_code_of.specs.declared.tables.Tables.{Tables}
-use Rattle.golf_code_of.specs.Values.{push, constant, zero_value, makes}
+use Rattle.golf_code_of.specs.Values.{push, constant, makes}
 
 -- The code of an expression: what pushes its value; what pushes the receiver, where it is a method. Where it stands on a left side,
 -- `parts` pushes what tells its place, `twice` doubles that, `read` turns it into the value, and `store` takes it with a new value on top.

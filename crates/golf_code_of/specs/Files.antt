@@ -8,7 +8,6 @@ use Rattle.golf_grammar.specs.declared.declarations.Func.{Func}
 use Rattle.golf_grammar.specs.declared.declarations.Decl.{Decl}
 use Rattle.golf_grammar.specs.declared.declarations.Decl.TheVariants as d
 use Rattle.golf_grammar.specs.declared.declarations.File.{File}
-use Rattle.golf_data.specs.declared.value.Value.{Value}
 use Rattle.golf_data.specs.declared.code.Code.{Code}
 use Rattle.golf_data.specs.declared.code.Function.{Function}
 use Rattle.golf_data.specs.declared.code.Instr.{Instr}

@@ -9,7 +9,7 @@ use Rattle.golf_grammar.specs.declared.statements.RangeNames.TheVariants as rang
 use Rattle.golf_data.specs.declared.code.Instr.{Instr}
 use Rattle.golf_types.specs.declared.operands.Given.{Given}
 use Rattle.golf_types.specs.declared.scopes.Scope.{Scope}
-use Rattle.golf_types.specs.Types.{is_slice, type_given, element}
+use Rattle.golf_types.specs.Types.{is_slice, type_given}
 use Rattle.golf_types.specs.Names.{is_blank}
 use Rattle.golf_types.specs.Expressions.{given_by}
 use Rattle.golf_types.specs.Judging.{judge_at}
@@ -18,8 +18,7 @@ use Rattle.golf_types.specs.Statements.{behind, is_outer, hides, hidden, range_n
 use Rattle.golf_layout.specs.Piece.{Piece, all, op}
 use Rattle.golf_code_of.specs.declared.tables.Tables.{Tables}
 use Rattle.golf_code_of.specs.Coding.{piece_at}
-use Rattle.golf_code_of.specs.declared.making.Around.{Around}
-use Rattle.golf_code_of.specs.Statements.{Laid, Lay, Part, wrapped, past, then, in_block, block, optional}
+use Rattle.golf_code_of.specs.Statements.{Lay, Part, wrapped, past, then, in_block, block, optional}
 
 -- inside of a loop, which `break` and `continue` leave by these targets
 abbrev pub in_loop : ℕ → ℕ → Part → Part

@@ -1,6 +1,5 @@
 -- The code of `select` (Go specification, "Select statements"). The operands and the choice are on the line of `select`, the rest of a clause on its own.
 use Rattle.std.specs.Prelude.{ℕ, ◌+◌, true, List, [], ◌∷◌, ◌++◌, length, map, Option, Some, None}
-use Rattle.golf_grammar.specs.declared.expressions.Expr.{Expr}
 use Rattle.golf_grammar.specs.declared.statements.Communication.{Communication}
 use Rattle.golf_grammar.specs.declared.statements.Communication.TheVariants as comm
 use Rattle.golf_data.specs.declared.code.Instr.{Instr}
@@ -14,7 +13,7 @@ use Rattle.golf_layout.specs.Piece.{Piece, all, op}
 use Rattle.golf_code_of.specs.declared.tables.Tables.{Tables}
 use Rattle.golf_code_of.specs.Coding.{piece_at}
 use Rattle.golf_code_of.specs.declared.making.Around.{Around}
-use Rattle.golf_code_of.specs.Statements.{Laid, Lay, Part, laid, wrapped, follow, past, then_lay, in_order, stores_name, stores_pair}
+use Rattle.golf_code_of.specs.Statements.{Lay, Part, laid, wrapped, past, then_lay, in_order, stores_name, stores_pair}
 
 -- A clause: its walk, what it communicates, none for `default`, and what pushes its operands, each on the line of `select`; then the
 -- code behind the choice, and its own line.

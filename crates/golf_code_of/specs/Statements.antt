@@ -1,6 +1,5 @@
 -- The code of statements (Go specification, "Statements"), beside their walks, over the same scopes.
-use Rattle.std.specs.Prelude.{ℕ, ◌+◌, pos, true, cond, List, [], ◌∷◌, ◌++◌, length, map, Option, Some, None}
-use Rattle.golf_grammar.specs.declared.types.TypeExpr.{TypeExpr}
+use Rattle.std.specs.Prelude.{ℕ, ◌+◌, pos, cond, List, [], ◌∷◌, ◌++◌, length, map, Option, Some, None}
 use Rattle.golf_grammar.specs.declared.expressions.Expr.{Expr}
 use Rattle.golf_grammar.specs.declared.statements.UpdateOperator.{UpdateOperator}
 use Rattle.golf_grammar.specs.declared.statements.UpdateOperator.TheVariants as update
@@ -23,10 +22,10 @@ use Rattle.golf_layout.specs.Piece.{Piece, all, op}
 use Rattle.golf_code_of.specs.declared.making.Around.{Around}
 use Rattle.golf_code_of.specs.declared.tables.Tables.{Tables}
 use Rattle.golf_code_of.specs.Values.{push, zero_value}
-use Rattle.golf_code_of.specs.Expressions.{Made, only, name, variable}
+use Rattle.golf_code_of.specs.Expressions.{Made, name}
 use Rattle.golf_code_of.specs.declared.making.Making.{Making}
-use Rattle.golf_code_of.specs.Calls.{Argument, pushes, makings, beginning}
-use Rattle.golf_code_of.specs.Coding.{coded, code_at, piece_at, argument_at}
+use Rattle.golf_code_of.specs.Calls.{pushes, makings, beginning}
+use Rattle.golf_code_of.specs.Coding.{code_at, piece_at, argument_at}
 
 -- the code of a statement, and the functions that are made for it
 pub record Laid : Type 0 where

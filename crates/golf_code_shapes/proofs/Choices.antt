@@ -16,7 +16,7 @@ use Rattle.golf_types.specs.Scopes.{begun}
 use Rattle.golf_types.specs.Expressions.{used, given_by}
 use Rattle.golf_types.specs.Judging.{judge}
 use Rattle.golf_types.specs.Statements as W
-use Rattle.golf_types.specs.Statements.{Walk, Walked, both, behind, carried, received, pair, pair_faults, assigned_name, assigned_faults, put_in_faults, takes_value}
+use Rattle.golf_types.specs.Statements.{Walk, Walked, both, behind, carried, received, pair, pair_faults, assigned_name, assigned_faults, put_in_faults}
 use Rattle.golf_shapes.specs.Types.{ValueType, Shape, FunctionTypes, Types}
 use Rattle.golf_shapes.specs.Shapes.{case_takes, case_leaves}
 use Rattle.golf_layout.specs.Piece.{Piece, all, op}

@@ -12,7 +12,7 @@ use Rattle.golf_types.specs.declared.operands.BuiltIn.{BuiltIn}
 use Rattle.golf_types.specs.declared.operands.BuiltIn.TheVariants as built_in
 use Rattle.golf_types.specs.declared.scopes.Scope.{Scope}
 use Rattle.golf_types.specs.Statements as W
-use Rattle.golf_types.specs.Statements.{Walk, Walked, both, behind, walk}
+use Rattle.golf_types.specs.Statements.{behind, walk}
 use Rattle.golf_types.specs.Files.{outside, result_type, receiver_walk, receiver_type, parameter_walk, all_typed_names}
 use Rattle.golf_shapes.specs.Types.{ValueType, Shape, FunctionTypes, Types, with_shapes}
 use Rattle.golf_shapes.specs.Shapes.{InstructionFits, slot_types, pushed}

@@ -31,7 +31,7 @@ use Rattle.golf_layout.specs.Piece.{Piece, all, op}
 use Rattle.golf_code_of.specs.declared.tables.Tables.{Tables}
 use Rattle.golf_code_of.specs.Values.{type_zero, new_container}
 use Rattle.golf_code_of.specs.Expressions as C
-use Rattle.golf_code_of.specs.Expressions.{Made, only, struct_of, place_of, field_place, put, puts, elements, new_sync, new_struct}
+use Rattle.golf_code_of.specs.Expressions.{Made, place_of, field_place, put, puts, elements, new_sync, new_struct}
 use Rattle.golf_code_shapes.specs.Types.{layers_type, value_type}
 use Rattle.golf_code_shapes.specs.Sound.{IsKnown, type_of_field, FileFits, ScopeFits, MemberFits, Turns, Pushes}
 use Rattle.golf_code_shapes.proofs.Typings.{both, none-left, none-right, kept}

@@ -17,7 +17,7 @@ use Rattle.golf_types.specs.Faults.{broken}
 use Rattle.golf_types.specs.Types.{plain}
 use Rattle.golf_types.specs.Names.{is_blank}
 use Rattle.golf_types.specs.Statements as W
-use Rattle.golf_types.specs.Statements.{behind, are_two, only_takes, is_outer, range_names_differ, range_faults, range_name, int_type}
+use Rattle.golf_types.specs.Statements.{behind, are_two, range_names_differ, range_faults, range_name, int_type}
 use Rattle.golf_shapes.specs.Types.{ValueType, Shape, FunctionTypes, Types}
 use Rattle.golf_shapes.specs.Shapes.{slot_types}
 use Rattle.golf_layout.specs.Piece.{Piece, all, op}

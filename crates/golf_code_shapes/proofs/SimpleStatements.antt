@@ -15,7 +15,7 @@ use Rattle.golf_types.specs.Types.{plain}
 use Rattle.golf_types.specs.Expressions.{used, given_by}
 use Rattle.golf_types.specs.Judging.{judge}
 use Rattle.golf_types.specs.Statements as W
-use Rattle.golf_types.specs.Statements.{Walk, Walked, both, behind, carried, pair_faults, pair, bool_type, assigned_name, put_in_faults, takes_value, assigned_faults, assigned_pair_faults, received, receive_faults}
+use Rattle.golf_types.specs.Statements.{both, behind, carried, pair_faults, pair, bool_type, assigned_name, put_in_faults, takes_value, assigned_pair_faults, received}
 use Rattle.golf_shapes.specs.Types.{ValueType, FunctionTypes, Types}
 use Rattle.golf_layout.specs.Piece.{Piece, all, op}
 use Rattle.golf_layout_shapes.specs.Has.{shape}
@@ -23,7 +23,7 @@ use Rattle.golf_layout_shapes.proofs.Pieces.{has-empty, has-then}
 use Rattle.golf_code_of.specs.declared.tables.Tables.{Tables}
 use Rattle.golf_code_of.specs.Coding.{piece_at}
 use Rattle.golf_code_of.specs.Statements as C
-use Rattle.golf_code_of.specs.Statements.{Part, stores_name, stores_pair}
+use Rattle.golf_code_of.specs.Statements.{stores_name, stores_pair}
 use Rattle.golf_code_shapes.specs.Types.{value_type}
 use Rattle.golf_code_shapes.specs.Sound.{ScopeFits, Pushes, Silent, Turns}
 use Rattle.golf_code_shapes.specs.Flowing.{Moves, SimpleFits, Slotted}

@@ -23,7 +23,7 @@ use Rattle.golf_types.specs.Written.{write}
 use Rattle.golf_types.specs.Expressions.{used, named_or_used, given_by, value_faults}
 use Rattle.golf_types.specs.Judging.{judge}
 use Rattle.golf_types.specs.Statements as W
-use Rattle.golf_types.specs.Statements.{Walk, Walked, action_faults, send_faults, is_place, step_faults, update_faults, left_faults, assign_faults, result_faults, behind}
+use Rattle.golf_types.specs.Statements.{Walk, action_faults, is_place, left_faults, assign_faults, result_faults}
 use Rattle.golf_shapes.specs.Types.{ValueType, Shape, FunctionTypes, Types}
 use Rattle.golf_layout.specs.Piece.{Piece, all, op}
 use Rattle.golf_layout_shapes.specs.Has.{shape, Has}
@@ -33,8 +33,7 @@ use Rattle.golf_code_of.specs.Values.{push, zero_value}
 use Rattle.golf_code_of.specs.Expressions.{Made}
 use Rattle.golf_code_of.specs.Coding.{code_at, piece_at}
 use Rattle.golf_code_of.specs.Statements as C
-use Rattle.golf_code_of.specs.declared.making.Around.{Around}
-use Rattle.golf_code_of.specs.Statements.{Lay, Part, laid, drops, updates, assigns, update_instr}
+use Rattle.golf_code_of.specs.Statements.{drops, updates, assigns, update_instr}
 use Rattle.golf_code_shapes.specs.Types.{value_type}
 use Rattle.golf_code_shapes.specs.Sound.{ScopeFits, Shown, Gives, Turns, Pushes, Silent, Places}
 use Rattle.golf_code_shapes.specs.Flowing.{SimpleFits}

@@ -16,11 +16,10 @@ use Rattle.golf_grammar.specs.Simple.{simple_form, header_simple, header_expr, p
 use Rattle.golf_grammar.specs.Statements.{StmtForm, ClauseForm, stmts_good, stmt_form_step, clause_form_step, stmt_form, clause_form}
 use Rattle.golf_types.specs.declared.scopes.Scope.{Scope}
 use Rattle.golf_types.specs.Statements as W
-use Rattle.golf_types.specs.Statements.{Walk, walk}
 use Rattle.golf_shapes.specs.Types.{FunctionTypes, Types}
 use Rattle.golf_code_of.specs.declared.tables.Tables.{Tables}
 use Rattle.golf_code_of.specs.Statements as C
-use Rattle.golf_code_of.specs.Statements.{Part, Lay, block, in_order, in_block, optional, if_part, else_part}
+use Rattle.golf_code_of.specs.Statements.{Part, block, in_order, in_block, optional}
 use Rattle.golf_code_of.specs.Loops.{for_part, header_part, in_loop}
 use Rattle.golf_code_of.specs.Loops as L
 use Rattle.golf_code_of.specs.Selects.{ClausePart}

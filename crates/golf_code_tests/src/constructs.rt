@@ -1,16 +1,7 @@
 //! The code of constructs. The expected code is by hand, from the rules of the language and its tables of instructions.
 
-use crate::told::functions;
-use std::alloc::Global;
-use std::process::Abort;
+use crate::told::expect;
 use std::test::Fail;
-
-// The functions of a text are told so.
-fn expect(rt: &impl Abort, alloc: Global, source: &str, told: &str) -> Result<(), Fail> {
-    let found = functions(rt, alloc, source)?;
-    assert_eq!(rt; found.as_str(), told);
-    Ok(())
-}
 
 #[test]
 fn loops_have_their_code(rt: HostRuntime) -> Result<(), Fail> {

@@ -6,4 +6,6 @@ mod constructs;
 #[cfg(test)]
 mod files;
 #[cfg(test)]
+mod forms;
+#[cfg(test)]
 mod told;

@@ -6,6 +6,7 @@ use golf_code::generate;
 use golf_data::{Code, Function};
 use std::alloc::{AllocError, Global};
 use std::process::Abort;
+use std::test::Fail;
 
 // The line, the slots, the depth, and each instruction with its line.
 fn told_function(alloc: Global, function: &Function) -> Result<String, AllocError> {
@@ -54,4 +55,11 @@ pub(crate) fn functions(
 ) -> Result<String, AllocError> {
     let code = code_of(rt, alloc, source);
     told(alloc, &code)
+}
+
+/// The functions of a text are told so.
+pub(crate) fn expect(rt: &impl Abort, alloc: Global, source: &str, told: &str) -> Result<(), Fail> {
+    let found = functions(rt, alloc, source)?;
+    assert_eq!(rt; found.as_str(), told);
+    Ok(())
 }

@@ -1,2 +1,4 @@
-pub mod Words
-pub mod Views
+mod Sinking
+mod Filing
+mod Surveying
+mod Calling

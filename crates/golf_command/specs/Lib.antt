@@ -1,3 +1,5 @@
+pub mod Generating
 pub mod Meaning
 pub mod Means
 pub mod Ends
+pub mod Surveys

@@ -1,16 +1,20 @@
 -- What the status of a call says of the words, of the file, of what the sinks got and of what failed.
-use Rattle.std.specs.Prelude.{◌≡◌, ℕ, ◌≤◌, ◌⊎◌, List, [], ◌++◌, map, Option, IfSome, string_bytes}
+use Rattle.std.specs.Prelude.{◌≡◌, ℕ, ◌≤◌, ◌⊎◌, List, [], ◌∷◌, ◌++◌, map, Option, string_bytes}
 use Rattle.std.specs.declared.string.String.{String}
 use Rattle.std.specs.declared.alloc.Global.{Global}
-use Rattle.std.specs.Io.KnownBytes.{Appends, Keeps}
-use Rattle.golf_base.specs.Causes.{Rose, WritesFront}
+use Rattle.std.specs.Io.KnownBytes.{Keeps, IsAtEnd}
+use Rattle.golf_base.specs.Causes.{Rose}
 use Rattle.golf_grammar.specs.declared.declarations.File.{File}
 use Rattle.golf_code_of.specs.Files.{CodeOf}
+use Rattle.golf_schedules.specs.declared.options.Options.{Options}
+use Rattle.golf_words.specs.declared.line.Line.{Line}
 use Rattle.golf_texts.specs.declared.status.Status.{Status}
 use Rattle.golf_texts.specs.declared.status.Status.TheVariants as s
 use Rattle.golf_texts.specs.declared.status.TheConstants.{USAGE, READ_FAULT, NO_MEMORY}
-use Rattle.golf_texts.specs.Meaning.{out_of, err_of, status_of}
-use Rattle.golf_command.specs.Meaning.{IsRun, Accepts, AreTrue, MovesAlways, RefusedBy, Meaning}
+use Rattle.golf_texts.specs.Meaning.{status_of}
+use Rattle.golf_texts.specs.Writes.{Write}
+use Rattle.golf_run.specs.HasRun.{Sinks, GotWrites, IsFrontOf, HasFailed, IsSteady}
+use Rattle.golf_command.specs.Meaning.{IsLine, IsNoLine, options_of, writes_for, IsFileOf, Accepts, AreTrue, MovesAlways, RefusedBy, Meaning}
 
 -- the bytes of the words
 abbrev pub words_of : List (String Global) → List (List ℕ)
@@ -20,115 +24,135 @@ words_of words = map string_bytes words
 pub record View : Type 0 where
   pub left : Option (List ℕ)
   pub read_faults : ℕ
-  pub out : Option (List ℕ)
-  pub out_faults : ℕ
-  pub err : Option (List ℕ)
-  pub err_faults : ℕ
+  pub sinks : Sinks
 
-abbrev pub seen : Option (List ℕ) → ℕ → Option (List ℕ) → ℕ → Option (List ℕ) → ℕ → View
-seen left read_faults out out_faults err err_faults = record { left = left; read_faults = read_faults; out = out; out_faults = out_faults; err = err; err_faults = err_faults }
+abbrev pub seen : Option (List ℕ) → ℕ → Sinks → View
+seen left read_faults sinks = record { left = left; read_faults = read_faults; sinks = sinks }
 
--- a text that begins so
-abbrev pub Begins : List ℕ → List ℕ → Type 0
-Begins front whole = (more : List ℕ) × (whole ≡ front ++ more)
+-- ---- what sinks got
 
--- the first sink got a front of what the run of the file prints, and nothing where no file is run
-pub record GotFront (bytes : List ℕ) (old new : Option (List ℕ)) : Type 0 where
-  pub runs : (file : File) → Accepts bytes file → WritesFront old new (out_of (CodeOf file))
-  pub refused : ((file : File) → Accepts bytes file → ⊥) → Keeps old new
+-- they got the first writes whole and a front of the next one, whose sink failed, and nothing behind it
+pub record Breaks (old new : Sinks) (done : List Write) (cut : Write) : Type 0 where
+  pub front : Write
+  pub is_front : IsFrontOf front cut
+  pub got : GotWrites (done ++ front ∷ []) old new
+  pub failed : HasFailed cut old new
 
-abbrev pub OutGotFront : View → View → Type 0
-OutGotFront old new = IfSome old.left (λ bytes. GotFront bytes old.out new.out)
+-- ---- what a status says of a file
 
--- a front of the reports and last line of the file's run, and nothing where no file is run
-pub record IsFront (front bytes : List ℕ) : Type 0 where
-  pub runs : (file : File) → Accepts bytes file → Begins front (err_of (CodeOf file))
-  pub refused : ((file : File) → Accepts bytes file → ⊥) → front ≡ []
+-- the first writes of the file's run; none where no file is run
+pub record AreFirst (line : Line) (bytes : List ℕ) (done : List Write) : Type 0 where
+  pub runs : (file : File) → Accepts bytes file → (more : List Write) × (writes_for line (CodeOf file) ≡ done ++ more)
+  pub refused : ((file : File) → Accepts bytes file → ⊥) → done ≡ []
 
--- the file was run, the sinks got all that it prints and reports, its reports are true, and no turn of it is ever stuck
-pub record RunsWhole (answer : Status) (old new : View) : Type 0 where
-  pub bytes : List ℕ
+-- the text of a cause, which may stand behind them
+pub data IsCause (bytes : List ℕ) : List ℕ → Type 0 where
+  Refusal : (text : List ℕ) → RefusedBy bytes text → IsCause bytes text
+  Wanting : IsCause bytes NO_MEMORY.now
+
+-- what may be written behind them: the next write of the run, or the text of a cause
+pub data MayFollow (line : Line) (bytes : List ℕ) (done : List Write) : Write → Type 0 where
+  Next : (write : Write) → AreFirst line bytes (done ++ write ∷ []) → MayFollow line bytes done write
+  Cause : (text : List ℕ) → AreFirst line bytes done → IsCause bytes text → MayFollow line bytes done (Write.ToErr text)
+
+-- the file was run, the sinks got all that its run writes, its reports are true, and no turn of it is ever stuck
+pub record RunsWhole (line : Line) (bytes : List ℕ) (answer : Status) (old new : Sinks) : Type 0 where
   pub file : File
-  pub told : IfSome old.left (λ left. left ≡ bytes)
   pub accepts : Accepts bytes file
-  pub status : answer ≡ status_of (CodeOf file)
-  pub out : Appends old.out new.out (out_of (CodeOf file))
-  pub err : Appends old.err new.err (err_of (CodeOf file))
-  pub reports : AreTrue (CodeOf file)
+  pub status : answer ≡ status_of (CodeOf file) (options_of line)
+  pub got : GotWrites (writes_for line (CodeOf file)) old new
+  pub reports : AreTrue (CodeOf file) (options_of line)
   pub moves : MovesAlways (CodeOf file)
 
--- the file is refused, and the second sink got the line that says why
-abbrev pub IsRefused : List ℕ → Option (List ℕ) → Option (List ℕ) → Type 0
-IsRefused bytes old new = (line : List ℕ) × RefusedBy bytes line × Appends old new line
+-- What a status says of a file's bytes and of what the sinks got.
+abbrev pub FileMeans : Line → List ℕ → Status → Sinks → Sinks → Type 0
+FileMeans line bytes s.Clean old new = RunsWhole line bytes s.Clean old new
+FileMeans line bytes s.Found old new = RunsWhole line bytes s.Found old new
+FileMeans line bytes s.Crashed old new = RunsWhole line bytes s.Crashed old new
+FileMeans line bytes s.Spent old new = RunsWhole line bytes s.Spent old new
+FileMeans line bytes s.Refused old new = (text : List ℕ) × RefusedBy bytes text × GotWrites (Write.ToErr text ∷ []) old new
+FileMeans line bytes s.Usage old new = ⊥
+FileMeans line bytes s.ReadFault old new = ⊥
+FileMeans line bytes s.WriteFault old new = (done : List Write) × ((cut : Write) × MayFollow line bytes done cut × Breaks old new done cut)
+FileMeans line bytes s.Memory old new = (done : List Write) × AreFirst line bytes done × GotWrites (done ++ Write.ToErr NO_MEMORY.now ∷ []) old new
 
--- a line of a cause that the second sink may get for a file, and why
-pub data FileLine (old new : View) : List ℕ → Type 0 where
-  WhenUnread : Rose old.read_faults new.read_faults → FileLine old new READ_FAULT.now
-  WhenRefused : (line : List ℕ) → IfSome old.left (λ bytes. RefusedBy bytes line) → FileLine old new line
-  WhenWanting : FileLine old new NO_MEMORY.now
+-- ---- what it says of a call
 
--- a sink failed and the second got no more; or the second failed in the middle of a cause's line
-abbrev pub Cut : View → View → List ℕ → Type 0
-Cut old new piece =
-    ((piece ≡ []) × (Rose old.out_faults new.out_faults ⊎ Rose old.err_faults new.err_faults))
-    ⊎ (Rose old.err_faults new.err_faults × ((line : List ℕ) × FileLine old new line × Begins piece line))
+-- a line that says why nothing was done, with its status; or its write failed
+abbrev pub Says : Status → List ℕ → Status → Sinks → Sinks → Type 0
+Says status text answer old new =
+    ((answer ≡ status) × GotWrites (Write.ToErr text ∷ []) old new × IsSteady old new)
+    ⊎ ((answer ≡ s.WriteFault) × Breaks old new [] (Write.ToErr text))
 
--- the second sink got a front of the file's reports and last line, and then perhaps a piece of a cause's line
-pub record HasFailed (old new : View) : Type 0 where
-  pub front : List ℕ
-  pub piece : List ℕ
-  pub of_file : IfSome old.left (IsFront front)
-  pub cut : Cut old new piece
-  pub written : Appends old.err new.err (front ++ piece)
+-- the source failed, and the sinks got that line
+pub record IsUnread (line : Line) (answer : Status) (old new : View) : Type 0 where
+  pub options : Options
+  pub is_run : line ≡ Line.Run options
+  pub failed : Rose old.read_faults new.read_faults
+  pub says : Says s.ReadFault READ_FAULT.now answer old.sinks new.sinks
 
--- memory was wanting: the second sink got a front of the file's reports and last line, and then the whole line that says so
-pub record HasWanted (old new : View) : Type 0 where
-  pub front : List ℕ
-  pub of_file : IfSome old.left (IsFront front)
-  pub written : Appends old.err new.err (front ++ NO_MEMORY.now)
+-- the status is that of a run
+abbrev pub IsRunEnd : Status → Type 0
+IsRunEnd s.Clean = Unit {0}
+IsRunEnd s.Found = Unit {0}
+IsRunEnd s.Crashed = Unit {0}
+IsRunEnd s.Spent = Unit {0}
+IsRunEnd _ = ⊥
 
--- What a status says where the words are a run line. Nothing is written to either sink after a write that failed.
-abbrev pub FileMeans : Status → View → View → Type 0
-FileMeans s.Clean old new = RunsWhole s.Clean old new
-FileMeans s.Found old new = RunsWhole s.Found old new
-FileMeans s.Crashed old new = RunsWhole s.Crashed old new
-FileMeans s.Spent old new = RunsWhole s.Spent old new
-FileMeans s.Refused old new = Keeps old.out new.out × IfSome old.left (λ bytes. IsRefused bytes old.err new.err)
-FileMeans s.Usage old new = ⊥
-FileMeans s.ReadFault old new = Rose old.read_faults new.read_faults × Keeps old.out new.out × Appends old.err new.err READ_FAULT.now
-FileMeans s.WriteFault old new = HasFailed old new × OutGotFront old new
-FileMeans s.Memory old new = HasWanted old new × OutGotFront old new
+-- the line's file, of which the status tells; the source is at its end where the file was run
+pub record TellsOfFile (line : Line) (answer : Status) (old new : View) : Type 0 where
+  pub bytes : List ℕ
+  pub is_file : IsFileOf line old.left bytes
+  pub means : FileMeans line bytes answer old.sinks new.sinks
+  pub at_end : (options : Options) → line ≡ Line.Run options → IsRunEnd answer → IsAtEnd new.left
 
--- what a status says where they are not: nothing is read, and the first sink gets nothing
+-- what a status says where the words are this line
+abbrev pub LineMeans : Line → Status → View → View → Type 0
+LineMeans line answer old new = IsUnread line answer old new ⊎ TellsOfFile line answer old new
+
+-- what it says where they are none
 abbrev pub UsageMeans : Status → View → View → Type 0
-UsageMeans s.Usage old new = Keeps old.left new.left × Keeps old.out new.out × Appends old.err new.err USAGE.now
-UsageMeans s.WriteFault old new = Keeps old.left new.left × Keeps old.out new.out × Rose old.err_faults new.err_faults × WritesFront old.err new.err USAGE.now
-UsageMeans _ old new = ⊥
+UsageMeans answer old new = Says s.Usage USAGE.now answer old.sinks new.sinks ⊎ Says s.Memory NO_MEMORY.now answer old.sinks new.sinks
 
 -- which counts of faults rose: those that a status names, and no other
-abbrev pub Causes : Status → View → View → Type 0
-Causes s.WriteFault old new = (Rose old.out_faults new.out_faults ⊎ Rose old.err_faults new.err_faults) × (old.read_faults ≤ new.read_faults)
-Causes s.ReadFault old new = Rose old.read_faults new.read_faults × (new.out_faults ≡ old.out_faults) × (new.err_faults ≡ old.err_faults)
-Causes _ old new = (new.read_faults ≡ old.read_faults) × (new.out_faults ≡ old.out_faults) × (new.err_faults ≡ old.err_faults)
+abbrev pub SinkCauses : Status → Sinks → Sinks → Type 0
+SinkCauses s.WriteFault old new = Rose old.out_faults new.out_faults ⊎ Rose old.err_faults new.err_faults
+SinkCauses _ old new = IsSteady old new
 
--- the sinks got whole texts that the words and the file mean
-abbrev pub GotWhole : List (List ℕ) → List ℕ → Status → View → View → Type 0
-GotWhole words bytes status old new = (out err : List ℕ) × Meaning words bytes status out err × Appends old.out new.out out × Appends old.err new.err err
+abbrev pub SourceCauses : Status → ℕ → ℕ → Type 0
+SourceCauses s.ReadFault before now = Rose before now
+SourceCauses s.WriteFault before now = before ≤ now
+SourceCauses _ before now = now ≡ before
+
+pub record Causes (answer : Status) (old new : View) : Type 0 where
+  pub source : SourceCauses answer old.read_faults new.read_faults
+  pub sinks : SinkCauses answer old.sinks new.sinks
+
+-- no count rose
+pub record IsQuiet (old new : View) : Type 0 where
+  pub source : Rose old.read_faults new.read_faults → ⊥
+  pub out : Rose old.sinks.out_faults new.sinks.out_faults → ⊥
+  pub err : Rose old.sinks.err_faults new.sinks.err_faults → ⊥
 
 -- where no count rose, the sinks got all that the words and the file mean, or memory was wanting
 abbrev pub IsComplete : List (List ℕ) → Status → View → View → Type 0
-IsComplete words status old new = IfSome old.left (λ bytes.
-    (Rose old.read_faults new.read_faults → ⊥) → (Rose old.out_faults new.out_faults → ⊥) → (Rose old.err_faults new.err_faults → ⊥)
-    → (status ≡ s.Memory) ⊎ GotWhole words bytes status old new)
+IsComplete words answer old new =
+    IsQuiet old new → (answer ≡ s.Memory) ⊎ ((writes : List Write) × Meaning words old.left answer writes × GotWrites writes old.sinks new.sinks)
 
 -- what the status of a run over a file's bytes says
-pub record FileTells (answer : Status) (old new : View) : Type 0 where
-  pub means : FileMeans answer old new
+pub record FileTells (line : Line) (bytes : List ℕ) (answer : Status) (old new : Sinks) : Type 0 where
+  pub means : FileMeans line bytes answer old new
+  pub causes : SinkCauses answer old new
+
+-- what the status of a call says where the words are this line
+pub record LineTells (line : Line) (answer : Status) (old new : View) : Type 0 where
+  pub means : LineMeans line answer old new
   pub causes : Causes answer old new
 
--- All that the status of a call says: what it means where the words are a run line, and where they are not; what failed; and that nothing is lacking where nothing failed.
+-- All that the status of a call says: what it means where the words are a line, and where they are not; that nothing is read but for a run line; what failed; and that nothing is lacking where nothing failed.
 pub record Tells (words : List (List ℕ)) (answer : Status) (old new : View) : Type 0 where
-  pub run : IsRun words → FileMeans answer old new
-  pub usage : (IsRun words → ⊥) → UsageMeans answer old new
+  pub line : (line : Line) → IsLine words line → LineMeans line answer old new
+  pub usage : IsNoLine words → UsageMeans answer old new
+  pub unread : ((options : Options) → IsLine words (Line.Run options) → ⊥) → Keeps old.left new.left
   pub causes : Causes answer old new
   pub complete : IsComplete words answer old new

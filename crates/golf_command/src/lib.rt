@@ -5,6 +5,7 @@
 #![tactic(auto)]
 
 mod ends;
+mod generated;
 mod top;
 
 pub use ends::end;

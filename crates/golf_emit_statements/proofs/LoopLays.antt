@@ -5,7 +5,7 @@ use Rattle.golf_grammar.specs.declared.expressions.Expr.{Expr}
 use Rattle.golf_grammar.specs.declared.statements.Simple.{Simple}
 use Rattle.golf_types.specs.declared.scopes.Scope.{Scope}
 use Rattle.golf_types.specs.Statements as W
-use Rattle.golf_types.specs.Statements.{Walk, Walked, behind, both, is_outer, hides, hidden, range_names}
+use Rattle.golf_types.specs.Statements.{Walked, behind, both}
 use Rattle.golf_types.proofs.WalkLaws.{behind-both}
 use Rattle.golf_layout.specs.Piece.{Piece, all}
 use Rattle.golf_code_of.specs.declared.tables.Tables.{Tables}

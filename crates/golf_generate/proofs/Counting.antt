@@ -1,5 +1,5 @@
 -- The newlines of the generated file.
-use Rattle.std.proofs.Common.{◌≡◌, ℕ, zero, suc, ◌+◌, ◌*◌, ◌<◌, ◌≤◌, ◌/◌, ◌%◌, ◌^◌, ◌==◌, Bool, cond, true, false, refl, ap, ◌∙◌, sym, List, [], ◌∷◌, ◌++◌, count_by, codes, decimal, arith}
+use Rattle.std.proofs.Common.{◌≡◌, ℕ, zero, suc, ◌+◌, ◌*◌, ◌<◌, ◌%◌, ◌^◌, ◌==◌, Bool, cond, true, false, refl, ◌∙◌, List, [], ◌∷◌, ◌++◌, codes, decimal, arith}
 use Rattle.std.proofs.lemmas.Fmt.{decimal_by_steps}
 use Rattle.std.proofs.lemmas.List.Sums.{sum_by-append}
 use Rattle.golf_generate.specs.File.{head, part, part_body, parts, call, calls, tail, file}

@@ -1,5 +1,5 @@
 -- The generated file of n parts, and the line that sums its run up (profile).
-use Rattle.std.specs.Prelude.{ℕ, zero, suc, List, [], ◌∷◌, ◌++◌, codes, decimal}
+use Rattle.std.specs.Prelude.{ℕ, zero, suc, List, [], ◌++◌, codes, decimal}
 use Rattle.golf_generate.specs.declared.summary.Summary.{Summary}
 
 abbrev pub head : List ℕ

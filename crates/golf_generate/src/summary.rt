@@ -15,12 +15,12 @@ pub struct Summary {
     pub lines: u32,
     /// How many collections there were.
     pub collections: u32,
-    /// How many goroutines were reported.
-    pub reported: u32,
+    /// How many goroutines were reported, all collections together.
+    pub reported: u64,
     /// How many dead goroutines the last collection kept.
     pub kept: u32,
-    /// How many goroutines were taken back.
-    pub reclaimed: u32,
+    /// How many goroutines were taken back, all collections together.
+    pub reclaimed: u64,
     /// How many objects the last collection left.
     pub objects: u32,
 }

@@ -4,7 +4,7 @@ ghost use Rattle.std.specs.Prelude.{◌≡◌, ◌+◌, ◌*◌, ℕ, ◌<◌, �
 
 use crate::drain::{absorb_row, drain_all, take_apart};
 use crate::hand::GreyHand;
-use crate::rule::{Push, Take, Thief};
+use crate::rule::{Count, Push, Take, Thief};
 use crate::steal::steal_all;
 use golf_base::{List, Room};
 
@@ -57,6 +57,18 @@ impl GreyPool {
             return Some(place);
         }
         steal_all(&self.thieves, &mut hand.passes, hand.number)
+    }
+
+    /// How many places lay in the hand's own deque at one moment of the call. Others may have stolen
+    /// some since, so nothing is promised of the number.
+    pub fn len(&self, hand: &mut GreyHand) -> usize
+        requires { IsHandOf self.now hand.old }
+        ensures hand { IsHandOf self.now hand.new }
+        ensures pushed { pushed hand.new ≡ pushed hand.old }
+        ensures took { (f : ℕ → ℕ) → took f hand.new ≡ took f hand.old }
+        ensures number { hand.new.number ≡ hand.old.number }
+    {
+        hand.own.len_as::<Count>()
     }
 
     /// What is left in the deques, from all hands: with what they took it is what they pushed, each

@@ -1,6 +1,6 @@
 //! The rule of one deque, and the steps under it.
 
-use crossbeam_deque::protocol::{Join, Outcome, Protocol, Split};
+use crossbeam_deque::protocol::{Join, Lesson, Outcome, Protocol, Split};
 use crossbeam_deque::{Stealer, Worker};
 use std::alloc::Global;
 use std::collections::LinkedList;
@@ -42,6 +42,15 @@ impl Outcome<u32, GreyView> for Take {
     ghost then = { λ v xs w. Taken v xs w };
 
     ghost empty = { IsEven };
+}
+
+/// A count of what lies in a deque. It tells nothing that lasts.
+pub struct Count;
+
+impl Lesson<u32, GreyView> for Count {
+    ghost use Rattle.std.specs.Prelude.{⊤};
+
+    ghost fact = { λ v items. ⊤ };
 }
 
 /// Passes that are cut off and taken back.

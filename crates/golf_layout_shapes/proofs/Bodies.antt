@@ -1,14 +1,14 @@
 -- Bodies that end fit their types.
 use Rattle.std.proofs.Common.{◌≡◌, ℕ, zero, suc, ◌+◌, ◌<◌, List, [], ◌∷◌, ◌++◌, Option, Some, refl, ap, ◌∙◌, sym, subst, slice_get, arith, length, length-append}
-use Rattle.golf_theory.specs.Membership.{In, Every}
+use Rattle.golf_theory.specs.Membership.{In}
 use Rattle.golf_theory.proofs.Lists.{Every-weaker, Every-at}
 use Rattle.golf_data.specs.declared.code.Instr.{Instr}
 use Rattle.golf_data.specs.declared.code.Line.{Line}
-use Rattle.golf_shapes.specs.Types.{ValueType, Shape, FunctionTypes, Types, with_shapes}
+use Rattle.golf_shapes.specs.Types.{Shape, FunctionTypes, Types, with_shapes}
 use Rattle.golf_shapes.specs.Shapes.{InstructionFits}
 use Rattle.golf_layout.specs.Piece.{Piece, size, placed}
 use Rattle.golf_layout.proofs.Sizes.{placed-size}
-use Rattle.golf_layout_shapes.specs.Has.{shape, filled, Stand, Fit, To, Has, Ends}
+use Rattle.golf_layout_shapes.specs.Has.{filled, Stand, Fit, Has, Ends}
 use Rattle.golf_layout_shapes.specs.Laws.{BodiesFit}
 use Rattle.golf_layout_shapes.proofs.Pieces.{stand-left, stand-right, fit-append, stands-to}
 

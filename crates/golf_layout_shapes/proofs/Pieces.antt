@@ -11,7 +11,7 @@ use Rattle.golf_shapes.specs.Shapes.{GoesOn, InstructionFits, CasesFit, DefaultF
 use Rattle.golf_layout.specs.Piece.{Piece, size, target, case_at, placed}
 use Rattle.golf_layout.proofs.Sizes.{placed-size}
 use Rattle.golf_layout_shapes.specs.Has.{shape, filled, Stand, Fit, To, Exits, Has, Reaches, CasesReach, DefaultReaches}
-use Rattle.golf_layout_shapes.specs.Laws.{PutTogether, PiecesHaveShapes}
+use Rattle.golf_layout_shapes.specs.Laws.{PiecesHaveShapes}
 
 pub stand-left : (full : List Shape) (at : ℕ) (xs ys : List Shape) → Stand full at (xs ++ ys) → Stand full at xs
 stand-left full at [] ys h = tt

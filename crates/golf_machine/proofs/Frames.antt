@@ -1,8 +1,7 @@
 -- Frames that are entered and left, and goroutines that end, as the definitions have them.
-use Rattle.std.proofs.Common.{◌≡◌, ℕ, zero, suc, ◌+◌, ◌<◌, ◌≤◌, Bool, true, false, cond, List, [], ◌∷◌, ◌++◌, length, drop, Option, Some, None, ◌==◌, refl, sym, ap, ◌∙◌, arith}
-use Rattle.std.specs.Prelude.{slice_get, slice_set, nat_le, ℤ, pos}
+use Rattle.std.proofs.Common.{◌≡◌, ℕ, ◌+◌, ◌<◌, ◌≤◌, Bool, true, false, List, [], ◌∷◌, ◌++◌, length, drop, Option, Some, None, ◌==◌, refl, sym, ap, ◌∙◌, arith}
+use Rattle.std.specs.Prelude.{slice_get, slice_set}
 use Rattle.std.proofs.lemmas.Bool.{eq-eqb, le-leb, lt-leb}
-use Rattle.golf_base.specs.declared.ids.GoroutineId.{GoroutineId}
 use Rattle.golf_data.specs.declared.value.Value.{Value}
 use Rattle.golf_data.specs.declared.value.Object.{Object}
 use Rattle.golf_data.specs.declared.code.Code.{Code}
@@ -15,18 +14,16 @@ use Rattle.golf_theory.specs.Maps.{find}
 use Rattle.golf_theory.proofs.MapFinds.{find-add_old}
 use Rattle.golf_model.specs.Views.{FrameView, GoroutineView}
 use Rattle.golf_model.specs.State.{State, call_frame, not_empty}
-use Rattle.golf_model.specs.Values.{reference, line_bytes}
-use Rattle.golf_model.specs.Changes.{Change, apply_all, become, finish, make, spawn, output, behind_first}
-use Rattle.golf_model.specs.Waking.{on_top, unwinding}
-use Rattle.golf_model.specs.Acting.{Actor, next, stands, goes, on_some, choose, taking_one, standing, with_frames}
+use Rattle.golf_model.specs.Changes.{Change, apply_all, become, finish, make, spawn, behind_first}
+use Rattle.golf_model.specs.Waking.{on_top}
+use Rattle.golf_model.specs.Acting.{Actor, next, stands, goes, on_some, choose, taking_one, with_frames}
 use Rattle.golf_model.specs.Calculating.{stores}
-use Rattle.golf_model.specs.Structures.{makes_channel, is_bad_size, new_channel}
-use Rattle.golf_model.specs.Calls.{enters, is_full, calls, spawns, defers, begins_deferred, ends, returns_to, ends_returning, unwinds_to}
+use Rattle.golf_model.specs.Calls.{enters, calls, spawns, defers, begins_deferred, ends, returns_to, unwinds_to}
 use Rattle.golf_state.specs.Looked.{frames_of, reframed}
-use Rattle.golf_state.specs.Going.{went, has_deferred, stored, stored_in, undeferred, exchanged, exchanged_in}
+use Rattle.golf_state.specs.Going.{went, has_deferred, stored, stored_in, undeferred}
 use Rattle.golf_state.specs.Operands.{operands_of, top_operands}
 use Rattle.golf_state.specs.Doing.{does, Stands}
-use Rattle.golf_state.proofs.Doings.{actor_of, does-is, went-next, frames-is, reframed-is, stands-is, goes-is}
+use Rattle.golf_state.proofs.Doings.{actor_of, does-is, went-next, frames-is, reframed-is, stands-is}
 use Rattle.golf_machine.specs.Acts.{last_of, begins_latest, deferred_of, top_deferred}
 use Rattle.golf_machine.proofs.Takings.{taking-is}
 

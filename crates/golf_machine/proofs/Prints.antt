@@ -1,29 +1,21 @@
 -- A line that is printed.
-use Rattle.std.proofs.Common.{◌≡◌, ℕ, ◌+◌, Bool, true, false, List, [], ◌∷◌, ◌++◌, drop, Option, Some, None, refl, sym, ap, ◌∙◌}
-use Rattle.std.specs.Prelude.{slice_get, option_map, ℤ, unsigned_abs}
+use Rattle.std.proofs.Common.{◌≡◌, ℕ, List, [], ◌∷◌, drop, Option, Some, None, sym, ap, ◌∙◌}
 use Rattle.golf_data.specs.declared.value.Value.{Value}
-use Rattle.golf_data.specs.declared.value.Object.{Object}
-use Rattle.golf_data.specs.declared.value.Channel.{Channel}
 use Rattle.golf_data.specs.declared.code.Code.{Code}
-use Rattle.golf_data.specs.declared.goroutine.Mode.{Mode}
-use Rattle.golf_data.specs.declared.goroutine.PanicKind.{PanicKind}
 use Rattle.golf_theory.specs.Maps.{find}
 use Rattle.golf_model.specs.Views.{FrameView}
 use Rattle.golf_model.specs.State.{State}
-use Rattle.golf_model.specs.Values.{line_bytes, reference, int_of, zero_of}
-use Rattle.golf_model.specs.Changes.{Change, apply_all, become, make, output}
-use Rattle.golf_model.specs.Waking.{on_top}
-use Rattle.golf_model.specs.Acting.{Actor, next, stands, goes, panics, on_some, choose, taking_one, with_frames, standing}
-use Rattle.golf_model.specs.Structures.{makes, makes_channel, is_bad_size, new_channel}
+use Rattle.golf_model.specs.Values.{line_bytes}
+use Rattle.golf_model.specs.Changes.{Change, apply_all, output}
+use Rattle.golf_model.specs.Acting.{next, stands, goes, on_some}
 use Rattle.golf_model.specs.Turn.{prints}
-use Rattle.golf_state.specs.Looked.{frames_of, reframed}
-use Rattle.golf_state.specs.Going.{went, exchanged, exchanged_in}
+use Rattle.golf_state.specs.Going.{went}
 use Rattle.golf_state.specs.Operands.{operands_of}
 use Rattle.golf_state.specs.Doing.{does, Stands}
-use Rattle.golf_state.proofs.Doings.{actor_of, does-is, went-next, goes-is, stands-is, frames-is, reframed-is}
+use Rattle.golf_state.proofs.Doings.{actor_of, does-is, went-next}
 use Rattle.golf_machine.specs.Acts.{last_of}
 use Rattle.golf_machine.proofs.Takings.{taking-is}
-use Rattle.golf_machine.proofs.Frames.{operands-is, stands-made}
+use Rattle.golf_machine.proofs.Frames.{operands-is}
 
 -- the goroutine in its turn stands where it stood
 abbrev pub stands-printed : (g after : ℕ) (s : State) → Stands g after s → (s1 : State) (bytes : List ℕ) → s1 ≡ output bytes s → Stands g after s1

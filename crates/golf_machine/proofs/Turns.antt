@@ -1,5 +1,5 @@
 -- Whose turn it is, and what the turn is.
-use Rattle.std.proofs.Common.{◌≡◌, ℕ, ◌+◌, ◌<◌, ◌≤◌, ◌%◌, ◌/◌, ◌^◌, Bool, true, false, ◌&&◌, not, ◌||◌, ◌==◌, List, [], ◌∷◌, length, get_or, map, Option, Some, None, refl, sym, ap, ◌∙◌, arith}
+use Rattle.std.proofs.Common.{◌≡◌, ℕ, ◌+◌, ◌<◌, ◌%◌, ◌/◌, ◌^◌, true, not, ◌||◌, ◌==◌, List, [], ◌∷◌, length, get_or, map, Option, Some, None, refl, sym, ap, ◌∙◌, arith}
 use Rattle.std.specs.Prelude.{slice_get, option_map, option_and_then}
 use Rattle.std.proofs.lemmas.Bool.{and_parts}
 use Rattle.std.proofs.lemmas.List.{length-map}
@@ -12,19 +12,18 @@ use Rattle.golf_data.specs.declared.goroutine.Ending.{Ending}
 use Rattle.golf_data.specs.declared.goroutine.Leaving.{Leaving}
 use Rattle.golf_data.specs.declared.goroutine.Mode.{Mode}
 use Rattle.golf_data.specs.Places.{IsShort, HasPlaces}
-use Rattle.golf_theory.specs.Membership.{In}
-use Rattle.golf_theory.specs.Maps.{Entry, find, IsRising, keys_where}
+use Rattle.golf_theory.specs.Maps.{find, IsRising}
 use Rattle.golf_theory.proofs.Lists.{In-slice_get}
 use Rattle.golf_theory.proofs.MapEntries.{Entry-keys_where}
 use Rattle.golf_theory.proofs.MapFinds.{find-Entry}
 use Rattle.golf_model.specs.Views.{FrameView, GoroutineView}
 use Rattle.golf_model.specs.State.{State, is_running, not_empty, can_run, runnable, ending, ending_of}
-use Rattle.golf_model.specs.Changes.{Change, apply_all, behind_first}
+use Rattle.golf_model.specs.Changes.{apply_all, behind_first}
 use Rattle.golf_model.specs.Turn.{changes, line_at, turn_of, turn_changes, whose_turn, step, frame_changes, performs}
 use Rattle.golf_model.specs.Running.{wants_collection, goroutine_collects}
 use Rattle.golf_state.specs.Looked.{frames_of, frames_in}
 use Rattle.golf_state.specs.Doing.{does, Stands, Runs}
-use Rattle.golf_state.proofs.Doings.{actor_of, does-is}
+use Rattle.golf_state.proofs.Doings.{does-is}
 
 -- ---- whose turn it is
 

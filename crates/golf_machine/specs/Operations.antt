@@ -1,5 +1,5 @@
 -- Operands that are integers or truth values, and what is done with them.
-use Rattle.std.specs.Prelude.{Bool, List, [], ◌∷◌, Option, Some, None, ℤ, int_lt, int_le, option_and_then, option_map}
+use Rattle.std.specs.Prelude.{Bool, List, [], ◌∷◌, Option, None, ℤ, int_lt, int_le, option_and_then, option_map}
 use Rattle.golf_data.specs.declared.value.Value.{Value}
 use Rattle.golf_model.specs.Values.{int_of, bool_of}
 use Rattle.golf_model.specs.Calculating.{sum, difference, product, quotient, remainder}

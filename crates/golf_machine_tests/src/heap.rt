@@ -1,34 +1,43 @@
 //! Objects by number.
 
-use golf_base::ObjectId;
+use crate::stepping::holds;
+use golf_base::{Memory, ObjectId};
 use golf_data::Object;
 use golf_heap::Heap;
+use std::alloc::Global;
 use std::test::Fail;
+
+// Whether an object that is made once the first one is freed gets the next number.
+fn counts_on(alloc: Global) -> Result<bool, Memory> {
+    let mut heap = Heap::new(alloc);
+    let first = heap.make(Object::Mutex(false))?;
+    let there = heap.holds(first) && heap.count() == 1;
+    heap.retain(&[false]);
+    let second = heap.make(Object::Mutex(true))?;
+    let numbers = first == ObjectId(1) && second == ObjectId(2) && heap.last() == 2;
+    let left = !heap.holds(first) && heap.count() == 1;
+    Ok(there && numbers && left && heap.rank(second) == 0)
+}
 
 #[test]
 fn numbers_are_never_used_again(rt: HostRuntime) -> Result<(), Fail> {
-    let mut heap = Heap::new(rt.alloc());
-    assert_eq!(rt; heap.make(Object::Mutex(false))?, ObjectId(1));
-    assert!(rt; heap.holds(ObjectId(1)));
-    assert_eq!(rt; heap.count(), 1);
-    heap.retain(&[false]);
-    assert_eq!(rt; heap.make(Object::Mutex(true))?, ObjectId(2));
-    assert!(rt; !heap.holds(ObjectId(1)));
-    assert_eq!(rt; heap.count(), 1);
-    assert_eq!(rt; heap.last(), 2);
-    assert_eq!(rt; heap.rank(ObjectId(2)), 0);
-    assert_eq!(rt; heap.count(), 1);
-    assert_eq!(rt; heap.at(0), ObjectId(2));
-    Ok(())
+    holds(&rt, counts_on(rt.alloc())?)
+}
+
+fn is_locked(object: Option<&Object>) -> bool {
+    matches!(object, Some(Object::Mutex(true)))
+}
+
+// Whether an object is replaced where it is there, and else nothing is made.
+fn is_replaced(alloc: Global) -> Result<bool, Memory> {
+    let mut heap = Heap::new(alloc);
+    let first = heap.make(Object::Mutex(false))?;
+    heap.put(first, Object::Mutex(true));
+    heap.put(ObjectId(7), Object::Mutex(true));
+    Ok(is_locked(heap.get(first)) && heap.get(ObjectId(7)).is_none())
 }
 
 #[test]
 fn an_object_is_replaced(rt: HostRuntime) -> Result<(), Fail> {
-    let mut heap = Heap::new(rt.alloc());
-    let first = heap.make(Object::Mutex(false))?;
-    heap.put(first, Object::Mutex(true));
-    assert!(rt; matches!(heap.get(first), Some(Object::Mutex(true))));
-    heap.put(ObjectId(7), Object::Mutex(true));
-    assert!(rt; heap.get(ObjectId(7)).is_none());
-    Ok(())
+    holds(&rt, is_replaced(rt.alloc())?)
 }

@@ -1,10 +1,9 @@
 //! Each instruction, through turns. What is expected comes from the Go specification and the
 //! documentation of the packages.
 
-use crate::programs::{go_on, outcome, program};
-use golf_base::{GoroutineId, List, ObjectId};
-use golf_data::{CaseKind, Ending, Instr, PanicKind, Queued, SelectCase, Value};
-use golf_machine::start;
+use crate::programs::{ends, program};
+use golf_base::{GoroutineId, List};
+use golf_data::{CaseKind, Ending, Instr, PanicKind, SelectCase, Value};
 use std::test::Fail;
 
 fn panicked(kind: PanicKind, line: u32) -> Option<Ending> {
@@ -41,13 +40,12 @@ fn numbers_wrap_and_divide_toward_zero(rt: HostRuntime) -> Result<(), Fail> {
         Instr::Div,
     ]?;
     let code = program(rt.alloc(), main, Vec::new(rt.alloc()))?;
-    let (text, ending) = outcome(rt.alloc(), &code)?;
-    assert_eq!(rt;
-        text.as_slice(),
-        b"-3 -1 -9223372036854775808 12 -3 -9223372036854775808\n".as_slice()
-    );
-    assert_eq!(rt; ending, panicked(PanicKind::DivideByZero, 21));
-    Ok(())
+    ends(
+        &rt,
+        &code,
+        b"-3 -1 -9223372036854775808 12 -3 -9223372036854775808\n",
+        panicked(PanicKind::DivideByZero, 21),
+    )
 }
 
 #[test]
@@ -74,13 +72,12 @@ fn values_are_compared(rt: HostRuntime) -> Result<(), Fail> {
         Instr::Return,
     ]?;
     let code = program(rt.alloc(), main, Vec::new(rt.alloc()))?;
-    let (text, ending) = outcome(rt.alloc(), &code)?;
-    assert_eq!(rt;
-        text.as_slice(),
-        b"false true true true false false\n".as_slice()
-    );
-    assert_eq!(rt; ending, Some(Ending::Returned));
-    Ok(())
+    ends(
+        &rt,
+        &code,
+        b"false true true true false false\n",
+        Some(Ending::Returned),
+    )
 }
 
 #[test]
@@ -107,10 +104,7 @@ fn variables_and_jumps(rt: HostRuntime) -> Result<(), Fail> {
         Instr::Jump(11),
     ]?;
     let code = program(rt.alloc(), main, Vec::new(rt.alloc()))?;
-    let (text, ending) = outcome(rt.alloc(), &code)?;
-    assert_eq!(rt; text.as_slice(), b"10 1 10\n".as_slice());
-    assert_eq!(rt; ending, Some(Ending::Returned));
-    Ok(())
+    ends(&rt, &code, b"10 1 10\n", Some(Ending::Returned))
 }
 
 #[test]
@@ -141,10 +135,12 @@ fn structs_and_slices(rt: HostRuntime) -> Result<(), Fail> {
         Instr::Index,
     ]?;
     let code = program(rt.alloc(), main, Vec::new(rt.alloc()))?;
-    let (text, ending) = outcome(rt.alloc(), &code)?;
-    assert_eq!(rt; text.as_slice(), b"4 9 3\n".as_slice());
-    assert_eq!(rt; ending, panicked(PanicKind::Index { at: 3, length: 3 }, 23));
-    Ok(())
+    ends(
+        &rt,
+        &code,
+        b"4 9 3\n",
+        panicked(PanicKind::Index { at: 3, length: 3 }, 23),
+    )
 }
 
 #[test]
@@ -168,10 +164,12 @@ fn a_closed_channel_gives_its_buffer_and_then_zero(rt: HostRuntime) -> Result<()
         Instr::Close,
     ]?;
     let code = program(rt.alloc(), main, Vec::new(rt.alloc()))?;
-    let (text, ending) = outcome(rt.alloc(), &code)?;
-    assert_eq!(rt; text.as_slice(), b"6 true\n0 false\n".as_slice());
-    assert_eq!(rt; ending, panicked(PanicKind::CloseClosed, 16));
-    Ok(())
+    ends(
+        &rt,
+        &code,
+        b"6 true\n0 false\n",
+        panicked(PanicKind::CloseClosed, 16),
+    )
 }
 
 #[test]
@@ -204,10 +202,7 @@ fn a_blocked_select_gets_what_is_sent(rt: HostRuntime) -> Result<(), Fail> {
     ]?;
     let sender = vec![in rt.alloc(); Instr::Load(0), Instr::Int(8), Instr::Send, Instr::Return]?;
     let code = program(rt.alloc(), main, sender)?;
-    let (text, ending) = outcome(rt.alloc(), &code)?;
-    assert_eq!(rt; text.as_slice(), b"8 true\n".as_slice());
-    assert_eq!(rt; ending, Some(Ending::Returned));
-    Ok(())
+    ends(&rt, &code, b"8 true\n", Some(Ending::Returned))
 }
 
 #[test]
@@ -228,9 +223,7 @@ fn a_select_without_a_ready_case_takes_its_default(rt: HostRuntime) -> Result<()
         Instr::Return,
     ]?;
     let code = program(rt.alloc(), main, Vec::new(rt.alloc()))?;
-    let (text, _) = outcome(rt.alloc(), &code)?;
-    assert_eq!(rt; text.as_slice(), b"2\n".as_slice());
-    Ok(())
+    ends(&rt, &code, b"2\n", Some(Ending::Returned))
 }
 
 #[test]
@@ -273,10 +266,12 @@ fn a_mutex_is_handed_to_its_waiter(rt: HostRuntime) -> Result<(), Fail> {
         Instr::Return,
     ]?;
     let code = program(rt.alloc(), main, other)?;
-    let (text, ending) = outcome(rt.alloc(), &code)?;
-    assert_eq!(rt; text.as_slice(), b"1\n2\n3\n".as_slice());
-    assert_eq!(rt; ending, panicked(PanicKind::UnlockUnlocked, 23));
-    Ok(())
+    ends(
+        &rt,
+        &code,
+        b"1\n2\n3\n",
+        panicked(PanicKind::UnlockUnlocked, 23),
+    )
 }
 
 #[test]
@@ -313,10 +308,12 @@ fn a_writer_waits_for_a_reader(rt: HostRuntime) -> Result<(), Fail> {
         Instr::Return,
     ]?;
     let code = program(rt.alloc(), main, other)?;
-    let (text, ending) = outcome(rt.alloc(), &code)?;
-    assert_eq!(rt; text.as_slice(), b"1\n2\n3\n".as_slice());
-    assert_eq!(rt; ending, panicked(PanicKind::UnlockUnlockedRw, 20));
-    Ok(())
+    ends(
+        &rt,
+        &code,
+        b"1\n2\n3\n",
+        panicked(PanicKind::UnlockUnlockedRw, 20),
+    )
 }
 
 #[test]
@@ -352,10 +349,7 @@ fn a_condition_passes_its_waiter_on(rt: HostRuntime) -> Result<(), Fail> {
         Instr::Return,
     ]?;
     let code = program(rt.alloc(), main, other)?;
-    let (text, ending) = outcome(rt.alloc(), &code)?;
-    assert_eq!(rt; text.as_slice(), b"1\n2\n".as_slice());
-    assert_eq!(rt; ending, Some(Ending::Returned));
-    Ok(())
+    ends(&rt, &code, b"1\n2\n", Some(Ending::Returned))
 }
 
 #[test]
@@ -381,10 +375,7 @@ fn deferred_calls_run_before_a_value_is_returned(rt: HostRuntime) -> Result<(), 
         Instr::Return,
     ]?;
     let code = program(rt.alloc(), main, other)?;
-    let (text, ending) = outcome(rt.alloc(), &code)?;
-    assert_eq!(rt; text.as_slice(), b"5\n6\n".as_slice());
-    assert_eq!(rt; ending, panicked(PanicKind::Custom(1), 5));
-    Ok(())
+    ends(&rt, &code, b"5\n6\n", panicked(PanicKind::Custom(1), 5))
 }
 
 #[test]
@@ -403,29 +394,5 @@ fn a_second_finaliser_is_fatal(rt: HostRuntime) -> Result<(), Fail> {
         Instr::SetFinalizer(1),
     ]?;
     let code = program(rt.alloc(), main, Vec::new(rt.alloc()))?;
-    let (_, ending) = outcome(rt.alloc(), &code)?;
-    assert_eq!(rt; ending, panicked(PanicKind::FinalizerSet, 11));
-    Ok(())
-}
-
-#[test]
-fn a_queued_finaliser_is_called_with_its_object(rt: HostRuntime) -> Result<(), Fail> {
-    let main = vec![in rt.alloc(); Instr::NewStruct(0), Instr::Jump(1)]?;
-    let other = vec![in rt.alloc();
-        Instr::Load(0),
-        Instr::Field(0),
-        Instr::Print(1),
-        Instr::Return,
-    ]?;
-    let code = program(rt.alloc(), main, other)?;
-    let mut state = start(rt.alloc(), &code)?;
-    go_on(rt.alloc(), &code, &mut state)?;
-    state.enqueue(&[Queued {
-        object: ObjectId(1),
-        function: 1,
-    }])?;
-    go_on(rt.alloc(), &code, &mut state)?;
-    assert_eq!(rt; state.output(), b"0\n".as_slice());
-    assert_eq!(rt; state.queue().len(), 0);
-    Ok(())
+    ends(&rt, &code, b"", panicked(PanicKind::FinalizerSet, 11))
 }

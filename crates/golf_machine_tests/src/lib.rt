@@ -5,6 +5,8 @@
 #[cfg(test)]
 mod codes;
 #[cfg(test)]
+mod finalising;
+#[cfg(test)]
 mod heap;
 #[cfg(test)]
 mod instructions;
@@ -13,8 +15,16 @@ mod programs;
 #[cfg(test)]
 mod ready;
 #[cfg(test)]
+mod refusals;
+#[cfg(test)]
 mod runs;
 #[cfg(test)]
 mod states;
 #[cfg(test)]
+mod stepping;
+#[cfg(test)]
+mod stuck;
+#[cfg(test)]
 mod turns;
+#[cfg(test)]
+mod unwinding;

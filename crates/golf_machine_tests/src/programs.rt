@@ -6,6 +6,8 @@ use golf_data::{Code, Ending, Function, Instr, Line, Value};
 use golf_machine::{start, turn};
 use golf_state::State;
 use std::alloc::Global;
+use std::process::Abort;
+use std::test::Fail;
 
 /// How many turns a run has.
 const TURNS: u64 = 120;
@@ -65,8 +67,8 @@ pub fn program(alloc: Global, main: Vec<Instr>, other: Vec<Instr>) -> Result<Cod
     })
 }
 
-/// Takes turns from this number on, each the next one, until the program has ended.
-pub fn go_on(alloc: Global, code: &Code, state: &mut State) -> Result<(), Memory> {
+// Takes turns, each of the next number, until the program has ended.
+fn go_on(alloc: Global, code: &Code, state: &mut State) -> Result<(), Memory> {
     for number in 0..TURNS {
         if state.ending().is_some() || !can_run(code) {
             return Ok(());
@@ -76,11 +78,24 @@ pub fn go_on(alloc: Global, code: &Code, state: &mut State) -> Result<(), Memory
     Ok(())
 }
 
-/// What a run of a code prints, and how it ends.
-pub fn outcome(alloc: Global, code: &Code) -> Result<(List<u8>, Option<Ending>), Memory> {
+// What a run of a code prints, and how it ends.
+fn outcome(alloc: Global, code: &Code) -> Result<(List<u8>, Option<Ending>), Memory> {
     let mut state = start(alloc, code)?;
     go_on(alloc, code, &mut state)?;
     let mut text = List::new(alloc);
     text.extend_from_slice(state.output())?;
     Ok((text, state.ending()))
+}
+
+/// A run of a code prints this, and ends so.
+pub fn ends<R: AllocGlobal + Abort>(
+    rt: &R,
+    code: &Code,
+    text: &[u8],
+    ending: Option<Ending>,
+) -> Result<(), Fail> {
+    let (printed, how) = outcome(rt.alloc(), code)?;
+    assert_eq!(rt; printed.as_slice(), text);
+    assert_eq!(rt; how, ending);
+    Ok(())
 }

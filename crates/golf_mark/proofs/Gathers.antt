@@ -1,5 +1,5 @@
 -- Taking the markers together, and what follows at the end.
-use Rattle.std.proofs.Common.{◌≡◌, ◌≢◌, ℕ, zero, suc, ◌+◌, ◌<◌, ◌≤◌, ◌⊎◌, List, [], ◌∷◌, ◌++◌, Bool, true, false, cond, ne_eqb, length, length-append, get_or, refl, sym, ap, ◌∙◌, subst, inl, inr, ⊎_elim, arith}
+use Rattle.std.proofs.Common.{◌≡◌, ◌≢◌, ℕ, zero, suc, ◌+◌, ◌<◌, ◌≤◌, ◌⊎◌, List, [], ◌∷◌, ◌++◌, Bool, cond, ne_eqb, length, length-append, refl, sym, ap, ◌∙◌, subst, inl, inr, ⊎_elim, arith}
 use Rattle.std.specs.Prelude.{sum_by}
 use Rattle.std.proofs.lemmas.Bool.{cases_lt}
 use Rattle.std.proofs.lemmas.List.Sums.{sum_by-cons, sum_by_push}
@@ -10,8 +10,8 @@ use lib.ListN.{get_elem?}
 use Rattle.atomic_table.proofs.Lists.{at_longer, at_last}
 use Rattle.golf_theory.specs.Membership.{In}
 use Rattle.golf_theory.specs.Counting.{times}
+use Rattle.golf_theory.proofs.Times.{times-In, In-times}
 use Rattle.golf_marks.specs.declared.marks.Marks.{Marks}
-use Rattle.golf_marks.specs.declared.marks.MarkSeat.{MarkSeat}
 use Rattle.golf_marks.specs.Flags.{IsSet}
 use Rattle.golf_marks.specs.Places.{place_count}
 use Rattle.golf_marks.specs.Seats.{graph_in, claimed, known, parts, IsSeatOf}
@@ -22,17 +22,18 @@ use Rattle.golf_grey.proofs.Stages.{push_cases, at_end}
 use Rattle.golf_mark.specs.declared.marker.Marker.{Marker}
 use Rattle.golf_mark.specs.Turning.{is_one}
 use Rattle.golf_mark.specs.Working.{IsScanned}
-use Rattle.golf_mark.specs.Gathering.{AllRun, IsEvenWith, IsGathered, Finisher, IsFinisherOf, IsHandedOver}
+use Rattle.golf_mark.specs.Gathering.{AllRun, IsEvenWith, IsGathered, IsNoted, Finisher, IsFinisherOf, IsHandedOver}
 
-pub gathered_first : (marks : Marks) (ms rest : List Marker) (m : Marker) → ms ≡ rest ++ m ∷ [] → IsSeatOf marks m.scanner.seat → length m.deferred.items ≡ place_count (graph_in marks) → IsGathered marks ms rest (record { seat = m.scanner.seat; todo = m.deferred.items })
-gathered_first marks ms rest m is seat deferred = record {
-  fits = record { seat = seat; todo = deferred };
+pub gathered_first : (marks : Marks) (ms rest : List Marker) (m : Marker) (todo : List Bool) → ms ≡ rest ++ m ∷ [] → IsSeatOf marks m.scanner.seat → length todo ≡ place_count (graph_in marks)
+    → ((x : ℕ) → x < place_count (graph_in marks) → IsNoted m x → IsSet todo x) → IsGathered marks ms rest (record { seat = m.scanner.seat; todo = todo })
+gathered_first marks ms rest m todo is seat size notes = record {
+  fits = record { seat = seat; todo = size };
   begins = λ k x e. subst (λ (l : List Marker). get_elem? l k ≡ some x) (sym is) (at_longer rest (m ∷ []) k x e);
   all = λ k x e low. ⊎_elim (λ (t : (k < length rest) × (get_elem? rest k ≡ some x)). t.1) (λ (t : (k ≡ length rest) × (m ≡ x)). absurd (omega arith)) (here k x e);
   sums = λ h. omega (arith, sum_by_push (λ (y : Marker). sum_by h (claimed y.scanner.seat)) rest m, ap (sum_by (λ (y : Marker). sum_by h (claimed y.scanner.seat))) is);
   counted = omega (arith, sum_by_push (λ (y : Marker). parts y.scanner.seat) rest m, ap (sum_by (λ (y : Marker). parts y.scanner.seat)) is);
   told = λ k x e low y h. subst (λ (z : Marker). In y (known z.scanner.seat)) (sym (is_last k x e low)) h;
-  noted = λ k x e low y _ h. ap (λ (z : Marker). get_or z.deferred.items y false) (is_last k x e low) ∙ h;
+  noted = λ k x e low y in_range h. notes y in_range (subst (λ (z : Marker). IsNoted z y) (sym (is_last k x e low)) h);
 }
   where
     here : (k : ℕ) (x : Marker) → get_elem? ms k ≡ some x → ((k < length rest) × (get_elem? rest k ≡ some x)) ⊎ ((k ≡ length rest) × (m ≡ x))
@@ -47,7 +48,7 @@ last_in marks ms rest more m f is g = g.begins (length more) m (subst (λ (l : L
 pub gathered_more : (marks : Marks) (ms rest more : List Marker) (m : Marker) (f e : Finisher) → rest ≡ more ++ m ∷ [] → IsGathered marks ms rest f → IsFinisherOf marks e
     → ((h : ℕ → ℕ) → sum_by h (claimed e.seat) ≡ sum_by h (claimed f.seat) + sum_by h (claimed m.scanner.seat)) → parts e.seat ≡ parts f.seat + parts m.scanner.seat
     → ((x : ℕ) → In x (known f.seat) → In x (known e.seat)) → ((x : ℕ) → In x (known m.scanner.seat) → In x (known e.seat))
-    → ((x : ℕ) → IsSet f.todo x → IsSet e.todo x) → ((x : ℕ) → x < place_count (graph_in marks) → get_or m.deferred.items x false ≡ true → IsSet e.todo x) → IsGathered marks ms more e
+    → ((x : ℕ) → IsSet f.todo x → IsSet e.todo x) → ((x : ℕ) → x < place_count (graph_in marks) → IsNoted m x → IsSet e.todo x) → IsGathered marks ms more e
 gathered_more marks ms rest more m f e is g fits sums count kept new still todo = record {
   fits = fits;
   begins = λ k x d. g.begins k x (subst (λ (l : List Marker). get_elem? l k ≡ some x) (sym is) (at_longer more (m ∷ []) k x d));
@@ -60,7 +61,7 @@ gathered_more marks ms rest more m f e is g fits sums count kept new still todo 
       (λ (past : length rest ≤ k). kept y (g.told k x d past y h))
       (cases_lt k (length rest));
   noted = λ k x d low y in_range h. ⊎_elim
-      (λ (old : k < length rest). todo y in_range (ap (λ (z : Marker). get_or z.deferred.items y false) (is_last k x d low old) ∙ h))
+      (λ (old : k < length rest). todo y in_range (subst (λ (z : Marker). IsNoted z y) (sym (is_last k x d low old)) h))
       (λ (past : length rest ≤ k). still y (g.noted k x d past y in_range h))
       (cases_lt k (length rest));
 }
@@ -72,12 +73,17 @@ gathered_more marks ms rest more m f e is g fits sums count kept new still todo 
     is_last k x d low old = ⊎_elim (λ (t : (k < length more) × (get_elem? more k ≡ some x)). absurd (omega arith)) (λ (t : (k ≡ length more) × (m ≡ x)). t.1)
         (push_cases more m x k (subst (λ (l : List Marker). get_elem? l k ≡ some x) is (g.all k x d old)))
 
-some_takes : (ms : List Marker) (x : ℕ) → 0 < sum_by (λ m. took (is_one x) m.hand) ms → (k : ℕ) × (m : Marker) × (get_elem? ms k ≡ some m) × (0 < took (is_one x) m.hand)
-some_takes [] x pos = absurd (omega arith)
-some_takes (m ∷ ms) x pos = ⊎_elim
-    (λ (here : 0 < took (is_one x) m.hand). (0, m, refl, here))
-    (λ (none : took (is_one x) m.hand ≤ 0). let r = some_takes ms x (omega (arith, sum_by-cons (λ (y : Marker). took (is_one x) y.hand) m ms)) in (suc r.0, r.1, r.2, r.3))
-    (cases_lt 0 (took (is_one x) m.hand))
+some_of : (f : Marker → ℕ) (ms : List Marker) → 0 < sum_by f ms → (k : ℕ) × (m : Marker) × (get_elem? ms k ≡ some m) × (0 < f m)
+some_of f [] pos = absurd (omega arith)
+some_of f (m ∷ ms) pos = ⊎_elim
+    (λ (here : 0 < f m). (0, m, refl, here))
+    (λ (none : f m ≤ 0). let r = some_of f ms (omega (arith, sum_by-cons f m ms)) in (suc r.0, r.1, r.2, r.3))
+    (cases_lt 0 (f m))
+
+at_most_all : (f : Marker → ℕ) (ms : List Marker) (k : ℕ) (m : Marker) → get_elem? ms k ≡ some m → f m ≤ sum_by f ms
+at_most_all f [] k m at = absurd (some-ne-none m (sym at))
+at_most_all f (x ∷ ms) zero m at = omega (arith, sum_by-cons f x ms, ap f (some-injective x m at))
+at_most_all f (x ∷ ms) (suc k) m at = omega (arith, sum_by-cons f x ms, at_most_all f ms k m at)
 
 in_left : (left : List ℕ) (x : ℕ) → 0 < sum_by (is_one x) left → In x left
 in_left [] x pos = absurd (omega arith)
@@ -90,20 +96,35 @@ no_items : {A : Type 0} (f : A → ℕ) (l : List A) → length l ≡ 0 → sum_
 no_items f [] e = refl
 no_items f (x ∷ xs) e = absurd (omega arith)
 
--- each place that was claimed is scanned or noted, once all markers are taken in and what is left is noted
-pub covers : (marks : Marks) (pool : GreyPool) (ms rest : List Marker) (left : List ℕ) (f e : Finisher) → length rest ≡ 0 → AllRun marks pool ms → IsEvenWith ms left → IsGathered marks ms rest f → e.seat ≡ f.seat
-    → ((x : ℕ) → IsSet f.todo x → IsSet e.todo x) → ((x : ℕ) → x < place_count (graph_in marks) → In x left → IsSet e.todo x) → (x : ℕ) → x < place_count (graph_in marks) → 0 < times x (claimed e.seat) → IsScanned (graph_in marks) (known e.seat) x ⊎ IsSet e.todo x
-covers marks pool ms rest left f e none run even g seat kept noted x low pos =
-    let same : times x (claimed e.seat) ≡ times x (claimed f.seat) = ap (λ (s : MarkSeat). times x (claimed s)) seat in
-    ⊎_elim
+-- a place that was shared is scanned or noted, once what is left is noted
+shared_covers : (marks : Marks) (pool : GreyPool) (ms rest : List Marker) (left : List ℕ) (f : Finisher) (todo : List Bool) → length rest ≡ 0 → AllRun marks pool ms → IsEvenWith ms left → IsGathered marks ms rest f
+    → ((x : ℕ) → IsSet f.todo x → IsSet todo x) → ((x : ℕ) → x < place_count (graph_in marks) → In x left → IsSet todo x) → (x : ℕ) → x < place_count (graph_in marks)
+    → 0 < sum_by (λ m. sum_by (is_one x) (pushed m.hand)) ms → IsScanned (graph_in marks) (known f.seat) x ⊎ IsSet todo x
+shared_covers marks pool ms rest left f todo none run even g kept noted x low pos = ⊎_elim
     (λ (some_left : 0 < sum_by (is_one x) left). inr (noted x low (in_left left x some_left)))
     (λ (no_left : sum_by (is_one x) left ≤ 0).
-    let t = some_takes ms x (omega (arith, same, g.sums (is_one x), no_items (λ (m : Marker). sum_by (is_one x) (claimed m.scanner.seat)) rest none, even (is_one x))) in
-    ⊎_elim
-    (λ (s : IsScanned (graph_in marks) (known t.1.scanner.seat) x). inl (λ q l. subst (λ (y : MarkSeat). In q (known y)) (sym seat) (g.told t.0 t.1 t.2 (omega arith) q (s q l))))
-    (λ (m : get_or t.1.deferred.items x false ≡ true). inr (kept x (g.noted t.0 t.1 t.2 (omega arith) x low m)))
-    ((run t.0 t.1 t.2).attended x low t.3))
+    let t = some_of (λ m. took (is_one x) m.hand) ms (omega (arith, even (is_one x))) in
+    elim ((run t.0 t.1 t.2).attended x low t.3) [
+      | inl s ↦ inl (λ q l. g.told t.0 t.1 t.2 (omega arith) q (s q l))
+      | inr m ↦ inr (kept x (g.noted t.0 t.1 t.2 (omega arith) x low (inl m)))
+    ])
     (cases_lt 0 (sum_by (is_one x) left))
+
+-- each place that was claimed is scanned or noted, once all markers are taken in and what is left is noted
+pub covers : (marks : Marks) (pool : GreyPool) (ms rest : List Marker) (left : List ℕ) (f : Finisher) (todo : List Bool) → length rest ≡ 0 → AllRun marks pool ms → IsEvenWith ms left → IsGathered marks ms rest f
+    → ((x : ℕ) → IsSet f.todo x → IsSet todo x) → ((x : ℕ) → x < place_count (graph_in marks) → In x left → IsSet todo x) → (x : ℕ) → x < place_count (graph_in marks)
+    → 0 < times x (claimed f.seat) → IsScanned (graph_in marks) (known f.seat) x ⊎ IsSet todo x
+covers marks pool ms rest left f todo none run even g kept noted x low pos =
+    let t = some_of (λ m. sum_by (is_one x) (claimed m.scanner.seat)) ms (omega (arith, g.sums (is_one x), no_items (λ (m : Marker). sum_by (is_one x) (claimed m.scanner.seat)) rest none)) in
+    let m : Marker = t.1 in
+    elim ((run t.0 m t.2).fits.covered x low (In-times x (claimed m.scanner.seat) t.3)) [
+      | inl s ↦ inl (λ q l. g.told t.0 m t.2 (omega arith) q (s q l))
+      | inr j ↦ elim j [
+        | inl k ↦ inr (kept x (g.noted t.0 m t.2 (omega arith) x low (inr k)))
+        | inr k ↦ shared_covers marks pool ms rest left f todo none run even g kept noted x low
+            (omega (arith, times-In x (pushed m.hand) k, at_most_all (λ y. sum_by (is_one x) (pushed y.hand)) ms t.0 m t.2))
+      ]
+    ]
 
 pub handed_first : (ms rest : List Marker) (m : Marker) → ms ≡ rest ++ m ∷ [] → IsHandedOver ms rest (m.hand ∷ [])
 handed_first ms rest m is = record {
@@ -138,18 +159,13 @@ hands_of marks pool ms rest hands none count all o = (
       (subst (IsHandOf pool) r.3 c.fits.hand, omega (arith, r.4, c.number, ap (λ (x : GreyHand). x.number) r.3)),
 )
 
-same_sums : (f g : Marker → ℕ) (ms : List Marker) → ((k : ℕ) (m : Marker) → get_elem? ms k ≡ some m → f m ≡ g m) → sum_by f ms ≡ sum_by g ms
-same_sums f g [] h = refl
-same_sums f g (m ∷ ms) h = omega (arith, sum_by-cons f m ms, sum_by-cons g m ms, h 0 m refl, same_sums f g ms (λ k x e. h (suc k) x e))
-
-pub even_of : (marks : Marks) (pool : GreyPool) (ms rest : List Marker) (hands : List GreyHand) (left : List ℕ) → length rest ≡ 0 → AllRun marks pool ms → IsHandedOver ms rest hands
+pub even_of : (ms rest : List Marker) (hands : List GreyHand) (left : List ℕ) → length rest ≡ 0 → IsHandedOver ms rest hands
     → ((f : ℕ → ℕ) → sum_by (λ (h : GreyHand). sum_by f (pushed h)) hands ≡ sum_by (λ (h : GreyHand). took f h) hands + sum_by f left) → IsEvenWith ms left
-even_of marks pool ms rest hands left none all o closed f = omega (
+even_of ms rest hands left none o closed f = omega (
   arith,
   closed f,
   o.sums_pushed f,
   o.sums_taken f,
   no_items (λ (m : Marker). sum_by f (pushed m.hand)) rest none,
   no_items (λ (m : Marker). took f m.hand) rest none,
-  same_sums (λ m. sum_by f (claimed m.scanner.seat)) (λ m. sum_by f (pushed m.hand)) ms (λ k m e. ap (sum_by f) (sym (all k m e).fits.same)),
 )

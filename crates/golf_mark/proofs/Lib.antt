@@ -5,6 +5,7 @@ pub mod Gaining
 pub mod Turns
 pub mod Marked
 pub mod Winning
+pub mod Covering
 pub mod Running
 pub mod Attending
 pub mod Settling

@@ -122,7 +122,7 @@ pub record IsEquipping (marks : Marks) (pool : GreyPool) (total : ℕ) (seats : 
 
 pub equipped : (marks : Marks) (pool : GreyPool) (total : ℕ) (seats some_seats : List MarkSeat) (hands some_hands : List GreyHand) (ms : List Marker) (m : Marker)
     → IsEquipping marks pool total seats hands ms → seats ≡ some_seats ++ m.scanner.seat ∷ [] → hands ≡ some_hands ++ m.hand ∷ []
-    → length m.deferred.items ≡ place_count (graph_in marks) → m.scanner.won.items ≡ [] → word_count (graph_in marks) ≤ m.scanner.won.spare → word_count (graph_in marks) ≤ capacity_of pool
+    → length m.deferred ≡ place_count (graph_in marks) → m.scanner.won.items ≡ [] → word_count (graph_in marks) ≤ m.scanner.won.spare → m.budget ≤ capacity_of pool
     → IsEquipping marks pool total some_seats some_hands (ms ++ m ∷ [])
 equipped marks pool total seats some_seats hands some_hands ms m q seat_is hand_is deferred idle room capacity =
     let seat_facts = subst (λ (l : List MarkSeat). Every (IsNewSeatOf marks) l) seat_is q.all_seats in
@@ -146,14 +146,13 @@ equipped marks pool total seats some_seats hands some_hands ms m q seat_is hand_
             fits = record {
               scanner = record {
                 seat = seat.seat;
-                within = omega (arith, ap length idle);
                 bounded = omega (arith, ap length seat.claimed);
                 room = omega (arith, room);
               };
-              idle = idle;
+              own = λ p h. absurd (subst (λ (l : List ℕ). In p l) idle h);
               hand = mine.0;
-              same = hand.none_pushed ∙ sym seat.claimed;
-              room = capacity;
+              covered = λ p low h. absurd (subst (λ (l : List ℕ). In p l) seat.claimed h);
+              budget = omega (arith, capacity, ap length hand.none_pushed);
               deferred = deferred;
             };
             none = hand.none_taken;

@@ -1,18 +1,23 @@
 -- One run after another, and what a turn does to the places that were taken.
-use Rattle.std.proofs.Common.{◌≡◌, ℕ, ◌+◌, ◌<◌, ◌⊎◌, List, [], ◌∷◌, ◌++◌, Bool, false, cond, ne_eqb, get_or, refl, sym, ap, ◌∙◌, subst, inl, inr, arith}
-use Rattle.std.specs.Global.{Vec}
+use Rattle.std.proofs.Common.{◌≡◌, ℕ, ◌+◌, ◌<◌, ◌⊎◌, List, [], ◌∷◌, ◌++◌, Bool, false, cond, ne_eqb, length, get_or, refl, sym, ap, ◌∙◌, subst, inl, inr, arith}
 use Rattle.std.proofs.lemmas.Bool.{cases_eq}
+use Rattle.std.proofs.lemmas.List.{length_push}
 use Rattle.golf_theory.specs.Membership.{In}
+use Rattle.golf_theory.proofs.Lists.{In-left}
+use Rattle.golf_base.specs.Roomy.{Roomy}
 use Rattle.golf_marks.specs.declared.marks.Marks.{Marks}
 use Rattle.golf_marks.specs.Flags.{IsSet}
 use Rattle.golf_marks.specs.Places.{place_count}
 use Rattle.golf_marks.specs.Seats.{graph_in, known, parts}
 use Rattle.golf_grey.specs.declared.pool.GreyPool.{GreyPool}
-use Rattle.golf_grey.specs.Hands.{took}
+use Rattle.golf_grey.specs.declared.hand.GreyHand.{GreyHand}
+use Rattle.golf_grey.specs.Hands.{pushed, took, IsHandOf}
 use Rattle.golf_mark.specs.declared.marker.Marker.{Marker}
 use Rattle.golf_mark.specs.declared.scanner.Scanner.{Scanner}
 use Rattle.golf_mark.specs.Turning.{IsMarkerOf, Keeps, Attends, Runs, EachRuns, is_one}
+use Rattle.golf_mark.specs.Scanning.{IsCovered, Wins}
 use Rattle.golf_mark.specs.Working.{IsScanned}
+use Rattle.golf_mark.proofs.Covering.{own_wins, own_less, covered_same, covered_scan, covered_share}
 
 pub Keeps-none : (m : Marker) → Keeps m m
 Keeps-none m = record { known = λ p h. h; parts = refl; number = refl }
@@ -32,18 +37,93 @@ Runs-turn marks pool place a b c scanner deferred number one t = record {
   fits = t.fits;
   keeps = record { known = keep; parts = t.keeps.parts ∙ ap (λ (s : Scanner). parts s.seat) scanner; number = t.keeps.number ∙ number };
   attended = λ old p low pos. elim (cases_eq place p) [
-    | inl same ↦ subst (λ (q : ℕ). IsScanned (graph_in marks) (known c.scanner.seat) q ⊎ IsSet c.deferred.items q) same (t.here (subst (λ (q : ℕ). q < place_count (graph_in marks)) (sym same) low))
+    | inl same ↦ subst (λ (q : ℕ). IsScanned (graph_in marks) (known c.scanner.seat) q ⊎ IsSet c.deferred q) same (t.here (subst (λ (q : ℕ). q < place_count (graph_in marks)) (sym same) low))
     | inr apart ↦
         let none = ap (λ (d : Bool). let n : ℕ = cond d 1 0 in n) (ne_eqb place p apart) in
         elim (old p low (omega (arith, t.took (is_one p), one (is_one p), none))) [
           | inl s ↦ inl (λ q j. keep q (s q j))
-          | inr m ↦ inr (t.deferred p (ap (λ (v : Vec Bool). get_or v.items p false) deferred ∙ m))
+          | inr m ↦ inr (t.deferred p (ap (λ (v : List Bool). get_or v p false) deferred ∙ m))
         ]
   ];
 }
   where
     keep : (p : ℕ) → In p (known a.scanner.seat) → In p (known c.scanner.seat)
     keep p h = t.keeps.known p (subst (λ (l : List ℕ). In p l) (sym (ap (λ (s : Scanner). known s.seat) scanner)) h)
+
+-- nothing is taken or deferred, and what is known stays known
+pub Runs-still : (marks : Marks) (pool : GreyPool) (a b : Marker) → IsMarkerOf marks pool b → Keeps a b → ((f : ℕ → ℕ) → took f b.hand ≡ took f a.hand) → b.deferred ≡ a.deferred → Runs marks pool a b
+Runs-still marks pool a b fits keeps same deferred = record {
+  fits = fits;
+  keeps = keeps;
+  attended = λ old p low pos. elim (old p low (omega (arith, same (is_one p)))) [
+    | inl s ↦ inl (λ q j. keeps.known q (s q j))
+    | inr m ↦ inr (ap (λ (v : List Bool). get_or v p false) deferred ∙ m)
+  ];
+}
+
+-- its hand has pushed the same
+pub IsMarkerOf-hand : (marks : Marks) (pool : GreyPool) (a : Marker) (hand : GreyHand) → IsMarkerOf marks pool a → IsHandOf pool hand → pushed hand ≡ pushed a.hand → IsMarkerOf marks pool (record a { hand = hand })
+IsMarkerOf-hand marks pool a hand fits its_hand pushes = record {
+  scanner = fits.scanner;
+  own = fits.own;
+  hand = its_hand;
+  covered = subst (λ (l : List ℕ). IsCovered marks (λ p. In p l) a.scanner) (sym pushes) fits.covered;
+  budget = omega (arith, fits.budget, ap (λ (l : List ℕ). length l) pushes);
+  deferred = fits.deferred;
+}
+
+-- its own list is the same, and so is what its hand pushed and took
+pub Runs-idle : (marks : Marks) (pool : GreyPool) (a : Marker) (won : Roomy ℕ) (hand : GreyHand) → IsMarkerOf marks pool a → won.items ≡ a.scanner.won.items → won.spare ≡ a.scanner.won.spare
+    → IsHandOf pool hand → pushed hand ≡ pushed a.hand → ((f : ℕ → ℕ) → took f hand ≡ took f a.hand) → hand.number ≡ a.hand.number
+    → Runs marks pool a (record a { scanner = record { seat = a.scanner.seat; won = won }; hand = hand })
+Runs-idle marks pool a won hand fits items spare its_hand pushes same number =
+    let s : Scanner = record { seat = a.scanner.seat; won = won } in
+    Runs-still marks pool a (record a { scanner = s; hand = hand })
+    (record {
+      scanner = record { seat = fits.scanner.seat; bounded = fits.scanner.bounded; room = omega (arith, fits.scanner.room, spare) };
+      own = own_less marks a.scanner s (λ p h. h) (λ p h. subst (λ (l : List ℕ). In p l) items h) fits.own;
+      hand = its_hand;
+      covered = subst (λ (l : List ℕ). IsCovered marks (λ p. In p l) s) (sym pushes) (covered_same (λ p. In p (pushed a.hand)) marks a.scanner s refl (λ p h. h) items fits.covered);
+      budget = omega (arith, fits.budget, ap (λ (l : List ℕ). length l) pushes);
+      deferred = fits.deferred;
+    })
+    (record { known = λ p h. h; parts = refl; number = number })
+    same refl
+
+-- the last place of its own list is scanned
+pub Runs-own : (marks : Marks) (pool : GreyPool) (place : ℕ) (a : Marker) (won : Roomy ℕ) (s : Scanner) → IsMarkerOf marks pool a → a.scanner.won.items ≡ won.items ++ place ∷ []
+    → Wins marks (record { seat = a.scanner.seat; won = won }) s → IsScanned (graph_in marks) (known s.seat) place → Runs marks pool a (record a { scanner = s })
+Runs-own marks pool place a won s fits items wins scanned =
+    let rest : Scanner = record { seat = a.scanner.seat; won = won } in
+    Runs-still marks pool a (record a { scanner = s })
+    (record {
+      scanner = wins.fits;
+      own = own_wins marks rest s wins (own_less marks a.scanner rest (λ p h. h) (λ p h. subst (λ (l : List ℕ). In p l) (sym items) (In-left p won.items (place ∷ []) h)) fits.own);
+      hand = fits.hand;
+      covered = covered_scan (λ p. In p (pushed a.hand)) marks place a.scanner s won items wins scanned fits.covered;
+      budget = fits.budget;
+      deferred = fits.deferred;
+    })
+    (record { known = wins.known; parts = wins.parts; number = refl })
+    (λ f. refl) refl
+
+-- the first place of its own list is shared
+pub Runs-shared : (marks : Marks) (pool : GreyPool) (place budget : ℕ) (a : Marker) (won : Roomy ℕ) (hand : GreyHand) → IsMarkerOf marks pool a → a.scanner.won.items ≡ place ∷ won.items → won.spare ≡ a.scanner.won.spare
+    → IsHandOf pool hand → pushed hand ≡ pushed a.hand ++ place ∷ [] → ((f : ℕ → ℕ) → took f hand ≡ took f a.hand) → hand.number ≡ a.hand.number → budget + 1 ≡ a.budget
+    → Runs marks pool a (record a { scanner = record { seat = a.scanner.seat; won = won }; hand = hand; budget = budget })
+Runs-shared marks pool place budget a won hand fits items spare its_hand pushes same number less =
+    let s : Scanner = record { seat = a.scanner.seat; won = won } in
+    Runs-still marks pool a (record a { scanner = s; hand = hand; budget = budget })
+    (record {
+      scanner = record { seat = fits.scanner.seat; bounded = fits.scanner.bounded; room = omega (arith, fits.scanner.room, spare) };
+      own = own_less marks a.scanner s (λ p h. h) (λ p h. subst (λ (l : List ℕ). In p l) (sym items) (inr h)) fits.own;
+      hand = its_hand;
+      covered = covered_share marks place a.scanner s (pushed a.hand) (pushed hand) refl items pushes fits.covered;
+      budget = omega (arith, fits.budget, less, ap (λ (l : List ℕ). length l) pushes, length_push (pushed a.hand) place);
+      deferred = fits.deferred;
+    })
+    (record { known = λ p h. h; parts = refl; number = number })
+    same refl
 
 pub EachRuns-append : (marks : Marks) (pool : GreyPool) (a b c d : List Marker) → EachRuns marks pool a c → EachRuns marks pool b d → EachRuns marks pool (a ++ b) (c ++ d)
 EachRuns-append marks pool [] b [] d x y = y

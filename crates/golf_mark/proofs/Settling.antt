@@ -11,9 +11,10 @@ use Rattle.golf_marks.specs.Flags.{IsSet}
 use Rattle.golf_marks.specs.Places.{word_count}
 use Rattle.golf_marks.specs.Seats.{graph_in, claimed, known, IsSameSeat}
 use Rattle.golf_mark.specs.declared.scanner.Scanner.{Scanner}
-use Rattle.golf_mark.specs.Finishing.{IsIdle, IsCovered, KnowsWon, KeepsSeat}
-use Rattle.golf_mark.specs.Scanning.{IsScannerOf, Wins}
+use Rattle.golf_mark.specs.Finishing.{IsIdle, IsPending, KeepsSeat}
+use Rattle.golf_mark.specs.Scanning.{IsScannerOf, IsCovered, KnowsWon, Wins}
 use Rattle.golf_mark.specs.Working.{IsScanned}
+use Rattle.golf_mark.proofs.Covering.{own_wins, own_less, covered_scan}
 
 -- what is left to do
 abbrev pub work_of : Marks → Scanner → ℕ
@@ -24,40 +25,25 @@ pub record IsSettling (marks : Marks) (old s : Scanner) : Type 0 where
   pub fits : IsScannerOf marks s
   pub won : KnowsWon marks s
   pub keeps : KeepsSeat old s
-  pub covered : (todo : List Bool) (from : ℕ) → IsCovered marks todo from old → IsCovered marks todo from s
+  pub covered : (todo : List Bool) (from : ℕ) → IsCovered marks (IsPending todo from) old → IsCovered marks (IsPending todo from) s
 
--- a place that was won is taken out
-pub popped : (marks : Marks) (s : Scanner) (won : Roomy ℕ) (place : ℕ) → s.won.items ≡ won.items ++ place ∷ [] → won.spare + length won.items ≡ s.won.spare + length s.won.items → IsScannerOf marks s → IsScannerOf marks (record { seat = s.seat; won = won })
-popped marks s won place items spare fits = record {
+-- a place is taken out
+pub popped : (marks : Marks) (s : Scanner) (won : Roomy ℕ) → s.won.spare ≤ won.spare → IsScannerOf marks s → IsScannerOf marks (record { seat = s.seat; won = won })
+popped marks s won spare fits = record {
   seat = fits.seat;
-  within = omega (arith, fits.within, ap length items, length_push won.items place);
   bounded = fits.bounded;
   room = omega (arith, fits.room, spare);
 }
 
--- and scanned
+-- a place that was won is taken out, and scanned
 pub settles : (marks : Marks) (place : ℕ) (old a b : Scanner) (won : Roomy ℕ) → a.won.items ≡ won.items ++ place ∷ [] → Wins marks (record { seat = a.seat; won = won }) b
     → IsScanned (graph_in marks) (known b.seat) place → IsSettling marks old a → IsSettling marks old b
 settles marks place old a b won items w scanned s = record {
   fits = w.fits;
-  won = λ p h. elim (In-cases p won.items w.won.0 (subst (λ (l : List ℕ). In p l) w.won.2 h)) [
-    | inl i ↦ let r = s.won p (subst (λ (l : List ℕ). In p l) (sym items) (In-left p won.items (place ∷ []) i)) in (r.0, w.known p r.1)
-    | inr i ↦ w.won.3 p i
-  ];
+  won = own_wins marks (record { seat = a.seat; won = won }) b w
+      (own_less marks a (record { seat = a.seat; won = won }) (λ p h. h) (λ p h. subst (λ (l : List ℕ). In p l) (sym items) (In-left p won.items (place ∷ []) h)) s.won);
   keeps = record { known = λ p h. w.known p (s.keeps.known p h); parts = w.parts ∙ s.keeps.parts };
-  covered = λ todo from before p low h. elim (In-cases p (claimed a.seat) w.won.0 (subst (λ (l : List ℕ). In p l) w.won.1 h)) [
-    | inl i ↦ elim (s.covered todo from before p low i) [
-      | inl done ↦ inl (λ q j. w.known q (done q j))
-      | inr j ↦ elim j [
-        | inl k ↦ elim (In-cases p won.items (place ∷ []) (subst (λ (l : List ℕ). In p l) items k)) [
-          | inl m ↦ inr (inl (subst (λ (l : List ℕ). In p l) (sym w.won.2) (In-left p won.items w.won.0 m)))
-          | inr m ↦ elim m [ inl e ↦ inl (subst (λ (q : ℕ). IsScanned (graph_in marks) (known b.seat) q) (sym e) scanned) | inr none ↦ absurd none ]
-        ]
-        | inr k ↦ inr (inr k)
-      ]
-    ]
-    | inr i ↦ inr (inl (subst (λ (l : List ℕ). In p l) (sym w.won.2) (In-right p won.items w.won.0 i)))
-  ];
+  covered = λ todo from before. covered_scan (IsPending todo from) marks place a b won items w scanned (s.covered todo from before);
 }
 
 -- which leaves less to do
@@ -69,14 +55,13 @@ settles_less marks place a b won items w =
 pub looked : (marks : Marks) (s : Scanner) (seat : MarkSeat) → IsIdle marks s → IsSameSeat s.seat seat → claimed seat ≡ claimed s.seat → length (claimed s.seat) ≤ word_count (graph_in marks) → IsScannerOf marks (record { seat = seat; won = s.won })
 looked marks s seat idle same claims bounded = record {
   seat = record { table = same.table ∙ idle.seat.table; graph = same.graph ∙ idle.seat.graph };
-  within = omega (arith, ap length idle.none);
   bounded = omega (arith, bounded, ap length claims);
-  room = omega (arith, idle.room);
+  room = omega (arith, idle.room, ap length claims);
 }
 
 -- a place that is not noted, or not claimed
 pub passes_over : (marks : Marks) (todo : List Bool) (place : ℕ) (a b : Scanner) → claimed b.seat ≡ claimed a.seat → ((p : ℕ) → In p (known a.seat) → In p (known b.seat)) → b.won ≡ a.won → (In place (claimed a.seat) → IsSet todo place → ⊥)
-    → IsCovered marks todo place a → IsCovered marks todo (place + 1) b
+    → IsCovered marks (IsPending todo place) a → IsCovered marks (IsPending todo (place + 1)) b
 passes_over marks todo place a b claims knows won none covered p low h =
     let h' = subst (λ (l : List ℕ). In p l) claims h in
     elim (covered p low h') [
@@ -92,7 +77,7 @@ passes_over marks todo place a b claims knows won none covered p low h =
 
 -- the place is scanned
 pub settled_at : (marks : Marks) (todo : List Bool) (place : ℕ) (a b : Scanner) (seat : MarkSeat) → a.won.items ≡ [] → claimed seat ≡ claimed a.seat → ((p : ℕ) → In p (known a.seat) → In p (known seat))
-    → Wins marks (record { seat = seat; won = a.won }) b → IsScanned (graph_in marks) (known b.seat) place → IsCovered marks todo place a → IsCovered marks todo (place + 1) b
+    → Wins marks (record { seat = seat; won = a.won }) b → IsScanned (graph_in marks) (known b.seat) place → IsCovered marks (IsPending todo place) a → IsCovered marks (IsPending todo (place + 1)) b
 settled_at marks todo place a b seat idle claims knows w scanned covered p low h =
     elim (In-cases p (claimed seat) w.won.0 (subst (λ (l : List ℕ). In p l) w.won.1 h)) [
       | inl i ↦ elim (covered p low (subst (λ (l : List ℕ). In p l) claims i)) [
@@ -112,4 +97,11 @@ pub won_known : (marks : Marks) (a b : Scanner) → a.won.items ≡ [] → Wins 
 won_known marks a b idle w p h = elim (In-cases p a.won.items w.won.0 (subst (λ (l : List ℕ). In p l) w.won.2 h)) [
   | inl i ↦ absurd (subst (λ (l : List ℕ). In p l) idle i)
   | inr i ↦ w.won.3 p i
+]
+
+-- nothing is noted, so that nothing is pending
+pub none_pending : (marks : Marks) (todo : List Bool) (from to : ℕ) (s : Scanner) → ((p : ℕ) → IsSet todo p → ⊥) → IsCovered marks (IsPending todo from) s → IsCovered marks (IsPending todo to) s
+none_pending marks todo from to s none covered p low h = elim (covered p low h) [
+  | inl done ↦ inl done
+  | inr j ↦ elim j [ inl k ↦ inr (inl k) | inr k ↦ absurd (none p k.1) ]
 ]

@@ -13,12 +13,13 @@ use Rattle.golf_marks.specs.declared.marks.MarkSeat.{MarkSeat}
 use Rattle.golf_marks.specs.Places.{place_count}
 use Rattle.golf_marks.specs.Seats.{graph_in, claimed, known, claim_count}
 use Rattle.golf_mark.specs.declared.scanner.Scanner.{Scanner}
-use Rattle.golf_mark.specs.Finishing.{IsCovered}
+use Rattle.golf_mark.specs.Finishing.{IsPending}
+use Rattle.golf_mark.specs.Scanning.{IsCovered}
 use Rattle.golf_mark.proofs.Ranges.{Least-below}
 
 pub claimed_least : (marks : Marks) (todo : List Bool) (s : Scanner) (seats : List MarkSeat) → IsInRange (graph_in marks) → seats ≡ s.seat ∷ []
     → ((p : ℕ) → 0 < claim_count p seats → Least (graph_in marks) p) → ((p : ℕ) → Every (λ t. In p (known t) → 0 < claim_count p seats) seats)
-    → IsCovered marks todo (place_count (graph_in marks)) s → s.won.items ≡ [] → ((p : ℕ) → In p (graph_in marks).roots → In p (known s.seat))
+    → IsCovered marks (IsPending todo (place_count (graph_in marks))) s → s.won.items ≡ [] → ((p : ℕ) → In p (graph_in marks).roots → In p (known s.seat))
     → (p : ℕ) → 0 < claim_count p seats ↔ Least (graph_in marks) p
 claimed_least marks todo s seats fit is sound knows covered none roots p = (
   sound p,

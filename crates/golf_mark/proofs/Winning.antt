@@ -4,6 +4,7 @@ use Rattle.std.proofs.lemmas.List.{length_push}
 use Rattle.golf_theory.specs.Membership.{In}
 use Rattle.golf_theory.proofs.Lists.{In-left, In-right, In-cases}
 use Rattle.golf_marks.specs.declared.marks.Marks.{Marks}
+use Rattle.golf_marks.specs.declared.marks.MarkSeat.{MarkSeat}
 use Rattle.golf_marks.specs.Places.{place_count, word_count}
 use Rattle.golf_marks.specs.Seats.{graph_in, claimed, known, IsSeatOf, IsSameSeat}
 use Rattle.golf_mark.specs.declared.scanner.Scanner.{Scanner}
@@ -31,15 +32,27 @@ same_seat marks a b fits same = record { table = same.table ∙ fits.seat.table;
 keeps_known : (a b : Scanner) (place : ℕ) → known b.seat ≡ known a.seat ++ place ∷ [] → (p : ℕ) → In p (known a.seat) → In p (known b.seat)
 keeps_known a b place is p h = subst (λ (l : List ℕ). In p l) (sym is) (In-left p (known a.seat) (place ∷ []) h)
 
+-- it looks at a place that is not marked
+pub Wins-looked : (marks : Marks) (a : Scanner) (seat : MarkSeat) → IsScannerOf marks a → IsSameSeat a.seat seat → claimed seat ≡ claimed a.seat → known seat ≡ known a.seat → Wins marks a (record { seat = seat; won = a.won })
+Wins-looked marks a seat fits same claims knows = record {
+  fits = record {
+    seat = record { table = same.table ∙ fits.seat.table; graph = same.graph ∙ fits.seat.graph };
+    bounded = omega (arith, fits.bounded, ap length claims);
+    room = omega (arith, fits.room, ap length claims);
+  };
+  known = λ p h. subst (λ (l : List ℕ). In p l) (sym knows) h;
+  parts = same.parts;
+  won = ([], claims ∙ sym (append-nil (claimed a.seat)), sym (append-nil a.won.items), λ p h. absurd h);
+}
+
 -- the claim is won
 pub Wins-won : (marks : Marks) (a b : Scanner) (place : ℕ) → place < place_count (graph_in marks) → IsScannerOf marks a → IsSameSeat a.seat b.seat → claimed b.seat ≡ claimed a.seat ++ place ∷ [] → known b.seat ≡ known a.seat ++ place ∷ []
     → length (claimed b.seat) ≤ word_count (graph_in marks) → b.won.items ≡ a.won.items ++ place ∷ [] → b.won.spare + 1 ≡ a.won.spare → Wins marks a b
 Wins-won marks a b place low fits same claims knows bounded items spare = record {
   fits = record {
     seat = same_seat marks a b fits same;
-    within = omega (arith, fits.within, ap length claims, ap length items, length_push (claimed a.seat) place, length_push a.won.items place);
     bounded = bounded;
-    room = omega (arith, fits.room, spare, ap length items, length_push a.won.items place);
+    room = omega (arith, fits.room, spare, ap length claims, length_push (claimed a.seat) place);
   };
   known = keeps_known a b place knows;
   parts = same.parts;
@@ -60,9 +73,8 @@ pub Wins-lost : (marks : Marks) (a b : Scanner) (place : ℕ) → IsScannerOf ma
 Wins-lost marks a b place fits same claims knows won = record {
   fits = record {
     seat = same_seat marks a b fits same;
-    within = omega (arith, fits.within, ap length claims, ap (λ r. length r.items) won);
     bounded = omega (arith, fits.bounded, ap length claims);
-    room = omega (arith, fits.room, ap (λ r. r.spare) won, ap (λ r. length r.items) won);
+    room = omega (arith, fits.room, ap length claims, ap (λ r. r.spare) won);
   };
   known = keeps_known a b place knows;
   parts = same.parts;

@@ -1,5 +1,5 @@
 -- The markers after their run, taken together.
-use Rattle.std.specs.Prelude.{◌≡◌, ◌+◌, ◌<◌, ◌≤◌, ℕ, List, Bool, length, sum_by}
+use Rattle.std.specs.Prelude.{◌≡◌, ◌+◌, ◌<◌, ◌≤◌, ◌⊎◌, ℕ, List, Bool, length, sum_by}
 use mathlib.Core.Option.{some}
 use lib.ListN.{get_elem?}
 use Rattle.golf_theory.specs.Membership.{In}
@@ -40,6 +40,10 @@ pub record IsFinisherOf (marks : Marks) (f : Finisher) : Type 0 where
   pub seat : IsSeatOf marks f.seat
   pub todo : length f.todo ≡ place_count (graph_in marks)
 
+-- a marker has left the place
+abbrev pub IsNoted : Marker → ℕ → Type 0
+IsNoted m p = IsSet m.deferred p ⊎ In p m.scanner.won.items
+
 -- the markers but for the rest are taken in
 pub record IsGathered (marks : Marks) (ms rest : List Marker) (f : Finisher) : Type 0 where
   pub fits : IsFinisherOf marks f
@@ -48,7 +52,7 @@ pub record IsGathered (marks : Marks) (ms rest : List Marker) (f : Finisher) : T
   pub sums : (h : ℕ → ℕ) → sum_by h (claimed f.seat) + sum_by (λ m. sum_by h (claimed m.scanner.seat)) rest ≡ sum_by (λ m. sum_by h (claimed m.scanner.seat)) ms
   pub counted : parts f.seat + marker_parts rest ≡ marker_parts ms
   pub told : (k : ℕ) (m : Marker) → get_elem? ms k ≡ some m → length rest ≤ k → (p : ℕ) → In p (known m.scanner.seat) → In p (known f.seat)
-  pub noted : (k : ℕ) (m : Marker) → get_elem? ms k ≡ some m → length rest ≤ k → (p : ℕ) → p < place_count (graph_in marks) → IsSet m.deferred.items p → IsSet f.todo p
+  pub noted : (k : ℕ) (m : Marker) → get_elem? ms k ≡ some m → length rest ≤ k → (p : ℕ) → p < place_count (graph_in marks) → IsNoted m p → IsSet f.todo p
 
 -- the hands of the markers but for the rest, the last first
 pub record IsHandedOver (ms rest : List Marker) (hands : List GreyHand) : Type 0 where
@@ -57,6 +61,6 @@ pub record IsHandedOver (ms rest : List Marker) (hands : List GreyHand) : Type 0
   pub sums_pushed : (f : ℕ → ℕ) → sum_by (λ (h : GreyHand). sum_by f (pushed h)) hands + sum_by (λ (m : Marker). sum_by f (pushed m.hand)) rest ≡ sum_by (λ (m : Marker). sum_by f (pushed m.hand)) ms
   pub sums_taken : (f : ℕ → ℕ) → sum_by (λ (h : GreyHand). took f h) hands + sum_by (λ (m : Marker). took f m.hand) rest ≡ sum_by (λ (m : Marker). took f m.hand) ms
 
--- what was claimed was taken or is left
+-- what was shared was taken or is left
 abbrev pub IsEvenWith : List Marker → List ℕ → Type 0
-IsEvenWith ms left = (f : ℕ → ℕ) → sum_by (λ m. sum_by f (claimed m.scanner.seat)) ms ≡ sum_by (λ m. took f m.hand) ms + sum_by f left
+IsEvenWith ms left = (f : ℕ → ℕ) → sum_by (λ m. sum_by f (pushed m.hand)) ms ≡ sum_by (λ m. took f m.hand) ms + sum_by f left

@@ -1,19 +1,28 @@
 -- What a marker claims with, and what it has won.
-use Rattle.std.specs.Prelude.{◌≡◌, ◌+◌, ◌<◌, ◌≤◌, ◌++◌, ℕ, List, length}
+use Rattle.std.specs.Prelude.{◌≡◌, ◌+◌, ◌<◌, ◌≤◌, ◌++◌, ◌⊎◌, ℕ, List, length}
 use Rattle.golf_theory.specs.Membership.{In}
 use Rattle.golf_marks.specs.declared.marks.Marks.{Marks}
 use Rattle.golf_marks.specs.Places.{place_count, word_count}
 use Rattle.golf_marks.specs.Seats.{graph_in, claimed, known, parts, IsSeatOf}
 use Rattle.golf_mark.specs.declared.scanner.Scanner.{Scanner}
+use Rattle.golf_mark.specs.Working.{IsScanned}
 
--- its seat is one of these words; what it has won is among what it claimed, and there is room for all that it may win
+-- its seat is one of these words, and there is room for all that it may win
 pub record IsScannerOf (marks : Marks) (s : Scanner) : Type 0 where
   pub seat : IsSeatOf marks s.seat
-  pub within : length s.won.items ≤ length (claimed s.seat)
   pub bounded : length (claimed s.seat) ≤ word_count (graph_in marks)
-  pub room : word_count (graph_in marks) ≤ s.won.spare + length s.won.items
+  pub room : word_count (graph_in marks) ≤ length (claimed s.seat) + s.won.spare
 
--- it claims: what it wins joins what it had won, and what it knew it knows
+-- each place that it claimed is scanned, or in its own list, or elsewhere
+abbrev pub IsCovered : Marks → (ℕ → Type 0) → Scanner → Type 0
+IsCovered marks Elsewhere s =
+    (p : ℕ) → p < place_count (graph_in marks) → In p (claimed s.seat) → IsScanned (graph_in marks) (known s.seat) p ⊎ (In p s.won.items ⊎ Elsewhere p)
+
+-- its own list has places that it knows
+abbrev pub KnowsWon : Marks → Scanner → Type 0
+KnowsWon marks s = (p : ℕ) → In p s.won.items → (p < place_count (graph_in marks)) × In p (known s.seat)
+
+-- it claims: what it wins joins its own list, and what it knew it knows
 pub record Wins (marks : Marks) (old new : Scanner) : Type 0 where
   pub fits : IsScannerOf marks new
   pub won : (more : List ℕ) × (claimed new.seat ≡ claimed old.seat ++ more) × (new.won.items ≡ old.won.items ++ more) × ((p : ℕ) → In p more → (p < place_count (graph_in marks)) × In p (known new.seat))

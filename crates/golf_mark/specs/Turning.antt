@@ -1,25 +1,25 @@
 -- A marker and its turns.
-use Rattle.std.specs.Prelude.{◌≡◌, ◌<◌, ◌≤◌, ◌==◌, ◌⊎◌, if◌then◌else◌, ℕ, List, [], ◌∷◌, length}
+use Rattle.std.specs.Prelude.{◌≡◌, ◌+◌, ◌<◌, ◌≤◌, ◌==◌, ◌⊎◌, if◌then◌else◌, ℕ, List, [], ◌∷◌, length}
 use Rattle.golf_theory.specs.Membership.{In}
 use Rattle.golf_model.specs.declared.graph.GraphParts.{GraphParts}
 use Rattle.golf_marks.specs.declared.marks.Marks.{Marks}
 use Rattle.golf_marks.specs.Flags.{IsSet}
-use Rattle.golf_marks.specs.Places.{place_count, word_count}
-use Rattle.golf_marks.specs.Seats.{graph_in, claimed, known, parts}
+use Rattle.golf_marks.specs.Places.{place_count}
+use Rattle.golf_marks.specs.Seats.{graph_in, known, parts}
 use Rattle.golf_grey.specs.declared.pool.GreyPool.{GreyPool}
 use Rattle.golf_grey.specs.Hands.{pushed, took, capacity_of, IsHandOf}
 use Rattle.golf_mark.specs.declared.marker.Marker.{Marker}
-use Rattle.golf_mark.specs.Scanning.{IsScannerOf}
+use Rattle.golf_mark.specs.Scanning.{IsScannerOf, IsCovered, KnowsWon}
 use Rattle.golf_mark.specs.Working.{IsScanned}
 
--- between turns a marker has pushed what it claimed
+-- between turns each place that a marker claimed is scanned, in its own list or shared
 pub record IsMarkerOf (marks : Marks) (pool : GreyPool) (m : Marker) : Type 0 where
   pub scanner : IsScannerOf marks m.scanner
-  pub idle : m.scanner.won.items ≡ []
+  pub own : KnowsWon marks m.scanner
   pub hand : IsHandOf pool m.hand
-  pub same : pushed m.hand ≡ claimed m.scanner.seat
-  pub room : word_count (graph_in marks) ≤ capacity_of pool
-  pub deferred : length m.deferred.items ≡ place_count (graph_in marks)
+  pub covered : IsCovered marks (λ p. In p (pushed m.hand)) m.scanner
+  pub budget : length (pushed m.hand) + m.budget ≤ capacity_of pool
+  pub deferred : length m.deferred ≡ place_count (graph_in marks)
 
 -- the weight by which a place counts itself
 abbrev pub is_one : ℕ → ℕ → ℕ
@@ -27,7 +27,7 @@ is_one p q = (if q == p then 1 else 0)
 
 -- each place that it took is scanned, or noted as deferred
 abbrev pub IsAtattended : GraphParts → Marker → Type 0
-IsAtattended g m = (p : ℕ) → p < place_count g → 0 < took (is_one p) m.hand → IsScanned g (known m.scanner.seat) p ⊎ IsSet m.deferred.items p
+IsAtattended g m = (p : ℕ) → p < place_count g → 0 < took (is_one p) m.hand → IsScanned g (known m.scanner.seat) p ⊎ IsSet m.deferred p
 
 -- it knows what it knew, and stands for the same seats and the same hand
 pub record Keeps (old new : Marker) : Type 0 where
@@ -40,8 +40,8 @@ pub record Attends (marks : Marks) (pool : GreyPool) (place : ℕ) (old new : Ma
   pub fits : IsMarkerOf marks pool new
   pub keeps : Keeps old new
   pub took : (f : ℕ → ℕ) → took f new.hand ≡ took f old.hand
-  pub deferred : (p : ℕ) → IsSet old.deferred.items p → IsSet new.deferred.items p
-  pub here : place < place_count (graph_in marks) → IsScanned (graph_in marks) (known new.scanner.seat) place ⊎ IsSet new.deferred.items place
+  pub deferred : (p : ℕ) → IsSet old.deferred p → IsSet new.deferred p
+  pub here : place < place_count (graph_in marks) → IsScanned (graph_in marks) (known new.scanner.seat) place ⊎ IsSet new.deferred place
 
 -- a marker goes through some turns
 pub record Runs (marks : Marks) (pool : GreyPool) (old new : Marker) : Type 0 where

@@ -3,10 +3,7 @@
 ghost use Rattle.std.specs.Prelude.{◌≡◌, ◌+◌, ◌<◌, ◌≤◌, ℕ, [], length, false};
 ghost use mathlib.Core.Option.{some};
 ghost use lib.ListN.{get_elem?};
-ghost use Rattle.golf_theory.specs.Membership.{In};
 ghost use Rattle.golf_model.specs.Graph.{IsInRange};
-ghost use Rattle.golf_marks.specs.Flags.{IsSet};
-ghost use Rattle.golf_marks.specs.Places.{place_count};
 ghost use Rattle.golf_marks.specs.Seats.{graph_in, seat_count};
 ghost use Rattle.golf_grey.specs.Hands.{hand_count};
 ghost use Rattle.golf_mark.specs.Gathering.{AllRun, IsRooted, marker_parts};
@@ -21,34 +18,6 @@ use golf_base::Room;
 use golf_grey::{GreyHand, GreyPool};
 use golf_marks::{MarkSeat, Marks};
 use golf_model::{Graph, Marked};
-
-// Notes what the other flags note.
-fn note(todo: &mut Vec<bool>, deferred: Vec<bool>)
-    requires { length deferred.items ≡ length todo.old.items }
-    ensures length { length todo.new.items ≡ length todo.old.items }
-    ensures kept { (p : ℕ) → IsSet todo.old.items p → IsSet todo.new.items p }
-    ensures noted { (p : ℕ) → IsSet deferred.items p → IsSet todo.new.items p }
-{
-    for place in 0..deferred.len() {
-        if deferred[place] {
-            todo[place] = true;
-        }
-    }
-}
-
-// Notes these places.
-fn note_left(todo: &mut Vec<bool>, left: &[u32])
-    ensures length { length todo.new.items ≡ length todo.old.items }
-    ensures kept { (p : ℕ) → IsSet todo.old.items p → IsSet todo.new.items p }
-    ensures noted { (p : ℕ) → p < length todo.old.items → In p left.now → IsSet todo.new.items p }
-{
-    for place in left {
-        let place = *place as usize;
-        if place < todo.len() {
-            todo[place] = true;
-        }
-    }
-}
 
 /// What the markers have marked, after the finishing scan.
 pub(crate) fn conclude(
@@ -81,22 +50,27 @@ pub(crate) fn conclude(
         mut scanner,
         hand,
         deferred: mut todo,
+        budget: _,
     } = first;
+    todo.add_all(scanner.won.as_slice());
+    scanner.won.clear();
     hands.push_ready(hand);
     while let Some(marker) = rest.pop() {
         let Marker {
             scanner: theirs,
             hand,
             deferred,
+            budget: _,
         } = marker;
         hands.push_ready(hand);
-        let Scanner { seat, won: _ } = theirs;
+        let Scanner { seat, won } = theirs;
         marks.join(&mut scanner.seat, seat);
-        note(&mut todo, deferred);
+        todo.merge(deferred);
+        todo.add_all(won.as_slice());
     }
     let left = pool.close(hands.into_list());
-    note_left(&mut todo, left.places.as_slice());
-    settle(&marks, graph, waiters, &mut scanner, todo.as_slice());
+    todo.add_all(left.places.as_slice());
+    settle(&marks, graph, waiters, &mut scanner, &todo);
     let Scanner { seat, won: _ } = scanner;
     let mut seats = seats;
     seats.push_ready(seat);

@@ -10,9 +10,11 @@ ghost use Rattle.golf_mark.specs.Gathering.{IsRooted, marker_parts};
 ghost use Rattle.golf_mark.specs.Ready.{AllFresh, Seeds};
 ghost use Rattle.golf_mark.specs.Turning.{IsMarkerOf};
 
-use crate::marker::{Marker, push_all};
+use crate::marker::Marker;
+use crate::notes::Notes;
 use crate::scanner::{Scanner, claim};
-use golf_base::{List, Memory, Room};
+use crate::stack::Stack;
+use golf_base::{List, Memory};
 use golf_grey::{GreyHand, GreyPool};
 use golf_marks::{MarkSeat, Marks};
 use golf_model::Graph;
@@ -24,11 +26,12 @@ pub(crate) fn equip(
     marks: &Marks,
     pool: &GreyPool,
     places: u32,
+    budget: u32,
     seats: List<MarkSeat>,
     hands: List<GreyHand>,
 ) -> Result<Vec<Marker>, Memory>
     requires places { place_count (graph_in marks.now) ≡ places }
-    requires capacity { word_count (graph_in marks.now) ≤ capacity_of pool.now }
+    requires capacity { budget ≤ capacity_of pool.now }
     requires same { length seats ≡ length hands }
     requires seats { Every (IsNewSeatOf marks.now) seats }
     requires hands { AreAllHands pool.now hands }
@@ -44,29 +47,27 @@ pub(crate) fn equip(
         let Some(seat) = seats.pop() else {
             unreachable!()
         };
-        let deferred = Vec::from_elem(alloc, false, places as usize)?;
-        let mut won = Room::new(alloc);
-        won.reserve(places.max(1) as usize)?;
+        let deferred = Notes::new(alloc, places)?;
+        let won = Stack::new(alloc, places.max(1) as usize)?;
         let scanner = Scanner { seat, won };
         markers.push(Marker {
             scanner,
             hand,
             deferred,
+            budget,
         })?;
     }
     Ok(markers)
 }
 
 // A marker claims a root.
-fn seed(marks: &Marks, pool: &GreyPool, marker: &mut Marker, root: u32)
-    requires fits { IsMarkerOf marks.now pool.now marker.old }
+fn seed(marks: &Marks, _pool: &GreyPool, marker: &mut Marker, root: u32)
+    requires fits { IsMarkerOf marks.now _pool.now marker.old }
     requires place { root < place_count (graph_in marks.now) }
     requires root { In root (graph_in marks.now).roots }
-    ensures { Seeds marks.now pool.now root marker.old marker.new }
+    ensures { Seeds marks.now _pool.now root marker.old marker.new }
 {
     claim(marks, &mut marker.scanner, root);
-    push_all(pool, &mut marker.hand, marker.scanner.won.as_slice());
-    marker.scanner.won.clear();
 }
 
 /// Deals the roots out: of n markers the marker k claims the roots at the places k, k + n, and so on.

@@ -3,10 +3,11 @@
 ghost use Rattle.std.specs.Prelude.{◌≡◌, ◌+◌, ◌<◌, ◌≤◌, ℕ, Bool, List, length};
 ghost use Rattle.golf_marks.specs.Places.{place_count};
 ghost use Rattle.golf_marks.specs.Seats.{graph_in};
-ghost use Rattle.golf_mark.specs.Finishing.{IsIdle, IsCovered, KeepsSeat, KnowsWon};
-ghost use Rattle.golf_mark.specs.Scanning.{IsScannerOf};
+ghost use Rattle.golf_mark.specs.Finishing.{IsIdle, IsPending, KeepsSeat};
+ghost use Rattle.golf_mark.specs.Scanning.{IsScannerOf, IsCovered, KnowsWon};
 ghost use Rattle.golf_mark.specs.Waiters.{IsWaiters};
 
+use crate::notes::Notes;
 use crate::scanner::{Scanner, scan};
 use crate::waiters::Waiters;
 use golf_marks::Marks;
@@ -20,7 +21,7 @@ fn settle_won(marks: &Marks, graph: &Graph, waiters: &Waiters, scanner: &mut Sca
     requires won { KnowsWon marks.now scanner.old }
     ensures idle { IsIdle marks.now scanner.new }
     ensures keeps { KeepsSeat scanner.old scanner.new }
-    ensures covered { (todo : List Bool) (from : ℕ) → IsCovered marks.now todo from scanner.old → IsCovered marks.now todo from scanner.new }
+    ensures covered { (todo : List Bool) (from : ℕ) → IsCovered marks.now (IsPending todo from) scanner.old → IsCovered marks.now (IsPending todo from) scanner.new }
 {
     while let Some(place) = scanner.won.pop() {
         scan(marks, graph, waiters, scanner, place);
@@ -33,7 +34,7 @@ fn settle_at(
     graph: &Graph,
     waiters: &Waiters,
     scanner: &mut Scanner,
-    todo: &[bool],
+    todo: &Notes,
     place: u32,
 )
     requires idle { IsIdle marks.now scanner.old }
@@ -42,12 +43,12 @@ fn settle_at(
     requires place { place < place_count (graph_in marks.now) }
     requires small { place_count (graph_in marks.now) < 4294967296 }
     requires todo { length todo.now ≡ place_count (graph_in marks.now) }
-    requires covered { IsCovered marks.now todo.now place scanner.old }
+    requires covered { IsCovered marks.now (IsPending todo.now place) scanner.old }
     ensures idle { IsIdle marks.now scanner.new }
     ensures keeps { KeepsSeat scanner.old scanner.new }
-    ensures covered { IsCovered marks.now todo.now (place + 1) scanner.new }
+    ensures covered { IsCovered marks.now (IsPending todo.now (place + 1)) scanner.new }
 {
-    if !todo[place as usize] {
+    if !todo.has(place) {
         return;
     }
     if !marks.is_marked(&mut scanner.seat, place) {
@@ -63,17 +64,20 @@ pub(crate) fn settle(
     graph: &Graph,
     waiters: &Waiters,
     scanner: &mut Scanner,
-    todo: &[bool],
+    todo: &Notes,
 )
     requires idle { IsIdle marks.now scanner.old }
     requires graph { graph_in marks.now ≡ graph.now }
     requires waiters { IsWaiters graph.now waiters.now }
     requires todo { length todo.now ≡ place_count (graph_in marks.now) }
-    requires covered { IsCovered marks.now todo.now 0 scanner.old }
+    requires covered { IsCovered marks.now (IsPending todo.now 0) scanner.old }
     ensures idle { IsIdle marks.now scanner.new }
     ensures keeps { KeepsSeat scanner.old scanner.new }
-    ensures covered { IsCovered marks.now todo.now (place_count (graph_in marks.now)) scanner.new }
+    ensures covered { IsCovered marks.now (IsPending todo.now (place_count (graph_in marks.now))) scanner.new }
 {
+    if todo.is_empty() {
+        return;
+    }
     for place in 0..graph.nodes() + graph.sleepers() {
         settle_at(marks, graph, waiters, scanner, todo, place);
     }

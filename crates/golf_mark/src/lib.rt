@@ -8,7 +8,9 @@ mod deal;
 mod finish;
 mod marker;
 mod markers;
+mod notes;
 mod scanner;
+mod stack;
 mod waiters;
 mod work;
 

@@ -1,27 +1,39 @@
 //! A marker, and how it runs.
 
-ghost use Rattle.std.specs.Prelude.{◌≡◌, ◌+◌, ◌++◌, ◌<◌, ◌≤◌, ℕ, length, All};
+ghost use Rattle.std.specs.Prelude.{◌≡◌, ◌+◌, ◌<◌, ℕ, length, All};
 ghost use Rattle.std.specs.Thread.{IsSync};
 ghost use Rattle.golf_marks.specs.Seats.{graph_in};
-ghost use Rattle.golf_grey.specs.Hands.{capacity_of, pushed, took, IsHandOf};
+ghost use Rattle.golf_grey.specs.Hands.{option_weight, pushed, took, IsHandOf};
 ghost use Rattle.golf_mark.specs.Turning.{IsMarkerOf, Attends, Runs, EachRuns};
 ghost use Rattle.golf_mark.specs.Waiters.{IsWaiters};
 
+use crate::notes::Notes;
 use crate::scanner::{Scanner, scan};
 use crate::waiters::Waiters;
 use golf_base::Gate;
 use golf_grey::{GreyHand, GreyPool};
 use golf_marks::Marks;
 use golf_model::Graph;
+use std::hint::spin_loop;
+use std::sync::atomic::{AtomicU64, Ordering};
 use std::thread::{Threads, join_mut};
 
-/// What all markers of a run share: the mark words, the deques, the graph, and who waits on its nodes.
+/// How many places lie in a deque before its marker shares more.
+const SHARED: usize = 4;
+
+/// How often a marker that finds nothing looks again before it ends.
+const LOOKS: u32 = 65_536;
+
+/// What all markers of a run share: the mark words, the deques, the graph, who waits on its nodes,
+/// and how many markers there are and how many of them find nothing.
 #[derive(Clone, Copy)]
 pub(crate) struct Shared<'a> {
     pub(crate) marks: &'a Marks,
     pub(crate) pool: &'a GreyPool,
     pub(crate) graph: &'a Graph,
     pub(crate) waiters: &'a Waiters,
+    pub(crate) count: u64,
+    pub(crate) idle: &'a AtomicU64,
 }
 
 /// What one marker works with.
@@ -29,22 +41,30 @@ pub(crate) struct Shared<'a> {
 pub(crate) struct Marker {
     pub(crate) scanner: Scanner,
     pub(crate) hand: GreyHand,
-    /// For each place whether it was taken and could not be scanned.
-    pub(crate) deferred: Vec<bool>,
+    /// The places that were taken and could not be scanned.
+    pub(crate) deferred: Notes,
+    /// How often it may still share a place.
+    pub(crate) budget: u32,
 }
 
-/// Pushes these places.
-pub(crate) fn push_all(pool: &GreyPool, hand: &mut GreyHand, places: &[u32])
-    requires hand { IsHandOf pool.now hand.old }
-    requires room { length (pushed hand.old) + length places.now ≤ capacity_of pool.now }
-    ensures hand { IsHandOf pool.now hand.new }
-    ensures pushed { pushed hand.new ≡ pushed hand.old ++ places.now }
-    ensures took { (f : ℕ → ℕ) → took f hand.new ≡ took f hand.old }
-    ensures number { hand.new.number ≡ hand.old.number }
+// Scans the last place of its own list. False where that is empty.
+fn scan_own(shared: &Shared, marker: &mut Marker) -> bool
+    requires fits { IsMarkerOf shared.now.marks.now shared.now.pool.now marker.old }
+    requires graph { graph_in shared.now.marks.now ≡ shared.now.graph.now }
+    requires waiters { IsWaiters shared.now.graph.now shared.now.waiters.now }
+    ensures { Runs shared.now.marks.now shared.now.pool.now marker.old marker.new }
 {
-    for place in places {
-        pool.push(hand, *place);
-    }
+    let Some(place) = marker.scanner.won.pop() else {
+        return false;
+    };
+    scan(
+        shared.marks,
+        shared.graph,
+        shared.waiters,
+        &mut marker.scanner,
+        place,
+    );
+    true
 }
 
 // Scans a place that was taken. Where it is not known as marked it is deferred to the finishing scan.
@@ -65,28 +85,86 @@ fn scan_or_defer(shared: &Shared, marker: &mut Marker, place: u32)
             &mut marker.scanner,
             place,
         );
-        push_all(shared.pool, &mut marker.hand, marker.scanner.won.as_slice());
-        marker.scanner.won.clear();
         return;
     }
-    marker.deferred[place as usize] = true;
+    marker.deferred.add(place);
 }
 
-// Takes a place, and scans or defers it. False where none came.
+// Shares the first place of its own list, where it has more and its deque is short.
+fn share(shared: &Shared, marker: &mut Marker)
+    requires { IsMarkerOf shared.now.marks.now shared.now.pool.now marker.old }
+    ensures { Runs shared.now.marks.now shared.now.pool.now marker.old marker.new }
+{
+    if marker.budget == 0 || marker.scanner.won.len() < 2 {
+        return;
+    }
+    if shared.pool.len(&mut marker.hand) >= SHARED {
+        return;
+    }
+    let Some(place) = marker.scanner.won.shift() else {
+        unreachable!()
+    };
+    shared.pool.push(&mut marker.hand, place);
+    marker.budget -= 1;
+}
+
+// Looks again for a place in the deques, until all markers do.
+fn look_again(shared: &Shared, hand: &mut GreyHand) -> Option<u32>
+    requires { IsHandOf shared.now.pool.now hand.old }
+    ensures hand { IsHandOf shared.now.pool.now hand.new }
+    ensures pushed { pushed hand.new ≡ pushed hand.old }
+    ensures took { (f : ℕ → ℕ) → took f hand.new ≡ took f hand.old + option_weight f result }
+    ensures number { hand.new.number ≡ hand.old.number }
+{
+    for _ in 0..LOOKS {
+        if shared.idle.load(Ordering::SeqCst) >= shared.count {
+            return None;
+        }
+        if let Some(place) = shared.pool.take(hand) {
+            return Some(place);
+        }
+        spin_loop();
+    }
+    None
+}
+
+// Takes a place from the deques.
+fn seek(shared: &Shared, hand: &mut GreyHand) -> Option<u32>
+    requires { IsHandOf shared.now.pool.now hand.old }
+    ensures hand { IsHandOf shared.now.pool.now hand.new }
+    ensures pushed { pushed hand.new ≡ pushed hand.old }
+    ensures took { (f : ℕ → ℕ) → took f hand.new ≡ took f hand.old + option_weight f result }
+    ensures number { hand.new.number ≡ hand.old.number }
+{
+    if let Some(place) = shared.pool.take(hand) {
+        return Some(place);
+    }
+    let _ = shared.idle.fetch_add(1, Ordering::SeqCst);
+    let place = look_again(shared, hand)?;
+    let _ = shared.idle.fetch_sub(1, Ordering::SeqCst);
+    Some(place)
+}
+
+// Scans a place, its own or one that it takes, and shares one. False where there is none.
 fn step(shared: &Shared, marker: &mut Marker) -> bool
     requires fits { IsMarkerOf shared.now.marks.now shared.now.pool.now marker.old }
     requires graph { graph_in shared.now.marks.now ≡ shared.now.graph.now }
     requires waiters { IsWaiters shared.now.graph.now shared.now.waiters.now }
     ensures { Runs shared.now.marks.now shared.now.pool.now marker.old marker.new }
 {
-    let Some(place) = shared.pool.take(&mut marker.hand) else {
+    if scan_own(shared, marker) {
+        share(shared, marker);
+        return true;
+    }
+    let Some(place) = seek(shared, &mut marker.hand) else {
         return false;
     };
     scan_or_defer(shared, marker, place);
+    share(shared, marker);
     true
 }
 
-// Takes places until none comes.
+// Scans places until there is none.
 fn run<G: Gate>(gate: &G, number: u32, shared: &Shared, marker: &mut Marker)
     requires fits { IsMarkerOf shared.now.marks.now shared.now.pool.now marker.old }
     requires graph { graph_in shared.now.marks.now ≡ shared.now.graph.now }

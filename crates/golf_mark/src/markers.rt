@@ -18,7 +18,11 @@ use golf_marks::{MarkSeat, Marks};
 use golf_model::{Graph, Marked};
 use std::alloc::Global;
 use std::marker::Model;
+use std::sync::atomic::AtomicU64;
 use std::thread::Threads;
+
+/// How often a marker shares a place at most. Then it keeps what it finds to itself.
+const SHARES: u32 = 65_536;
 
 /// All that some markers need to mark one graph, which is what contracts see.
 pub struct Markers {
@@ -84,8 +88,9 @@ impl Markers {
         let waiters = Waiters::new(alloc, graph)?;
         let places = graph.nodes() + graph.sleepers();
         let (marks, seats) = Marks::new(alloc, graph, count)?;
-        let (pool, hands) = GreyPool::new(alloc, count, places.max(1))?;
-        let markers = equip(alloc, &marks, &pool, places, seats, hands)?;
+        let budget = if count > 1 { places.min(SHARES) } else { 0 };
+        let (pool, hands) = GreyPool::new(alloc, count, budget)?;
+        let markers = equip(alloc, &marks, &pool, places, budget, seats, hands)?;
         let mut hand_room = Room::new(alloc);
         hand_room.reserve(count as usize)?;
         let mut seat_room = Room::new(alloc);
@@ -120,11 +125,14 @@ impl Markers {
             seats,
         } = self;
         let dealt = deal(&marks, &pool, graph, markers);
+        let idle = AtomicU64::new(0);
         let shared = Shared {
             marks: &marks,
             pool: &pool,
             graph,
             waiters: &waiters,
+            count: dealt.len() as u64,
+            idle: &idle,
         };
         let done = run_markers(rt, gate, &shared, dealt);
         conclude(marks, pool, graph, &waiters, done, hands, seats)

@@ -9,19 +9,20 @@ ghost use Rattle.golf_mark.specs.Scanning.{IsScannerOf, Wins};
 ghost use Rattle.golf_mark.specs.Waiters.{IsWaiters};
 ghost use Rattle.golf_mark.specs.Working.{IsScanned};
 
+use crate::stack::Stack;
 use crate::waiters::Waiters;
-use golf_base::Room;
 use golf_marks::{MarkSeat, Marks};
 use golf_model::Graph;
 
-/// A seat, and the places that its claims have won and that are not yet passed on.
+/// A seat, and the places that its claims have won and that are neither scanned nor shared.
 #[derive(Drop)]
 pub(crate) struct Scanner {
     pub(crate) seat: MarkSeat,
-    pub(crate) won: Room<u32>,
+    pub(crate) won: Stack,
 }
 
-/// Claims a place.
+/// Claims a place. It looks first, since a look costs less than a claim where others have marked the
+/// place.
 pub(crate) fn claim(marks: &Marks, scanner: &mut Scanner, place: u32)
     requires fits { IsScannerOf marks.now scanner.old }
     requires place { place < place_count (graph_in marks.now) }
@@ -29,8 +30,11 @@ pub(crate) fn claim(marks: &Marks, scanner: &mut Scanner, place: u32)
     ensures wins { Wins marks.now scanner.old scanner.new }
     ensures there { In place (known scanner.new.seat) }
 {
+    if marks.is_marked(&mut scanner.seat, place) {
+        return;
+    }
     if marks.claim(&mut scanner.seat, place) {
-        scanner.won.push_ready(place);
+        scanner.won.push(place);
     }
 }
 

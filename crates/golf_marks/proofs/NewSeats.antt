@@ -1,5 +1,5 @@
 -- A seat with one part, that has done nothing.
-use Rattle.std.proofs.Common.{◌≡◌, ℕ, List, [], refl, ap, ◌∙◌}
+use Rattle.std.proofs.Common.{◌≡◌, ℕ, [], ap, ◌∙◌}
 use Rattle.atomic_table.specs.Table.{Me}
 use Rattle.golf_marks.specs.declared.rule.View.{View}
 use Rattle.golf_marks.specs.declared.marks.Marks.{Marks}

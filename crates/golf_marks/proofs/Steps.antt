@@ -1,6 +1,6 @@
 -- Each step of the mark words keeps their rule.
-use Rattle.std.proofs.Common.{◌≡◌, ◌≢◌, ℕ, zero, suc, ◌+◌, ◌-◌, ◌<◌, ◌≤◌, ◌⊎◌, List, [], ◌∷◌, ◌++◌, length, get_or, set, Bool, cond, refl, sym, ap, ◌∙◌, subst, arith, ⊎_elim, inl, inr, eq-eqb, ne_eqb}
-use Rattle.std.specs.Prelude.{sum_by, bit_or, replicate, slice_index}
+use Rattle.std.proofs.Common.{◌≡◌, ◌≢◌, ℕ, zero, suc, ◌+◌, ◌-◌, ◌<◌, ◌≤◌, ◌⊎◌, List, [], ◌∷◌, ◌++◌, length, set, Bool, cond, refl, sym, ap, ◌∙◌, subst, arith, ⊎_elim, inl, inr, eq-eqb, ne_eqb}
+use Rattle.std.specs.Prelude.{bit_or, replicate, slice_index}
 use Rattle.std.proofs.lemmas.List.{get_or-set_same, get_or-set_other, get_or-replicate, get_or_past, get_or_default}
 use Rattle.std.proofs.lemmas.List.Sums.{sum_by_push}
 use Rattle.std.proofs.lemmas.Bool.{cases_lt, cases_eq}
@@ -12,7 +12,7 @@ use Rattle.atomic_table.proofs.Lists.{at_set, at_snoc, at_index, set_again}
 use Rattle.golf_theory.specs.Membership.{In}
 use Rattle.golf_theory.specs.Counting.{times}
 use Rattle.golf_theory.specs.Reached.{Follows}
-use Rattle.golf_theory.proofs.Lists.{In-left, In-right, In-cases, In-push, Every-from}
+use Rattle.golf_theory.proofs.Lists.{In-left, In-right, In-cases, Every-from}
 use Rattle.golf_theory.proofs.Derivations.{Follows-grows, Derived-closed}
 use Rattle.golf_theory.proofs.Sums.{total_set, total_at, total_alone}
 use Rattle.golf_theory.proofs.Times.{times-push, times-append, length-counted, sum-bits}

@@ -1,15 +1,19 @@
 -- The laws of the code of a typed file, as statements.
-use Rattle.std.specs.Prelude.{◌≡◌, ℕ, List, None}
+use Rattle.std.specs.Prelude.{◌≡◌, ℕ, Bool, List, None}
 use Rattle.golf_data.specs.declared.code.Code.{Code}
 use Rattle.golf_grammar.specs.declared.declarations.File.{File}
 use Rattle.golf_model.specs.State.{State, ending}
+use Rattle.golf_model.specs.Collecting.{plain_collect, sets_finalisers, removed, real_collect}
+use Rattle.golf_model.specs.Living.{Dead}
+use Rattle.golf_model.specs.Running.{Event}
+use Rattle.golf_model.specs.Futures.{Still, futures}
 use Rattle.golf_shapes.specs.Types.{ValueType, Shape, Typing}
 use Rattle.golf_shapes.specs.Shapes.{HasShapes}
 use Rattle.golf_shapes.specs.WellTyped.{WellTyped}
 use Rattle.golf_progress.specs.Laws.{MovesOn}
 use Rattle.golf_code_of.specs.Files.{CodeOf}
 use Rattle.golf_code_shapes.specs.FileLaws.{types_of_file}
-use Rattle.golf_never_stuck.specs.Reached.{IsProgram, Reached}
+use Rattle.golf_never_stuck.specs.Reached.{IsProgram, Reached, LeadsOn}
 
 -- the code of a well-formed file that breaks no rule has shapes, with the types of the file
 abbrev pub FilesHaveShapes : Type 0
@@ -22,3 +26,21 @@ ReachedTyped = (code : Code) (s : State) → Reached code s → (types : Typing)
 -- and is not stuck before its ending: the turn of any number has changes
 abbrev pub ReachedMovesOn : Type 0
 ReachedMovesOn = (code : Code) (s : State) (c : ℕ) → Reached code s → ending s ≡ None → MovesOn code s c
+
+-- no state that moves lead on to is stuck before its ending
+abbrev pub GoesOn : Code → State → Type 0
+GoesOn code s = (t : State) (c : ℕ) → LeadsOn code s t → ending t ≡ None → MovesOn code t c
+
+-- what moves lead on to from a reached state is reached, so it is never stuck
+abbrev pub ReachedGoesOn : Type 0
+ReachedGoesOn = (code : Code) (s : State) → Reached code s → ((t : State) → LeadsOn code s t → Reached code t) × GoesOn code s
+
+-- a dead goroutine of a reached state takes no step in any continuation, and no continuation is stuck
+abbrev pub ReachedDeadAreStill : Type 0
+ReachedDeadAreStill = (code : Code) (s : State) (g : ℕ) → Reached code s → Dead s g → Still code s g × GoesOn code s
+
+-- recovery in a reached state cannot be seen, and no continuation behind it is stuck
+abbrev pub ReachedRecoveryUnseen : Type 0
+ReachedRecoveryUnseen = (code : Code) (s : State) (recover : Bool) → Reached code s → ending s ≡ None
+    → ((events : List Event) → futures code (real_collect s recover (sets_finalisers code)) events (removed s recover (sets_finalisers code)) ≡ futures code (plain_collect s) events (removed s recover (sets_finalisers code)))
+    × GoesOn code (real_collect s recover (sets_finalisers code))

@@ -1,11 +1,13 @@
--- The states that the code of a typed file reaches (Go specification, "Program execution"; profile).
-use Rattle.std.specs.Prelude.{◌≡◌, true}
+-- The states that the code of a typed file reaches, and those that moves lead on to (Go specification, "Program execution"; profile).
+use Rattle.std.specs.Prelude.{◌≡◌, ℕ, Bool, true, [], None}
 use Rattle.std.specs.List.{list_all}
 use Rattle.golf_data.specs.declared.code.Code.{Code}
 use Rattle.golf_grammar.specs.declared.declarations.File.{File}
 use Rattle.golf_grammar.specs.Declarations.{decl_good}
 use Rattle.golf_types.specs.Files.{Typed}
-use Rattle.golf_model.specs.State.{State}
+use Rattle.golf_model.specs.State.{State, ending}
+use Rattle.golf_model.specs.Turn.{step}
+use Rattle.golf_model.specs.Collecting.{sets_finalisers, real_collect}
 use Rattle.golf_model.specs.Futures.{Leads}
 use Rattle.golf_code_of.specs.Files.{CodeOf}
 
@@ -20,3 +22,10 @@ pub record Reached (code : Code) (s : State) : Type 0 where
   pub program : IsProgram file
   pub coded : code ≡ CodeOf file
   pub leads : Leads code s
+
+-- the states that moves lead on to from a state: turns, collections with recovery or without, and the emptying of the output
+pub data LeadsOn (code : Code) (s : State) : State → Type 0 where
+  Here : LeadsOn code s s
+  Turn : (t : State) (c : ℕ) → LeadsOn code s t → ending t ≡ None → LeadsOn code s (step code t c)
+  Collection : (t : State) (recover : Bool) → LeadsOn code s t → ending t ≡ None → LeadsOn code s (real_collect t recover (sets_finalisers code))
+  Emptied : (t : State) → LeadsOn code s t → LeadsOn code s (record t { output = [] })

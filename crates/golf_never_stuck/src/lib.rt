@@ -4,7 +4,14 @@
 //! `specs/`, the proofs in `proofs/`.
 #![tactic(auto)]
 
-ghost use Rattle.golf_never_stuck.specs.Laws.{FilesHaveShapes, ReachedMovesOn, ReachedTyped};
+ghost use Rattle.golf_never_stuck.specs.Laws.{
+  FilesHaveShapes,
+  ReachedDeadAreStill,
+  ReachedGoesOn,
+  ReachedMovesOn,
+  ReachedRecoveryUnseen,
+  ReachedTyped,
+};
 
 /// The code of a well-formed file that breaks no rule has shapes.
 pub fn files_have_shapes()
@@ -19,4 +26,21 @@ pub fn reached_states_are_typed()
 /// No such state is stuck before its ending: whoever's turn it is, a rule fits.
 pub fn reached_states_move_on()
     ensures { ReachedMovesOn }
+{}
+
+/// Every state that moves lead on to from a reached one is reached, so none is stuck before its ending.
+pub fn reached_states_go_on()
+    ensures { ReachedGoesOn }
+{}
+
+/// A blocked goroutine outside the live set of a reached state takes no step in any continuation, and
+/// that is not for want of a rule: no continuation is stuck.
+pub fn reached_dead_are_still()
+    ensures { ReachedDeadAreStill }
+{}
+
+/// A collection of a reached state that removes goroutines cannot be seen, and what follows on it is
+/// never stuck.
+pub fn reached_recovery_unseen()
+    ensures { ReachedRecoveryUnseen }
 {}

@@ -127,7 +127,7 @@ insert-rank k es (e ∷ ls) = elim (nat_lt e.0 k) as (λ t. insert_item (e ∷ l
 
 pub all-kept : (t g : ℕ) (ws : List Wait) (old new : Lines) → Keeps (λ u h. (u ≡ t) × (h ≡ g)) old new → StandsInAll t g ws old → StandsInAll t g ws new
 all-kept t g [] old new k s = tt
-all-kept t g (w ∷ ws) old new k s = (λ q. k (key w.object.0 w.side) t g (refl, refl) (s.0 q), all-kept t g ws old new k s.1)
+all-kept t g (w ∷ ws) old new k s = (k (key w.object.0 w.side) t g (refl, refl) s.0, all-kept t g ws old new k s.1)
 
 pub all-more : (t g i : ℕ) (ws : List Wait) (d : Wait) (ls : Lines) → i < length ws → StandsInAll t g (take i ws) ls → StandsIn t g (get_or ws i d) ls → StandsInAll t g (take (suc i) ws) ls
 all-more t g i [] d ls l s n = absurd (omega arith)

@@ -1,5 +1,5 @@
 -- Lines of goroutines that wait, by object and side.
-use Rattle.std.specs.Prelude.{◌≡◌, ℕ, ◌+◌, ◌*◌, Bool, true, false, List, [], ◌∷◌, map, filter, Option, Some, None, ◌==◌}
+use Rattle.std.specs.Prelude.{ℕ, ◌+◌, ◌*◌, ◌<◌, ◌≤◌, Bool, true, false, List, [], ◌∷◌, map, filter, Option, Some, None, ◌==◌}
 use Rattle.golf_theory.specs.Maps.{Entry, find, Rises, AllBelow}
 use Rattle.golf_data.specs.declared.goroutine.Side.{Side}
 use Rattle.golf_data.specs.declared.goroutine.Wait.{Wait}
@@ -42,19 +42,14 @@ abbrev pub has_key : ℕ → Option (ℕ × List (ℕ × ℕ)) → Bool
 has_key k None = false
 has_key k (Some e) = e.0 == k
 
--- there are no lines for mutexes
-abbrev pub is_queued : Side → Bool
-is_queued Side.Receive = true
-is_queued Side.Send = true
-is_queued Side.Lock = false
-is_queued Side.Group = true
-is_queued Side.Read = true
-is_queued Side.Write = true
-is_queued Side.Cond = true
-
 -- all tickets are below n
 abbrev pub AreBelow : ℕ → Lines → Type 0
 AreBelow n ls = (k : ℕ) → AllBelow n (line_at k ls)
+
+-- the last of a line whose ticket is below this one; nobody where all tickets are later ones
+abbrev pub IsLastBefore : ℕ → List (ℕ × ℕ) → Option TicketHolder → Type 0
+IsLastBefore t es None = (u g : ℕ) → Entry es u g → t ≤ u
+IsLastBefore t es (Some h) = Entry es h.ticket h.goroutine.0 × (h.ticket < t) × ((u g : ℕ) → Entry es u g → u < t → u ≤ h.ticket)
 
 -- those of a line who pass the test stand there still
 abbrev pub KeepsIn : (ℕ → ℕ → Type 0) → List (ℕ × ℕ) → List (ℕ × ℕ) → Type 0
@@ -64,9 +59,9 @@ KeepsIn P old new = (t g : ℕ) → P t g → Entry old t g → Entry new t g
 abbrev pub Keeps : (ℕ → ℕ → Type 0) → Lines → Lines → Type 0
 Keeps P old new = (k : ℕ) → KeepsIn P (line_at k old) (line_at k new)
 
--- the goroutine stands in the line of the wait, where there is one for its side
+-- the goroutine stands in the line of the wait
 abbrev pub StandsIn : ℕ → ℕ → Wait → Lines → Type 0
-StandsIn t g w ls = is_queued w.side ≡ true → Entry (line_at (key w.object.0 w.side) ls) t g
+StandsIn t g w ls = Entry (line_at (key w.object.0 w.side) ls) t g
 
 abbrev pub StandsInAll : ℕ → ℕ → List Wait → Lines → Type 0
 StandsInAll t g [] ls = Unit {0}

@@ -6,5 +6,5 @@
 mod line;
 mod queues;
 
-pub use line::TicketHolder;
-pub use queues::{Queues, is_queued, side_number};
+pub use line::{TicketHolder, last_before};
+pub use queues::{Queues, side_number};

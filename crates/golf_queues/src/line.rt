@@ -3,7 +3,7 @@
 ghost use Rattle.std.specs.Prelude.{◌≡◌, ◌<◌, ◌≤◌, ◌+◌, ℕ, length, OnOk};
 ghost use Rattle.golf_theory.specs.Maps.{Entry, Rises, AllBelow};
 ghost use Rattle.golf_heap.specs.Objects.{rank};
-ghost use Rattle.golf_queues.specs.Lines.{held, has_anyone, KeepsIn};
+ghost use Rattle.golf_queues.specs.Lines.{held, has_anyone, KeepsIn, IsLastBefore};
 
 use golf_base::{GoroutineId, Memory};
 
@@ -48,6 +48,18 @@ pub fn part(line: &mut Vec<TicketHolder>, ticket: u64, goroutine: GoroutineId)
     if at < line.len() && line[at].goroutine.0 == goroutine.0 {
         line.remove(at);
     }
+}
+
+/// The last in a line whose ticket is below this one.
+pub fn last_before(line: &[TicketHolder], ticket: u64) -> Option<TicketHolder>
+    requires { Rises 0 (held line.now) }
+    ensures { IsLastBefore ticket (held line.now) result }
+{
+    let at = rank_of(line, ticket);
+    if at == 0 {
+        return None;
+    }
+    Some(line[at - 1])
 }
 
 /// Whether anyone stands in the line.

@@ -4,7 +4,7 @@ ghost use Rattle.std.specs.Prelude.{◌≡◌, ◌<◌, ◌≤◌, ◌+◌, ℕ,
 ghost use Rattle.golf_theory.specs.Maps.{Entry, Rises};
 ghost use Rattle.golf_heap.specs.Objects.{rank};
 ghost use Rattle.golf_model.specs.Waiting.{side_number};
-ghost use Rattle.golf_queues.specs.Lines.{Lines, IsInOrder, key, held, lines_of, line_at, has_key, is_queued, standing, AreBelow, Keeps, StandsIn, StandsInAll};
+ghost use Rattle.golf_queues.specs.Lines.{Lines, IsInOrder, key, held, lines_of, line_at, has_key, standing, AreBelow, Keeps, StandsInAll};
 
 use crate::line::{TicketHolder, has_anyone, join, part};
 use golf_base::{GoroutineId, Memory, ObjectId};
@@ -50,22 +50,6 @@ pub fn side_number(side: Side) -> u8
         Side::Read => 4,
         Side::Write => 5,
         Side::Cond => 6,
-    }
-}
-
-/// Whether there are lines for a side. There are none for mutexes: a goroutine that is passed on
-/// from a condition to its mutex waits for it without a turn of its own, and could take no memory.
-pub fn is_queued(side: Side) -> bool
-    ensures { result ≡ is_queued side }
-{
-    match side {
-        Side::Receive => true,
-        Side::Send => true,
-        Side::Lock => false,
-        Side::Group => true,
-        Side::Read => true,
-        Side::Write => true,
-        Side::Cond => true,
     }
 }
 
@@ -145,20 +129,6 @@ impl Queues {
         Ok(())
     }
 
-    // The goroutine stands last in the line of a wait, where there is one for its side.
-    fn enter_by(&mut self, wait: Wait, ticket: u64, goroutine: GoroutineId) -> Result<(), Memory>
-        requires below { AreBelow (ticket + 1) self.old }
-        ensures joins { OnOk result (StandsIn ticket goroutine.0 wait self.new) }
-        ensures again { OnOk result (Keeps (λ t g. (t ≡ ticket) × (g ≡ goroutine.0)) self.old self.new) }
-        ensures kept { Keeps (λ t g. t < ticket) self.old self.new }
-        ensures below { AreBelow (ticket + 1) self.new }
-    {
-        if is_queued(wait.side) {
-            return self.enter(wait.object, wait.side, ticket, goroutine);
-        }
-        Ok(())
-    }
-
     /// The goroutine stands last in the line of each of these waits.
     pub fn enter_all(
         &mut self,
@@ -172,7 +142,7 @@ impl Queues {
         ensures below { AreBelow (ticket + 1) self.new }
     {
         for wait in waits {
-            self.enter_by(*wait, ticket, goroutine)?;
+            self.enter(wait.object, wait.side, ticket, goroutine)?;
         }
         Ok(())
     }

@@ -1,7 +1,8 @@
--- A file that is refused is no typed one.
-use Rattle.std.proofs.Common.{◌≡◌, ℕ, List, subst, sym, ap, ◌∙◌}
+-- A file that is refused is no typed one; the code of a typed one is its only code, and has places.
+use Rattle.std.proofs.Common.{◌≡◌, ℕ, ◌<◌, ◌^◌, List, length, subst, sym, ap, ◌∙◌}
 use Rattle.std.specs.Prelude.{Result, Ok, Err}
 use Rattle.golf_data.specs.declared.code.Code.{Code}
+use Rattle.golf_data.specs.Places.{HasPlaces}
 use Rattle.golf_tokens.specs.declared.token.Token.{Token}
 use Rattle.golf_tokens.specs.Lexes.{Lexes, IsFault, line_at}
 use Rattle.golf_grammar.specs.declared.declarations.File.{File}
@@ -9,10 +10,11 @@ use Rattle.golf_grammar.specs.Reads.{Reads as HasTree, ReadsTokens}
 use Rattle.golf_lex.proofs.Scans.{lexes-once}
 use Rattle.golf_syntax.proofs.OneTree.{one-tree}
 use Rattle.golf_types.specs.Faults.{IsFirst}
-use Rattle.golf_types.specs.Files.{Broken, Typed}
+use Rattle.golf_types.specs.Files.{Broken}
 use Rattle.golf_check.specs.declared.files.Checked.{Checked}
 use Rattle.golf_check.specs.Heads.{scope_of}
 use Rattle.golf_code_of.specs.Files.{CodeOf}
+use Rattle.golf_code_places.proofs.Files.{files-have-places}
 use Rattle.golf_reader.specs.declared.refusal.Refusal.{Refusal}
 use Rattle.golf_reader.specs.declared.refusal.Refusal.TheVariants as refusals
 use Rattle.golf_reader.specs.Refusals.{HasTypedTree, IsNotTyped, IsUnlexed, HasCode, Parses, Keeps, WasParsed, WasTyped}
@@ -51,3 +53,7 @@ of-tree bytes file (Err refusals.Memory) t k = tt
 -- the code of the typed tree is that of each
 pub has-code : (bytes : List ℕ) (file : File) (code : Code) → HasTypedTree bytes file → code ≡ CodeOf file → HasCode bytes code
 has-code bytes file code h is = record { file = file; typed = h; is = is; only = λ other g. is ∙ ap CodeOf (one-tree bytes file other h.tree g.tree) }
+
+-- the code of the typed tree of few bytes has places
+pub has-places : (bytes : List ℕ) (file : File) (code : Code) → HasTypedTree bytes file → code ≡ CodeOf file → length bytes < 2 ^ 27 → HasPlaces code
+has-places bytes file code h is few = subst HasPlaces (sym is) (files-have-places bytes file h.tree few)

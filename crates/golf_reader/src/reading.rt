@@ -65,7 +65,7 @@ fn typed(alloc: Global, bytes: &[u8]) -> Result<Checked, Refusal>
 /// `Refusal::Memory` comes where memory runs out, which no clause ties to a cause; each other refusal
 /// where the file is so, and nowhere else: a file that has code is refused for none of them.
 pub fn read(alloc: Global, bytes: &[u8]) -> Result<Code, Refusal>
-    requires { length bytes.now < 2 ^ 32 - 1 }
+    requires { length bytes.now < 2 ^ 27 }
     ensures answer { WasRead bytes.now result }
 
     // The code can be run.

@@ -1,14 +1,13 @@
 -- Who is removed: the sleepers that are neither awake nor kept.
-use Rattle.std.proofs.Common.{◌≡◌, ℕ, Bool, true, false, not, ◌||◌, ◌&&◌, List, [], ◌∷◌, length, map, filter, get_or, Some, refl, sym, ap, ◌∙◌, slice_get, ◌==◌}
+use Rattle.std.proofs.Common.{◌≡◌, ℕ, Bool, true, false, not, ◌||◌, ◌&&◌, List, map, filter, get_or, Some, refl, sym, ap, ◌∙◌, slice_get, ◌==◌}
 use Rattle.std.proofs.lemmas.Bool.{and_parts, and_from, not-true, not_from_false, both_ways, false_from_ne_true}
 use Rattle.std.proofs.lemmas.List.{length-map}
-use Rattle.golf_theory.specs.Membership.{Every}
 use Rattle.golf_theory.proofs.Lists.{Every-from, filter-same, In-slice_get}
 use Rattle.golf_theory.proofs.Tests.{same_test}
 use Rattle.golf_base.specs.declared.ids.GoroutineId.{GoroutineId}
 use Rattle.golf_model.specs.Views.{GoroutineView}
 use Rattle.golf_model.specs.State.{State, is_running}
-use Rattle.golf_model.specs.Living.{Node, Live, has_goroutine, live_list, Dead, dead}
+use Rattle.golf_model.specs.Living.{Node, Live, has_goroutine, live_list, Dead}
 use Rattle.golf_model.specs.Collecting.{keeps, unkept, removed}
 use Rattle.golf_model.specs.Futures.{Numbered}
 use Rattle.golf_model.specs.Presence.{IsWhole}

@@ -1,9 +1,9 @@
 -- What the marked places of a state's graphs say of the state.
-use Rattle.std.proofs.Common.{◌≡◌, ℕ, ◌+◌, ◌<◌, Bool, true, false, not, ◌||◌, ◌&&◌, ◌==◌, List, [], ◌∷◌, length, map, filter, get_or, Some, refl, sym, ap, ◌∙◌, subst, slice_get}
+use Rattle.std.proofs.Common.{◌≡◌, ℕ, ◌<◌, Bool, true, false, not, ◌||◌, ◌&&◌, ◌==◌, List, [], ◌∷◌, length, map, filter, get_or, Some, refl, sym, ap, ◌∙◌, subst, slice_get}
 use Rattle.std.proofs.lemmas.Bool.{eqb-true}
 use Rattle.std.proofs.lemmas.List.{length-map}
 use Rattle.std.proofs.lemmas.Option.{slice_get_within}
-use Rattle.golf_theory.specs.Maps.{keys, keys_where}
+use Rattle.golf_theory.specs.Maps.{keys}
 use Rattle.golf_theory.specs.Membership.{is_in}
 use Rattle.golf_theory.proofs.Derivations.{Reached-root}
 use Rattle.golf_theory.proofs.Lists.{Every-from, filter-same}
@@ -13,7 +13,7 @@ use Rattle.golf_data.specs.declared.value.Object.{Object}
 use Rattle.golf_model.specs.Collecting.{retained}
 use Rattle.golf_model.specs.Futures.{Numbered}
 use Rattle.golf_model.specs.Graph.{Least}
-use Rattle.golf_model.specs.Living.{Node, LiveRoot, LiveStep, Live, has_object, has_goroutine, live_list, live_objects, is_dead, dead}
+use Rattle.golf_model.specs.Living.{Node, LiveRoot, LiveStep, has_object, has_goroutine, live_list, live_objects, is_dead, dead}
 use Rattle.golf_model.specs.Views.{GoroutineView}
 use Rattle.golf_model.specs.Presence.{IsWhole}
 use Rattle.golf_model.specs.Reaching.{reach, sources}

@@ -1,17 +1,16 @@
 -- What a collection promises, from what the state after it and its report are.
-use Rattle.std.proofs.Common.{◌≡◌, ℕ, Bool, true, false, not, ◌&&◌, List, [], ◌++◌, None, inl, inr, refl, sym, ap, subst, ◌∙◌}
-use Rattle.std.proofs.lemmas.Bool.{not-true, not_from_false, both_ways, false_from_ne_true, cases_Bool, not-false}
-use Rattle.golf_theory.specs.Maps.{Entry, keys, only}
+use Rattle.std.proofs.Common.{◌≡◌, ℕ, Bool, true, false, not, List, refl, sym, ap, subst, ◌∙◌}
+use Rattle.std.proofs.lemmas.Bool.{not-true, not_from_false, both_ways, false_from_ne_true}
+use Rattle.golf_theory.specs.Maps.{keys}
 use Rattle.golf_theory.specs.Membership.{In, is_in}
 use Rattle.golf_theory.proofs.Lists.{In-filter, In-filter_old}
 use Rattle.golf_theory.proofs.MapKeys.{keys-only}
 use Rattle.golf_theory.proofs.Tests.{is_in-from, In-from, is_in-out}
-use Rattle.golf_data.specs.declared.code.Code.{Code}
 use Rattle.golf_data.specs.declared.report.Book.{Book}
 use Rattle.golf_data.specs.declared.report.Report.{Report}
-use Rattle.golf_model.specs.State.{State, ending}
-use Rattle.golf_model.specs.Living.{Dead, dead}
-use Rattle.golf_model.specs.Collecting.{plain_collect, sets_finalisers, Keeps, keeps, removed, retained, Retained, real_collect}
+use Rattle.golf_model.specs.State.{State}
+use Rattle.golf_model.specs.Living.{dead}
+use Rattle.golf_model.specs.Collecting.{plain_collect, keeps, removed, retained, real_collect}
 use Rattle.golf_model.specs.Futures.{Numbered, Leads, futures}
 use Rattle.golf_model.specs.Reporting.{numbers, report}
 use Rattle.golf_model.proofs.Agreeing.{dead-sound, dead-complete, keeps-sound, keeps-complete, retained-sound, retained-complete}

@@ -1,9 +1,8 @@
 -- A collection's report and book, from what was found.
 use Rattle.std.proofs.Common.{◌≡◌, ℕ, ◌+◌, ◌-◌, ◌≤◌, Bool, true, false, not, ◌||◌, List, [], ◌∷◌, ◌++◌, length, map, filter, cond, inl, inr, refl, sym, ap, subst, ◌∙◌, arith}
 use Rattle.std.proofs.lemmas.List.{length-map}
-use Rattle.std.proofs.lemmas.Bool.{or_right}
-use Rattle.golf_theory.specs.Maps.{Entry, find, keys}
-use Rattle.golf_theory.specs.Membership.{In, Every, is_in}
+use Rattle.golf_theory.specs.Maps.{keys}
+use Rattle.golf_theory.specs.Membership.{In, is_in}
 use Rattle.golf_theory.proofs.Lists.{Every-from, filter-all, filter-same, In-filter, In-filter_old, In-map, In-map_back}
 use Rattle.golf_theory.proofs.Tests.{is_in-from, In-from, is_in-out, is_in-append, same_test}
 use Rattle.golf_theory.proofs.MapEntries.{In-keys}

@@ -1,25 +1,22 @@
 -- The state after a collection, from what was found.
-use Rattle.std.proofs.Common.{◌≡◌, ℕ, ◌+◌, Bool, true, false, not, ◌||◌, ◌&&◌, cond, List, [], ◌∷◌, ◌++◌, map, filter, ◌⊎◌, inl, inr, refl, sym, ap, subst, ◌∙◌}
+use Rattle.std.proofs.Common.{◌≡◌, ℕ, Bool, true, false, not, ◌&&◌, cond, List, [], ◌∷◌, map, filter, ◌⊎◌, inl, inr, refl, sym, ap, subst, ◌∙◌}
 use Rattle.std.proofs.lemmas.Bool.{or_parts, both_ways, cases_Bool, not-false}
 use Rattle.golf_theory.specs.Membership.{In, is_in}
-use Rattle.golf_theory.specs.Maps.{Entry, find, keys, only}
+use Rattle.golf_theory.specs.Maps.{find, keys, only}
 use Rattle.golf_theory.proofs.Lists.{In-left, In-right, In-cases, In-filter, In-filter_old}
 use Rattle.golf_theory.proofs.Tests.{is_in-from, In-from, is_in-same, same_test}
 use Rattle.golf_theory.proofs.MapEntries.{In-keys}
 use Rattle.golf_theory.proofs.MapFinds.{find-Entry}
 use Rattle.golf_theory.proofs.Derivations.{Reached-least, Reached-over}
 use Rattle.golf_base.specs.declared.ids.GoroutineId.{GoroutineId}
-use Rattle.golf_data.specs.declared.value.Object.{Object}
-use Rattle.golf_model.specs.Views.{GoroutineView}
 use Rattle.golf_model.specs.Values.{refs}
 use Rattle.golf_model.specs.State.{State}
-use Rattle.golf_model.specs.Refs.{object_refs, goroutine_refs, queue_refs, refs_where, goroutine_refs_where, has_finaliser, refs_of_goroutine}
+use Rattle.golf_model.specs.Refs.{queue_refs, goroutine_refs_where, has_finaliser, refs_of_goroutine}
 use Rattle.golf_model.specs.Reaching.{RefersTo, reach, sources}
 use Rattle.golf_model.specs.Living.{live_list, has_object}
-use Rattle.golf_model.specs.Collecting.{queue_outside, plain_collect, removed, retained, real_collect, collect_without}
+use Rattle.golf_model.specs.Collecting.{queue_outside, plain_collect, removed, retained, real_collect}
 use Rattle.golf_model.specs.Futures.{Numbered}
 use Rattle.golf_model.specs.Presence.{IsWhole}
-use Rattle.golf_model.specs.Reporting.{numbers}
 use Rattle.golf_model.proofs.Agreeing.{reach-sound, reach-complete, refs_where-sound, goroutine_refs_where-sound}
 use Rattle.golf_heap.specs.Objects.{kept}
 use Rattle.golf_heap.proofs.Flagged.{kept-only}

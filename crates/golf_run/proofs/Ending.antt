@@ -1,163 +1,214 @@
--- What was written by then is a front of what the whole run writes, and at the end it is all of it.
-use Rattle.std.proofs.Common.{◌≡◌, ℕ, ◌+◌, ◌-◌, ◌≤◌, Bool, true, false, List, [], ◌∷◌, ◌++◌, ◌⊎◌, inl, inr, refl, sym, ap, subst, ◌∙◌, append_assoc, append-nil, arith}
+-- Where a run stops, and what it has written by then: at its end, all of it.
+use Rattle.std.proofs.Common.{◌≡◌, ℕ, Bool, true, List, [], ◌∷◌, ◌++◌, length, ◌⊎◌, inl, inr, map, refl, sym, ap, subst, ◌∙◌, append_assoc, append-nil, arith}
 use Rattle.std.specs.Prelude.{Option, Some, None, Result, Ok, Err, IsErr, IsErrAnd, is_some}
 use Rattle.std.specs.Io.KnownBytes.{Appends}
 use Rattle.std.proofs.KnownBytes.{Appends-trans, Appends-nil}
 use Rattle.golf_base.specs.Causes.{Rose, WritesFront}
 use Rattle.golf_data.specs.declared.code.Code.{Code}
+use Rattle.golf_data.specs.declared.goroutine.Ending.{Ending}
 use Rattle.golf_data.specs.declared.report.Book.{Book}
 use Rattle.golf_data.specs.declared.report.Report.{Report}
 use Rattle.golf_model.specs.State.{State, start, ending}
 use Rattle.golf_model.specs.Turn.{step}
 use Rattle.golf_model.specs.Collecting.{plain_collect, sets_finalisers}
-use Rattle.golf_model.specs.Running.{Event, has_ended, wants_collection, run, stops_by}
-use Rattle.golf_model.specs.Reporting.{reports_from, new_book}
-use Rattle.golf_texts.specs.declared.status.Status.{Status}
-use Rattle.golf_texts.specs.declared.status.TheConstants.{TURNS}
-use Rattle.golf_texts.specs.Texts.{report_text, reports_text, last_line}
-use Rattle.golf_texts.specs.Meaning.{rotate_from, anyone_reported, status_by, last_of, out_of, reports_of, err_of, status_of}
-use Rattle.golf_laws.specs.Printing.{prefixed}
-use Rattle.golf_laws.proofs.Printing.{run-prefixed}
+use Rattle.golf_model.specs.Running.{Event, has_ended, run, stops_by}
+use Rattle.golf_model.specs.Reporting.{reports_from, new_book, book_of, numbers}
+use Rattle.golf_model.specs.Futures.{Leads}
+use Rattle.golf_schedules.specs.declared.options.Options.{Options}
+use Rattle.golf_schedules.specs.Events.{turns_among}
+use Rattle.golf_texts.specs.declared.totals.Totals.{Totals}
+use Rattle.golf_texts.specs.Texts.{last_line}
+use Rattle.golf_texts.specs.Totals.{totals_of}
+use Rattle.golf_texts.specs.Meaning.{events_of, last_of, reports_of, end_of}
+use Rattle.golf_texts.specs.Writes.{Write, out_bytes, err_bytes, tells, writes_from, event_writes_of, writes_of}
 use Rattle.golf_run.specs.declared.fault.RunFault.{RunFault}
 use Rattle.golf_run.specs.declared.fault.RunFault.TheVariants as faults
-use Rattle.golf_run.specs.Told.{told, told_text, HasTold}
-use Rattle.golf_run.specs.HasRun.{Sinks, GotFronts, GotWhole, IsSteady, HasBroken, HasRun}
-use Rattle.golf_model.specs.Futures.{Leads}
-use Rattle.golf_run.specs.UnderWay.{at, stops_to, reports_to, book_to, freed_at, freed_stops_to, freed_book_to, IsUnderWay}
-use Rattle.golf_run.proofs.Rotating.{last-from, reports-from, rest, texts-append, ended-run, ended-stops}
-use Rattle.golf_run.proofs.Freeing.{same-ending}
-use Rattle.golf_run.proofs.Goings.{emptied, grown, spoken, at-start}
+use Rattle.golf_run.specs.Told.{told_text, HasTold}
+use Rattle.golf_run.specs.Happening.{turned, prints, says, collects, HasTurned}
+use Rattle.golf_run.specs.HasLeft.{HasLeft}
+use Rattle.golf_run.specs.declared.turns.Course.{Course}
+use Rattle.golf_run.specs.HasRun.{Sinks, sinks, GotWrites, IsSteady, WasCut, WasStopped}
+use Rattle.golf_run.specs.HasGone.{WentThrough, HasGone}
+use Rattle.golf_run.specs.UnderWay.{at, stops_to, reports_to, book_to, writes_to, real_at, real_stops_to, real_book_to, IsUnderWay}
+use Rattle.golf_run.proofs.Appending.{run-append, stops-append, reports-append, ended-run, ended-stops}
+use Rattle.golf_run.proofs.Writing.{out-append, err-append, ended-writes}
+use Rattle.golf_run.proofs.Real.{same-ending}
+use Rattle.golf_run.proofs.Leaving.{start-left}
+use Rattle.golf_run.proofs.Cutting.{out-done, err-done, behind, events-split, writes-split, follows, writes-next, follows-told, says-out, says-err, out-cut, err-cut}
 
--- a text that begins so
-abbrev pub Begins : List ℕ → List ℕ → Type 0
-Begins front whole = (more : List ℕ) × (whole ≡ front ++ more)
+-- the whole run, after some of its events
+module _ (code : Code) (options : Options) (done rest : List Event) (split : events_of options ≡ done ++ rest) where
+  abbrev sets : Bool
+  sets = sets_finalisers code
 
-pub out-begins : (code : Code) (k : ℕ) → k ≤ TURNS → Begins (at code k).output (out_of code)
-unfolding out_of
-out-begins code k l =
-    let s = at code k in
-    let whole : s ≡ prefixed s.output (emptied s) = ap (λ (w : List ℕ). record s { output = w }) (sym (append-nil s.output)) in
-    let es = rest code k l in
-    ((run code (emptied s) es).output, ap (λ (t : State). t.output) (last-from code k l ∙ ap (λ t. run code t es) whole ∙ run-prefixed s.output code es (emptied s)))
+  abbrev pub later : List Report
+  later = reports_from options.recover sets (book_to code options.recover done) (stops_by plain_collect code (at code done) rest)
 
-pub err-begins : (code : Code) (k : ℕ) → k ≤ TURNS → Begins (reports_text (reports_to code k)) (err_of code)
-unfolding err_of
-err-begins code k l =
-    let later = Rattle.golf_model.specs.Reporting.reports_from false (sets_finalisers code) (book_to code k) (stops_by plain_collect code (at code k) (rest code k l)) in
-    let end = last_line code.texts TURNS (ending (last_of code)) in
-    (reports_text later ++ end, ap (λ rs. reports_text rs ++ end) (reports-from code k l) ∙ ap (λ t. t ++ end) (texts-append (reports_to code k) later) ∙ append_assoc (reports_text (reports_to code k)) (reports_text later) end)
+  pub last-from : last_of code options ≡ run code (at code done) rest
+  unfolding last_of at
+  last-from = ap (run code (start code)) split ∙ run-append plain_collect code done rest (start code)
 
--- what was written of a front is a front of the whole
-front-of : (old now : Option (List ℕ)) (front whole : List ℕ) → Appends old now front → Begins front whole → WritesFront old now whole
-front-of old now front whole a b = (front, b.0, b.1, a)
+  pub reports-split : reports_of code options ≡ reports_to code options.recover done ++ later
+  unfolding reports_of reports_to book_to stops_to at
+  reports-split =
+      ap (λ es. book_of (stops_by plain_collect code (start code) es) options.recover sets) split
+      ∙ ap (λ ps. book_of ps options.recover sets) (stops-append plain_collect code done rest (start code))
+      ∙ reports-append options.recover sets (stops_by plain_collect code (start code) done) (stops_by plain_collect code (run code (start code) done) rest) new_book
 
--- what was written whole, and then a front of the next piece
-front-then : (old now later : Option (List ℕ)) (done piece next whole : List ℕ) → Appends old now done → next ≡ done ++ piece → Begins next whole → WritesFront now later piece → WritesFront old later whole
-front-then old now later done piece next whole a e b w = (
-  done ++ w.0,
-  w.1 ++ b.0,
-  b.1 ∙ ap (λ x. x ++ b.0) (e ∙ ap (λ x. done ++ x) w.2 ∙ sym (append_assoc done w.0 w.1)) ∙ append_assoc (done ++ w.0) w.1 b.0,
-  Appends-trans _ _ _ _ _ a w.3,
-)
+-- the last line tells the turns only where the run has not ended
+last-turns : (texts : List (List ℕ)) (turns all : ℕ) (o : Option Ending) → (o ≡ None → turns ≡ all) → last_line texts turns o ≡ last_line texts all o
+last-turns texts turns all (Some e) h = refl
+last-turns texts turns all None h = ap (λ n. last_line texts n None) (h refl)
 
-module _ (code : Code) (k : ℕ) (state : State) (ledger : Book) (reported : Bool) (old now : Sinks) (w : IsUnderWay code k state ledger reported old now) where
-  pub fronts : (of ef : ℕ) → k ≤ TURNS → GotFronts code old (record now { out_faults = of; err_faults = ef })
-  fronts of ef l = record { out = front-of _ _ _ _ w.out (out-begins code k l); err = front-of _ _ _ _ w.err (err-begins code k l) }
+not-none : (o : Option Ending) → is_some o ≡ true → o ≡ None → ⊥
+not-none None h e = cc
+not-none (Some x) h e = cc
 
-  module _ (goes : ending state ≡ None) (l : k + 1 ≤ TURNS) where
-    -- the write of what a turn printed failed
-    pub out-broken : (out : Option (List ℕ)) (of ef : ℕ) → WritesFront now.out out (step code state k).output → GotFronts code old (record { out = out; out_faults = of; err = now.err; err_faults = ef })
-    out-broken out of ef f = record {
-      out = front-then _ _ _ _ _ _ _ w.out (grown code k state goes w.same) (out-begins code (k + 1) l) f;
-      err = front-of _ _ _ _ w.err (err-begins code k (omega (arith, l)));
-    }
+module _ (code : Code) (options : Options) (done rest : List Event) (split : events_of options ≡ done ++ rest) (state : State) (ledger : Book) (totals : Totals) (old now : Sinks) (w : IsUnderWay code options.recover done state ledger totals old now) where
+  -- what was written by then is whole
+  pub got-now : GotWrites (writes_to code options.recover done) old now
+  got-now = (subst (Appends old.out now.out) (sym (out-done code options.recover done)) w.out, subst (Appends old.err now.err) (sym (err-done code options.recover done)) w.err)
 
-    -- a report was not written whole
-    pub err-broken : (out err : Option (List ℕ)) (of ef : ℕ) → Appends now.out out (step code state k).output → wants_collection code state k ≡ true → WritesFront now.err err (told_text ledger (emptied (step code state k)))
-        → GotFronts code old (record { out = out; out_faults = of; err = err; err_faults = ef })
-    unfolding told_text
-    err-broken out err of ef a e f =
-        let t = told ledger (emptied (step code state k)) in
-        let next : reports_text (reports_to code (k + 1)) ≡ reports_text (reports_to code k) ++ report_text t = ap reports_text (spoken code k state goes w.same ledger w.book e).0 ∙ texts-append (reports_to code k) (t ∷ []) ∙ ap (λ x. reports_text (reports_to code k) ++ x) (append-nil (report_text t)) in
-        record {
-          out = front-of _ _ _ _ (subst (Appends old.out out) (sym (grown code k state goes w.same)) (Appends-trans _ _ _ _ _ w.out a)) (out-begins code (k + 1) l);
-          err = front-then _ _ _ _ _ _ _ w.err next (err-begins code (k + 1) l) f;
-        }
+  pub stopped : IsSteady old now → WasStopped (writes_of code options) old now
+  stopped steady = record { done = writes_to code options.recover done; later = behind code options done rest split; order = writes-split code options done rest split; got = got-now; steady = steady }
+
+  module _ (goes : ending state ≡ None) (e : Event) (rest' : List Event) (next : rest ≡ e ∷ rest') where
+    abbrev pub split-next : events_of options ≡ (done ++ e ∷ []) ++ rest'
+    split-next = split ∙ ap (λ es. done ++ es) next ∙ sym (append_assoc done (e ∷ []) rest')
+
+    abbrev pub followed : List Write
+    followed = map tells (follows code options.recover done e state goes w.same w.taken)
+
+    abbrev pub behind-next : List Write
+    behind-next = behind code options (done ++ e ∷ []) rest' split-next
+
+    -- what the event prints comes next, and then the report of the collection that follows
+    pub order-next : writes_of code options ≡ (writes_to code options.recover done ++ says code e state) ++ (followed ++ behind-next)
+    order-next =
+        writes-split code options (done ++ e ∷ []) rest' split-next
+        ∙ ap (λ ws. ws ++ behind-next) (writes-next code options.recover done e state goes w.same w.taken)
+        ∙ append_assoc (writes_to code options.recover done ++ says code e state) followed behind-next
+
+    pub order-told : collects code e state ≡ true → writes_of code options ≡ (writes_to code options.recover done ++ says code e state) ++ Write.ToErr (told_text options.recover (sets_finalisers code) ledger (turned code e state)) ∷ behind-next
+    order-told c = order-next ∙ ap (λ ws. (writes_to code options.recover done ++ says code e state) ++ (ws ++ behind-next)) (follows-told code options.recover done e state goes w.same w.taken ledger w.book c)
+
+    pub got-said : (out : Option (List ℕ)) (of ef : ℕ) → Appends now.out out (prints code e state) → GotWrites (writes_to code options.recover done ++ says code e state) old (sinks out of now.err ef)
+    got-said out of ef a =
+        let before = writes_to code options.recover done in (
+          subst (Appends old.out out) (ap (λ t. out_bytes before ++ t) (sym (says-out code e state)) ∙ sym (out-append before (says code e state))) (Appends-trans _ _ _ _ _ got-now.0 a),
+          subst (Appends old.err now.err) (sym (append-nil (err_bytes before)) ∙ ap (λ t. err_bytes before ++ t) (sym (says-err code e state)) ∙ sym (err-append before (says code e state))) got-now.1,
+        )
 
   -- at the end
-  module _ (l : k ≤ TURNS) (done : (is_some (ending state) ≡ true) ⊎ (k ≡ TURNS)) where
-    over : (has_ended (at code k) ≡ true) ⊎ (k ≡ TURNS)
-    over = elim done [ inl e ↦ inl (ap is_some (same-ending code k ∙ ap ending w.same) ∙ e) | inr e ↦ inr e ]
+  module _ (turns : ℕ) (counted : turns ≡ turns_among done) (over : (is_some (ending state) ≡ true) ⊎ (rest ≡ [])) where
+    ended : (has_ended (at code done) ≡ true) ⊎ (rest ≡ [])
+    ended = elim over [ inl e ↦ inl (ap is_some (same-ending code options.recover done ∙ ap ending w.same) ∙ e) | inr e ↦ inr e ]
 
-    no-more : k ≡ TURNS → rest code k l ≡ []
-    no-more e = let none : TURNS - k ≡ 0 = omega (arith, e) in ap (rotate_from (0 + k)) none
-
-    last-is : last_of code ≡ at code k
-    last-is = elim over [
-      | inl e ↦ last-from code k l ∙ ended-run code (rest code k l) (at code k) e
-      | inr e ↦ last-from code k l ∙ ap (run code (at code k)) (no-more e)
+    last-is : last_of code options ≡ at code done
+    last-is = elim ended [
+      | inl e ↦ last-from code options done rest split ∙ ended-run code rest (at code done) e
+      | inr e ↦ last-from code options done rest split ∙ ap (run code (at code done)) e
     ]
 
-    reports-are : reports_of code ≡ reports_to code k
-    reports-are = elim over [
-      | inl e ↦ reports-from code k l ∙ ap (λ ps. reports_to code k ++ Rattle.golf_model.specs.Reporting.reports_from false (sets_finalisers code) (book_to code k) ps) (ended-stops code (rest code k l) (at code k) e) ∙ append-nil (reports_to code k)
-      | inr e ↦ reports-from code k l ∙ ap (λ es. reports_to code k ++ Rattle.golf_model.specs.Reporting.reports_from false (sets_finalisers code) (book_to code k) (stops_by plain_collect code (at code k) es)) (no-more e) ∙ append-nil (reports_to code k)
+    none-later : later code options done rest split ≡ []
+    none-later = elim ended [
+      | inl e ↦ ap (reports_from options.recover (sets_finalisers code) (book_to code options.recover done)) (ended-stops code rest (at code done) e)
+      | inr e ↦ ap (λ es. reports_from options.recover (sets_finalisers code) (book_to code options.recover done) (stops_by plain_collect code (at code done) es)) e
     ]
 
-    ending-is : ending (last_of code) ≡ ending state
-    ending-is = ap ending last-is ∙ same-ending code k ∙ ap ending w.same
+    reports-are : reports_of code options ≡ reports_to code options.recover done
+    reports-are = reports-split code options done rest split ∙ ap (λ rs. reports_to code options.recover done ++ rs) none-later ∙ append-nil (reports_to code options.recover done)
 
-    pub err-end : err_of code ≡ reports_text (reports_to code k) ++ last_line code.texts TURNS (ending state)
-    unfolding err_of
-    err-end = ap (λ rs. reports_text rs ++ last_line code.texts TURNS (ending (last_of code))) reports-are ∙ ap (λ e. reports_text (reports_to code k) ++ last_line code.texts TURNS e) ending-is
+    ending-is : ending (last_of code options) ≡ ending state
+    ending-is = ap ending last-is ∙ same-ending code options.recover done ∙ ap ending w.same
 
-    -- both texts are whole
-    pub whole : (err : Option (List ℕ)) (of ef : ℕ) (answer : Status) → Appends now.err err (last_line code.texts TURNS (ending state)) → answer ≡ status_by reported (ending state) → GotWhole answer code old (record { out = now.out; out_faults = of; err = err; err_faults = ef })
-    unfolding out_of status_of
-    whole err of ef answer a e = record {
-      status = e ∙ ap (λ b. status_by b (ending state)) (w.found ∙ ap anyone_reported (sym reports-are)) ∙ ap (status_by (anyone_reported (reports_of code))) (sym ending-is);
-      out = subst (λ (s : State). Appends old.out now.out s.output) (sym last-is) w.out;
-      err = subst (Appends old.err err) (sym err-end) (Appends-trans _ _ _ _ _ w.err a);
-    }
+    all-turns : ending state ≡ None → turns ≡ turns_among (events_of options)
+    all-turns goes = elim over [
+      | inl e ↦ absurd (not-none (ending state) e goes)
+      | inr e ↦ counted ∙ ap turns_among (sym (split ∙ ap (λ es. done ++ es) e ∙ append-nil done))
+    ]
 
-    -- the write of the last line failed
-    pub end-broken : (err : Option (List ℕ)) (of ef : ℕ) → WritesFront now.err err (last_line code.texts TURNS (ending state)) → GotFronts code old (record { out = now.out; out_faults = of; err = err; err_faults = ef })
-    end-broken err of ef f = record {
-      out = front-of _ _ _ _ w.out (out-begins code k l);
-      err = front-then _ _ _ _ _ _ _ w.err err-end ([], sym (append-nil (err_of code))) f;
-    }
+    all-written : event_writes_of code options ≡ writes_to code options.recover done
+    all-written =
+        events-split code options done rest split
+        ∙ ap (λ ws. writes_to code options.recover done ++ ws) (elim ended [
+          | inl e ↦ ended-writes code options.recover (sets_finalisers code) rest (book_to code options.recover done) (at code done) e
+          | inr e ↦ ap (writes_from code options.recover (sets_finalisers code) (book_to code options.recover done) (at code done)) e
+        ])
+        ∙ append-nil (writes_to code options.recover done)
+
+    -- all events came about
+    pub went : (course : Course) → course.turns ≡ turns → course.ending ≡ ending state → course.totals ≡ totals → IsSteady old now → WentThrough course code options old now
+    unfolding end_of
+    went course t e sum steady =
+        let all = turns_among (events_of options) in record {
+          ends = e ∙ sym ending-is;
+          line = ap (λ n. last_line code.texts n course.ending) t ∙ ap (last_line code.texts turns) e ∙ last-turns code.texts turns all (ending state) all-turns ∙ ap (last_line code.texts all) (sym ending-is);
+          totals = sum ∙ w.summed ∙ ap totals_of (sym reports-are);
+          got = subst (λ ws. GotWrites ws old now) (sym all-written) got-now;
+          steady = steady;
+        }
 
 -- answers that are errors
-pub wanting : (r : Result Status RunFault) (code : Code) (old new : Sinks) → IsErr r → IsErrAnd r (λ e. e ≡ faults.Memory) → GotFronts code old new → IsSteady old new → HasRun r code old new
-wanting (Ok x) code old new i a f s = cc
-wanting (Err faults.Write) code old new i a f s = cc
-wanting (Err faults.Memory) code old new i a f s = (f, s)
+pub wanting : (r : Result Course RunFault) (code : Code) (options : Options) (old new : Sinks) → IsErr r → IsErrAnd r (λ e. e ≡ faults.Memory) → WasStopped (writes_of code options) old new → HasGone r code options old new
+wanting (Ok x) code options old new i a w = cc
+wanting (Err faults.Write) code options old new i a w = cc
+wanting (Err faults.Memory) code options old new i a w = w
 
-pub broken : (r : Result Status RunFault) (code : Code) (old new : Sinks) → IsErr r → IsErrAnd r (λ e. e ≡ faults.Write) → GotFronts code old new → HasBroken old new → HasRun r code old new
-broken (Ok x) code old new i a f s = cc
-broken (Err faults.Write) code old new i a f s = (f, s)
-broken (Err faults.Memory) code old new i a f s = cc
+pub broken : (r : Result Course RunFault) (code : Code) (options : Options) (old new : Sinks) → IsErr r → IsErrAnd r (λ e. e ≡ faults.Write) → WasCut (writes_of code options) old new → HasGone r code options old new
+broken (Ok x) code options old new i a w = cc
+broken (Err faults.Write) code options old new i a w = w
+broken (Err faults.Memory) code options old new i a w = cc
 
--- the run before its first turn
-pub begins : (code : Code) (state : State) (book : Book) (out err : Option (List ℕ)) (of ef : ℕ) → state ≡ start code → book ≡ new_book
-    → IsUnderWay code 0 state book false (record { out = out; out_faults = of; err = err; err_faults = ef }) (record { out = out; out_faults = of; err = err; err_faults = ef })
-unfolding at stops_to reports_to freed_at freed_stops_to freed_book_to
-begins code state book out err of ef is none = record {
+-- a run that stops before it begins
+pub never-began : (code : Code) (options : Options) (old : Sinks) → WasStopped (writes_of code options) old old
+never-began code options old = record { done = []; later = writes_of code options; order = refl; got = (Appends-nil old.out, Appends-nil old.err); steady = record { out = refl; err = refl } }
+
+-- the run before its first event
+pub begins : (code : Code) (recover : Bool) (state : State) (book : Book) (totals : Totals) (out err : Option (List ℕ)) (of ef : ℕ) → state ≡ start code → book ≡ new_book → totals ≡ totals_of []
+    → IsUnderWay code recover [] state book totals (record { out = out; out_faults = of; err = err; err_faults = ef }) (record { out = out; out_faults = of; err = err; err_faults = ef })
+unfolding at stops_to reports_to real_at real_stops_to real_book_to
+begins code recover state book totals out err of ef is none nothing = record {
   same = sym is;
   leads = subst (Leads code) (sym is) Leads.Start;
   taken = ap (λ (s : State). s.output) is;
   book = none;
-  found = refl;
+  counted = record { collections = ap (λ (b : Book). b.collections) none; reported = ap (λ (b : Book). length b.reported) none; reclaimed = ap (λ (b : Book). length b.reclaimed) none };
+  summed = nothing;
   few = (let n = ap (λ (b : Book). b.collections) none in omega (arith, n));
-  none_gone = ap (λ (b : Book). b.reclaimed) none;
+  left = subst (λ (b : Book). HasLeft (numbers b.reclaimed) state) (sym none) (subst (HasLeft []) (sym is) (start-left code));
   out = Appends-nil out;
   err = Appends-nil err;
 }
 
+-- what stands before a write that did not come about stays
+still : (writes done more : List Write) (old now new : Sinks) → GotWrites done old now → IsSteady old now → writes ≡ done ++ more → new.out ≡ now.out → new.out_faults ≡ now.out_faults → new.err ≡ now.err → new.err_faults ≡ now.err_faults → WasStopped writes old new
+still writes done more old now new got steady order o of e ef = record {
+  done = done;
+  later = more;
+  order = order;
+  got = (subst (λ x. Appends old.out x (out_bytes done)) (sym o) got.0, subst (λ x. Appends old.err x (err_bytes done)) (sym e) got.1);
+  steady = record { out = of ∙ steady.out; err = ef ∙ steady.err };
+}
+
 -- a collection that did not go on stops the run
-pub tell-stopped : (e : RunFault) (r : Result Bool RunFault) (result : Result Status RunFault) (code : Code) (old new : Sinks) (s after : State) (book next : Book) (err : Option (List ℕ)) (f : ℕ) → r ≡ Err e → HasTold r s after book next err new.err f new.err_faults → IsErr result → IsErrAnd result (λ x. x ≡ e)
-    → (WritesFront err new.err (told_text book s) → GotFronts code old new) → new.out_faults ≡ old.out_faults → f ≡ old.err_faults → HasRun result code old new
-tell-stopped faults.Write r result code old new s after book next err f is h i a front so se =
-    let t = subst (λ x. HasTold x s after book next err new.err f new.err_faults) is h in broken result code old new i a (front t.0) (inr (so, subst (λ x. Rose x new.err_faults) se t.1))
-tell-stopped faults.Memory r result code old new s after book next err f is h i a front so se =
-    let t = subst (λ x. HasTold x s after book next err new.err f new.err_faults) is h in wanting result code old new i a (front t.0) (record { out = so; err = t.1 ∙ se })
+pub tell-stopped : (recover sets : Bool) (e : RunFault) (r : Result Totals RunFault) (result : Result Course RunFault) (code : Code) (options : Options) (old now : Sinks) (s after : State) (book next : Book) (err : Option (List ℕ)) (ef : ℕ) → r ≡ Err e → HasTold recover sets r s after book next now.err err now.err_faults ef → IsErr result → IsErrAnd result (λ x. x ≡ e)
+    → IsSteady old now → (done more : List Write) → GotWrites done old now → (t : State) → s ≡ t → writes_of code options ≡ done ++ Write.ToErr (told_text recover sets book t) ∷ more → HasGone result code options old (sinks now.out now.out_faults err ef)
+tell-stopped recover sets faults.Write r result code options old now s after book next err ef is h i a steady done more got t stands order =
+    let told = subst (λ x. HasTold recover sets x s after book next now.err err now.err_faults ef) is h in
+    broken result code options old _ i a (err-cut (writes_of code options) done more old now got (told_text recover sets book t) order err now.out_faults ef (subst (λ x. WritesFront now.err err (told_text recover sets book x)) stands told.0) steady.out (subst (λ n. Rose n ef) steady.err told.1))
+tell-stopped recover sets faults.Memory r result code options old now s after book next err ef is h i a steady done more got t stands order =
+    let told = subst (λ x. HasTold recover sets x s after book next now.err err now.err_faults ef) is h in
+    wanting result code options old _ i a (still (writes_of code options) done (Write.ToErr (told_text recover sets book t) ∷ more) old now _ got steady order refl refl told.0 told.1)
+
+-- a turn that did not go on stops it too
+pub turn-stopped : (e : RunFault) (r : Result Bool RunFault) (result : Result Course RunFault) (code : Code) (options : Options) (old now : Sinks) (event : Event) (s after : State) (out : Option (List ℕ)) (of : ℕ) → r ≡ Err e → HasTurned r code event s after now.out out now.out_faults of → IsErr result → IsErrAnd result (λ x. x ≡ e)
+    → IsSteady old now → (done more : List Write) → GotWrites done old now → writes_of code options ≡ (done ++ says code event s) ++ more → HasGone result code options old (sinks out of now.err now.err_faults)
+turn-stopped faults.Write r result code options old now (Event.Turn c) s after out of is h i a steady done more got order =
+    let t = subst (λ x. HasTurned x code (Event.Turn c) s after now.out out now.out_faults of) is h in
+    broken result code options old _ i a (out-cut (writes_of code options) done more old now got (step code s c).output (order ∙ append_assoc done (says code (Event.Turn c) s) more) out of now.err_faults t.0 (subst (λ n. Rose n of) steady.out t.1) steady.err)
+turn-stopped faults.Memory r result code options old now (Event.Turn c) s after out of is h i a steady done more got order =
+    let t = subst (λ x. HasTurned x code (Event.Turn c) s after now.out out now.out_faults of) is h in
+    wanting result code options old _ i a (still (writes_of code options) done (says code (Event.Turn c) s ++ more) old now _ got steady (order ∙ append_assoc done (says code (Event.Turn c) s) more) t.0 t.1 refl refl)
+turn-stopped faults.Write r result code options old now Event.Collect s after out of is h i a steady done more got order = absurd (subst (λ x. HasTurned x code Event.Collect s after now.out out now.out_faults of) is h)
+turn-stopped faults.Memory r result code options old now Event.Collect s after out of is h i a steady done more got order = absurd (subst (λ x. HasTurned x code Event.Collect s after now.out out now.out_faults of) is h)

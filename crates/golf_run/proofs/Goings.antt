@@ -1,169 +1,202 @@
--- A run goes on from one turn to the next.
-use Rattle.std.proofs.Common.{◌≡◌, ℕ, ◌+◌, ◌≤◌, Bool, true, false, ◌||◌, List, [], ◌∷◌, ◌++◌, Option, Some, None, refl, sym, ap, subst, ◌∙◌, append_assoc, append-nil, arith}
+-- A run goes on from one event to the next.
+use Rattle.std.proofs.Common.{◌≡◌, ℕ, ◌+◌, Bool, true, false, List, [], ◌∷◌, ◌++◌, length, length-append, Option, Some, None, refl, sym, ap, subst, ◌∙◌, append-nil, arith}
 use Rattle.std.specs.Prelude.{is_some}
 use Rattle.std.specs.Io.KnownBytes.{Appends}
-use Rattle.std.proofs.KnownBytes.{Appends-trans, Appends-nil}
+use Rattle.std.proofs.KnownBytes.{Appends-trans}
 use Rattle.golf_data.specs.declared.code.Code.{Code}
 use Rattle.golf_data.specs.declared.goroutine.Ending.{Ending}
 use Rattle.golf_data.specs.declared.report.Book.{Book}
-use Rattle.golf_data.specs.declared.report.Report.{Report}
-use Rattle.golf_model.specs.State.{State, start, ending}
+use Rattle.golf_model.specs.State.{State, ending}
 use Rattle.golf_model.specs.Turn.{step}
-use Rattle.golf_model.specs.Collecting.{plain_collect, sets_finalisers}
+use Rattle.golf_model.specs.Collecting.{sets_finalisers}
 use Rattle.golf_model.specs.Running.{Event, has_ended, wants_collection, collected_if, happens_in, stop_in, stop_if}
-use Rattle.golf_model.specs.Reporting.{report, book_after, reports_from, new_book}
+use Rattle.golf_model.specs.Reporting.{report, book_after, numbers}
 use Rattle.golf_model.specs.Futures.{Leads}
 use Rattle.golf_texts.specs.Texts.{report_text, reports_text}
-use Rattle.golf_texts.specs.Meaning.{rotate_from, names_someone, anyone_reported}
+use Rattle.golf_texts.specs.declared.totals.Totals.{Totals}
+use Rattle.golf_texts.specs.Totals.{totals_of}
 use Rattle.golf_laws.specs.Printing.{prefixed}
-use Rattle.golf_laws.proofs.Printing.{step-prefixed, report-prefixed, book-prefixed}
-use Rattle.golf_run.specs.Told.{told, told_text, names_any, noted, freed}
+use Rattle.golf_laws.proofs.Printing.{step-prefixed}
+use Rattle.golf_laws.proofs.Leading.{leads-numbered}
+use Rattle.golf_run.specs.Told.{told, told_text, noted, collected, totalled}
+use Rattle.golf_texts.specs.Writes.{emptied}
+use Rattle.golf_run.specs.Happening.{turned, prints, collects}
+use Rattle.golf_run.specs.HasLeft.{HasLeft}
 use Rattle.golf_run.specs.HasRun.{Sinks}
-use Rattle.golf_run.specs.UnderWay.{at, reports_to, books, freeing, freed_at, freed_stops_to, freed_book_to, IsUnderWay}
-use Rattle.golf_run.proofs.Rotating.{texts-append, anyone-append}
-use Rattle.golf_run.proofs.Freeing.{freeing-prefixed, same-output, freed-next, freed_stops-next, freed_reports-next, freed_book-next}
+use Rattle.golf_run.specs.UnderWay.{at, reports_to, collecting, real_at, real_stops_to, real_book_to, IsCounted, IsUnderWay}
+use Rattle.golf_run.proofs.Appending.{texts-append}
+use Rattle.golf_run.proofs.Totalling.{counted-more, totals-are}
+use Rattle.golf_run.proofs.Printed.{collect-prefixed, report-prefixed, book-prefixed}
+use Rattle.golf_run.proofs.Real.{same-output, real-next, real_stops-next, reports-next, real_book-next}
+use Rattle.golf_run.proofs.Leaving.{step-left, emptied-left, collect-left}
 use Rattle.golf_run.proofs.Collecting.{collecting-goes}
-
-or-false : (b : Bool) → (b || false) ≡ b
-or-false true = refl
-or-false false = refl
-
--- before the first turn
-pub at-start : (code : Code) → at code 0 ≡ start code
-unfolding at
-at-start code = refl
-
--- the state with its output taken
-abbrev pub emptied : State → State
-emptied s = record s { output = [] }
 
 not-ended : (o : Option Ending) → o ≡ None → is_some o ≡ false
 not-ended None e = refl
 not-ended (Some x) e = cc
 
-module _ (code : Code) (k : ℕ) (state : State) (goes : ending state ≡ None) (same : freed_at code k ≡ prefixed (freed_at code k).output state) where
-  abbrev pub printed : List ℕ
-  printed = (freed_at code k).output
+-- what was printed, taken
+regroup : (w : List ℕ) (t : State) → prefixed w t ≡ prefixed (w ++ t.output) (emptied t)
+regroup w t = ap (λ (o : List ℕ). record t { output = o }) (sym (append-nil (w ++ t.output)))
 
-  going : has_ended (freed_at code k) ≡ false
+-- an event on a state with something printed before
+module _ (code : Code) (collect : State → State) (w : List ℕ) (state whole : State) (same : whole ≡ prefixed w state) where
+  abbrev pub placed : Event → State
+  placed e = prefixed (w ++ prints code e state) (turned code e state)
+
+  stepped : (c : ℕ) → step code whole c ≡ placed (Event.Turn c)
+  stepped c = ap (λ s. step code s c) same ∙ step-prefixed w code state c ∙ regroup w (step code state c)
+
+  stayed : whole ≡ placed Event.Collect
+  stayed = same ∙ ap (λ (v : List ℕ). prefixed v state) (sym (append-nil w))
+
+  wanted : (c : ℕ) → wants_collection code whole c ≡ wants_collection code state c
+  wanted c = ap (λ s. wants_collection code s c) same
+
+  pub happened : (e : Event) → happens_in collect code false whole e ≡ collected_if collect code (collects code e state) (placed e)
+  happened (Event.Turn c) = ap (λ b. collected_if collect code b (step code whole c)) (wanted c) ∙ ap (collected_if collect code (wants_collection code state c)) (stepped c)
+  happened Event.Collect = ap collect stayed
+
+  pub stopped : (e : Event) → stop_in collect code false whole e ≡ stop_if collect code (collects code e state) (placed e)
+  stopped (Event.Turn c) = ap (λ b. stop_if collect code b (step code whole c)) (wanted c) ∙ ap (stop_if collect code (wants_collection code state c)) (stepped c)
+  stopped Event.Collect = ap (λ s. s ∷ []) stayed
+
+-- a collection that follows finds no ending
+pub collects-goes : (code : Code) (e : Event) (s : State) → ending s ≡ None → collects code e s ≡ true → ending (turned code e s) ≡ None
+collects-goes code (Event.Turn c) s goes w = collecting-goes code s c goes w
+collects-goes code Event.Collect s goes w = goes
+
+pub turned-leads : (code : Code) (e : Event) (s : State) → ending s ≡ None → Leads code s → Leads code (turned code e s)
+turned-leads code (Event.Turn c) s goes l = Leads.Emptied (step code s c) (Leads.Turn s c l goes)
+turned-leads code Event.Collect s goes l = l
+
+pub turned-left : (code : Code) (e : Event) (s : State) (gone : List ℕ) → HasLeft gone s → HasLeft gone (turned code e s)
+turned-left code (Event.Turn c) s gone h = emptied-left gone (step code s c) (step-left code gone s c h)
+turned-left code Event.Collect s gone h = h
+
+turned-taken : (code : Code) (e : Event) (s : State) → s.output ≡ [] → (turned code e s).output ≡ []
+turned-taken code (Event.Turn c) s h = refl
+turned-taken code Event.Collect s h = h
+
+module _ (code : Code) (recover : Bool) (done : List Event) (e : Event) (state : State) (goes : ending state ≡ None) (same : real_at code recover done ≡ prefixed (real_at code recover done).output state) (taken : state.output ≡ []) where
+  abbrev pub printed : List ℕ
+  printed = (real_at code recover done).output
+
+  abbrev pub more : List Event
+  more = done ++ e ∷ []
+
+  pub going : has_ended (real_at code recover done) ≡ false
   going = ap has_ended same ∙ not-ended (ending state) goes
 
-  -- the state after the turn, and the collection that it asks for
+  -- the state after the event, and the collection that follows
   abbrev pub after : Bool → State
-  after wants = collected_if (freeing code) code wants (emptied (step code state k))
+  after b = collected_if (collecting code recover) code b (turned code e state)
 
-  freed-by : (b : Bool) (w : List ℕ) (s : State) → collected_if (freeing code) code b (prefixed w s) ≡ prefixed w (collected_if (freeing code) code b s)
-  freed-by true w s = freeing-prefixed w code s
-  freed-by false w s = refl
+  collected-by : (b : Bool) (w : List ℕ) (s : State) → collected_if (collecting code recover) code b (prefixed w s) ≡ prefixed w (collected_if (collecting code recover) code b s)
+  collected-by true w s = collect-prefixed w s recover (sets_finalisers code)
+  collected-by false w s = refl
 
-  taken-by : (b : Bool) (s : State) → collected_if (freeing code) code b s ≡ prefixed s.output (collected_if (freeing code) code b (emptied s))
-  taken-by b s = ap (collected_if (freeing code) code b) (ap (λ (w : List ℕ). record s { output = w }) (sym (append-nil s.output))) ∙ freed-by b s.output (emptied s)
-
-  pub stepped : step code (freed_at code k) k ≡ prefixed printed (step code state k)
-  stepped = ap (λ s. step code s k) same ∙ step-prefixed printed code state k
-
-  pub turned : freed_at code (k + 1) ≡ prefixed (printed ++ (step code state k).output) (after (wants_collection code state k))
-  turned =
-      let wants : Bool = wants_collection code state k in
-      freed-next code k ∙ ap (λ b. happens_in (freeing code) code b (freed_at code k) (Event.Turn k)) going
-      ∙ ap (λ b. collected_if (freeing code) code b (step code (freed_at code k) k)) (ap (λ s. wants_collection code s k) same)
-      ∙ ap (collected_if (freeing code) code wants) stepped
-      ∙ freed-by wants printed (step code state k)
-      ∙ ap (prefixed printed) (taken-by wants (step code state k))
-      ∙ ap (λ (w : List ℕ). record (after wants) { output = w }) (sym (append_assoc printed (step code state k).output (after wants).output))
+  pub moved : real_at code recover more ≡ prefixed (printed ++ prints code e state) (after (collects code e state))
+  moved =
+      real-next code recover done e ∙ ap (λ b. happens_in (collecting code recover) code b (real_at code recover done) e) going
+      ∙ happened code (collecting code recover) printed state (real_at code recover done) same e
+      ∙ collected-by (collects code e state) (printed ++ prints code e state) (turned code e state)
 
   empty-after : (b : Bool) → (after b).output ≡ []
-  empty-after true = refl
-  empty-after false = refl
+  empty-after true = turned-taken code e state taken
+  empty-after false = turned-taken code e state taken
 
-  -- what the turn printed stands after what was printed before
-  pub freed-grown : (freed_at code (k + 1)).output ≡ printed ++ (step code state k).output
-  freed-grown =
-      ap (λ (s : State). s.output) turned ∙ ap (λ (w : List ℕ). (printed ++ (step code state k).output) ++ w) (empty-after (wants_collection code state k)) ∙ append-nil (printed ++ (step code state k).output)
+  -- what the event printed stands after what was printed before
+  pub real-grown : (real_at code recover more).output ≡ printed ++ prints code e state
+  real-grown =
+      ap (λ (s : State). s.output) moved ∙ ap (λ (w : List ℕ). (printed ++ prints code e state) ++ w) (empty-after (collects code e state)) ∙ append-nil (printed ++ prints code e state)
 
-  pub grown : (at code (k + 1)).output ≡ (at code k).output ++ (step code state k).output
-  grown = same-output code (k + 1) ∙ freed-grown ∙ ap (λ (w : List ℕ). w ++ (step code state k).output) (sym (same-output code k))
+  pub grown : (at code more).output ≡ (at code done).output ++ prints code e state
+  grown = same-output code recover more ∙ real-grown ∙ ap (λ (w : List ℕ). w ++ prints code e state) (sym (same-output code recover done))
 
-  pub same-next : freed_at code (k + 1) ≡ prefixed (freed_at code (k + 1)).output (after (wants_collection code state k))
-  same-next = turned ∙ ap (λ (w : List ℕ). prefixed w (after (wants_collection code state k))) (sym freed-grown)
+  pub same-next : real_at code recover more ≡ prefixed (real_at code recover more).output (after (collects code e state))
+  same-next = moved ∙ ap (λ (w : List ℕ). prefixed w (after (collects code e state))) (sym real-grown)
 
-  stops-are : (b : Bool) → wants_collection code state k ≡ b → freed_stops_to code (k + 1) ≡ freed_stops_to code k ++ stop_if (freeing code) code b (step code (freed_at code k) k)
-  stops-are b e =
-      freed_stops-next code k ∙ ap (λ c. freed_stops_to code k ++ stop_in (freeing code) code c (freed_at code k) (Event.Turn k)) going
-      ∙ ap (λ c. freed_stops_to code k ++ stop_if (freeing code) code c (step code (freed_at code k) k)) (ap (λ s. wants_collection code s k) same ∙ e)
+  stops-are : (b : Bool) → collects code e state ≡ b → real_stops_to code recover more ≡ real_stops_to code recover done ++ stop_if (collecting code recover) code b (prefixed (printed ++ prints code e state) (turned code e state))
+  stops-are b h =
+      real_stops-next code recover done e ∙ ap (λ c. real_stops_to code recover done ++ stop_in (collecting code recover) code c (real_at code recover done) e) going
+      ∙ ap (λ ps. real_stops_to code recover done ++ ps) (stopped code (collecting code recover) printed state (real_at code recover done) same e)
+      ∙ ap (λ c. real_stops_to code recover done ++ stop_if (collecting code recover) code c (prefixed (printed ++ prints code e state) (turned code e state))) h
 
-  pub silent : wants_collection code state k ≡ false → (reports_to code (k + 1) ≡ reports_to code k) × (freed_book_to code (k + 1) ≡ freed_book_to code k)
-  silent e = (freed_reports-next code k [] (stops-are false e) ∙ append-nil (reports_to code k), freed_book-next code k [] (stops-are false e))
+  pub silent : collects code e state ≡ false → (reports_to code recover more ≡ reports_to code recover done) × (real_book_to code recover more ≡ real_book_to code recover done)
+  silent h = (reports-next code recover done e [] (stops-are false h) ∙ append-nil (reports_to code recover done), real_book-next code recover done e [] (stops-are false h))
 
   -- the collection's report is that of the state in memory
-  pub spoken : (book : Book) → book ≡ freed_book_to code k → wants_collection code state k ≡ true
-      → (reports_to code (k + 1) ≡ reports_to code k ++ told book (emptied (step code state k)) ∷ []) × (freed_book_to code (k + 1) ≡ noted book (emptied (step code state k)))
+  pub spoken : (book : Book) → book ≡ real_book_to code recover done → collects code e state ≡ true
+      → (reports_to code recover more ≡ reports_to code recover done ++ told recover (sets_finalisers code) book (turned code e state) ∷ []) × (real_book_to code recover more ≡ noted recover (sets_finalisers code) book (turned code e state))
   unfolding told noted
-  spoken book is e =
-      let p = step code (freed_at code k) k in
-      let t = emptied (step code state k) in
-      let w : List ℕ = printed ++ (step code state k).output in
-      let state_is : p ≡ prefixed w t = stepped ∙ ap (λ (o : List ℕ). record t { output = o }) (sym (append-nil w)) in (
-        freed_reports-next code k (p ∷ []) (stops-are true e)
-            ∙ ap (λ r. reports_to code k ++ r ∷ []) (ap (λ b. report false (sets_finalisers code) b p) (sym is) ∙ ap (report false (sets_finalisers code) book) state_is ∙ report-prefixed w book t (sets_finalisers code)),
-        freed_book-next code k (p ∷ []) (stops-are true e)
-            ∙ ap (λ b. book_after false (sets_finalisers code) b p) (sym is) ∙ ap (book_after false (sets_finalisers code) book) state_is ∙ book-prefixed w book t (sets_finalisers code),
+  spoken book is h =
+      let sets = sets_finalisers code in
+      let t = turned code e state in
+      let w : List ℕ = printed ++ prints code e state in
+      let p : State = prefixed w t in (
+        reports-next code recover done e (p ∷ []) (stops-are true h)
+            ∙ ap (λ r. reports_to code recover done ++ r ∷ []) (ap (λ b. report recover sets b p) (sym is) ∙ report-prefixed w t recover sets book),
+        real_book-next code recover done e (p ∷ []) (stops-are true h)
+            ∙ ap (λ b. book_after recover sets b p) (sym is) ∙ book-prefixed w t recover sets book,
       )
 
   -- turns, collections and the emptying of the output lead to it
-  pub emptied-leads : Leads code state → Leads code (emptied (step code state k))
-  emptied-leads l = Leads.Emptied (step code state k) (Leads.Turn state k l goes)
+  pub leads-next : Leads code state → (b : Bool) → collects code e state ≡ b → Leads code (after b)
+  leads-next l true h = Leads.Collection (turned code e state) recover (turned-leads code e state goes l) (collects-goes code e state goes h)
+  leads-next l false h = turned-leads code e state goes l
 
-  pub leads-next : Leads code state → (b : Bool) → wants_collection code state k ≡ b → Leads code (after b)
-  leads-next l true e = Leads.Collection (emptied (step code state k)) false (emptied-leads l) (collecting-goes code state k goes e)
-  leads-next l false e = emptied-leads l
+  one-more : length more ≡ length done + 1
+  one-more = length-append done (e ∷ [])
 
--- the run under way, one turn on
-module _ (code : Code) (k : ℕ) (state : State) (ledger : Book) (reported : Bool) (old now : Sinks) (goes : ending state ≡ None) (w : IsUnderWay code k state ledger reported old now) where
-  out-next : (out : Option (List ℕ)) → Appends now.out out (step code state k).output → Appends old.out out (at code (k + 1)).output
-  out-next out a = subst (Appends old.out out) (sym (grown code k state goes w.same)) (Appends-trans _ _ _ _ _ w.out a)
+-- the run under way, one event on
+module _ (code : Code) (recover : Bool) (done : List Event) (e : Event) (state : State) (ledger : Book) (totals : Totals) (old now : Sinks) (goes : ending state ≡ None) (w : IsUnderWay code recover done state ledger totals old now) where
+  out-next : (out : Option (List ℕ)) → Appends now.out out (prints code e state) → Appends old.out out (at code (done ++ e ∷ [])).output
+  out-next out a = subst (Appends old.out out) (sym (grown code recover done e state goes w.same w.taken)) (Appends-trans _ _ _ _ _ w.out a)
 
   -- without a collection
-  pub quiet : (out : Option (List ℕ)) (of ef : ℕ) → Appends now.out out (step code state k).output → wants_collection code state k ≡ false
-      → IsUnderWay code (k + 1) (emptied (step code state k)) ledger reported old (record { out = out; out_faults = of; err = now.err; err_faults = ef })
-  quiet out of ef a e =
-      let m = silent code k state goes w.same e in
+  pub quiet : (out : Option (List ℕ)) (of ef : ℕ) → Appends now.out out (prints code e state) → collects code e state ≡ false
+      → IsUnderWay code recover (done ++ e ∷ []) (turned code e state) ledger totals old (record { out = out; out_faults = of; err = now.err; err_faults = ef })
+  quiet out of ef a h =
+      let m = silent code recover done e state goes w.same w.taken h in
       record {
-        same = same-next code k state goes w.same ∙ ap (λ b. prefixed (freed_at code (k + 1)).output (after code k state goes w.same b)) e;
-        leads = leads-next code k state goes w.same w.leads false e;
-        taken = refl;
+        same = same-next code recover done e state goes w.same w.taken ∙ ap (λ b. prefixed (real_at code recover (done ++ e ∷ [])).output (after code recover done e state goes w.same w.taken b)) h;
+        leads = leads-next code recover done e state goes w.same w.taken w.leads false h;
+        taken = turned-taken code e state w.taken;
         book = w.book ∙ sym m.1;
-        found = w.found ∙ ap anyone_reported (sym m.0);
-        few = omega (arith, w.few);
-        none_gone = w.none_gone;
+        counted = subst (IsCounted ledger) (sym m.0) w.counted;
+        summed = w.summed ∙ ap totals_of (sym m.0);
+        few = (let n = one-more code recover done e state goes w.same w.taken in omega (arith, n, w.few));
+        left = turned-left code e state (numbers ledger.reclaimed) w.left;
         out = out-next out a;
         err = subst (λ rs. Appends old.err now.err (reports_text rs)) (sym m.0) w.err;
       }
 
   -- with one
-  pub loud : (out err : Option (List ℕ)) (of ef : ℕ) (named : Bool) (later : State) (next : Book) → Appends now.out out (step code state k).output → wants_collection code state k ≡ true
-      → named ≡ names_any ledger (emptied (step code state k)) → later ≡ freed (emptied (step code state k)) → next ≡ noted ledger (emptied (step code state k)) → Appends now.err err (told_text ledger (emptied (step code state k)))
-      → IsUnderWay code (k + 1) later next (reported || named) old (record { out = out; out_faults = of; err = err; err_faults = ef })
-  unfolding told_text names_any noted freed
-  loud out err of ef named later next a e who left is t =
-      let turned : State = emptied (step code state k) in
-      let m = spoken code k state goes w.same ledger w.book e in
-      let there : after code k state goes w.same (wants_collection code state k) ≡ later = ap (after code k state goes w.same) e ∙ sym left in
+  pub loud : (out err : Option (List ℕ)) (of ef : ℕ) (sum : Totals) (later : State) (next : Book) → Appends now.out out (prints code e state) → collects code e state ≡ true
+      → sum ≡ totalled recover (sets_finalisers code) ledger (turned code e state) → later ≡ collected recover (sets_finalisers code) (turned code e state) → next ≡ noted recover (sets_finalisers code) ledger (turned code e state)
+      → Appends now.err err (told_text recover (sets_finalisers code) ledger (turned code e state))
+      → IsUnderWay code recover (done ++ e ∷ []) later next sum old (record { out = out; out_faults = of; err = err; err_faults = ef })
+  unfolding told_text noted collected totalled
+  loud out err of ef sum later next a h who left is t =
+      let sets = sets_finalisers code in
+      let stands : State = turned code e state in
+      let leads = turned-leads code e state goes w.leads in
+      let m = spoken code recover done e state goes w.same w.taken ledger w.book h in
+      let counts = counted-more recover sets ledger stands (reports_to code recover done) w.counted (leads-numbered code stands leads) in
+      let there : after code recover done e state goes w.same w.taken (collects code e state) ≡ later = ap (after code recover done e state goes w.same w.taken) h ∙ sym left in
       record {
-        same = same-next code k state goes w.same ∙ ap (prefixed (freed_at code (k + 1)).output) there;
-        leads = subst (Leads code) (sym left) (leads-next code k state goes w.same w.leads true e);
-        taken = ap (λ (s : State). s.output) left;
+        same = same-next code recover done e state goes w.same w.taken ∙ ap (prefixed (real_at code recover (done ++ e ∷ [])).output) there;
+        leads = subst (Leads code) (sym left) (leads-next code recover done e state goes w.same w.taken w.leads true h);
+        taken = ap (λ (s : State). s.output) left ∙ turned-taken code e state w.taken;
         book = is ∙ sym m.1;
-        found = ap (λ b. b || named) w.found ∙ ap (λ b. anyone_reported (reports_to code k) || b) (who ∙ sym (or-false (names_someone (told ledger turned).reported))) ∙ sym (anyone-append (reports_to code k) (told ledger turned ∷ [])) ∙ ap anyone_reported (sym m.0);
-        few = (let n = ap (λ (b : Book). b.collections) is in omega (arith, n, w.few));
-        none_gone = ap (λ (b : Book). b.reclaimed) is ∙ ap (λ gs. gs ++ []) w.none_gone;
+        counted = subst (IsCounted next) (sym m.0) (subst (λ b. IsCounted b (reports_to code recover done ++ told recover sets ledger stands ∷ [])) (sym is) counts);
+        summed = who ∙ totals-are (noted recover sets ledger stands) (reports_to code recover done) (told recover sets ledger stands) counts ∙ ap totals_of (sym m.0);
+        few = (let n = ap (λ (b : Book). b.collections) is in let l = one-more code recover done e state goes w.same w.taken in omega (arith, n, l, w.few));
+        left = subst (λ (b : Book). HasLeft (numbers b.reclaimed) later) (sym is)
+            (subst (λ (s : State). HasLeft (numbers (book_after recover sets ledger stands).reclaimed) s) (sym left)
+            (collect-left recover sets ledger stands (leads-numbered code stands leads) (turned-left code e state (numbers ledger.reclaimed) w.left)));
         out = out-next out a;
         err = subst (λ rs. Appends old.err err (reports_text rs)) (sym m.0)
-            (subst (Appends old.err err) (ap (λ x. reports_text (reports_to code k) ++ x) (sym (append-nil (report_text (told ledger turned)))) ∙ sym (texts-append (reports_to code k) (told ledger turned ∷ []))) (Appends-trans _ _ _ _ _ w.err t));
+            (subst (Appends old.err err) (ap (λ x. reports_text (reports_to code recover done) ++ x) (sym (append-nil (report_text (told recover sets ledger stands)))) ∙ sym (texts-append (reports_to code recover done) (told recover sets ledger stands ∷ []))) (Appends-trans _ _ _ _ _ w.err t));
       }
-
--- the same run under other names
-pub renamed : (code : Code) (k : ℕ) (s t : State) (b d : Book) (f h : Bool) (old now later : Sinks) → t ≡ s → d ≡ b → h ≡ f → later ≡ now → IsUnderWay code k s b f old now → IsUnderWay code k t d h old later
-renamed code k s t b d f h old now later p q r u w =
-    subst (λ x. IsUnderWay code k x d h old later) (sym p)
-    (subst (λ x. IsUnderWay code k s x h old later) (sym q) (subst (λ x. IsUnderWay code k s b x old later) (sym r) (subst (λ x. IsUnderWay code k s b f old x) (sym u) w)))

@@ -1,7 +1,16 @@
-mod Rotating
-mod Freeing
+mod Appending
+pub mod Writing
+mod Printed
+mod Real
+mod Searching
 mod Collecting
+mod Leaving
+mod Totalling
 mod Goings
 mod Telling
 mod Turning
+mod Cutting
 mod Ending
+pub mod Fronts
+mod Stepping
+mod Finishing

@@ -1,10 +1,12 @@
 -- What a run has written, and when it did not go on.
-use Rattle.std.specs.Prelude.{◌≡◌, ℕ, ◌⊎◌, List, Option, Result, Ok, Err}
+use Rattle.std.specs.Prelude.{◌≡◌, ℕ, ◌⊎◌, List, [], ◌∷◌, ◌++◌, Option, Result, Ok, Err}
 use Rattle.std.specs.Io.KnownBytes.{Appends}
 use Rattle.golf_base.specs.Causes.{Rose, WritesFront}
 use Rattle.golf_data.specs.declared.code.Code.{Code}
+use Rattle.golf_schedules.specs.declared.options.Options.{Options}
 use Rattle.golf_texts.specs.declared.status.Status.{Status}
 use Rattle.golf_texts.specs.Meaning.{out_of, err_of, status_of}
+use Rattle.golf_texts.specs.Writes.{Write, out_bytes, err_bytes, writes_of}
 use Rattle.golf_run.specs.declared.fault.RunFault.{RunFault}
 use Rattle.golf_run.specs.declared.fault.RunFault.TheVariants as faults
 
@@ -18,28 +20,65 @@ pub record Sinks : Type 0 where
 abbrev pub sinks : Option (List ℕ) → ℕ → Option (List ℕ) → ℕ → Sinks
 sinks out out_faults err err_faults = record { out = out; out_faults = out_faults; err = err; err_faults = err_faults }
 
--- each sink got a front of its text
-pub record GotFronts (code : Code) (old new : Sinks) : Type 0 where
-  pub out : WritesFront old.out new.out (out_of code)
-  pub err : WritesFront old.err new.err (err_of code)
+-- both sinks got these writes, and no more
+abbrev pub GotWrites : List Write → Sinks → Sinks → Type 0
+GotWrites writes old new = Appends old.out new.out (out_bytes writes) × Appends old.err new.err (err_bytes writes)
 
--- each sink got its whole text, and the status is that of the run
-pub record GotWhole (answer : Status) (code : Code) (old new : Sinks) : Type 0 where
-  pub status : answer ≡ status_of code
-  pub out : Appends old.out new.out (out_of code)
-  pub err : Appends old.err new.err (err_of code)
+-- a write to the same sink of a front of the bytes
+abbrev pub IsFrontOf : Write → Write → Type 0
+IsFrontOf (Write.ToOut front) (Write.ToOut bytes) = (rest : List ℕ) × (bytes ≡ front ++ rest)
+IsFrontOf (Write.ToErr front) (Write.ToErr bytes) = (rest : List ℕ) × (bytes ≡ front ++ rest)
+IsFrontOf (Write.ToOut front) (Write.ToErr bytes) = ⊥
+IsFrontOf (Write.ToErr front) (Write.ToOut bytes) = ⊥
+
+-- the sink of the write failed, and the other did not
+abbrev pub HasFailed : Write → Sinks → Sinks → Type 0
+HasFailed (Write.ToOut bytes) old new = Rose old.out_faults new.out_faults × (new.err_faults ≡ old.err_faults)
+HasFailed (Write.ToErr bytes) old new = (new.out_faults ≡ old.out_faults) × Rose old.err_faults new.err_faults
 
 -- no write failed
 pub record IsSteady (old new : Sinks) : Type 0 where
   pub out : new.out_faults ≡ old.out_faults
   pub err : new.err_faults ≡ old.err_faults
 
+-- a write failed: those before it are whole, a front of it stands, and behind it nothing was written
+pub record WasCut (writes : List Write) (old new : Sinks) : Type 0 where
+  pub done : List Write
+  pub cut : Write
+  pub front : Write
+  pub later : List Write
+  pub order : writes ≡ done ++ cut ∷ later
+  pub is_front : IsFrontOf front cut
+  pub got : GotWrites (done ++ front ∷ []) old new
+  pub failed : HasFailed cut old new
+
+-- the writes stopped between two of them: those before are whole, and behind them nothing was written
+pub record WasStopped (writes : List Write) (old new : Sinks) : Type 0 where
+  pub done : List Write
+  pub later : List Write
+  pub order : writes ≡ done ++ later
+  pub got : GotWrites done old new
+  pub steady : IsSteady old new
+
+-- each sink got its whole text, and the status is that of the run
+pub record GotWhole (answer : Status) (code : Code) (options : Options) (old new : Sinks) : Type 0 where
+  pub status : answer ≡ status_of code options
+  pub out : Appends old.out new.out (out_of code options)
+  pub err : Appends old.err new.err (err_of code options)
+
+-- what the answer of a run says
+abbrev pub HasRun : Result Status RunFault → Code → Options → Sinks → Sinks → Type 0
+HasRun (Ok status) code options old new = GotWhole status code options old new × IsSteady old new
+HasRun (Err faults.Write) code options old new = WasCut (writes_of code options) old new
+HasRun (Err faults.Memory) code options old new = WasStopped (writes_of code options) old new
+
+-- ---- what follows from it
+
+-- each sink got a front of its text
+pub record GotFronts (code : Code) (options : Options) (old new : Sinks) : Type 0 where
+  pub out : WritesFront old.out new.out (out_of code options)
+  pub err : WritesFront old.err new.err (err_of code options)
+
 -- a write failed, to one sink alone
 abbrev pub HasBroken : Sinks → Sinks → Type 0
 HasBroken old new = (Rose old.out_faults new.out_faults × (new.err_faults ≡ old.err_faults)) ⊎ ((new.out_faults ≡ old.out_faults) × Rose old.err_faults new.err_faults)
-
--- what the answer of a run says
-abbrev pub HasRun : Result Status RunFault → Code → Sinks → Sinks → Type 0
-HasRun (Ok status) code old new = GotWhole status code old new × IsSteady old new
-HasRun (Err faults.Write) code old new = GotFronts code old new × HasBroken old new
-HasRun (Err faults.Memory) code old new = GotFronts code old new × IsSteady old new

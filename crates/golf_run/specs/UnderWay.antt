@@ -1,61 +1,82 @@
--- A run after so many turns.
-use Rattle.std.specs.Prelude.{◌≡◌, ℕ, ◌≤◌, Bool, false, List, [], ◌∷◌}
+-- A run after some of its events.
+use Rattle.std.specs.Prelude.{◌≡◌, ◌≤◌, Bool, List, [], ◌++◌, length}
 use Rattle.std.specs.Io.KnownBytes.{Appends}
 use Rattle.golf_data.specs.declared.code.Code.{Code}
 use Rattle.golf_data.specs.declared.report.Book.{Book}
 use Rattle.golf_data.specs.declared.report.Report.{Report}
 use Rattle.golf_model.specs.State.{State, start}
 use Rattle.golf_model.specs.Collecting.{sets_finalisers, real_collect}
-use Rattle.golf_model.specs.Running.{run, stops, run_by, stops_by}
+use Rattle.golf_model.specs.Running.{Event, run, stops, run_by, stops_by}
 use Rattle.golf_model.specs.Futures.{Leads}
-use Rattle.golf_model.specs.Reporting.{book_after, book_of, new_book}
+use Rattle.golf_model.specs.Reporting.{book_of, new_book, numbers}
+use Rattle.golf_schedules.specs.declared.events.Events.{Events}
+use Rattle.golf_schedules.specs.declared.options.Options.{Options}
+use Rattle.golf_schedules.specs.Events.{events_left, turns_among}
 use Rattle.golf_texts.specs.Texts.{reports_text}
-use Rattle.golf_texts.specs.Meaning.{rotate_from, anyone_reported}
+use Rattle.golf_texts.specs.declared.totals.Totals.{Totals}
+use Rattle.golf_texts.specs.Totals.{total_reported, total_reclaimed, totals_of}
+use Rattle.golf_texts.specs.Meaning.{events_of}
+use Rattle.golf_texts.specs.Writes.{Write, books, writes_from}
 use Rattle.golf_laws.specs.Printing.{prefixed}
 use Rattle.golf_run.specs.HasRun.{Sinks}
+use Rattle.golf_run.specs.HasLeft.{HasLeft}
 
--- the plain machine after so many turns
-unfoldable pub at : Code → ℕ → State
-at code k = run code (start code) (rotate_from 0 k)
+-- the plain machine after these events
+unfoldable pub at : Code → List Event → State
+at code es = run code (start code) es
 
 -- the states right before its collections
-unfoldable pub stops_to : Code → ℕ → List State
-stops_to code k = stops code (rotate_from 0 k)
+unfoldable pub stops_to : Code → List Event → List State
+stops_to code es = stops code es
 
 -- their reports
-unfoldable pub reports_to : Code → ℕ → List Report
-reports_to code k = book_of (stops_to code k) false (sets_finalisers code)
+unfoldable pub reports_to : Code → Bool → List Event → List Report
+reports_to code recover es = book_of (stops_to code es) recover (sets_finalisers code)
 
--- a book, and these collections after it
-abbrev pub books : Bool → Book → List State → Book
-books sets_finalisers book [] = book
-books sets_finalisers book (p ∷ ps) = books sets_finalisers (book_after false sets_finalisers book p) ps
+-- the book after them
+unfoldable pub book_to : Code → Bool → List Event → Book
+book_to code recover es = books recover (sets_finalisers code) new_book (stops_to code es)
 
-unfoldable pub book_to : Code → ℕ → Book
-book_to code k = books (sets_finalisers code) new_book (stops_to code k)
+-- what they write
+unfoldable pub writes_to : Code → Bool → List Event → List Write
+writes_to code recover es = writes_from code recover (sets_finalisers code) new_book (start code) es
 
--- the collection of a run: it queues finalisers and frees, and removes nobody
-abbrev pub freeing : Code → State → State
-freeing code s = real_collect s false (sets_finalisers code)
+-- the collection of a run: it queues finalisers and frees, and with recovery it removes goroutines
+abbrev pub collecting : Code → Bool → State → State
+collecting code recover s = real_collect s recover (sets_finalisers code)
 
--- the machine whose collections free, after so many turns, the states right before its collections, and the book of their reports
-unfoldable pub freed_at : Code → ℕ → State
-freed_at code k = run_by (freeing code) code (start code) (rotate_from 0 k)
+-- the machine whose collections are these, after the events, the states right before its collections, and the book of their reports
+unfoldable pub real_at : Code → Bool → List Event → State
+real_at code recover es = run_by (collecting code recover) code (start code) es
 
-unfoldable pub freed_stops_to : Code → ℕ → List State
-freed_stops_to code k = stops_by (freeing code) code (start code) (rotate_from 0 k)
+unfoldable pub real_stops_to : Code → Bool → List Event → List State
+real_stops_to code recover es = stops_by (collecting code recover) code (start code) es
 
-unfoldable pub freed_book_to : Code → ℕ → Book
-freed_book_to code k = books (sets_finalisers code) new_book (freed_stops_to code k)
+unfoldable pub real_book_to : Code → Bool → List Event → Book
+real_book_to code recover es = books recover (sets_finalisers code) new_book (real_stops_to code recover es)
 
--- the state is that of the machine that frees but for what was printed; what the plain machine prints and reports was written, and the book has its reports
-pub record IsUnderWay (code : Code) (k : ℕ) (state : State) (ledger : Book) (reported : Bool) (old now : Sinks) : Type 0 where
-  pub same : freed_at code k ≡ prefixed (freed_at code k).output state
+-- the book counts these reports
+pub record IsCounted (ledger : Book) (rs : List Report) : Type 0 where
+  pub collections : ledger.collections ≡ length rs
+  pub reported : length ledger.reported ≡ total_reported rs
+  pub reclaimed : length ledger.reclaimed ≡ total_reclaimed rs
+
+-- the state is that of this machine but for what was printed; what the plain machine prints and reports was written, and the book has its reports
+pub record IsUnderWay (code : Code) (recover : Bool) (done : List Event) (state : State) (ledger : Book) (totals : Totals) (old now : Sinks) : Type 0 where
+  pub same : real_at code recover done ≡ prefixed (real_at code recover done).output state
   pub leads : Leads code state
   pub taken : state.output ≡ []
-  pub book : ledger ≡ freed_book_to code k
-  pub found : reported ≡ anyone_reported (reports_to code k)
-  pub few : ledger.collections ≤ k
-  pub none_gone : ledger.reclaimed ≡ []
-  pub out : Appends old.out now.out (at code k).output
-  pub err : Appends old.err now.err (reports_text (reports_to code k))
+  pub book : ledger ≡ real_book_to code recover done
+  pub counted : IsCounted ledger (reports_to code recover done)
+  pub summed : totals ≡ totals_of (reports_to code recover done)
+  pub few : ledger.collections ≤ length done
+  pub left : HasLeft (numbers ledger.reclaimed) state
+  pub out : Appends old.out now.out (at code done).output
+  pub err : Appends old.err now.err (reports_text (reports_to code recover done))
+
+-- these events of the run are done, and the others are still to come
+pub record IsGoing (code : Code) (options : Options) (events : Events) (state : State) (ledger : Book) (totals : Totals) (old now : Sinks) : Type 0 where
+  pub done : List Event
+  pub split : events_of options ≡ done ++ events_left events
+  pub turns : events.done ≡ turns_among done
+  pub under_way : IsUnderWay code options.recover done state ledger totals old now

@@ -2,7 +2,11 @@
 #![tactic(auto)]
 
 mod fault;
+mod running;
+mod setting;
+mod surveying;
 mod turns;
 
 pub use fault::RunFault;
-pub use turns::run;
+pub use running::run;
+pub use surveying::{Outcome, survey};

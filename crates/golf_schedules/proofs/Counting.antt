@@ -2,7 +2,7 @@
 use Rattle.std.proofs.lemmas.Option.{slice_get-get_or, slice_get_past}
 use Rattle.std.specs.List.{HoldsAt}
 use Rattle.std.specs.Option.{option_map}
-use Rattle.std.proofs.Common.{◌≡◌, Bor, length, ℕ, zero, suc, ◌+◌, ◌-◌, ◌<◌, ◌≤◌, Bool, refl, ap, ◌∙◌, sym, List, [], ◌∷◌, ◌++◌, Option, Some, None, take, drop, slice_get, MatchOption, arith, subst, true, false}
+use Rattle.std.proofs.Common.{◌≡◌, Bor, length, ℕ, zero, suc, ◌+◌, ◌-◌, ◌<◌, ◌≤◌, Bool, refl, ap, ◌∙◌, sym, List, [], ◌∷◌, ◌++◌, Option, Some, None, take, drop, slice_get, MatchOption, arith, subst, false}
 use Rattle.golf_model.specs.Running.{Event}
 use Rattle.golf_schedules.specs.declared.schedule.Schedule.{Schedule}
 use Rattle.golf_schedules.specs.Events.{numbers_left, turns_from, collection_if, is_due}

@@ -1,5 +1,5 @@
 -- Worked examples of schedules.
-use Rattle.std.proofs.Common.{◌≡◌, refl, List, [], ◌∷◌, Option, Some, None}
+use Rattle.std.proofs.Common.{◌≡◌, refl, [], ◌∷◌, Some, None}
 use Rattle.golf_model.specs.Running.{Event}
 use Rattle.golf_schedules.specs.declared.schedule.Schedule.{Schedule}
 use Rattle.golf_schedules.specs.Events.{numbers, events}

@@ -1,5 +1,5 @@
 -- The numbers of a schedule, and the events of a run (profile).
-use Rattle.std.specs.Prelude.{ℕ, zero, suc, ◌+◌, ◌-◌, ◌*◌, ◌/◌, ◌%◌, ◌^◌, ◌==◌, ◌&&◌, Bool, true, false, not, cond, List, [], ◌∷◌, ◌++◌, take, drop, Option, Some, None}
+use Rattle.std.specs.Prelude.{ℕ, zero, suc, ◌+◌, ◌-◌, ◌*◌, ◌/◌, ◌%◌, ◌^◌, ◌==◌, ◌&&◌, Bool, true, false, not, List, [], ◌∷◌, ◌++◌, take, drop, Option, Some, None}
 use Rattle.golf_model.specs.Running.{Event}
 use Rattle.golf_schedules.specs.declared.schedule.Schedule.{Schedule}
 use Rattle.golf_schedules.specs.declared.events.Event.{Event as Given}
@@ -46,6 +46,16 @@ events schedule turns every = turns_from every 1 (numbers schedule turns)
 abbrev pub event_of : Given → Event
 event_of (Given.Turn c) = Event.Turn c
 event_of Given.Collect = Event.Collect
+
+-- how many of the events are turns
+abbrev pub turns_among : List Event → ℕ
+turns_among [] = 0
+turns_among (Event.Turn c ∷ es) = turns_among es + 1
+turns_among (Event.Collect ∷ es) = turns_among es
+
+abbrev pub turns_of : Given → ℕ
+turns_of (Given.Turn c) = 1
+turns_of Given.Collect = 0
 
 -- ---- what is still to come
 

@@ -1,7 +1,7 @@
 //! The events of a run, one after the other.
 
-ghost use Rattle.std.specs.Prelude.{◌≡◌, ◌∷◌, [], MatchOption};
-ghost use Rattle.golf_schedules.specs.Events.{event_of, events as events_of, events_left, is_due as is_due_behind};
+ghost use Rattle.std.specs.Prelude.{◌≡◌, ◌+◌, ◌∷◌, [], MatchOption};
+ghost use Rattle.golf_schedules.specs.Events.{event_of, events as events_of, events_left, is_due as is_due_behind, turns_of};
 
 use crate::schedule::Schedule;
 
@@ -38,7 +38,8 @@ impl Events {
     /// The events of a run of so many turns, or of as many as there are choices where these are
     /// fewer; with `every`, a collection is added behind each turn whose place from 1 it divides.
     pub fn new(schedule: Schedule, turns: u32, every: Option<u32>) -> Events
-        ensures { events_left result ≡ events_of schedule turns every }
+        ensures left { events_left result ≡ events_of schedule turns every }
+        ensures none_done { result.done ≡ 0 }
     {
         Events {
             schedule,
@@ -59,8 +60,8 @@ impl Events {
     /// The next event; none where the turns or the choices are spent.
     pub fn next(&mut self) -> Option<Event>
         ensures { MatchOption result
-            ((events_left self.old ≡ []) × (events_left self.new ≡ []))
-            (λ event. events_left self.old ≡ event_of event ∷ events_left self.new) }
+            ((events_left self.old ≡ []) × (events_left self.new ≡ []) × (self.new.done ≡ self.old.done))
+            (λ event. (events_left self.old ≡ event_of event ∷ events_left self.new) × (self.new.done ≡ self.old.done + turns_of event)) }
     {
         if self.is_collection_next {
             self.is_collection_next = false;

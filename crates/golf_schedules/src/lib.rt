@@ -2,10 +2,13 @@
 //!
 //! - `Schedule`: where the numbers of the turns come from.
 //! - `Events`: the turns and added collections of a run, one after the other.
+//! - `Options`: how a file is run.
 #![tactic(auto)]
 
 mod events;
+mod options;
 mod schedule;
 
 pub use events::{Event, Events};
+pub use options::Options;
 pub use schedule::Schedule;

@@ -1,5 +1,5 @@
 -- Goroutines that a collection takes away are gone from their lines.
-use Rattle.std.proofs.Common.{◌≡◌, ℕ, zero, suc, ◌+◌, ◌<◌, ◌≤◌, Bool, true, false, cond, List, [], ◌∷◌, length, map, get_or, Some, inl, inr, refl, sym, ap, ◌∙◌, subst, arith, slice_get}
+use Rattle.std.proofs.Common.{◌≡◌, ℕ, zero, suc, ◌+◌, ◌<◌, ◌≤◌, Bool, true, false, cond, List, [], ◌∷◌, length, get_or, Some, inl, inr, sym, ap, subst, arith, slice_get}
 use Rattle.golf_theory.specs.Maps.{Entry, Rises, keys}
 use Rattle.golf_theory.specs.Membership.{In}
 use Rattle.golf_theory.proofs.MapEntries.{Entry-keys}
@@ -62,9 +62,9 @@ In-left_out {X} (b ∷ bs) (x ∷ xs) (suc at) e d l h f =
     ]
 
 -- those who are kept stand in line where the others are gone from it
-pub lined-kept : (flags : List Bool) (es : List (ℕ × GoroutineView)) (old thinned new : Lines) (next : ℕ) → Rises 0 es → AreLined es old next
-    → Keeps (λ t h. In h (keys (left_out flags es)) → ⊥) old thinned → Keeps (λ t h. Unit {0}) thinned new → ((n : ℕ) → AreBelow n old → AreBelow n new) → AreLined (kept flags es) new next
-lined-kept flags es old thinned new next r a others all below = record {
+pub lined-kept : (listed : Bool) (flags : List Bool) (es : List (ℕ × GoroutineView)) (old thinned new : Lines) (next : ℕ) → Rises 0 es → AreLined listed es old next
+    → Keeps (λ t h. In h (keys (left_out flags es)) → ⊥) old thinned → Keeps (λ t h. Unit {0}) thinned new → ((n : ℕ) → AreBelow n old → AreBelow n new) → AreLined listed (kept flags es) new next
+lined-kept listed flags es old thinned new next r a others all below = record {
   below = below (next + 1) a.below;
   early = λ g v h. a.early g v (Entry-kept flags es g v h);
   all = λ o side q g v w h e.

@@ -12,6 +12,8 @@ pub mod Outcomings
 pub mod Runnings
 mod Retaining
 pub mod LinedLaws
+mod WakeLaws
+mod ReaderLaws
 pub mod FirstLaws
 pub mod Guesses
 mod Leaving

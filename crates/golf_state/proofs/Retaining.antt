@@ -1,17 +1,14 @@
 -- Lists of which only the flagged items stay.
-use Rattle.std.proofs.Common.{◌≡◌, ℕ, ◌+◌, ◌<◌, ◌≤◌, arith, Bool, true, false, cond, suc, inl, inr, List, [], ◌∷◌, ◌++◌, length, map, take, get_or, refl, sym, ap, ◌∙◌, slice_get, append-nil}
+use Rattle.std.proofs.Common.{◌≡◌, ℕ, ◌+◌, ◌<◌, ◌≤◌, arith, Bool, true, false, cond, suc, List, [], ◌∷◌, ◌++◌, length, map, take, get_or, refl, sym, ap, ◌∙◌, append-nil}
 use Rattle.std.proofs.lemmas.List.{map-append}
 use Rattle.std.proofs.lemmas.Option.{slice_get-get_or}
-use Rattle.golf_theory.specs.Maps.{Entry, Rises, AllBelow}
+use Rattle.golf_theory.specs.Maps.{Rises, AllBelow}
 use Rattle.golf_theory.proofs.MapOrder.{Rises-less}
 use Rattle.golf_data.specs.declared.goroutine.Queued.{Queued}
 use Rattle.golf_model.specs.Collecting.{queued}
 use Rattle.golf_heap.specs.Objects.{kept, left_out}
 use Rattle.golf_heap.proofs.Flagged.{left_out-at}
-use Rattle.golf_model.specs.Views.{GoroutineView}
-use Rattle.golf_queues.specs.Lines.{Lines}
 use Rattle.golf_state.specs.Ready.{AllReady}
-use Rattle.golf_state.specs.Lined.{AreLined}
 use Rattle.golf_state.specs.declared.places.Place.{Place}
 
 -- ---- what is kept

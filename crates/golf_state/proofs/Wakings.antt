@@ -1,22 +1,20 @@
 -- Who is woken.
-use Rattle.std.proofs.Common.{◌≡◌, ℕ, zero, suc, ◌+◌, ◌<◌, ◌≤◌, Bool, true, false, cond, List, [], ◌∷◌, ◌++◌, length, take, drop, get_or, map, Option, Some, None, ◌==◌, refl, sym, ap, ◌∙◌, arith, drop_of_length-le, slice_get, slice_set, add-one}
-use Rattle.std.specs.Prelude.{option_map, is_some}
-use Rattle.std.proofs.lemmas.List.{drop_more, length-map}
+use Rattle.std.proofs.Common.{◌≡◌, ℕ, zero, suc, ◌+◌, ◌<◌, ◌≤◌, Bool, true, false, cond, List, [], ◌∷◌, ◌++◌, length, take, drop, get_or, Option, Some, None, ◌==◌, refl, sym, ap, ◌∙◌, drop_of_length-le, slice_get, add-one}
+use Rattle.std.specs.Prelude.{option_map}
+use Rattle.std.proofs.lemmas.List.{drop_more}
 use Rattle.std.proofs.lemmas.Option.{slice_get_read, slice_get-map}
 use Rattle.golf_data.specs.declared.value.Value.{Value}
 use Rattle.golf_data.specs.declared.goroutine.Mode.{Mode}
 use Rattle.golf_data.specs.declared.goroutine.Side.{Side}
 use Rattle.golf_data.specs.declared.goroutine.Wait.{Wait}
 use Rattle.golf_data.specs.declared.goroutine.WaitKind.{WaitKind}
-use Rattle.golf_theory.specs.Maps.{map_values, Rises}
-use Rattle.golf_model.specs.Views.{FrameView, GoroutineView, goroutine_view}
+use Rattle.golf_model.specs.Views.{FrameView, GoroutineView}
 use Rattle.golf_model.specs.State.{is_running}
 use Rattle.golf_model.specs.Waiting.{wait_for, wait_on}
-use Rattle.golf_model.specs.Waking.{Waking as Woken, received, is_below, reads_next, resumed, released_by, closed_on, closed_for, woken_by}
-use Rattle.golf_model.specs.ReadersWriters.{one_if, readers_next}
+use Rattle.golf_model.specs.Waking.{received, is_below, resumed, released_by, closed_on, closed_for, woken_by}
 use Rattle.golf_state.specs.Looked.{values_of}
 use Rattle.golf_state.specs.Places.{plain_entry, plain_entries, running_of}
-use Rattle.golf_state.specs.Woken.{given_for, waking_of, wakening_by_close, wakening_on, released_where, wakening_of, wakened_by, woken_entry}
+use Rattle.golf_state.specs.Woken.{given_for, waking_of, wakening_by_close, wakening_on, released_where, wakening_of, wakened_by}
 use Rattle.golf_state.specs.declared.waking.Waking.{Waking}
 use Rattle.golf_state.specs.declared.frames.Wakening.{Wakening}
 use Rattle.golf_state.specs.declared.places.Place.{Place}
@@ -73,62 +71,6 @@ pub woken-blocked : (m : Mode) (o : ℕ) (how : Waking) (k : Wakening) → waken
 woken-blocked Mode.Running o how k h = cc
 woken-blocked (Mode.Blocked kind line waits ticket) o how k h = refl
 
-pub place-woken : (p q : Place) (o : ℕ) (how : Waking) → q.number ≡ p.number → goroutine_view q.goroutine ≡ wakened_by (wakening_of p.goroutine.mode o how) (goroutine_view p.goroutine)
-    → plain_entry q ≡ woken_entry (waking_of how) o (plain_entry p)
-place-woken p q o how same is =
-    let seen = is ∙ woken-is (goroutine_view p.goroutine).frames p.goroutine.started p.goroutine.mode o how in
-    λ i. (same i, seen i)
-
--- ---- along the places
-
-module _ {X : Type 0} (f : X → X) where
-  -- the items from a place on are changed
-  pub rest : ℕ → List X → List X
-  rest zero xs = map f xs
-  rest (suc n) [] = []
-  rest (suc n) (x ∷ xs) = x ∷ rest n xs
-
-  pub rest-none : (n : ℕ) (xs : List X) → length xs ≤ n → xs ≡ rest n xs
-  unfolding rest
-  rest-none zero [] l = refl
-  rest-none zero (x ∷ xs) l = absurd (omega arith)
-  rest-none (suc n) [] l = refl
-  rest-none (suc n) (x ∷ xs) l = ap (λ (zs : List X). x ∷ zs) (rest-none n xs (omega arith))
-
-  pub rest-all : (xs : List X) → rest 0 xs ≡ map f xs
-  unfolding rest
-  rest-all xs = refl
-
-  pub length-rest : (n : ℕ) (xs : List X) → length (rest n xs) ≡ length xs
-  unfolding rest
-  length-rest zero xs = length-map xs f
-  length-rest (suc n) [] = refl
-  length-rest (suc n) (x ∷ xs) = ap suc (length-rest n xs)
-
-  pub rest-get : (n : ℕ) (xs : List X) → slice_get (rest (suc n) xs) n ≡ slice_get xs n
-  unfolding rest
-  rest-get n [] = refl
-  rest-get zero (x ∷ xs) = refl
-  rest-get (suc n) (x ∷ xs) = rest-get n xs
-
-  pub rest-set : (n : ℕ) (xs : List X) (x : X) → slice_get xs n ≡ Some x → slice_set (rest (suc n) xs) n (f x) ≡ rest n xs
-  unfolding rest
-  rest-set n [] x h = cc
-  rest-set zero (y ∷ xs) x h = let same : y ≡ x = cc in ap (λ (z : X). f z ∷ map f xs) (sym same)
-  rest-set (suc n) (y ∷ xs) x h = ap (λ (zs : List X). y ∷ zs) (rest-set n xs x h)
-
-module _ (f : GoroutineView → GoroutineView) where
-  pub Rises-rest : (n j : ℕ) (es : List (ℕ × GoroutineView)) → Rises j es → Rises j (rest (λ (e : ℕ × GoroutineView). (e.0, f e.1)) n es)
-  unfolding rest
-  Rises-rest zero j [] r = tt
-  Rises-rest zero j (e ∷ es) r = (r.0, Rises-rest zero (suc e.0) es r.1)
-  Rises-rest (suc n) j [] r = tt
-  Rises-rest (suc n) j (e ∷ es) r = (r.0, Rises-rest n (suc e.0) es r.1)
-
-pub map-woken : (how : Woken) (o : ℕ) (es : List (ℕ × GoroutineView)) → map (woken_entry how o) es ≡ map_values (λ g. woken_by how o) es
-map-woken how o [] = refl
-map-woken how o (e ∷ es) = ap (λ (fs : List (ℕ × GoroutineView)). woken_entry how o e ∷ fs) (map-woken how o es)
-
 -- ---- those that run, one more place
 
 running-more_at : (i : ℕ) (es : List (ℕ × GoroutineView)) (e : ℕ × GoroutineView) → slice_get es i ≡ Some e → is_running e.1.mode ≡ true → running_of (take i es) ++ e.0 ∷ [] ≡ running_of (take (suc i) es)
@@ -155,43 +97,6 @@ running-more i es e h t = rw add-one (running-more_at i es e h t)
 
 pub running-same : (i : ℕ) (es : List (ℕ × GoroutineView)) (e : ℕ × GoroutineView) → slice_get es i ≡ Some e → is_running e.1.mode ≡ false → running_of (take i es) ≡ running_of (take (i + 1) es)
 running-same i es e h t = rw add-one (running-same_at i es e h t)
-
--- ---- readers that are served, one more place
-
-one-more : {X : Type 0} (m : Option X) → is_some m ≡ true → one_if m ≡ 1
-one-more None h = cc
-one-more (Some x) h = refl
-
-none-more : {X : Type 0} (m : Option X) → is_some m ≡ false → one_if m ≡ 0
-none-more None h = refl
-none-more (Some x) h = cc
-
-module _ (below : Option ℕ) (o : ℕ) where
-  readers-more_at : (i : ℕ) (es : List (ℕ × GoroutineView)) (e : ℕ × GoroutineView) → slice_get es i ≡ Some e → is_some (reads_next below o e.1) ≡ true
-      → readers_next below o (take i es) + 1 ≡ readers_next below o (take (suc i) es)
-  readers-more_at i [] e h t = cc
-  readers-more_at zero (f ∷ es) e h t =
-      let same : f ≡ e = cc in
-      let one = ap (λ (d : ℕ × GoroutineView). one_if (reads_next below o d.1)) same ∙ one-more (reads_next below o e.1) t in
-      omega (arith, one)
-  readers-more_at (suc i) (f ∷ es) e h t = let more = readers-more_at i es e h t in omega (arith, more)
-
-  readers-same_at : (i : ℕ) (es : List (ℕ × GoroutineView)) (e : ℕ × GoroutineView) → slice_get es i ≡ Some e → is_some (reads_next below o e.1) ≡ false
-      → readers_next below o (take i es) ≡ readers_next below o (take (suc i) es)
-  readers-same_at i [] e h t = cc
-  readers-same_at zero (f ∷ es) e h t =
-      let same : f ≡ e = cc in
-      let none = ap (λ (d : ℕ × GoroutineView). one_if (reads_next below o d.1)) same ∙ none-more (reads_next below o e.1) t in
-      omega (arith, none)
-  readers-same_at (suc i) (f ∷ es) e h t = ap (λ n. one_if (reads_next below o f.1) + n) (readers-same_at i es e h t)
-
-  pub readers-more : (i : ℕ) (es : List (ℕ × GoroutineView)) (e : ℕ × GoroutineView) → slice_get es i ≡ Some e → is_some (reads_next below o e.1) ≡ true
-      → readers_next below o (take i es) + 1 ≡ readers_next below o (take (i + 1) es)
-  readers-more i es e h t = let n : suc i ≡ i + 1 = omega arith in readers-more_at i es e h t ∙ ap (λ n. readers_next below o (take n es)) n
-
-  pub readers-same : (i : ℕ) (es : List (ℕ × GoroutineView)) (e : ℕ × GoroutineView) → slice_get es i ≡ Some e → is_some (reads_next below o e.1) ≡ false
-      → readers_next below o (take i es) ≡ readers_next below o (take (i + 1) es)
-  readers-same i es e h t = let n : suc i ≡ i + 1 = omega arith in readers-same_at i es e h t ∙ ap (λ n. readers_next below o (take n es)) n
 
 -- the entry of a place, read
 pub entry-at : (gs : List Place) (i : ℕ) (p : Place) → i < length gs → p ≡ get_or gs i p → slice_get (plain_entries gs) i ≡ Some (plain_entry p)

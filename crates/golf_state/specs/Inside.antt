@@ -41,5 +41,5 @@ pub record AreKept (gs : List Place) (listed active : List ℕ) (capacity next :
 
 pub record IsCached (s : Inside) : Type 0 where
   pub kept : AreKept s.goroutines.items (numbers s.present.items) (numbers s.running.items) (vec_capacity s.running) s.next_goroutine
-  pub lined : AreLined (plain_entries s.goroutines.items) s.waiting s.next_ticket
+  pub lined : AreLined s.are_mutexes_lined (plain_entries s.goroutines.items) s.waiting s.next_ticket
   pub finalisers : Rises 0 s.finalisers.items

@@ -13,6 +13,7 @@ pub mod Roominess
 pub mod Wakening
 pub mod Ready
 pub mod Woken
+pub mod WokenAll
 pub mod Outcomes
 pub mod Handing
 pub mod Collecting

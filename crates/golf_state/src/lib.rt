@@ -18,6 +18,7 @@ mod places;
 mod rising;
 mod state;
 mod waiters;
+mod wake_all;
 mod waking;
 
 pub use acting::Acting;

@@ -1,6 +1,6 @@
 //! The state: what it tells, and the changes that a turn is made of.
 
-ghost use Rattle.std.specs.Prelude.{◌≡◌, ◌<◌, ◌≤◌, ◌^◌, ◌+◌, ◌-◌, ◌↔◌, IsTrue, ℕ, [], ◌∷◌, ◌++◌, length, vec_capacity, map, true, false, Some, None, IfOk, OnOk, OnErr, IsSome, IfSome, option_map, slice_get};
+ghost use Rattle.std.specs.Prelude.{◌≡◌, ◌<◌, ◌≤◌, ◌^◌, ◌+◌, ◌-◌, ◌↔◌, IsTrue, ℕ, [], ◌∷◌, ◌++◌, length, vec_capacity, map, true, false, Some, None, IfOk, OnOk, OnErr, IsSome, IfSome, is_some, option_map, slice_get};
 ghost use Rattle.std.specs.Borrow.{sem};
 ghost use Rattle.golf_theory.specs.Maps.{find, keys, Rises, IsRising};
 ghost use Rattle.golf_data.specs.declared.goroutine.Mode.{Mode};
@@ -13,8 +13,11 @@ ghost use Rattle.golf_heap.specs.Objects.{NumberedObjects, kept};
 ghost use Rattle.golf_state.specs.Collecting.{queue_unflagged};
 ghost use Rattle.golf_state.specs.Looked.{looked_up, runs, is_blocked, frames_of, reframed, advanced, opening};
 ghost use Rattle.golf_state.specs.Wakening.{wakened};
+ghost use Rattle.golf_state.specs.Lined.{has_line};
 ghost use Rattle.golf_state.specs.Woken.{waking_of};
+ghost use Rattle.golf_state.specs.WokenAll.{wakening_in, AreWokenBelow, IsHolderBelow};
 ghost use Rattle.golf_state.specs.Waited.{waiting_of};
+ghost use Rattle.golf_state.specs.Seen.{waiter_by};
 ghost use Rattle.golf_state.specs.Lending.{LendsFrames, LendsObject};
 
 use crate::collecting::unflagged_finalisers;
@@ -25,13 +28,15 @@ use crate::places::{
 };
 use crate::rising::{add_last, behind_first, leave_out, put_in};
 use crate::waiters::{
-    Waiting, first_in_line, first_waiter, forget, leave_lines, leave_unflagged, move_mode,
+    Waiting, enter_for_mutex, first_in_line, first_waiter, forget, has_line, leave_lines,
+    leave_unflagged, move_mode, waiter_by,
 };
-use crate::waking::{Waking, readers_next, wake_places};
+use crate::wake_all::{readers_next, wake_all};
+use crate::waking::{Waking, wakening_of};
 use golf_base::{GoroutineId, List, Memory, ObjectId};
 use golf_data::{Ending, Frame, Goroutine, Mode, Object, Queued, Side, Value, Wait, WaitKind};
 use golf_heap::{Heap, close_up};
-use golf_queues::{Queues, is_queued};
+use golf_queues::{Queues, TicketHolder, last_before};
 use std::alloc::Global;
 use std::marker::Model;
 
@@ -49,6 +54,7 @@ pub struct State {
     present: Vec<GoroutineId>,
     running: Vec<GoroutineId>,
     waiting: Queues,
+    are_mutexes_lined: bool,
     queue: List<Queued>,
     output: List<u8>,
     next_ticket: u64,
@@ -79,6 +85,7 @@ impl Drop for State {
             present: _,
             running: _,
             waiting: _,
+            are_mutexes_lined: _,
             queue: _,
             output: _,
             next_ticket: _,
@@ -112,6 +119,7 @@ impl State {
             present,
             running,
             waiting: Queues::new(alloc),
+            are_mutexes_lined: true,
             queue: List::new(alloc),
             output: List::new(alloc),
             next_ticket: 0,
@@ -205,14 +213,15 @@ impl State {
         self.queue.as_slice()
     }
 
-    /// The goroutine of least ticket among those that wait on the object with that side.
+    /// The goroutine of least ticket among those that wait on the object with that side. It looks at
+    /// those that stand in line there alone.
     pub fn first_waiter(&self, object: ObjectId, side: Side) -> Option<Waiting>
         ensures first { result ≡ option_map waiting_of (first object.0 side self.now.goroutines) }
         ensures blocked { IfSome (first object.0 side self.now.goroutines) (λ w. find w.number self.now.goroutines ≡ Some w.goroutine × is_running w.goroutine.mode ≡ false) }
         ensures rises { IsRising self.now.goroutines }
     {
         let places = self.goroutines.as_slice();
-        if is_queued(side) {
+        if has_line(self.are_mutexes_lined, side) {
             first_in_line(self.waiting.line(object, side), places, object, side)
         } else {
             first_waiter(places, object, side)
@@ -338,12 +347,52 @@ impl State {
         put_in(&mut self.running, g);
     }
 
-    /// All goroutines that wait on the object go on, as far as they are woken. It takes no memory.
+    /// All goroutines that wait on the object go on, as far as they are woken. It takes no memory,
+    /// and looks at those that stand in line there alone.
     pub fn wake_all(&mut self, object: ObjectId, how: Waking)
         ensures { self.new ≡ wake_all object.0 (waking_of how) self.old }
     {
-        wake_places(&mut self.goroutines, &mut self.waiting, object, how);
-        list_running(self.goroutines.as_slice(), &mut self.running);
+        wake_all(self, object, how);
+    }
+
+    /// A ticket above those of all who wait on the object with that side and are woken.
+    pub(crate) fn ticket_bound(&self, object: ObjectId, side: Side, how: Waking) -> u64
+        ensures { AreWokenBelow result object.0 side how self.now.goroutines }
+    {
+        match how {
+            Waking::Closing(_) | Waking::AtZero | Waking::ToReaders(None) => self.next_ticket,
+            Waking::ToReaders(Some(below)) => below,
+        }
+    }
+
+    /// The last in line for the object with that side whose ticket is below this one.
+    pub(crate) fn holder_before(
+        &self,
+        object: ObjectId,
+        side: Side,
+        ticket: u64,
+    ) -> Option<TicketHolder>
+        requires { has_line false side ≡ true }
+        ensures last { IsHolderBelow ticket object.0 side self.now.goroutines result }
+        ensures rises { IsRising self.now.goroutines }
+        ensures few { length self.now.goroutines ≤ 2 ^ 32 }
+    {
+        last_before(self.waiting.line(object, side), ticket)
+    }
+
+    /// Whether one who stands in line for the object with that side waits there with that ticket.
+    pub(crate) fn is_waiting(&self, holder: TicketHolder, object: ObjectId, side: Side) -> bool
+        ensures { result ≡ is_some (waiter_by object.0 side self.now.goroutines (holder.ticket, holder.goroutine.0)) }
+    {
+        waiter_by(holder, self.goroutines.as_slice(), object, side).is_some()
+    }
+
+    /// How a goroutine goes on where all who wait on the object are woken, and it is one of them.
+    pub(crate) fn wakening(&self, g: GoroutineId, object: ObjectId, how: Waking) -> Option<Wakening>
+        ensures { result ≡ wakening_in (find g.0 self.now.goroutines) object.0 how }
+    {
+        let goroutine = self.goroutine(g)?;
+        wakening_of(&goroutine.mode, object, how)
     }
 
     /// How many readers of a reader and writer mutex are served: those with a ticket below this
@@ -352,10 +401,11 @@ impl State {
         ensures count { result ≡ readers_next below object.0 self.now.goroutines }
         ensures few { result ≤ 2 ^ 32 }
     {
-        readers_next(self.goroutines.as_slice(), object, below)
+        readers_next(self, object, below)
     }
 
-    // The one wait of a blocked goroutine becomes a wait for the mutex, with the next ticket.
+    // The one wait of a blocked goroutine becomes a wait for the mutex, with the next ticket. Where
+    // memory is wanting for its place in line, the lines of mutexes are looked at no more.
     fn move_wait(&mut self, g: GoroutineId, mutex: ObjectId)
         requires blocked { is_blocked g.0 self.old ≡ true }
         requires tickets { self.old.next_ticket + 1 < 2 ^ 64 }
@@ -365,12 +415,20 @@ impl State {
         let place = &mut self.goroutines[at];
         leave_lines(&mut self.waiting, g, &place.goroutine.mode);
         move_mode(&mut place.goroutine.mode, mutex, self.next_ticket);
+        let is_lined = self.are_mutexes_lined;
+        self.are_mutexes_lined = enter_for_mutex(
+            &mut self.waiting,
+            is_lined,
+            mutex,
+            self.next_ticket,
+            g,
+        );
         self.next_ticket += 1;
     }
 
     /// The blocked goroutine is passed on from a condition to its mutex: an unlocked one becomes
     /// locked and the goroutine runs; a locked one is what it waits for from now on, with the next
-    /// ticket. It takes no memory.
+    /// ticket. It has no answer for want of memory.
     pub fn pass_on(&mut self, g: GoroutineId, mutex: ObjectId)
         requires blocked { is_blocked g.0 self.old ≡ true }
         requires tickets { self.old.next_ticket + 1 < 2 ^ 64 }

@@ -1,15 +1,16 @@
 //! Who waits on an object.
 
-ghost use Rattle.std.specs.Prelude.{◌≡◌, ◌==◌, ℕ, ◌&&◌, false, length, Some, None, option_map};
-ghost use Rattle.golf_theory.specs.Maps.{Rises, keys};
+ghost use Rattle.std.specs.Prelude.{◌≡◌, ◌<◌, ◌+◌, ◌==◌, ℕ, ◌&&◌, false, true, length, Some, None, option_map};
+ghost use Rattle.golf_data.specs.declared.goroutine.Side.{Side};
+ghost use Rattle.golf_theory.specs.Maps.{Entry, Rises, keys};
 ghost use Rattle.golf_theory.specs.Membership.{In};
 ghost use Rattle.golf_heap.specs.Objects.{left_out};
 ghost use Rattle.golf_model.specs.Waiting.{same_side, wait_for, waiter_of, first};
 ghost use Rattle.golf_model.specs.Changes.{moved, moved_waits};
 ghost use Rattle.golf_state.specs.Places.{plain_entry, plain_entries};
-ghost use Rattle.golf_queues.specs.Lines.{held, Keeps, AreBelow};
+ghost use Rattle.golf_queues.specs.Lines.{held, key, line_at, Keeps, AreBelow};
 ghost use Rattle.golf_state.specs.Seen.{sooner, waiter_by};
-ghost use Rattle.golf_state.specs.Lined.{HasWaiters};
+ghost use Rattle.golf_state.specs.Lined.{HasWaiters, has_line};
 ghost use Rattle.golf_state.specs.Waited.{waiting_of};
 
 use crate::places::{Place, goroutine_at};
@@ -23,6 +24,18 @@ pub struct Waiting {
     pub goroutine: GoroutineId,
     pub wait: Wait,
     pub ticket: u64,
+}
+
+/// Whether all who wait on that side stand in line. Those who wait for a mutex do while they all could
+/// be listed: one that is passed on from a condition waits for the mutex without a turn of its own,
+/// and memory may be wanting for its place in line.
+pub fn has_line(are_mutexes_lined: bool, side: Side) -> bool
+    ensures { result ≡ has_line are_mutexes_lined side }
+{
+    match side {
+        Side::Lock => are_mutexes_lined,
+        Side::Receive | Side::Send | Side::Group | Side::Read | Side::Write | Side::Cond => true,
+    }
 }
 
 // Whether a wait is for the object, with that side.
@@ -72,8 +85,8 @@ fn sooner(seen: Option<Waiting>, other: Option<Waiting>) -> Option<Waiting>
     }
 }
 
-// One who stood in line, where it waits there with that ticket.
-fn waiter_by(
+/// One who stood in line, where it waits there with that ticket.
+pub fn waiter_by(
     holder: TicketHolder,
     places: &[Place],
     object: ObjectId,
@@ -178,6 +191,27 @@ pub fn first_waiter(places: &[Place], object: ObjectId, side: Side) -> Option<Wa
         best = sooner(waiter_in(&places[at], object, side), best);
     }
     best
+}
+
+/// The goroutine stands last in line for the mutex, with a ticket that nobody who waits there has. It
+/// answers whether all who wait for mutexes stand in line still: not where memory was wanting.
+pub fn enter_for_mutex(
+    queues: &mut Queues,
+    are_mutexes_lined: bool,
+    mutex: ObjectId,
+    ticket: u64,
+    g: GoroutineId,
+) -> bool
+    requires { AreBelow (ticket + 1) queues.old }
+    ensures still { result ≡ true → are_mutexes_lined ≡ true }
+    ensures joins { result ≡ true → Entry (line_at (key mutex.0 Side.Lock) queues.new) ticket g.0 }
+    ensures kept { Keeps (λ t h. t < ticket) queues.old queues.new }
+    ensures below { AreBelow (ticket + 1) queues.new }
+{
+    match queues.enter(mutex, Side::Lock, ticket, g) {
+        Ok(()) => are_mutexes_lined,
+        Err(_) => false,
+    }
 }
 
 // The first wait becomes one for the mutex, and the others are gone.

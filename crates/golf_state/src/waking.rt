@@ -2,12 +2,9 @@
 
 ghost use Rattle.std.specs.Prelude.{◌≡◌, ◌≤◌, ℕ, length, map, is_some};
 ghost use Rattle.golf_theory.specs.Maps.{Rises};
-ghost use Rattle.golf_queues.specs.Lines.{AreBelow};
-ghost use Rattle.golf_state.specs.Lined.{AreLined, Goes};
 ghost use Rattle.golf_model.specs.Views.{goroutine_view};
 ghost use Rattle.golf_model.specs.Waiting.{wait_on};
-ghost use Rattle.golf_model.specs.Waking.{received, is_below, reads_next};
-ghost use Rattle.golf_model.specs.ReadersWriters.{readers_next};
+ghost use Rattle.golf_model.specs.Waking.{received, is_below};
 ghost use Rattle.golf_state.specs.Looked.{values_of};
 ghost use Rattle.golf_state.specs.Places.{plain_entry, plain_entries};
 ghost use Rattle.golf_state.specs.Ready.{IsReady, AllReady};
@@ -94,8 +91,8 @@ fn released_by(wait: Option<Wait>) -> Option<Wakening>
     }
 }
 
-// How a goroutine in this mode goes on, where it is woken.
-fn wakening_of(mode: &Mode, object: ObjectId, how: Waking) -> Option<Wakening>
+/// How a goroutine in this mode goes on, where it is woken.
+pub fn wakening_of(mode: &Mode, object: ObjectId, how: Waking) -> Option<Wakening>
     ensures { result ≡ wakening_of mode.now object.0 how }
 {
     match mode {
@@ -120,61 +117,4 @@ fn wakening_of(mode: &Mode, object: ObjectId, how: Waking) -> Option<Wakening>
             }
         },
     }
-}
-
-// The goroutine at a place goes on, where it is woken, and is gone from its lines.
-fn wake_place(place: &mut Place, queues: &mut Queues, object: ObjectId, how: Waking)
-    requires { IsReady place.old }
-    ensures entry { plain_entry place.new ≡ woken_entry (waking_of how) object.0 (plain_entry place.old) }
-    ensures ready { IsReady place.new }
-    ensures goes { Goes (plain_entry place.old) (plain_entry place.new) queues.old queues.new }
-    ensures below { (n : ℕ) → AreBelow n queues.old → AreBelow n queues.new }
-{
-    if let Some(wakening) = wakening_of(&place.goroutine.mode, object, how) {
-        leave_lines(queues, GoroutineId(place.number), &place.goroutine.mode);
-        waken(&mut place.goroutine, wakening);
-    }
-}
-
-/// All goroutines that are woken go on. It takes no memory.
-///
-/// The last ones come first: they mostly stand last in line, from where they are gone at no cost.
-pub fn wake_places(places: &mut Vec<Place>, queues: &mut Queues, object: ObjectId, how: Waking)
-    requires rises { Rises 0 (plain_entries places.old.items) }
-    requires ready { AllReady places.old.items }
-    ensures places { plain_entries places.new.items ≡ map (woken_entry (waking_of how) object.0) (plain_entries places.old.items) }
-    ensures ready { AllReady places.new.items }
-    ensures lined { (n : ℕ) → AreLined (plain_entries places.old.items) queues.old n → AreLined (plain_entries places.new.items) queues.new n }
-{
-    let mut at = places.len();
-    while at > 0 {
-        at -= 1;
-        wake_place(&mut places[at], queues, object, how);
-    }
-}
-
-// Whether the goroutine is a reader that is served.
-fn reads_next(goroutine: &Goroutine, object: ObjectId, below: Option<u64>) -> bool
-    ensures { result ≡ is_some (reads_next below object.0 (goroutine_view goroutine.now)) }
-{
-    match &goroutine.mode {
-        Mode::Running => false,
-        Mode::Blocked { waits, ticket, .. } => {
-            is_below(below, *ticket) && wait_for(waits.as_slice(), object, Side::Read).is_some()
-        }
-    }
-}
-
-/// How many readers are served: those with a ticket below this one, or all.
-pub fn readers_next(places: &[Place], object: ObjectId, below: Option<u64>) -> usize
-    ensures count { result ≡ readers_next below object.0 (plain_entries places.now) }
-    ensures few { result ≤ length places.now }
-{
-    let mut count = 0;
-    for place in places {
-        if reads_next(&place.goroutine, object, below) {
-            count += 1;
-        }
-    }
-    count
 }

@@ -28,7 +28,7 @@ use Rattle.golf_model.specs.Waiting.{Waiter, waiter_ticket, first, waiters, bare
 use Rattle.golf_model.specs.Changes.{Change}
 use Rattle.golf_model.specs.Acting.{Actor, with_frames, next, choose, at_reference, at_mutex}
 use Rattle.golf_model.specs.Calculating.{stores, stores_global, computes, divides, compares, jumps_unless, sum, difference, product, quotient, remainder}
-use Rattle.golf_model.specs.Structures.{makes, gets_field, sets_field, is_bad_size, makes_slice, makes_channel, within, element, gets_element, sets_element, length_of, measures}
+use Rattle.golf_model.specs.Structures.{gets_field, sets_field, is_bad_size, makes_slice, makes_channel, within, element, gets_element, sets_element, length_of, measures}
 use Rattle.golf_model.specs.Channels.{sends_to, sends_on, sends, sent_by, sender_served, receives_unbuffered, receives_from, receives_on, receives, closes}
 use Rattle.golf_model.specs.Selecting.{Offer, Taken, offers_of, all_on_channels, ready, proceeds_by, wait_of, case_waits, offered_waits, select_kind, selects_none, selects_one, chosen, selects_from}
 use Rattle.golf_model.specs.Mutexes.{blocks_on, locks_by, locks, hands_over, unlocks_by, unlocks, counts, adds, waits}

@@ -10,7 +10,7 @@ use Rattle.golf_data.specs.declared.goroutine.WaitKind.{WaitKind}
 use Rattle.golf_model.specs.Views.{FrameView}
 use Rattle.golf_model.specs.Values.{int_of}
 use Rattle.golf_model.specs.Changes.{Change}
-use Rattle.golf_model.specs.Acting.{Actor, stands, goes, jumps, leaves, panics, dies, blocks, on_some, taking_one, taking_two, taking_three, taking_from, taking, choose, at_reference, at_reference_or, at_struct, at_slice, at_channel, at_mutex, at_group, at_rw, at_condition}
+use Rattle.golf_model.specs.Acting.{Actor, goes, jumps, leaves, panics, dies, blocks, on_some, taking_one, taking_two, taking_three, taking_from, taking, choose, at_reference, at_reference_or, at_struct, at_slice, at_channel, at_mutex, at_group, at_rw, at_condition}
 use Rattle.golf_model.specs.Calculating.{two_ints}
 use Rattle.golf_state_laws.specs.Orderly.{HasMutex, AllKeepOrder}
 

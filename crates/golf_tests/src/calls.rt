@@ -8,12 +8,35 @@ use std::process::Abort;
 use std::test::Fail;
 use std::thread::Threads;
 
+/// How many bytes a sink of the tests has room for.
+const ROOM: u32 = 1_048_576;
+
 /// How a call ended, and what it wrote.
 #[derive(Drop)]
 pub struct Outcome {
     pub status: Status,
     pub out: MemorySink,
     pub err: MemorySink,
+}
+
+/// How many bytes the source and the sinks take a call, and which calls of theirs fail, by their
+/// numbers from 1.
+#[derive(Clone, Copy)]
+pub struct Ends<'a> {
+    pub most: u32,
+    pub source: &'a [u32],
+    pub out: &'a [u32],
+    pub err: &'a [u32],
+}
+
+// Ends that take four bytes a call and do not fail.
+fn quiet() -> Ends<'static> {
+    Ends {
+        most: 4,
+        source: &[],
+        out: &[],
+        err: &[],
+    }
 }
 
 // A list of these numbers.
@@ -23,53 +46,77 @@ fn numbers(alloc: Global, items: &[u32]) -> Result<List<u32>, Fail> {
     Ok(list)
 }
 
-/// The program over a file in memory, of which the calls with these numbers fail, and those of the
-/// output sink. The source and both sinks take four bytes a call.
-pub fn call<R: AllocGlobal + Threads + Sync>(
-    rt: &R,
-    words: &[&str],
-    file: List<u8>,
-    read_faults: &[u32],
-    write_faults: &[u32],
-) -> Result<Outcome, Fail> {
-    call_with(rt, words, file, read_faults, write_faults, &OpenGate)
+// Words that the program owns.
+fn owned(alloc: Global, words: &[&str]) -> Result<Vec<String>, Fail> {
+    let mut owned = Vec::new(alloc);
+    for word in words {
+        owned.push(String::from_str(alloc, *word)?)?;
+    }
+    Ok(owned)
 }
 
-// The same with a gate.
-fn call_with<R: AllocGlobal + Threads + Sync, G: Gate + Sync>(
+/// The program by these words over a file in memory, with these ends, whose markers pass the gate.
+pub fn call<R: AllocGlobal + Threads + Sync, G: Gate + Sync>(
     rt: &R,
     words: &[&str],
-    file: List<u8>,
-    read_faults: &[u32],
-    write_faults: &[u32],
+    file: &[u8],
+    ends: Ends<'_>,
     gate: &G,
 ) -> Result<Outcome, Fail> {
     let alloc = rt.alloc();
-    let mut source = MemorySource::new(file, 4, numbers(alloc, read_faults)?);
-    let mut out = MemorySink::new(alloc, 4096, 4, numbers(alloc, write_faults)?)?;
-    let mut err = MemorySink::new(alloc, 4096, 4, List::new(alloc))?;
-    let mut given = Vec::new(alloc);
-    for word in words {
-        given.push(String::from_str(alloc, *word)?)?;
-    }
+    let most = ends.most.max(1);
+    let mut bytes = List::new(alloc);
+    bytes.extend_from_slice(file)?;
+    let mut source = MemorySource::new(bytes, most, numbers(alloc, ends.source)?);
+    let mut out = MemorySink::new(alloc, ROOM, most, numbers(alloc, ends.out)?)?;
+    let mut err = MemorySink::new(alloc, ROOM, most, numbers(alloc, ends.err)?)?;
+    let given = owned(alloc, words)?;
     let status = golf(rt, &given, &mut source, &mut out, &mut err, gate);
     Ok(Outcome { status, out, err })
 }
 
-/// A run of this file, whose markers pass the gate.
+/// The program by these words over this file, with ends that take four bytes a call and do not fail.
 pub fn run_with<R: AllocGlobal + Threads + Sync, G: Gate + Sync>(
     rt: &R,
+    words: &[&str],
     file: &[u8],
     gate: &G,
 ) -> Result<Outcome, Fail> {
-    let mut bytes = List::new(rt.alloc());
-    bytes.extend_from_slice(file)?;
-    call_with(rt, &["run"], bytes, &[], &[], gate)
+    call(rt, words, file, quiet(), gate)
 }
 
 /// A run of this file.
 pub fn run<R: AllocGlobal + Threads + Sync>(rt: &R, file: &[u8]) -> Result<Outcome, Fail> {
-    run_with(rt, file, &OpenGate)
+    run_with(rt, &["run"], file, &OpenGate)
+}
+
+/// The program by these words over this file, with these ends, ends so and writes these texts.
+pub fn expect_ends<R: AllocGlobal + Abort + Threads + Sync>(
+    rt: &R,
+    words: &[&str],
+    file: &[u8],
+    ends: Ends<'_>,
+    status: Status,
+    out: &[u8],
+    err: &[u8],
+) -> Result<(), Fail> {
+    let got = call(rt, words, file, ends, &OpenGate)?;
+    assert!(rt; got.status == status);
+    assert_eq!(rt; got.out.written(), out);
+    assert_eq!(rt; got.err.written(), err);
+    Ok(())
+}
+
+/// The program by these words over this file ends so, and writes these texts.
+pub fn expect_with<R: AllocGlobal + Abort + Threads + Sync>(
+    rt: &R,
+    words: &[&str],
+    file: &[u8],
+    status: Status,
+    out: &[u8],
+    err: &[u8],
+) -> Result<(), Fail> {
+    expect_ends(rt, words, file, quiet(), status, out, err)
 }
 
 /// A run of this file ends so, and writes this output and these errors.
@@ -80,11 +127,21 @@ pub fn expect<R: AllocGlobal + Abort + Threads + Sync>(
     out: &[u8],
     err: &[u8],
 ) -> Result<(), Fail> {
-    let got = run(rt, file)?;
-    assert!(rt; got.status == status);
-    assert_eq!(rt; got.out.written(), out);
-    assert_eq!(rt; got.err.written(), err);
-    Ok(())
+    expect_with(rt, &["run"], file, status, out, err)
+}
+
+/// A run of this file ends so and writes this output, with recovery and without; the first errors
+/// are those without, the others those with it.
+pub fn expect_both<R: AllocGlobal + Abort + Threads + Sync>(
+    rt: &R,
+    file: &[u8],
+    status: Status,
+    out: &[u8],
+    err: &[u8],
+    recovered: &[u8],
+) -> Result<(), Fail> {
+    expect_with(rt, &["run"], file, status, out, err)?;
+    expect_with(rt, &["run", "--recover"], file, status, out, recovered)
 }
 
 /// A run of this file is refused with this line.

@@ -1,49 +1,125 @@
 //! Streams that fail, and words that are no line of the program.
 
-use crate::calls::call;
-use crate::runs::{EMPTY_MAIN, LITERALS};
-use golf_base::List;
+use crate::calls::{Ends, expect_ends};
+use crate::runs::{EMPTY_MAIN, LEAK};
+use crate::worked::{POOL, POOL_ERRORS};
 use golf_texts::{READ_FAULT, Status, USAGE};
 use std::test::Fail;
 
+// The first bytes of a text, or all.
+fn front(text: &[u8], length: usize) -> &[u8] {
+    let (front, _) = text.split_at(length.min(text.len()));
+    front
+}
+
+// The pool has 753 bytes, which come in 12 pieces and an end.
 #[test]
-fn a_source_that_fails_is_a_read_fault(rt: HostRuntime) -> Result<(), Fail> {
-    let mut file = List::new(rt.alloc());
-    file.extend_from_slice(EMPTY_MAIN)?;
-    let got = call(&rt, &["run"], file, &[2], &[])?;
-    assert!(rt; got.status == Status::ReadFault);
-    assert_eq!(rt; got.out.written(), b"".as_slice());
-    assert_eq!(rt; got.err.written(), READ_FAULT.as_slice());
+fn each_call_of_the_source_that_fails_is_a_read_fault(rt: HostRuntime) -> Result<(), Fail> {
+    for before in 0..13u32 {
+        let ends = Ends {
+            most: 64,
+            source: &[before + 1],
+            out: &[],
+            err: &[],
+        };
+        expect_ends(
+            &rt,
+            &["run"],
+            POOL,
+            ends,
+            Status::ReadFault,
+            b"",
+            READ_FAULT,
+        )?;
+    }
     Ok(())
 }
 
+// The pool prints after its collection: 7 bytes, behind 121 of errors.
 #[test]
-fn a_sink_that_fails_holds_a_front_of_the_output(rt: HostRuntime) -> Result<(), Fail> {
-    let mut file = List::new(rt.alloc());
-    file.extend_from_slice(LITERALS)?;
-    let got = call(&rt, &["run"], file, &[], &[2])?;
-    assert!(rt; got.status == Status::WriteFault);
-    assert_eq!(rt; got.out.written(), b"1 tr".as_slice());
-    assert_eq!(rt; got.err.written(), b"".as_slice());
+fn each_call_of_a_sink_that_fails_cuts_its_text(rt: HostRuntime) -> Result<(), Fail> {
+    for before in 0..3u32 {
+        let ends = Ends {
+            most: 3,
+            source: &[],
+            out: &[before + 1],
+            err: &[],
+        };
+        let out = front(b"sum 55\n", before as usize * 3);
+        expect_ends(
+            &rt,
+            &["run"],
+            POOL,
+            ends,
+            Status::WriteFault,
+            out,
+            POOL_ERRORS,
+        )?;
+    }
+    for before in 0..41u32 {
+        let ends = Ends {
+            most: 3,
+            source: &[],
+            out: &[],
+            err: &[before + 1],
+        };
+        let err = front(POOL_ERRORS, before as usize * 3);
+        expect_ends(&rt, &["run"], POOL, ends, Status::WriteFault, b"", err)?;
+    }
     Ok(())
 }
 
+// What a failed write leaves, by the call of `out` or `err` that fails: nothing is written behind it.
 #[test]
-fn other_words_than_run_are_refused_and_nothing_is_read(rt: HostRuntime) -> Result<(), Fail> {
-    let lines: [&[&str]; 5] = [
-        &[],
-        &["run", "--markers", "17"],
-        &["run", "run"],
-        &["Run"],
-        &["run", "--"],
+fn nothing_is_written_behind_a_write_that_failed(rt: HostRuntime) -> Result<(), Fail> {
+    let calls: [(&[&str], &[u8], u32, u32, &[u8], &[u8]); 6] = [
+        (&["run"], LEAK, 1, 0, b"", b""),
+        (&["run"], LEAK, 0, 3, b"1\n", b"collecti"),
+        (
+            &["run", "--recover"],
+            LEAK,
+            0,
+            19,
+            b"1\n",
+            b"collection 1: marked 0, reported 1, kept 0, reclaimed 1, objects 0\ngorou",
+        ),
+        (&["run", "--turns=2"], EMPTY_MAIN, 0, 2, b"", b"stop"),
+        (&["run"], b"package main", 0, 4, b"", b"refused: lin"),
+        (&[], EMPTY_MAIN, 0, 2, b"", b"usag"),
     ];
-    for words in lines.iter() {
-        let mut file = List::new(rt.alloc());
-        file.extend_from_slice(EMPTY_MAIN)?;
-        let got = call(&rt, *words, file, &[1], &[])?;
-        assert!(rt; got.status == Status::Usage);
-        assert_eq!(rt; got.out.written(), b"".as_slice());
-        assert_eq!(rt; got.err.written(), USAGE.as_slice());
+    for (words, file, out_call, err_call, out, err) in calls {
+        let ends = Ends {
+            most: 4,
+            source: &[],
+            out: &[out_call],
+            err: &[err_call],
+        };
+        expect_ends(&rt, words, file, ends, Status::WriteFault, out, err)?;
+    }
+    Ok(())
+}
+
+#[test]
+fn words_that_are_no_line_are_refused_and_nothing_is_read(rt: HostRuntime) -> Result<(), Fail> {
+    let lines: [&[&str]; 9] = [
+        &[],
+        &["Run"],
+        &["run", "run"],
+        &["run", "--markers", "17"],
+        &["run", "--recover", "--recover"],
+        &["run", "--turns=0"],
+        &["run", "--turns", "--"],
+        &["run", "--turns=000000000000000000003"],
+        &["generate", "0"],
+    ];
+    for words in lines {
+        let ends = Ends {
+            most: 4,
+            source: &[1],
+            out: &[],
+            err: &[],
+        };
+        expect_ends(&rt, words, EMPTY_MAIN, ends, Status::Usage, b"", USAGE)?;
     }
     Ok(())
 }

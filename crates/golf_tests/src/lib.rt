@@ -8,7 +8,11 @@ mod faults;
 #[cfg(test)]
 mod files;
 #[cfg(test)]
+mod generated;
+#[cfg(test)]
 mod markers;
+#[cfg(test)]
+mod options;
 #[cfg(test)]
 mod refusals;
 #[cfg(test)]

@@ -1,8 +1,22 @@
 //! Worked examples of the whole language: what a file prints, what its collections report, and how it ends.
 
-use crate::calls::expect;
+use crate::calls::{expect, expect_both};
 use golf_texts::Status;
 use std::test::Fail;
+
+/// A pool of workers, and a reply that nobody takes.
+pub const POOL: &[u8] =
+    b"package main\n\nimport (\n\t\"fmt\"\n\t\"runtime\"\n\t\"sync\"\n)\n\ntype Total struct {\n\tmu  *sync.Mutex\n\tsum int\n}\n\nfunc (t *Total) add(n int) {\n\tt.mu.Lock()\n\tdefer t.mu.Unlock()\n\tt.sum += n\n}\n\nfunc work(jobs <-chan int, t *Total, wg *sync.WaitGroup) {\n\tdefer wg.Done()\n\tfor n := range jobs {\n\t\tt.add(n)\n\t}\n}\n\nfunc ask(n int) chan int {\n\treply := make(chan int)\n\tgo answer(n, reply)\n\treturn reply\n}\n\nfunc answer(n int, reply chan<- int) {\n\treply <- n + 1\n}\n\nfunc main() {\n\tt := &Total{mu: &sync.Mutex{}}\n\twg := &sync.WaitGroup{}\n\tjobs := make(chan int, 4)\n\tfor i := 0; i < 3; i++ {\n\t\twg.Add(1)\n\t\tgo work(jobs, t, wg)\n\t}\n\task(1)\n\tfor i := 1; i <= 10; i++ {\n\t\tjobs <- i\n\t}\n\tclose(jobs)\n\twg.Wait()\n\tfor i := 0; i < 50; i++ {\n\t}\n\truntime.GC()\n\tfmt.Println(\"sum\", t.sum)\n}\n";
+
+pub const POOL_ERRORS: &[u8] =
+    b"collection 1: marked 4, reported 1, kept 1, reclaimed 0, objects 5\ngoroutine 5: chan send at line 34, started at line 29\n";
+
+/// Two goroutines wait for each other, and two collections.
+pub const CYCLE: &[u8] =
+    b"package main\nimport \"runtime\"\nfunc wait(x, y chan int) {\n\t<-x\n\ty <- 1\n}\nfunc start() {\n\tx := make(chan int)\n\ty := make(chan int)\n\tgo wait(x, y)\n\tgo wait(y, x)\n}\nfunc main() {\n\tstart()\n\tfor i := 0; i < 50; i++ {\n\t}\n\truntime.GC()\n\truntime.GC()\n}\n";
+
+pub const CYCLE_ERRORS: &[u8] =
+    b"collection 1: marked 0, reported 2, kept 2, reclaimed 0, objects 2\ngoroutine 2: chan receive at line 4, started at line 10\ngoroutine 3: chan receive at line 4, started at line 11\ncollection 2: marked 0, reported 0, kept 2, reclaimed 0, objects 2\n";
 
 #[test]
 fn buffers_default_close_range(rt: HostRuntime) -> Result<(), Fail> {
@@ -38,17 +52,27 @@ fn classic_leak(rt: HostRuntime) -> Result<(), Fail> {
     let out = b"";
     let err =
         b"collection 1: marked 0, reported 1, kept 1, reclaimed 0, objects 1\ngoroutine 2: chan receive at line 4, started at line 8\n";
-    expect(&rt, file, Status::Found, out, err)
+    let recovered =
+        b"collection 1: marked 0, reported 1, kept 0, reclaimed 1, objects 0\ngoroutine 2: chan receive at line 4, started at line 8\n";
+    expect_both(&rt, file, Status::Found, out, err, recovered)
 }
 
 #[test]
 fn cycle_collected_twice(rt: HostRuntime) -> Result<(), Fail> {
+    let out = b"";
+    let recovered =
+        b"collection 1: marked 0, reported 2, kept 0, reclaimed 2, objects 0\ngoroutine 2: chan receive at line 4, started at line 10\ngoroutine 3: chan receive at line 4, started at line 11\ncollection 2: marked 0, reported 0, kept 0, reclaimed 0, objects 0\n";
+    expect_both(&rt, CYCLE, Status::Found, out, CYCLE_ERRORS, recovered)
+}
+
+#[test]
+fn dead_holder_of_a_finalised_object(rt: HostRuntime) -> Result<(), Fail> {
     let file =
-        b"package main\nimport \"runtime\"\nfunc wait(x, y chan int) {\n\t<-x\n\ty <- 1\n}\nfunc start() {\n\tx := make(chan int)\n\ty := make(chan int)\n\tgo wait(x, y)\n\tgo wait(y, x)\n}\nfunc main() {\n\tstart()\n\tfor i := 0; i < 50; i++ {\n\t}\n\truntime.GC()\n\truntime.GC()\n}\n";
+        b"package main\nimport (\n\t\"fmt\"\n\t\"runtime\"\n)\ntype Res struct {\n\tn int\n}\nfunc done(r *Res) {\n\tfmt.Println(\"done\", r.n)\n}\nfunc hold(r *Res, c chan int) {\n\t<-c\n\tfmt.Println(r.n)\n}\nfunc start() {\n\tr := &Res{n: 7}\n\truntime.SetFinalizer(r, done)\n\tgo hold(r, make(chan int))\n}\nfunc main() {\n\tstart()\n\tfor i := 0; i < 50; i++ {\n\t}\n\truntime.GC()\n\tfor i := 0; i < 50; i++ {\n\t}\n}\n";
     let out = b"";
     let err =
-        b"collection 1: marked 0, reported 2, kept 2, reclaimed 0, objects 2\ngoroutine 2: chan receive at line 4, started at line 10\ngoroutine 3: chan receive at line 4, started at line 11\ncollection 2: marked 0, reported 0, kept 2, reclaimed 0, objects 2\n";
-    expect(&rt, file, Status::Found, out, err)
+        b"collection 1: marked 0, reported 1, kept 1, reclaimed 0, objects 2\ngoroutine 2: chan receive at line 13, started at line 19\n";
+    expect_both(&rt, file, Status::Found, out, err, err)
 }
 
 #[test]
@@ -58,7 +82,9 @@ fn dead_holder_of_a_global_mutex(rt: HostRuntime) -> Result<(), Fail> {
     let out = b"";
     let err =
         b"collection 1: marked 1, reported 1, kept 1, reclaimed 0, objects 2\ngoroutine 2: chan receive at line 9, started at line 15\n";
-    expect(&rt, file, Status::Found, out, err)
+    let recovered =
+        b"collection 1: marked 1, reported 1, kept 0, reclaimed 1, objects 1\ngoroutine 2: chan receive at line 9, started at line 15\n";
+    expect_both(&rt, file, Status::Found, out, err, recovered)
 }
 
 #[test]
@@ -78,7 +104,9 @@ fn finaliser_set_later_on_a_shared_object(rt: HostRuntime) -> Result<(), Fail> {
     let out = b"end\n";
     let err =
         b"collection 1: marked 1, reported 1, kept 1, reclaimed 0, objects 2\ngoroutine 2: chan receive at line 14, started at line 18\ncollection 2: marked 0, reported 0, kept 1, reclaimed 0, objects 2\n";
-    expect(&rt, file, Status::Found, out, err)
+    let recovered =
+        b"collection 1: marked 1, reported 1, kept 1, reclaimed 0, objects 2\ngoroutine 2: chan receive at line 14, started at line 18\ncollection 2: marked 0, reported 0, kept 1, reclaimed 0, objects 2\n";
+    expect_both(&rt, file, Status::Found, out, err, recovered)
 }
 
 #[test]
@@ -139,7 +167,9 @@ fn lost_condition(rt: HostRuntime) -> Result<(), Fail> {
     let out = b"ready 3\n";
     let err =
         b"collection 1: marked 2, reported 1, kept 1, reclaimed 0, objects 4\ngoroutine 3: sync.Cond.Wait at line 22, started at line 26\n";
-    expect(&rt, file, Status::Found, out, err)
+    let recovered =
+        b"collection 1: marked 2, reported 1, kept 0, reclaimed 1, objects 2\ngoroutine 3: sync.Cond.Wait at line 22, started at line 26\n";
+    expect_both(&rt, file, Status::Found, out, err, recovered)
 }
 
 #[test]
@@ -250,15 +280,15 @@ fn unreachable_finalised_object_holds_a_channel(rt: HostRuntime) -> Result<(), F
     let out = b"got 9\n";
     let err =
         b"collection 1: marked 1, reported 0, kept 0, reclaimed 0, objects 2\ncollection 2: marked 0, reported 0, kept 0, reclaimed 0, objects 0\n";
-    expect(&rt, file, Status::Clean, out, err)
+    let recovered =
+        b"collection 1: marked 1, reported 0, kept 0, reclaimed 0, objects 2\ncollection 2: marked 0, reported 0, kept 0, reclaimed 0, objects 0\n";
+    expect_both(&rt, file, Status::Clean, out, err, recovered)
 }
 
 #[test]
 fn worker_pool_with_an_abandoned_reply(rt: HostRuntime) -> Result<(), Fail> {
-    let file =
-        b"package main\n\nimport (\n\t\"fmt\"\n\t\"runtime\"\n\t\"sync\"\n)\n\ntype Total struct {\n\tmu  *sync.Mutex\n\tsum int\n}\n\nfunc (t *Total) add(n int) {\n\tt.mu.Lock()\n\tdefer t.mu.Unlock()\n\tt.sum += n\n}\n\nfunc work(jobs <-chan int, t *Total, wg *sync.WaitGroup) {\n\tdefer wg.Done()\n\tfor n := range jobs {\n\t\tt.add(n)\n\t}\n}\n\nfunc ask(n int) chan int {\n\treply := make(chan int)\n\tgo answer(n, reply)\n\treturn reply\n}\n\nfunc answer(n int, reply chan<- int) {\n\treply <- n + 1\n}\n\nfunc main() {\n\tt := &Total{mu: &sync.Mutex{}}\n\twg := &sync.WaitGroup{}\n\tjobs := make(chan int, 4)\n\tfor i := 0; i < 3; i++ {\n\t\twg.Add(1)\n\t\tgo work(jobs, t, wg)\n\t}\n\task(1)\n\tfor i := 1; i <= 10; i++ {\n\t\tjobs <- i\n\t}\n\tclose(jobs)\n\twg.Wait()\n\tfor i := 0; i < 50; i++ {\n\t}\n\truntime.GC()\n\tfmt.Println(\"sum\", t.sum)\n}\n";
     let out = b"sum 55\n";
-    let err =
-        b"collection 1: marked 4, reported 1, kept 1, reclaimed 0, objects 5\ngoroutine 5: chan send at line 34, started at line 29\n";
-    expect(&rt, file, Status::Found, out, err)
+    let recovered =
+        b"collection 1: marked 4, reported 1, kept 0, reclaimed 1, objects 4\ngoroutine 5: chan send at line 34, started at line 29\n";
+    expect_both(&rt, POOL, Status::Found, out, POOL_ERRORS, recovered)
 }

@@ -1,2 +1,4 @@
 pub mod Texts
 pub mod Meaning
+pub mod Writes
+pub mod Totals

@@ -1,5 +1,5 @@
--- What the run of a code writes to standard output and standard error, and how the program ends.
-use Rattle.std.specs.Prelude.{◌≡◌, ℕ, zero, suc, ◌+◌, Bool, true, false, cond, ◌||◌, List, [], ◌∷◌, ◌++◌, Option, Some, None}
+-- What the run of a code by its options writes to standard output and standard error, and how the program ends.
+use Rattle.std.specs.Prelude.{ℕ, Bool, true, false, cond, ◌||◌, List, [], ◌∷◌, ◌++◌, Option, Some, None}
 use Rattle.golf_data.specs.declared.code.Code.{Code}
 use Rattle.golf_data.specs.declared.goroutine.Ending.{Ending}
 use Rattle.golf_data.specs.declared.report.Entry.{Entry}
@@ -8,34 +8,34 @@ use Rattle.golf_model.specs.State.{State, start, ending}
 use Rattle.golf_model.specs.Collecting.{sets_finalisers}
 use Rattle.golf_model.specs.Running.{Event, run, stops}
 use Rattle.golf_model.specs.Reporting.{book_of}
+use Rattle.golf_schedules.specs.declared.options.Options.{Options}
+use Rattle.golf_schedules.specs.Events.{events, turns_among}
 use Rattle.golf_texts.specs.declared.status.Status.{Status}
-use Rattle.golf_texts.specs.declared.status.TheConstants.{TURNS}
 use Rattle.golf_texts.specs.Texts.{reports_text, last_line}
 
--- the schedule `rotate` gives 0, 1, 2, and so on; so many turns from this number on
-abbrev pub rotate_from : ℕ → ℕ → List Event
-rotate_from k zero = []
-rotate_from k (suc n) = Event.Turn k ∷ rotate_from (k + 1) n
-
--- the turns of a run; this and what stands on it no proof unfolds by chance
-unfoldable pub events : List Event
-events = rotate_from 0 TURNS
+-- the turns and added collections of a run by these options; this and what stands on it no proof unfolds by chance
+unfoldable pub events_of : Options → List Event
+events_of options = events options.schedule options.turns options.every
 
 -- the state after them, of the machine that frees and reclaims nothing
-unfoldable pub last_of : Code → State
-last_of code = run code (start code) events
+unfoldable pub last_of : Code → Options → State
+last_of code options = run code (start code) (events_of options)
 
 -- what the run prints
-unfoldable pub out_of : Code → List ℕ
-out_of code = (last_of code).output
+unfoldable pub out_of : Code → Options → List ℕ
+out_of code options = (last_of code options).output
 
 -- the reports of its collections
-unfoldable pub reports_of : Code → List Report
-reports_of code = book_of (stops code events) false (sets_finalisers code)
+unfoldable pub reports_of : Code → Options → List Report
+reports_of code options = book_of (stops code (events_of options)) options.recover (sets_finalisers code)
 
--- the reports, and how the run ended
-unfoldable pub err_of : Code → List ℕ
-err_of code = reports_text (reports_of code) ++ last_line code.texts TURNS (ending (last_of code))
+-- its last line: how it ended; one that has not ended is told with its number of turns
+unfoldable pub end_of : Code → Options → List ℕ
+end_of code options = last_line code.texts (turns_among (events_of options)) (ending (last_of code options))
+
+-- the reports, and the last line
+unfoldable pub err_of : Code → Options → List ℕ
+err_of code options = reports_text (reports_of code options) ++ end_of code options
 
 abbrev pub names_someone : List Entry → Bool
 names_someone [] = false
@@ -53,5 +53,5 @@ status_by reported (Some (Ending.Panicked kind g line)) = Status.Crashed
 status_by reported (Some Ending.Asleep) = Status.Crashed
 status_by reported None = Status.Spent
 
-unfoldable pub status_of : Code → Status
-status_of code = status_by (anyone_reported (reports_of code)) (ending (last_of code))
+unfoldable pub status_of : Code → Options → Status
+status_of code options = status_by (anyone_reported (reports_of code options)) (ending (last_of code options))

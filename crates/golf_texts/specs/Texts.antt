@@ -1,5 +1,5 @@
 -- The lines that a run writes to standard error (profile).
-use Rattle.std.specs.Prelude.{ℕ, Bool, true, false, cond, List, [], ◌∷◌, ◌++◌, Option, Some, None, length, codes, decimal, slice_get, unwrap_or}
+use Rattle.std.specs.Prelude.{ℕ, Bool, true, false, List, [], ◌∷◌, ◌++◌, Option, Some, None, length, codes, decimal, slice_get, unwrap_or}
 use Rattle.std.specs.Fmt.{signed_decimal}
 use Rattle.golf_base.specs.declared.ids.GoroutineId.{GoroutineId}
 use Rattle.golf_data.specs.declared.goroutine.Ending.{Ending}

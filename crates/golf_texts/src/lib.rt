@@ -5,7 +5,9 @@
 mod lines;
 mod refusals;
 mod status;
+mod totals;
 
 pub use lines::{ending_line, report_text, stopped_line};
 pub use refusals::{lexical_line, list_of, rule_line, syntax_line};
-pub use status::{LIMIT, NO_MEMORY, READ_FAULT, RUN, Status, TOO_LONG, TURNS, USAGE};
+pub use status::{LIMIT, NO_MEMORY, READ_FAULT, Status, TOO_LONG, USAGE};
+pub use totals::Totals;

@@ -1,11 +1,5 @@
 //! How the program ends, and the lines that it writes to standard error.
 
-/// The one word of a run.
-pub const RUN: &[u8; 3] = b"run";
-
-/// How many turns a run has.
-pub const TURNS: u32 = 1_000_000;
-
 /// The most bytes of a file.
 pub const LIMIT: u32 = 1_048_576;
 

@@ -15,6 +15,12 @@ pub enum Shape {
     Shuffled,
     /// A binary tree, level by level.
     Tree,
+    /// A tree of four children a node, level by level.
+    Quad,
+    /// The shuffled list, whose nodes have one more child that looks random.
+    Random,
+    /// The shuffled list, whose nodes have seven more children that look random.
+    Dense,
 }
 
 /// A graph of this shape with so many nodes.
@@ -22,7 +28,10 @@ pub fn shaped(alloc: Global, shape: Shape, nodes: u32) -> Result<Graph, GraphFau
     match shape {
         Shape::List => list(alloc, nodes),
         Shape::Shuffled => shuffled(alloc, nodes),
-        Shape::Tree => tree(alloc, nodes),
+        Shape::Tree => tree(alloc, nodes, 2),
+        Shape::Quad => tree(alloc, nodes, 4),
+        Shape::Random => web(alloc, nodes, 1),
+        Shape::Dense => web(alloc, nodes, 7),
     }
 }
 
@@ -45,28 +54,23 @@ fn list(alloc: Global, nodes: u32) -> Result<Graph, GraphFault> {
     rooted(maker, nodes, 0)
 }
 
-// The children of a node in a binary tree of so many nodes.
-fn with_branches(
-    maker: GraphMaker,
-    alloc: Global,
-    node: u32,
-    nodes: u32,
-) -> Result<GraphMaker, GraphFault> {
-    let left = node.saturating_mul(2).saturating_add(1);
-    let right = left.saturating_add(1);
-    if right < nodes {
-        return maker.node(alloc, &[left, right]);
+// The children of a node in a tree of so many nodes, with so many children each.
+fn branches(alloc: Global, node: u32, nodes: u32, each: u32) -> Result<List<u32>, GraphFault> {
+    let mut children = List::new(alloc);
+    for branch in 1..=each {
+        let child = node.saturating_mul(each).saturating_add(branch);
+        if child < nodes {
+            children.push(child)?;
+        }
     }
-    if left < nodes {
-        return maker.node(alloc, &[left]);
-    }
-    maker.node(alloc, &[])
+    Ok(children)
 }
 
-fn tree(alloc: Global, nodes: u32) -> Result<Graph, GraphFault> {
+fn tree(alloc: Global, nodes: u32, each: u32) -> Result<Graph, GraphFault> {
     let mut maker = GraphMaker::new(alloc, nodes);
     for node in 0..nodes {
-        maker = with_branches(maker, alloc, node, nodes)?;
+        let children = branches(alloc, node, nodes, each)?;
+        maker = maker.node(alloc, children.as_slice())?;
     }
     rooted(maker, nodes, 0)
 }
@@ -119,6 +123,39 @@ fn shuffled(alloc: Global, nodes: u32) -> Result<Graph, GraphFault> {
             Some(child) => maker.node(alloc, &[*child])?,
             None => maker.node(alloc, &[])?,
         };
+    }
+    match order.as_slice().first() {
+        Some(root) => rooted(maker, nodes, *root),
+        None => maker.finish(),
+    }
+}
+
+// The next node, where there is one, and so many nodes that look random.
+fn threads(
+    alloc: Global,
+    next: Option<u32>,
+    nodes: u32,
+    more: u32,
+    numbers: &mut Numbers,
+) -> Result<List<u32>, GraphFault> {
+    let mut children = List::new(alloc);
+    if let Some(child) = next {
+        children.push(child)?;
+    }
+    for _ in 0..more {
+        children.push(numbers.below(nodes))?;
+    }
+    Ok(children)
+}
+
+fn web(alloc: Global, nodes: u32, more: u32) -> Result<Graph, GraphFault> {
+    let order = shuffled_nodes(alloc, nodes)?;
+    let next = next_nodes(alloc, order.as_slice())?;
+    let mut numbers = Numbers::new(11);
+    let mut maker = GraphMaker::new(alloc, nodes);
+    for child in next.as_slice() {
+        let children = threads(alloc, *child, nodes, more, &mut numbers)?;
+        maker = maker.node(alloc, children.as_slice())?;
     }
     match order.as_slice().first() {
         Some(root) => rooted(maker, nodes, *root),

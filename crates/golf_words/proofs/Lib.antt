@@ -2,6 +2,7 @@ mod Cuts
 mod Examples
 mod Generates
 mod Law
+mod Limits
 mod Numbers
 mod Outcomes
 mod Program

@@ -1,8 +1,9 @@
 -- The words behind the program's name, and the line that they stand for (profile).
-use Rattle.std.specs.Prelude.{ℕ, ◌++◌, ◌&&◌, ◌||◌, ◌==◌, Bool, true, false, if◌then◌else◌, List, [], ◌∷◌, find, Option, Some, None, option_and_then, option_map, codes, bytes_eq}
+use Rattle.std.specs.Prelude.{ℕ, ◌≤◌, ◌++◌, ◌&&◌, ◌||◌, ◌==◌, Bool, true, false, if◌then◌else◌, List, [], ◌∷◌, find, Option, Some, None, option_and_then, option_map, codes, bytes_eq}
 use Rattle.std.specs.List.{list_any, before_first, after_first}
 use Rattle.golf_words.specs.Values.{Text, number_within, schedule_of}
 use Rattle.golf_schedules.specs.declared.schedule.Schedule.{Schedule}
+use Rattle.golf_schedules.specs.Options.{IsWithinLimits}
 use Rattle.golf_words.specs.declared.line.Line.{Line}
 
 -- ---- options
@@ -111,3 +112,10 @@ line_of [] = None
 line_of (word ∷ rest) =
     if bytes_eq (codes "run") word then option_and_then run_of (uses_after [] None rest)
     else (if bytes_eq (codes "generate") word then generate_of rest else None)
+
+-- ---- limits
+
+-- the numbers of a line are within their limits
+abbrev pub IsWithin : Line → Type 0
+IsWithin (Line.Run options) = IsWithinLimits options
+IsWithin (Line.Generate n) = (1 ≤ n) × (n ≤ 5000)

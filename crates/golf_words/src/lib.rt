@@ -1,7 +1,7 @@
 //! The words behind the program's name: which line they stand for.
 //!
 //! - `parse`: the line, or none where the words stand for none.
-//! - `Line`, `Options`: what a line asks for.
+//! - `Line`: what a line asks for.
 #![tactic(auto)]
 
 mod line;
@@ -9,5 +9,5 @@ mod reading;
 mod splitting;
 mod values;
 
-pub use line::{Line, Options};
+pub use line::Line;
 pub use reading::parse;

@@ -1,18 +1,18 @@
 //! The line that the words stand for.
 
-ghost use Rattle.std.specs.Prelude.{◌≡◌, IfOk, map, option_map, string_bytes};
+ghost use Rattle.std.specs.Prelude.{◌≡◌, IfOk, IfSome, map, option_map, string_bytes};
 ghost use Rattle.clap.specs.Words.{found_of, rows_of};
 ghost use Rattle.clap.specs.Walk.{first_of};
 ghost use Rattle.golf_words.specs.Values.{number_within as number_between, schedule_of};
-ghost use Rattle.golf_words.specs.Words.{line_of, setting};
+ghost use Rattle.golf_words.specs.Words.{line_of, setting, IsWithin};
 ghost use Rattle.golf_words.specs.Splitting.{every_or_none, generate_by, is_true as is_text_true, line_by, run_by, split_of};
 
-use crate::line::{Line, Options};
+use crate::line::Line;
 use crate::splitting::split;
 use crate::values::{number_within, schedule};
 use clap::ArgMatches;
 use golf_base::Memory;
-use golf_schedules::Schedule;
+use golf_schedules::{Options, Schedule};
 use std::alloc::Global;
 
 /// How many turns a run has that is not told.
@@ -116,7 +116,8 @@ fn line_as_split(alloc: Global, words: &[String]) -> Result<Option<Line>, Memory
 
 /// The line that the words behind the program's name stand for; none where they stand for none.
 pub fn parse(alloc: Global, words: &[String]) -> Result<Option<Line>, Memory>
-    ensures { IfOk result (λ line. line ≡ line_of (map string_bytes words.now)) }
+    ensures line { IfOk result (λ line. line ≡ line_of (map string_bytes words.now)) }
+    ensures limits { IfOk result (λ line. IfSome line IsWithin) }
 {
     line_as_split(alloc, words)
 }

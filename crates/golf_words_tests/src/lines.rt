@@ -1,7 +1,7 @@
 //! Words that stand for a line.
 
-use golf_schedules::Schedule;
-use golf_words::{Line, Options, parse};
+use golf_schedules::{Options, Schedule};
+use golf_words::{Line, parse};
 use std::test::Fail;
 
 /// The line that words stand for, if any.

@@ -1,19 +1,13 @@
 -- The code of calls as statements and behind `go` and `defer`, against code that was written by hand.
-use Rattle.std.specs.Prelude.{◌≡◌, ℕ, pos, negsuc, true, false, List, [], ◌∷◌, ◌++◌, Some, None, codes}
-use Rattle.golf_grammar.specs.declared.expressions.UnaryOperator.TheVariants as sign
-use Rattle.golf_grammar.specs.declared.expressions.BinaryOperator.TheVariants as operator
-use Rattle.golf_grammar.specs.declared.statements.UpdateOperator.TheVariants as updates
-use Rattle.golf_grammar.specs.declared.statements.RangeNames.TheVariants as range
+use Rattle.std.specs.Prelude.{◌≡◌, pos, negsuc, [], ◌∷◌, codes}
 use Rattle.golf_data.specs.declared.code.Instr.{Instr}
-use Rattle.golf_data.specs.declared.code.CaseKind.{CaseKind}
 use Rattle.golf_types.specs.Scopes.{meaning, type_name, value_name, call_name, package_name, member, is_here, is_reserved, may_be_declared}
 use Rattle.golf_types.specs.Written.{named_base, made_base, sync_base}
 use Rattle.golf_types.specs.Expressions.{fmt_member, runtime_member, sync_member, condition_member, condition_method, mutex_method, group_method, read_method, write_method, field_type}
 use Rattle.golf_types.specs.Statements.{assigned_name, kept_faults, pair_differs, put_in_faults, range_names_differ}
 use Rattle.golf_code_of.specs.Table.{text_number}
-use Rattle.golf_code_of.proofs.Examples.Writing.{named, chan_of, name, integer, text, unary, binary, parens, select, index, call, line}
-use Rattle.golf_code_of.proofs.Examples.Doing.{action, send, increment, decrement, assign, update, define, define_received, assign_received, does, return_value, return_nothing, break, continue, block, if_then, if_first_then, if_else, forever, while, steps_empty, steps, range_over, go, defer, defer_alone, case_send, case_receive, case_define, case_assign, case_define_received, default, var_zero, var_typed, var_untyped, code, works_out}
-use Rattle.golf_code_of.proofs.Examples.Doing.{select as select_from}
+use Rattle.golf_code_of.proofs.Examples.Writing.{name, integer, text, select, call, line}
+use Rattle.golf_code_of.proofs.Examples.Doing.{action, does, go, defer, defer_alone, code, works_out}
 
 -- fmt.Println(n, "hi", b); fmt.Println(); panic("a"); runtime.GC(); close(c)
 pub built_in_calls : code (does (action 1 (call (select (name (codes "fmt")) (codes "Println")) ((name (codes "n")) ∷ (text (codes "hi")) ∷ (name (codes "b")) ∷ []))) ∷ does (action 2 (call (select (name (codes "fmt")) (codes "Println")) ([]))) ∷ does (action 3 (call (name (codes "panic")) ((text (codes "a")) ∷ []))) ∷ does (action 4 (call (select (name (codes "runtime")) (codes "GC")) ([]))) ∷ does (action 5 (call (name (codes "close")) ((name (codes "c")) ∷ []))) ∷ []) ≡

@@ -1,7 +1,5 @@
 -- How the small statements of the examples are written: each with its code, by the equations for its kind.
-use Rattle.std.proofs.Common.{◌≡◌, ℕ, ◌+◌, pos, true, false, ◌&&◌, not, List, [], ◌∷◌, ◌++◌, map, length, Option, Some, None, refl, sym, ap, ◌∙◌}
-use Rattle.std.specs.Prelude.{codes}
-use Rattle.golf_grammar.specs.declared.expressions.Expr.{Expr}
+use Rattle.std.proofs.Common.{◌≡◌, ℕ, pos, ◌&&◌, not, List, [], ◌∷◌, ◌++◌, map, Some, None, refl, ap, ◌∙◌}
 use Rattle.golf_grammar.specs.declared.statements.UpdateOperator.{UpdateOperator}
 use Rattle.golf_grammar.specs.declared.statements.Simple.{Simple}
 use Rattle.golf_grammar.specs.declared.statements.SimpleKind.{SimpleKind}
@@ -9,7 +7,6 @@ use Rattle.golf_grammar.specs.declared.statements.SimpleKind.TheVariants as simp
 use Rattle.golf_grammar.specs.declared.statements.VarContent.TheVariants as content
 use Rattle.golf_grammar.specs.declared.statements.Header.TheVariants as header
 use Rattle.golf_grammar.specs.declared.statements.RangeNames.{RangeNames}
-use Rattle.golf_grammar.specs.declared.statements.Communication.{Communication}
 use Rattle.golf_grammar.specs.declared.statements.Communication.TheVariants as comm
 use Rattle.golf_grammar.specs.declared.statements.Stmt.{Stmt}
 use Rattle.golf_grammar.specs.declared.statements.Stmt.TheVariants as st
@@ -19,10 +16,9 @@ use Rattle.golf_data.specs.declared.code.Instr.{Instr}
 use Rattle.golf_data.specs.declared.code.Line.{Line}
 use Rattle.golf_data.specs.declared.code.CaseKind.{CaseKind}
 use Rattle.golf_types.specs.declared.types.Base.TheVariants as base
-use Rattle.golf_types.specs.declared.operands.Given.{Given}
 use Rattle.golf_types.specs.declared.scopes.Scope.{Scope}
 use Rattle.golf_types.specs.Faults.{broken}
-use Rattle.golf_types.specs.Types.{given, has_base, type_given, is_nil, element, assignable}
+use Rattle.golf_types.specs.Types.{has_base, type_given, is_nil, element, assignable}
 use Rattle.golf_types.specs.Names.{is_blank}
 use Rattle.golf_types.specs.Scopes.{is_here, is_reserved, may_be_declared, begun}
 use Rattle.golf_types.specs.Written.{Write}
@@ -36,7 +32,6 @@ use Rattle.golf_code_of.specs.Coding.{Coded, coded, argument}
 use Rattle.golf_code_of.specs.declared.making.Making.{Making}
 use Rattle.golf_code_of.specs.Calls.{Argument, makings, beginning, pushes}
 use Rattle.golf_code_of.specs.Statements as C
-use Rattle.golf_code_of.specs.declared.making.Around.{Around}
 use Rattle.golf_code_of.specs.Statements.{Laid, Part, laid, wrapped}
 use Rattle.golf_code_of.specs.Loops as L
 use Rattle.golf_code_of.specs.Selects as S

@@ -1,5 +1,5 @@
 -- The code of expressions, against code that was written by hand.
-use Rattle.std.specs.Prelude.{◌≡◌, ℕ, pos, neg_ℤ, true, false, List, [], ◌∷◌, ◌++◌, Some, None, codes, refl}
+use Rattle.std.specs.Prelude.{◌≡◌, pos, neg_ℤ, true, false, [], ◌∷◌, codes}
 use Rattle.golf_grammar.specs.declared.expressions.UnaryOperator.TheVariants as sign
 use Rattle.golf_grammar.specs.declared.expressions.BinaryOperator.TheVariants as operator
 use Rattle.golf_data.specs.declared.value.Value.{Value}

@@ -1,9 +1,8 @@
 -- Tables of texts, functions that are made, and the code of a whole file, against code that was written by hand.
-use Rattle.std.specs.Prelude.{◌≡◌, ℕ, pos, negsuc, true, false, List, [], ◌∷◌, Some, None, codes, refl}
+use Rattle.std.specs.Prelude.{◌≡◌, negsuc, [], ◌∷◌, None, codes, refl}
 use Rattle.golf_grammar.specs.declared.declarations.Const.TheVariants as const
 use Rattle.golf_grammar.specs.declared.declarations.Decl.TheVariants as d
 use Rattle.golf_grammar.specs.declared.declarations.File.{File}
-use Rattle.golf_data.specs.declared.value.Value.{Value}
 use Rattle.golf_data.specs.declared.code.Instr.{Instr}
 use Rattle.golf_types.specs.declared.types.Layer.TheVariants as layer
 use Rattle.golf_types.specs.declared.types.Base.TheVariants as base

@@ -1,5 +1,5 @@
 -- How the small trees of the examples are written: each with its code, by the equations for its kind.
-use Rattle.std.proofs.Common.{◌≡◌, ℕ, ◌+◌, pos, neg_ℤ, true, false, List, [], ◌∷◌, ◌++◌, map, length, Option, Some, None, refl, sym, ap, ◌∙◌}
+use Rattle.std.proofs.Common.{◌≡◌, ℕ, pos, neg_ℤ, true, false, List, [], ◌∷◌, map, Option, Some, None, refl, sym, ap, ◌∙◌}
 use Rattle.std.specs.Prelude.{codes}
 use Rattle.golf_grammar.specs.declared.types.TypeExpr.{TypeExpr}
 use Rattle.golf_grammar.specs.declared.types.TypeExpr.TheVariants as ty
@@ -10,8 +10,6 @@ use Rattle.golf_grammar.specs.declared.expressions.Expr.{Expr}
 use Rattle.golf_grammar.specs.declared.expressions.Element.{Element}
 use Rattle.golf_grammar.specs.declared.expressions.Expr.TheVariants as ex
 use Rattle.golf_grammar.specs.declared.expressions.Expr.TheOpen as F
-use Rattle.golf_grammar.specs.declared.declarations.Const.{Const}
-use Rattle.golf_grammar.specs.declared.declarations.Const.TheVariants as const
 use Rattle.golf_data.specs.declared.value.Value.{Value}
 use Rattle.golf_data.specs.declared.code.Instr.{Instr}
 use Rattle.golf_data.specs.declared.code.Line.{Line}
@@ -29,7 +27,7 @@ use Rattle.golf_types.specs.Types.{with_layer}
 use Rattle.golf_types.specs.Written.{Write, write, write_step}
 use Rattle.golf_types.specs.Expressions as T
 use Rattle.golf_types.specs.Judging.{Judge, judge}
-use Rattle.golf_layout.specs.Piece.{Piece, on, placed}
+use Rattle.golf_layout.specs.Piece.{on, placed}
 use Rattle.golf_code_of.specs.declared.tables.Tables.{Tables}
 use Rattle.golf_code_of.specs.Expressions as C
 use Rattle.golf_code_of.specs.Coding.{Coded, CodedPut, coded, coded_step, piece_at}

@@ -1,6 +1,5 @@
 use Rattle.std.proofs.Common.{◌≡◌, ◌+◌, ◌++◌, length, drop}
 use Rattle.golf_code_of.specs.Files.{functions_from}
-use Rattle.golf_code.specs.Short.{AreShort}
 use Rattle.golf_code.proofs.functions.own_functions.Given as goal
 
 abbrev pub invariant-loop-decl : goal.invariant-loop-decl
@@ -11,5 +10,4 @@ invariant-loop-decl l =
       scope : l.scope ≡ l.fn.scope;
       own : l.functions ++ rest.own ≡ l.fn.functions ++ all.own;
       made : l.out.made ++ rest.made ≡ all.made;
-      short : AreShort l.functions;
     }

@@ -1,14 +1,9 @@
-use Rattle.std.proofs.Common.{◌≡◌, ℕ, ◌+◌, ◌<◌, ◌≤◌, ◌==◌, Bool, true, false, List, [], ◌∷◌, Option, Some, None, refl, sym, ap, ◌∙◌, arith}
-use Rattle.std.specs.Prelude.{option_map, slice_get}
-use Rattle.std.proofs.lemmas.Bool.{eq-eqb, ne_eqb}
-use Rattle.std.proofs.lemmas.Result.{on_ok_weaker, on_err_weaker, err_from_is_err_and}
-use Rattle.golf_data.specs.declared.goroutine.Frame.{Frame}
+use Rattle.std.proofs.Common.{sym, ap, ◌∙◌}
+use Rattle.std.specs.Prelude.{option_map}
+use Rattle.std.proofs.lemmas.Result.{on_ok_weaker, on_err_weaker}
 use Rattle.golf_data.specs.declared.goroutine.Deferred.{Deferred}
-use Rattle.golf_data.specs.declared.goroutine.Mode.{Mode}
-use Rattle.golf_model.specs.Views.{FrameView, GoroutineView, frame_view, frame_views}
+use Rattle.golf_model.specs.Views.{frame_views}
 use Rattle.golf_model.specs.Waking.{on_top}
-use Rattle.golf_state.specs.Going.{went, undeferred, stored}
-use Rattle.golf_state.proofs.Doings.{runs-is, actor_of}
 use Rattle.golf_state.specs.Going.{has_deferred}
 use Rattle.golf_machine.proofs.Frames.{kept, defers-none, defers-some}
 use Rattle.golf_machine.proofs.entering.defer_call.Goals as goal

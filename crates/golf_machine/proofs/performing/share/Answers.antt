@@ -1,4 +1,4 @@
-use Rattle.std.proofs.Common.{◌≡◌, ℕ, List, [], sym, ap, ◌∙◌}
+use Rattle.std.proofs.Common.{List, []}
 use Rattle.golf_data.specs.declared.code.Code.{Code}
 use Rattle.golf_model.specs.Changes.{Change}
 use Rattle.golf_model.specs.Acting.{Actor}

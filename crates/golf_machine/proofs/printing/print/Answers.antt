@@ -1,17 +1,8 @@
-use Rattle.std.proofs.Common.{◌≡◌, ℕ, ◌+◌, ◌<◌, ◌≤◌, ◌==◌, Bool, true, false, List, [], ◌∷◌, Option, Some, None, refl, sym, ap, ◌∙◌, arith}
-use Rattle.std.specs.Prelude.{option_map, slice_get}
-use Rattle.std.proofs.lemmas.Bool.{eq-eqb, ne_eqb}
-use Rattle.std.proofs.lemmas.Result.{on_ok_weaker, on_err_weaker, err_from_is_err_and}
-use Rattle.golf_data.specs.declared.goroutine.Frame.{Frame}
-use Rattle.golf_data.specs.declared.goroutine.Deferred.{Deferred}
-use Rattle.golf_data.specs.declared.goroutine.Mode.{Mode}
-use Rattle.golf_model.specs.Views.{FrameView, GoroutineView, frame_view, frame_views}
-use Rattle.golf_model.specs.Waking.{on_top}
-use Rattle.golf_state.specs.Going.{went, undeferred, stored}
-use Rattle.golf_state.proofs.Doings.{runs-is, actor_of}
+use Rattle.std.proofs.Common.{ℕ, List, sym, ap, ◌∙◌}
+use Rattle.std.specs.Prelude.{option_map}
 use Rattle.golf_model.specs.Changes.{output}
 use Rattle.golf_model.specs.Values.{line_bytes}
-use Rattle.golf_machine.proofs.Prints.{stands-printed, prints-none, prints-missing, prints-line}
+use Rattle.golf_machine.proofs.Prints.{prints-none, prints-missing, prints-line}
 use Rattle.golf_machine.proofs.printing.print.Goals as goal
 
 pub returns-in_default-clause-ok : goal.returns-in_default-clause-ok

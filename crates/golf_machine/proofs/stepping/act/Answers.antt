@@ -1,4 +1,4 @@
-use Rattle.std.proofs.Common.{◌≡◌, ℕ, ◌+◌, ◌<◌, ◌^◌, List, [], Some, sym, ap, ◌∙◌, arith}
+use Rattle.std.proofs.Common.{◌+◌, List, Some, sym, ap, ◌∙◌, arith}
 use Rattle.std.proofs.lemmas.Result.{on_ok_weaker}
 use Rattle.golf_data.specs.declared.goroutine.Mode.{Mode}
 use Rattle.golf_model.specs.Views.{FrameView, GoroutineView, frame_view}

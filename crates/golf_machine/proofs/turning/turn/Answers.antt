@@ -1,4 +1,4 @@
-use Rattle.std.proofs.Common.{◌≡◌, ℕ, ◌%◌, List, length, get_or, Option, Some, None, sym, ap, ◌∙◌}
+use Rattle.std.proofs.Common.{◌%◌, length, get_or, Option, None, sym, ap, ◌∙◌}
 use Rattle.golf_data.specs.declared.goroutine.Ending.{Ending}
 use Rattle.golf_model.specs.Running.{wants_collection}
 use Rattle.golf_machine.specs.Turns.{turned_of}

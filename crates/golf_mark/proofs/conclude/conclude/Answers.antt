@@ -1,4 +1,4 @@
-use Rattle.std.proofs.Common.{◌≡◌, ◌+◌, ◌<◌, ◌∷◌, [], ◌++◌, ◌∙◌, inl, inr, ℕ, List, Bool, length, refl, sym, subst, ap, arith}
+use Rattle.std.proofs.Common.{◌≡◌, ◌+◌, ◌<◌, ◌∷◌, [], ◌++◌, ◌∙◌, inl, inr, ℕ, List, length, length-append, refl, sym, subst, ap, arith}
 use Rattle.std.specs.Prelude.{sum_by}
 use Rattle.std.proofs.lemmas.List.{length_push}
 use Rattle.std.proofs.lemmas.List.Sums.{sum_by-append}
@@ -8,7 +8,6 @@ use Rattle.golf_theory.proofs.Times.{times-In}
 use Rattle.golf_model.specs.declared.graph.GraphParts.{GraphParts}
 use Rattle.golf_model.specs.Graph.{node_count, sleeper_count, Least, IsInRange}
 use Rattle.golf_marks.specs.declared.marks.MarkSeat.{MarkSeat}
-use Rattle.golf_marks.specs.Flags.{IsSet}
 use Rattle.golf_marks.specs.Seats.{graph_in, claimed, known, claim_count}
 use Rattle.golf_grey.specs.declared.hand.GreyHand.{GreyHand}
 use Rattle.golf_grey.specs.Hands.{AreAllHands, pushed_by, taken_by}
@@ -29,10 +28,13 @@ loop-marker-init c =
     let run = c.requires.run (length more) first (at_end ms more first _ is refl) in
     let hands : c.push_ready.new.self.items ≡ first.hand ∷ [] = c.push_ready.ensures.items ∙ ap (λ (l : List GreyHand). l ++ first.hand ∷ []) c.requires.hands.0 in
     record {
-      gathered = gathered_first c.args.marks ms more first is run.fits.scanner.seat run.fits.deferred;
+      gathered = gathered_first c.args.marks ms more first c.add_all.new.self is run.fits.scanner.seat (c.add_all.ensures.length ∙ run.fits.deferred) (λ x low n. elim n [
+        | inl d ↦ c.add_all.ensures.kept x d
+        | inr w ↦ c.add_all.ensures.noted x (omega (arith, low, run.fits.deferred)) (subst (λ (l : List ℕ). In x l) (sym c.as_slice.ensures) w)
+      ]);
       handed = subst (λ (l : List GreyHand). IsHandedOver ms more l) (sym hands) (handed_first ms more first is);
-      idle = run.fits.idle;
-      room = omega (arith, run.fits.scanner.room, ap length run.fits.idle);
+      idle = c.clear.ensures.items;
+      room = omega (arith, run.fits.scanner.room, c.clear.ensures.spare);
       spare = omega (arith, c.requires.hands.1, ap length is, length_push more first, c.push_ready.ensures.spare);
     }
 
@@ -42,8 +44,8 @@ join-requires-clause-other c =
     let m = c.in-Some-pop.marker in
     (c.requires.run (length more) m (last_in c.args.marks c.args.markers.items c.loop-marker.rest.items more m _ c.in-Some-pop.ensures.items c.loop-marker.invariant.gathered)).fits.scanner.seat
 
-pub note-requires : goal.note-requires
-note-requires c =
+pub merge-requires : goal.merge-requires
+merge-requires c =
     let more = c.pop-in-loop-marker.new.self.items in
     let m = c.in-Some-pop.marker in
     (c.requires.run (length more) m (last_in c.args.marks c.args.markers.items c.loop-marker.rest.items more m _ c.in-Some-pop.ensures.items c.loop-marker.invariant.gathered)).fits.deferred
@@ -57,20 +59,23 @@ loop-marker-preserved c =
     let m = c.in-Some-pop.marker in
     let g = c.loop-marker.invariant.gathered in
     let is = c.in-Some-pop.ensures.items in
-    let f : Finisher = record { seat = c.loop-marker.scanner.seat; todo = c.loop-marker.todo.items } in
-    let e : Finisher = record { seat = c.join.new.seat; todo = c.note.new.todo.items } in
+    let f : Finisher = record { seat = c.loop-marker.scanner.seat; todo = c.loop-marker.todo } in
+    let e : Finisher = record { seat = c.join.new.seat; todo = c.add_all-in-Some-pop.new.self } in
     record {
-      gathered = gathered_more c.args.marks ms rest more m f e is g (record { seat = c.join.ensures.seat; todo = c.note.ensures.length ∙ g.fits.todo })
+      gathered = gathered_more c.args.marks ms rest more m f e is g (record { seat = c.join.ensures.seat; todo = c.add_all-in-Some-pop.ensures.length ∙ (c.merge.ensures.length ∙ g.fits.todo) })
           (λ h. ap (sum_by h) c.join.ensures.claimed ∙ sum_by-append h (claimed f.seat) (claimed m.scanner.seat))
           c.join.ensures.parts
           (λ x h. subst (λ (l : List ℕ). In x l) (sym c.join.ensures.known) (In-left x (known f.seat) (known m.scanner.seat) h))
           (λ x h. subst (λ (l : List ℕ). In x l) (sym c.join.ensures.known) (In-right x (known f.seat) (known m.scanner.seat) h))
-          c.note.ensures.kept
-          (λ x low h. c.note.ensures.noted x h);
+          (λ x h. c.add_all-in-Some-pop.ensures.kept x (c.merge.ensures.kept x h))
+          (λ x low n. elim n [
+            | inl d ↦ c.add_all-in-Some-pop.ensures.kept x (c.merge.ensures.noted x d)
+            | inr w ↦ c.add_all-in-Some-pop.ensures.noted x (omega (arith, low, c.merge.ensures.length, g.fits.todo)) (subst (λ (l : List ℕ). In x l) (sym c.as_slice-in-Some-pop.ensures) w)
+          ]);
       handed = subst (λ (l : List GreyHand). IsHandedOver ms more l) (sym c.push_ready-in-Some-pop.ensures.items)
           (handed_more ms rest more m c.loop-marker.hands.items is (last_in c.args.marks ms rest more m f is g) c.loop-marker.invariant.handed);
       idle = c.loop-marker.invariant.idle;
-      room = c.loop-marker.invariant.room;
+      room = omega (arith, c.loop-marker.invariant.room, ap length c.join.ensures.claimed, length-append (claimed f.seat) (claimed m.scanner.seat));
       spare = omega (arith, c.loop-marker.invariant.spare, ap length is, length_push more m, c.push_ready-in-Some-pop.ensures.spare);
     }
 
@@ -86,17 +91,16 @@ settle-requires-clause-covered c = λ p low h.
     let rest = c.loop-marker.rest.items in
     let none : length rest ≡ 0 = omega (arith, c.in_default-pop.ensures.cases.0, c.loop-marker.rest.ok.0) in
     let g = c.loop-marker.invariant.gathered in
-    let f : Finisher = record { seat = c.loop-marker.scanner.seat; todo = c.loop-marker.todo.items } in
-    let e : Finisher = record { seat = c.loop-marker.scanner.seat; todo = c.note_left.new.todo.items } in
+    let f : Finisher = record { seat = c.loop-marker.scanner.seat; todo = c.loop-marker.todo } in
     let left = c.close-left.result.places in
     let closed = c.close-left.ensures in
-    let even = even_of c.args.marks c.args.pool c.args.markers.items rest c.loop-marker.hands.items left none c.requires.run c.loop-marker.invariant.handed
+    let even = even_of c.args.markers.items rest c.loop-marker.hands.items left none c.loop-marker.invariant.handed
     (subst (λ (l : List GreyHand). (w : ℕ → ℕ) → pushed_by w l ≡ taken_by w l + sum_by w left) c.into_list.ensures closed) in
-    elim (covers c.args.marks c.args.pool c.args.markers.items rest left f e none c.requires.run even g refl c.note_left.ensures.kept
-    (λ x small i. c.note_left.ensures.noted x (omega (arith, g.fits.todo, small)) (subst (λ (l : List ℕ). In x l) (sym c.as_slice.ensures) i))
+    elim (covers c.args.marks c.args.pool c.args.markers.items rest left f c.add_all-2.new.self none c.requires.run even g c.add_all-2.ensures.kept
+    (λ x small i. c.add_all-2.ensures.noted x (omega (arith, g.fits.todo, small)) (subst (λ (l : List ℕ). In x l) (sym c.as_slice-2.ensures) i))
     p low (times-In p (claimed f.seat) h)) [
       | inl done ↦ inl done
-      | inr set ↦ inr (inr (omega arith, subst (λ (l : List Bool). IsSet l p) (sym c.as_slice-2.ensures.value) set))
+      | inr set ↦ inr (inr (omega arith, set))
     ]
 
 pub returns : goal.returns
@@ -108,7 +112,7 @@ returns c =
     let s = c.settle.new.scanner in
     let seats = c.into_list-2.result in
     let one : seats ≡ s.seat ∷ [] = c.into_list-2.ensures ∙ c.push_ready-2.ensures.items ∙ ap (λ (l : List MarkSeat). l ++ s.seat ∷ []) c.requires.seats.0 in
-    let same = claimed_least marks c.as_slice-2.result.now s seats (subst IsInRange (sym c.requires.graph) c.requires.in_range) one c.close.ensures.sound c.close.ensures.known c.settle.ensures.covered c.settle.ensures.idle.none
+    let same = claimed_least marks c.add_all-2.new.self s seats (subst IsInRange (sym c.requires.graph) c.requires.in_range) one c.close.ensures.sound c.close.ensures.known c.settle.ensures.covered c.settle.ensures.idle.none
     (λ p r. let t = c.requires.rooted p (subst (λ (d : GraphParts). In p d.roots) c.requires.graph r) in
     c.settle.ensures.keeps.known p (c.loop-marker.invariant.gathered.told t.0 t.1 t.2 (omega (arith, none)) p t.3)) in
     subst (λ (d : GraphParts). MarksLeast d c.close.result) c.requires.graph

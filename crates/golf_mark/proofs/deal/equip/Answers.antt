@@ -1,4 +1,4 @@
-use Rattle.std.proofs.Common.{◌≡◌, [], ◌∙◌, List, length, sym, subst, ap, arith}
+use Rattle.std.proofs.Common.{◌≡◌, [], List, length, sym, subst, ap, arith}
 use mathlib.Core.Option.{some-ne-none}
 use Rattle.golf_mark.specs.declared.marker.Marker.{Marker}
 use Rattle.golf_mark.specs.Gathering.{marker_parts}
@@ -24,8 +24,8 @@ loop-hand-preserved c =
     rw c.in_ok-push.ensures.items
     (equipped c.args.marks.now c.args.pool.now (length c.args.seats) c.loop-hand.seats c.pop-in-Some.new.self c.loop-hand.hands c.pop.new.self c.loop-hand.markers.items _
     c.loop-hand.invariant c.in-Some-pop.ensures c.in-Some.ensures
-    (omega (arith, c.in_ok-deferred.ensures.len, c.in_ok-deferred.deferred.ok.0, c.requires.places)) (c.in_ok-reserve.ensures.items ∙ c.new-won.ensures.items)
-    (omega (arith, c.in_ok-reserve.ensures.ok, c.max.ensures, c.requires.places)) c.requires.capacity)
+    (omega (arith, c.in_ok-deferred.ensures, c.requires.places)) c.in_ok-won.ensures.items
+    (omega (arith, c.in_ok-won.ensures.room, c.max.ensures, c.requires.places)) c.requires.capacity)
 
 pub returns-clause-count : goal.returns-clause-count
 returns-clause-count c = omega (arith, c.loop-hand.invariant.count, ap length c.in_default.ensures.0)

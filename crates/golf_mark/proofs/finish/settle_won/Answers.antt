@@ -1,6 +1,7 @@
-use Rattle.std.proofs.Common.{◌<◌, ◌⊎◌, ◌∙◌, ℕ, List, sym, subst}
+use Rattle.std.proofs.Common.{◌<◌, ◌⊎◌, ℕ, List, sym, subst}
 use Rattle.golf_theory.specs.Membership.{In}
 use Rattle.golf_theory.proofs.Lists.{In-push}
+use Rattle.golf_base.specs.Roomy.{Roomy}
 use Rattle.golf_model.specs.declared.graph.GraphParts.{GraphParts}
 use Rattle.golf_marks.specs.Places.{place_count}
 use Rattle.golf_marks.specs.Seats.{graph_in, known}
@@ -29,6 +30,6 @@ loop-place-preserved c =
 
 pub returns-clause-covered : goal.returns-clause-covered
 returns-clause-covered c = λ todo from before p low h.
-    subst (λ (xs : List ℕ). IsScanned (graph_in c.args.marks.now) (known c.loop-place.scanner.seat) p ⊎ (In p xs ⊎ IsPending todo from p))
-    (c.in_default.ensures.items.0 ∙ sym c.in_default.ensures.items.1)
+    subst (λ (r : Roomy ℕ). IsScanned (graph_in c.args.marks.now) (known c.loop-place.scanner.seat) p ⊎ (In p r.items ⊎ IsPending todo from p))
+    (sym c.in_default.ensures.items.1)
     (c.loop-place.invariant.covered todo from before p low h)

@@ -1,5 +1,5 @@
-use Rattle.std.proofs.Common.{◌≡◌, ◌≢◌, ℕ, ◌+◌, ◌<◌, ◌≤◌, eqb, set, sym, ap, ◌∙◌, arith, subst, List, Bool, length, false, rules, below_more}
-use Rattle.std.specs.Prelude.{slice_index_or, slice_index, ◌==◌}
+use Rattle.std.proofs.Common.{◌≢◌, ℕ, ◌+◌, ◌<◌, set, sym, ap, ◌∙◌, arith, List, Bool, length, false, below_more}
+use Rattle.std.specs.Prelude.{slice_index_or, ◌==◌}
 use Rattle.std.proofs.lemmas.List.{get_or-set_same, get_or-set_other, length-set}
 use Rattle.std.specs.Mem.Slots.{slots_items}
 use Rattle.golf_theory.proofs.Sums.{get_or_of}

@@ -1,4 +1,4 @@
-use Rattle.std.proofs.Common.{◌≡◌, ℕ, ◌+◌, ◌≤◌, List, length, subst, sym, ap, ◌∙◌, arith, rules}
+use Rattle.std.proofs.Common.{ℕ, ◌+◌, List, subst, sym, ap, ◌∙◌, arith, rules}
 use Rattle.golf_base.specs.Roomy.{Roomy}
 use Rattle.golf_marks.proofs.Flags.{AreNumbers, AreNumbers-yes, AreNumbers-no}
 use Rattle.golf_marks.proofs.close.numbers_of.Goals as goal

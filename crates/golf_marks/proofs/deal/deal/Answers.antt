@@ -1,12 +1,6 @@
-use Rattle.std.proofs.Common.{◌≡◌, ◌<◌, ℕ, ◌+◌, ◌-◌, List, [], ◌∷◌, ◌++◌, sym, ap, ◌∙◌, subst, arith, rules}
+use Rattle.std.proofs.Common.{◌-◌, ap, arith}
 use Rattle.atomic_table.specs.Table.{Me}
 use Rattle.golf_marks.specs.declared.rule.View.{View}
-use Rattle.golf_marks.specs.Seats.{IsNewSeatOf}
-use Rattle.atomic_table.specs.declared.shared.Seat.{Seat}
-use Rattle.golf_marks.specs.declared.marks.MarkSeat.{MarkSeat}
-use Rattle.golf_theory.specs.Membership.{Every}
-use Rattle.golf_theory.proofs.Lists.{Every-push}
-use Rattle.golf_marks.proofs.NewSeats.{new_seat_fits}
 use Rattle.golf_marks.proofs.Steps.{forks}
 use Rattle.golf_marks.proofs.deal.deal.Goals as goal
 

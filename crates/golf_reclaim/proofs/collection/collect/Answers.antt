@@ -1,7 +1,6 @@
-use Rattle.std.proofs.Common.{◌≡◌, ℕ, ◌+◌, ◌-◌, ◌≤◌, Bool, not, List, ◌++◌, filter, length, map, refl, sym, ap, subst, ◌∙◌, arith}
+use Rattle.std.proofs.Common.{◌≡◌, ℕ, ◌-◌, Bool, not, List, filter, length, map, refl, sym, ap, ◌∙◌, arith}
 use Rattle.std.proofs.lemmas.List.{length-map}
-use Rattle.golf_theory.specs.Maps.{keys}
-use Rattle.golf_theory.specs.Membership.{In, is_in}
+use Rattle.golf_theory.specs.Membership.{is_in}
 use Rattle.golf_base.specs.declared.ids.GoroutineId.{GoroutineId}
 use Rattle.golf_data.specs.declared.report.Book.{Book}
 use Rattle.golf_data.specs.declared.value.Object.{Object}
@@ -12,7 +11,6 @@ use Rattle.golf_model.specs.Reaching.{reach, sources}
 use Rattle.golf_model.specs.Collecting.{plain_collect, removed, retained}
 use Rattle.golf_model.specs.Reporting.{numbers, entries, retained_objects}
 use Rattle.golf_heap.specs.Objects.{kept}
-use Rattle.golf_reclaim.specs.Noting.{noted, AreApart}
 use Rattle.golf_reclaim.proofs.Reports.{report-is, book-is, dead-apart, new-apart, fewer-gone}
 use Rattle.golf_reclaim.proofs.States.{queued-alike, collected, stays-are}
 use Rattle.golf_reclaim.proofs.Meaning.{retained-flags}

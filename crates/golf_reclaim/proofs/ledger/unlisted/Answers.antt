@@ -1,4 +1,4 @@
-use Rattle.std.proofs.Common.{◌≡◌, Bool, true, false, not, get_or, sym, ap, ◌∙◌, append-nil}
+use Rattle.std.proofs.Common.{Bool, true, false, not, sym, ap, ◌∙◌, append-nil}
 use Rattle.std.proofs.lemmas.List.{take_more}
 use Rattle.std.proofs.lemmas.List.Elements.{filter-append}
 use Rattle.golf_theory.specs.Membership.{is_in}

@@ -1,4 +1,4 @@
-use Rattle.std.proofs.Common.{◌≡◌, ◌<◌, length, arith}
+use Rattle.std.proofs.Common.{◌<◌, length, arith}
 use Rattle.std.proofs.lemmas.List.Sums.{count_by_more_yes, count_by_more_no}
 use Rattle.golf_reclaim.proofs.marking.count_set.Goals as goal
 use Rattle.golf_reclaim.proofs.marking.count_set.Goals.{then-flags-node, else-flags-node}

@@ -1,4 +1,4 @@
-use Rattle.std.proofs.Common.{◌≡◌, Bool, List, map, subst, ap, ◌∙◌}
+use Rattle.std.proofs.Common.{Bool, List, map, subst, ap, ◌∙◌}
 use Rattle.golf_model.specs.declared.graph.GraphParts.{GraphParts}
 use Rattle.golf_model.specs.declared.graph.Sleeper.{Sleeper}
 use Rattle.golf_model.specs.Reporting.{numbers}

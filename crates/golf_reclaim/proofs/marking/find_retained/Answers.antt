@@ -1,9 +1,7 @@
-use Rattle.std.proofs.Common.{◌≡◌, Bool, List, map, subst, ap, sym, ◌∙◌}
+use Rattle.std.proofs.Common.{Bool, List, subst, ap, ◌∙◌}
 use Rattle.golf_model.specs.declared.graph.GraphParts.{GraphParts}
-use Rattle.golf_model.specs.declared.graph.Marked.{Marked}
 use Rattle.golf_mark.specs.Marking.{MarksLeast}
 use Rattle.golf_model.specs.Reporting.{numbers}
-use Rattle.golf_snapshot.specs.Parts.{retained_parts}
 use Rattle.golf_reclaim.specs.Flags.{count_set, either}
 use Rattle.golf_reclaim.proofs.Meaning.{left-flags, left-count}
 use Rattle.golf_reclaim.proofs.marking.find_retained.Goals as goal

@@ -1,4 +1,4 @@
-use Rattle.std.proofs.Common.{◌≡◌, ◌<◌, ◌≤◌, length, map, List, [], get_or, sym, ◌∙◌, ap, append-nil, arith, true, false}
+use Rattle.std.proofs.Common.{◌<◌, length, map, List, get_or, sym, ◌∙◌, ap, append-nil, arith, true, false}
 use Rattle.std.proofs.lemmas.List.{length-map}
 use Rattle.std.proofs.lemmas.Option.{slice_get-map, slice_get-get_or}
 use Rattle.golf_base.specs.declared.ids.GoroutineId.{GoroutineId}

@@ -1,4 +1,4 @@
-use Rattle.std.proofs.Common.{◌<◌, ℕ, length, sym, subst, arith}
+use Rattle.std.proofs.Common.{◌<◌, ℕ, length, arith}
 use Rattle.golf_state.proofs.Retaining.{queued-next, queued-same}
 use Rattle.golf_state.proofs.collecting.unflagged_finalisers.Goals as goal
 use Rattle.golf_state.proofs.collecting.unflagged_finalisers.Goals.{then-not-stays-at+in_ok-push, else-not-stays-at}

@@ -1,6 +1,6 @@
 use Rattle.golf_targets.proofs.Resolved.{resolves}
 use Rattle.golf_targets.proofs.functions.function.Goals as goal
 
-pub returns-clause-function : goal.returns-clause-function
-returns-clause-function c =
-    resolves c.args.gives.now c.args.params c.args.slots c.args.line c.in_ok-depth.depth c.in_ok-body.body c.args.marks.now c.in_ok-depth.ensures c.in_ok-body.ensures.lines
+pub returns : goal.returns
+returns c =
+    resolves c.args.gives.now c.args.params c.args.slots c.args.line c.in_ok-depth.depth c.in_ok-body.body c.args.marks.now c.in_ok-depth.ensures c.in_ok-body.ensures

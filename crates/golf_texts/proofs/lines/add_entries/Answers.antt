@@ -1,4 +1,4 @@
-use Rattle.std.proofs.Common.{◌∙◌, ap, sym, ◌++◌}
+use Rattle.std.proofs.Common.{◌∙◌}
 use Rattle.golf_texts.proofs.Growing.{one-line}
 use Rattle.golf_texts.proofs.lines.add_entries.Goals as goal
 

@@ -1,7 +1,7 @@
 use Rattle.std.proofs.Common.{◌≡◌, ℕ, ◌+◌, ◌<◌, ◌≤◌, List, Bool, sym, ap, ◌∙◌, subst, arith, length}
 use Rattle.std.specs.Prelude.{slice_index, ◌==◌, ◌↔◌}
 use Rattle.std.specs.Mem.Slots.{slots_items}
-use Rattle.golf_theory.specs.Membership.{In, Every}
+use Rattle.golf_theory.specs.Membership.{In}
 use Rattle.golf_theory.proofs.Lists.{Every-from, Every-at}
 use Rattle.golf_model.specs.Graph.{node_count, sleeper_count}
 use Rattle.golf_marks.specs.Flags.{IsSet}

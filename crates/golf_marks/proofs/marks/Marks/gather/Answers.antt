@@ -1,4 +1,4 @@
-use Rattle.std.proofs.Common.{◌≡◌, ◌∷◌, [], ◌++◌, List, inl, inr, subst}
+use Rattle.std.proofs.Common.{◌∷◌, [], List, inl, inr, subst}
 use Rattle.golf_theory.specs.Membership.{In, Every}
 use Rattle.golf_theory.proofs.Lists.{Every-from, Every-right}
 use Rattle.golf_marks.specs.declared.marks.MarkSeat.{MarkSeat}

@@ -1,8 +1,4 @@
-use Rattle.std.proofs.Common.{◌≡◌, ℕ, ◌+◌, length}
-use Rattle.golf_theory.specs.Membership.{In, Every}
-use Rattle.golf_theory.specs.Counting.{times}
-use Rattle.golf_marks.specs.declared.marks.MarkSeat.{MarkSeat}
-use Rattle.golf_marks.specs.Seats.{claimed, known, parts, claim_count, part_count, IsSeatOf}
+use Rattle.std.proofs.Common.{length}
 use Rattle.golf_marks.proofs.Closing.{IsGathered}
 use Rattle.golf_marks.proofs.marks.Marks.gather.Given as goal
 

@@ -1,4 +1,4 @@
-use Rattle.std.proofs.Common.{◌<◌, ℕ, arith}
+use Rattle.std.proofs.Common.{◌<◌, arith}
 use Rattle.golf_marks.proofs.Steps.{merges}
 use Rattle.golf_marks.proofs.marks.Marks.join.Goals as goal
 

@@ -1,6 +1,6 @@
-use Rattle.std.proofs.Common.{◌≡◌, ℕ, List, filter, rules, sym, ap, subst, ◌∙◌}
+use Rattle.std.proofs.Common.{◌≡◌, ℕ, filter, rules, sym, ap, subst, ◌∙◌}
 use Rattle.std.proofs.lemmas.Fn.{filter_same}
-use Rattle.golf_queues.specs.Lines.{Lines, IsInOrder, held, lines_of, has_anyone, standing, AreBelow, Keeps}
+use Rattle.golf_queues.specs.Lines.{Lines, IsInOrder, held, lines_of, has_anyone, AreBelow, Keeps}
 use Rattle.golf_queues.specs.declared.queues.Queue.{Queue}
 use Rattle.golf_queues.proofs.Standing.{keeps-standing, order-standing, below-standing, lines-standing}
 use Rattle.golf_queues.proofs.queues.Queues.drop_empty.Goals as goal

@@ -11,7 +11,7 @@ loop-wait-preserved c =
     let g = c.args.goroutine.0 in
     let next : suc i ≡ i + 1 = omega arith in
     record {
-      joins = subst (λ (n : ℕ). StandsInAll t g (take n ws) c.enter_by.new.self) next (all-more t g i ws _ c.enter_by.new.self c.loop-wait-test.true (all-kept t g (take i ws) c.loop-wait.self c.enter_by.new.self c.in_ok-enter_by.ensures.again c.loop-wait.invariant.joins) c.in_ok-enter_by.ensures.joins);
-      kept = λ k u h p e. c.enter_by.ensures.kept k u h p (c.loop-wait.invariant.kept k u h p e);
-      below = c.enter_by.ensures.below;
+      joins = subst (λ (n : ℕ). StandsInAll t g (take n ws) c.enter.new.self) next (all-more t g i ws _ c.enter.new.self c.loop-wait-test.true (all-kept t g (take i ws) c.loop-wait.self c.enter.new.self c.in_ok-enter.ensures.again c.loop-wait.invariant.joins) c.in_ok-enter.ensures.joins);
+      kept = λ k u h p e. c.enter.ensures.kept k u h p (c.loop-wait.invariant.kept k u h p e);
+      below = c.enter.ensures.below;
     }

@@ -1,5 +1,4 @@
-use Rattle.std.proofs.Common.{◌≡◌, ℕ, ◌++◌, ◌≤◌, List, filter, not, length, sym, ap, subst, ◌∙◌, arith}
-use Rattle.std.specs.Prelude.{vec_len, vec_capacity}
+use Rattle.std.proofs.Common.{◌≡◌, ℕ, ◌++◌, List, filter, not, sym, ap, subst, ◌∙◌, arith}
 use Rattle.golf_theory.specs.Membership.{is_in}
 use Rattle.golf_base.specs.declared.ids.GoroutineId.{GoroutineId}
 use Rattle.golf_data.specs.declared.report.Book.{Book}

@@ -7,17 +7,17 @@ use Rattle.golf_state.specs.declared.places.Place.{Place}
 use Rattle.golf_state.proofs.WaiterLaws.{first-blocked}
 use Rattle.golf_state.proofs.state.State.first_waiter.Goals as goal
 
-pub returns-then-is_queued-clause-blocked : goal.returns-then-is_queued-clause-blocked
-returns-then-is_queued-clause-blocked c = rw (← c.self.view_is) (first-blocked c.args.object.0 c.args.side (plain_entries c.self.inside.goroutines.items) _ c.self.invariant.kept.rises refl)
+pub returns-then-has_line-clause-blocked : goal.returns-then-has_line-clause-blocked
+returns-then-has_line-clause-blocked c = rw (← c.self.view_is) (first-blocked c.args.object.0 c.args.side (plain_entries c.self.inside.goroutines.items) _ c.self.invariant.kept.rises refl)
 
-pub returns-then-is_queued-clause-rises : goal.returns-then-is_queued-clause-rises
-returns-then-is_queued-clause-rises c = rw (← c.self.view_is) c.self.invariant.kept.rises
+pub returns-then-has_line-clause-rises : goal.returns-then-has_line-clause-rises
+returns-then-has_line-clause-rises c = rw (← c.self.view_is) c.self.invariant.kept.rises
 
-pub returns-else-is_queued-clause-blocked : goal.returns-else-is_queued-clause-blocked
-returns-else-is_queued-clause-blocked c = rw (← c.self.view_is) (first-blocked c.args.object.0 c.args.side (plain_entries c.self.inside.goroutines.items) _ c.self.invariant.kept.rises refl)
+pub returns-else-has_line-clause-blocked : goal.returns-else-has_line-clause-blocked
+returns-else-has_line-clause-blocked c = rw (← c.self.view_is) (first-blocked c.args.object.0 c.args.side (plain_entries c.self.inside.goroutines.items) _ c.self.invariant.kept.rises refl)
 
-pub returns-else-is_queued-clause-rises : goal.returns-else-is_queued-clause-rises
-returns-else-is_queued-clause-rises c = rw (← c.self.view_is) c.self.invariant.kept.rises
+pub returns-else-has_line-clause-rises : goal.returns-else-has_line-clause-rises
+returns-else-has_line-clause-rises c = rw (← c.self.view_is) c.self.invariant.kept.rises
 
 pub first_in_line-requires-clause-rises : goal.first_in_line-requires-clause-rises
 first_in_line-requires-clause-rises c = subst (λ (ps : List Place). Rises 0 (plain_entries ps)) (sym c.as_slice-places.ensures.value) c.self.invariant.kept.rises
@@ -31,4 +31,4 @@ first_in_line-requires-clause-all c =
     let o = c.args.object.0 in
     let side = c.args.side in
     subst (λ (ps : List Place). HasWaiters o side (plain_entries ps) (held c.line.result.now)) (sym c.as_slice-places.ensures.value)
-    (subst (HasWaiters o side (plain_entries s.goroutines.items)) (sym c.line.ensures.line) (c.self.invariant.lined.all o side (sym c.is_queued.ensures ∙ c.if-is_queued.true)))
+    (subst (HasWaiters o side (plain_entries s.goroutines.items)) (sym c.line.ensures.line) (c.self.invariant.lined.all o side (sym c.has_line.ensures ∙ c.if-has_line.true)))

@@ -37,7 +37,7 @@ invariant_of-self-lent c = λ w.
     let v : GoroutineView = record { frames = frame_views w; mode = p.goroutine.mode; started = p.goroutine.started } in
     record {
       kept = kept-set gs _ _ _ _ _ s.next_goroutine g c.rank_of-at.result p q f.0 k stands refl (running-ready p.goroutine.mode w (runs ∙ f.2)) (k.running ∙ runs-same (plain_entries gs) g f.0 v k.rises f.1 (sym runs)) (omega arith);
-      lined = subst (λ (es : List (ℕ × GoroutineView)). AreLined es s.waiting s.next_ticket) (sym (set-at gs g c.rank_of-at.result p q f.0 k.rises stands refl)) (lined-same (plain_entries gs) s.waiting s.next_ticket g f.0 v c.self.invariant.lined k.rises f.1 (sym (ap (λ (r : GoroutineView). r.mode) stands.seen)));
+      lined = subst (λ (es : List (ℕ × GoroutineView)). AreLined s.are_mutexes_lined es s.waiting s.next_ticket) (sym (set-at gs g c.rank_of-at.result p q f.0 k.rises stands refl)) (lined-same s.are_mutexes_lined (plain_entries gs) s.waiting s.next_ticket g f.0 v c.self.invariant.lined k.rises f.1 (sym (ap (λ (r : GoroutineView). r.mode) stands.seen)));
       finalisers = c.self.invariant.finalisers;
     }
 

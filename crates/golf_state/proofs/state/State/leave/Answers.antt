@@ -31,7 +31,7 @@ invariant_of-self c =
         room = omega (arith, c.take_place.ensures.fewer, c.leave_out-2.ensures.room, k.room);
         ready = c.take_place.ensures.ready;
       };
-      lined = subst (λ (fs : List (ℕ × GoroutineView)). AreLined fs c.forget.new.queues s.next_ticket) (sym e) (lined-left es s.waiting c.forget.new.queues s.next_ticket c.self.invariant.lined k.rises g c.forget.ensures.below c.forget.ensures.kept);
+      lined = subst (λ (fs : List (ℕ × GoroutineView)). AreLined s.are_mutexes_lined fs c.forget.new.queues s.next_ticket) (sym e) (lined-left s.are_mutexes_lined es s.waiting c.forget.new.queues s.next_ticket c.self.invariant.lined k.rises g c.forget.ensures.below c.forget.ensures.kept);
       finalisers = c.self.invariant.finalisers;
     }
 

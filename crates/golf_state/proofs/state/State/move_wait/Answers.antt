@@ -34,6 +34,9 @@ index_mut-place-requires c =
     let f = blocked-found gs g (ap (is_blocked g) c.self.view_is ∙ c.requires.blocked) in
     omega (arith, within gs g c.rank_of-at.result c.self.invariant.kept.rises at f.0 f.1, s.goroutines.ok.0)
 
+pub enter_for_mutex-self-inside-requires : goal.enter_for_mutex-self-inside-requires
+enter_for_mutex-self-inside-requires c = c.leave_lines.ensures.below (c.self.inside.next_ticket + 1) c.self.invariant.lined.below
+
 pub invariant_of-self : goal.invariant_of-self
 invariant_of-self c =
     let s = c.self.inside in
@@ -51,7 +54,9 @@ invariant_of-self c =
     let ready : IsReadyIn c.move_mode.new.mode p.goroutine.frames = subst (λ (k : Mode). IsReadyIn k p.goroutine.frames) (sym c.move_mode.ensures) (moved-ready m s.next_ticket p.goroutine.mode p.goroutine.frames (ready-at gs c.rank_of-at.result p k.ready stands.here)) in
     record {
       kept = kept-set gs _ _ _ _ _ s.next_goroutine g c.rank_of-at.result p q f.0 k stands refl ready (k.running ∙ runs-same (plain_entries gs) g f.0 w k.rises f.1 same) (omega arith);
-      lined = subst (λ (es : List (ℕ × GoroutineView)). AreLined es c.leave_lines.new.queues (s.next_ticket + 1)) (sym (set-at gs g c.rank_of-at.result p q f.0 k.rises stands refl)) (lined-moved (plain_entries gs) s.waiting c.leave_lines.new.queues s.next_ticket c.self.invariant.lined k.rises g m f.0 w p.goroutine.mode f.1 c.move_mode.ensures c.leave_lines.ensures.below c.leave_lines.ensures.kept);
+      lined = subst (λ (es : List (ℕ × GoroutineView)). AreLined c.enter_for_mutex-self-inside.result es c.enter_for_mutex-self-inside.new.queues (s.next_ticket + 1)) (sym (set-at gs g c.rank_of-at.result p q f.0 k.rises stands refl))
+          (lined-moved s.are_mutexes_lined (plain_entries gs) s.waiting c.enter_for_mutex-self-inside.new.queues s.next_ticket c.self.invariant.lined k.rises c.enter_for_mutex-self-inside.result g m f.0 w p.goroutine.mode c.enter_for_mutex-self-inside.ensures.still f.1 c.move_mode.ensures c.enter_for_mutex-self-inside.ensures.below
+          (λ j t h d l i. c.enter_for_mutex-self-inside.ensures.kept j t h l (c.leave_lines.ensures.kept j t h d i)) c.enter_for_mutex-self-inside.ensures.joins);
       finalisers = c.self.invariant.finalisers;
     }
 

@@ -1,9 +1,7 @@
-use Rattle.std.proofs.Common.{◌≡◌, ◌≤◌, ℕ, List, length, map, sym, ap, ◌∙◌, subst, arith}
-use Rattle.std.proofs.lemmas.List.{length-map}
+use Rattle.std.proofs.Common.{◌≡◌, ◌≤◌, ℕ, List, length, sym, ap, ◌∙◌, subst, arith}
 use Rattle.golf_theory.specs.Maps.{keys, Rises, AllBelow}
 use Rattle.golf_heap.specs.Objects.{kept}
 use Rattle.golf_model.specs.Views.{GoroutineView}
-use Rattle.golf_model.specs.State.{State}
 use Rattle.golf_state.specs.Inside.{numbers, plain_state}
 use Rattle.golf_state.specs.Places.{plain_entry, plain_entries, running_of}
 use Rattle.golf_state.specs.Ready.{AllReady}
@@ -13,7 +11,7 @@ use Rattle.golf_state.proofs.Retaining.{map-kept, kept-short, Rises-kept, AllBel
 use Rattle.golf_state.proofs.Leaving.{lined-kept}
 use Rattle.golf_theory.specs.Membership.{In}
 use Rattle.golf_heap.specs.Objects.{left_out}
-use Rattle.golf_queues.specs.Lines.{Lines, Keeps}
+use Rattle.golf_queues.specs.Lines.{Keeps}
 use Rattle.golf_state.proofs.state.State.retain_goroutines.Goals as goal
 
 pub invariant_of-self : goal.invariant_of-self
@@ -36,8 +34,8 @@ invariant_of-self c =
         room = omega (arith, fewer, c.list_running.ensures.room, k.room);
         ready = subst AllReady (sym c.close_up.ensures) (ready-kept stays ps k.ready);
       };
-      lined = subst (λ (xs : List (ℕ × GoroutineView)). AreLined xs c.drop_empty.new.self s.next_ticket) (sym e)
-          (lined-kept stays es s.waiting c.leave_unflagged.new.queues c.drop_empty.new.self s.next_ticket k.rises c.self.invariant.lined
+      lined = subst (λ (xs : List (ℕ × GoroutineView)). AreLined s.are_mutexes_lined xs c.drop_empty.new.self s.next_ticket) (sym e)
+          (lined-kept s.are_mutexes_lined stays es s.waiting c.leave_unflagged.new.queues c.drop_empty.new.self s.next_ticket k.rises c.self.invariant.lined
           (subst (λ (qs : List Place). Keeps (λ t h. In h (keys (left_out stays (plain_entries qs))) → ⊥) s.waiting c.leave_unflagged.new.queues) c.as_slice.ensures.value c.leave_unflagged.ensures.kept)
           c.drop_empty.ensures.kept (λ n b. c.drop_empty.ensures.below n (c.leave_unflagged.ensures.below n b)));
       finalisers = c.self.invariant.finalisers;

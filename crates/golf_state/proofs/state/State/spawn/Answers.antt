@@ -48,7 +48,7 @@ invariant_of-self-2 c =
         room = omega (arith, ap length c.in_ok-push.ensures.items, length-append gs (q ∷ []), c.add_last-2.ensures.room, c.in_ok-reserve-2.ensures.ok, c.saturating_sub-more.ensures, s.goroutines.ok.0);
         ready = subst AllReady (sym c.in_ok-push.ensures.items) (ready-push gs q k.ready (running-ready q.goroutine.mode q.goroutine.frames (ap (λ (d : ℕ × GoroutineView). is_running d.1.mode) c.place_of.ensures)));
       };
-      lined = subst (λ (fs : List (ℕ × GoroutineView)). AreLined fs s.waiting s.next_ticket) (sym e) (lined-spawned es s.waiting s.next_ticket n v c.self.invariant.lined refl);
+      lined = subst (λ (fs : List (ℕ × GoroutineView)). AreLined s.are_mutexes_lined fs s.waiting s.next_ticket) (sym e) (lined-spawned s.are_mutexes_lined es s.waiting s.next_ticket n v c.self.invariant.lined refl);
       finalisers = c.self.invariant.finalisers;
     }
 

@@ -65,7 +65,7 @@ invariant_of-self c =
     record {
       kept = kept-set gs _ _ _ _ _ s.next_goroutine g c.rank_of-at.result p q f.0 k stands refl (running-ready c.waken.new.goroutine.mode c.waken.new.goroutine.frames runs)
           (c.put_in.ensures.all ∙ ap (placed g) k.running ∙ runs-woken (plain_entries gs) g f.0 w k.rises f.1 f.2 runs) c.put_in.ensures.room;
-      lined = subst (λ (es : List (ℕ × GoroutineView)). AreLined es c.leave_lines.new.queues s.next_ticket) (sym (set-at gs g c.rank_of-at.result p q f.0 k.rises stands refl)) (lined-woken (plain_entries gs) s.waiting c.leave_lines.new.queues s.next_ticket c.self.invariant.lined k.rises g f.0 w f.1 c.leave_lines.ensures.below c.leave_lines.ensures.kept runs);
+      lined = subst (λ (es : List (ℕ × GoroutineView)). AreLined s.are_mutexes_lined es c.leave_lines.new.queues s.next_ticket) (sym (set-at gs g c.rank_of-at.result p q f.0 k.rises stands refl)) (lined-woken s.are_mutexes_lined (plain_entries gs) s.waiting c.leave_lines.new.queues s.next_ticket c.self.invariant.lined k.rises g f.0 w f.1 c.leave_lines.ensures.below c.leave_lines.ensures.kept runs);
       finalisers = c.self.invariant.finalisers;
     }
 

@@ -1,0 +1,133 @@
+-- The code of every expression is small beside its words: one step for each kind of expression, and an induction.
+use Rattle.std.proofs.Common.{◌≡◌, ℕ, ◌+◌, ◌*◌, ◌≤◌, List, [], ◌∷◌, ◌++◌, length, map, refl, sym, ap, subst, arith, length-append}
+use Rattle.golf_tokens.specs.declared.token.Mark.TheVariants as marks
+use Rattle.golf_grammar.specs.declared.expressions.Expr.{Expr, roll-Expr}
+use Rattle.golf_grammar.specs.declared.expressions.Element.{Element, roll-Element}
+use Rattle.golf_grammar.specs.declared.expressions.Expr.TheOpen.{Expr-F, Element-F}
+use Rattle.golf_grammar.specs.declared.expressions.Expr.TheOpen as F
+use Rattle.golf_grammar.specs.declared.expressions.Expr.TheFolds.{fold-Element, fold-roll-Expr, fold-roll-Element, ind-Expr, map-Expr, map-Element}
+use Rattle.golf_grammar.specs.Words.{Word, mark, separated, name as word_name}
+use Rattle.golf_grammar.specs.Types.{print_type}
+use Rattle.golf_grammar.specs.Expressions.{binary_mark, print_step, print_element_step, print_expr, print_element}
+use Rattle.golf_types.specs.declared.types.Layer.TheVariants as layer
+use Rattle.golf_types.specs.declared.scopes.Scope.{Scope}
+use Rattle.golf_types.specs.Types.{with_layer}
+use Rattle.golf_types.specs.Scopes.{meaning}
+use Rattle.golf_types.specs.Written.{write_at, pointer_to, made_base}
+use Rattle.golf_types.specs.Expressions.{named, selected_from}
+use Rattle.golf_layout.specs.Piece.{Piece, size, all}
+use Rattle.golf_code_of.specs.declared.tables.Tables.{Tables}
+use Rattle.golf_code_of.specs.Calls.{Argument}
+use Rattle.golf_code_of.specs.Coding.{Coded, CodedPut, coded, coded_step, element_coded_step, code_step, argument}
+use Rattle.golf_code_places.proofs.Words.{total, separated-length}
+use Rattle.golf_code_places.proofs.Small.{Small, alone, on-name, Beside, all-small, on-struct-literal, on-slice-literal, on-new-sync, on-selector, on-index, on-unary, on-binary, on-call}
+
+module _ (t : Tables) where
+  abbrev P : Expr → Type 0
+  P e = (l : ℕ) (s : Scope) → Small (length (print_expr e)) ((coded t e).code l s)
+
+  abbrev Q : Element → Type 0
+  Q x = P x.value
+
+  abbrev E : Type 0
+  E = (e : Expr) × P e
+
+  abbrev D : Type 0
+  D = (x : Element) × Q x
+
+  abbrev element_coded : Element → CodedPut
+  element_coded = fold-Element Coded CodedPut (coded_step t) element_coded_step
+
+  abbrev bare : Expr-F E D → Expr-F Expr Element
+  bare y = map-Expr E D Expr Element (λ p. p.0) (λ p. p.0) y
+
+  element-coded-is : (x : Element) → element_coded x ≡ record { name = x.field; value = coded t x.value }
+  unfolding coded
+  element-coded-is x = fold-roll-Element Coded CodedPut (coded_step t) element_coded_step (record { field = x.field; value = x.value })
+
+  element-print-is : (x : Element) → print_element x ≡ print_element_step (record { field = x.field; value = print_expr x.value })
+  element-print-is x = fold-roll-Element (List Word) (List Word) print_step print_element_step (record { field = x.field; value = x.value })
+
+  module _ (l : ℕ) (s : Scope) where
+    abbrev words : List E → List (List Word)
+    words xs = map print_expr (map (λ (p : E). p.0) xs)
+
+    abbrev pieces : List E → List Piece
+    pieces xs = map (λ (c : Coded). (c.code l s).piece) (map (coded t) (map (λ (p : E). p.0) xs))
+
+    beside : (xs : List E) → Beside (pieces xs) (words xs)
+    beside [] = tt
+    beside (x ∷ xs) = ((x.1 l s).piece, beside xs)
+
+    pushed-are : (xs : List E) → map (λ (a : Argument). a.piece) (map (argument l s) (map (coded t) (map (λ (p : E). p.0) xs))) ≡ pieces xs
+    pushed-are [] = refl
+    pushed-are (x ∷ xs) = ap (λ ps. ((coded t x.0).code l s).piece ∷ ps) (pushed-are xs)
+
+    abbrev element-words : List D → List (List Word)
+    element-words xs = map print_element (map (λ (p : D). p.0) xs)
+
+    abbrev element-pieces : List D → List Piece
+    element-pieces xs = map (λ (c : CodedPut). (c.value.code l s).piece) (map element_coded (map (λ (p : D). p.0) xs))
+
+    element-beside : (xs : List D) → Beside (element-pieces xs) (element-words xs)
+    element-beside [] = tt
+    element-beside (x ∷ xs) =
+        let one = (x.1 l s).piece in
+        let print = ap length (element-print-is x.0) in
+        let code = ap (λ (c : CodedPut). size (c.value.code l s).piece) (element-coded-is x.0) in
+        (omega (arith, one, print, code), element-beside xs)
+
+    at : (y : Expr-F E D) → Small (length (print_step (map-Expr Expr Element (List Word) (List Word) print_expr print_element (bare y)))) (code_step t (map-Expr Expr Element Coded CodedPut (coded t) element_coded (bare y)) l s)
+    at (F.Integer digits) = alone _ _ (omega arith)
+    at (F.Text bytes) = alone _ _ (omega arith)
+    at (F.Name n) = on-name l t (named l s n).meaning
+    at (F.Parens e) =
+        let h = e.1 l s in
+        let w = length-append (print_expr e.0) (mark marks.CloseParen ∷ []) in
+        record { piece = omega (arith, h.piece, w); place = omega (arith, h.place, w) }
+    at (F.StructLiteral n xs) =
+        let few = separated-length marks.Comma (element-words xs) in
+        let w = length-append (separated marks.Comma (element-words xs)) (mark marks.CloseBrace ∷ []) in
+        on-struct-literal l s.file (pointer_to (meaning s n)) _ (element-pieces xs) (element-words xs) _ (element-beside xs) (omega (arith, few, w))
+    at (F.SyncLiteral n) = on-new-sync l (made_base n) _ (omega arith)
+    at (F.SliceLiteral w xs) =
+        let few = separated-length marks.Comma (words xs) in
+        let behind = length-append (separated marks.Comma (words xs)) (mark marks.CloseBrace ∷ []) in
+        let type = length-append (print_type w) (mark marks.OpenBrace ∷ (separated marks.Comma (words xs) ++ mark marks.CloseBrace ∷ [])) in
+        on-slice-literal l (with_layer layer.Slice (write_at l s w).type) (pieces xs) (words xs) _ (beside xs) (omega (arith, few, behind, type))
+    at F.EmptyLiteral = alone _ _ (omega arith)
+    at (F.Make w) = alone _ _ (omega arith)
+    at (F.MakeSized w e) =
+        let h = (e.1 l s).piece in
+        let inner = length-append (print_type w) (mark marks.Comma ∷ print_expr e.0) in
+        let whole = length-append (print_type w ++ mark marks.Comma ∷ print_expr e.0) (mark marks.CloseParen ∷ []) in
+        alone _ _ (omega (arith, h, inner, whole))
+    at (F.New n) = alone _ _ (omega arith)
+    at (F.NewSync n) = on-new-sync l (made_base n) _ (omega arith)
+    at (F.Selector e n) = on-selector l (selected_from l s.file n ((coded t e.0).judge l s).meaning).meaning ((coded t e.0).code l s) _ _ (e.1 l s) (let w = length-append (print_expr e.0) (mark marks.Dot ∷ word_name n ∷ []) in omega (arith, w))
+    at (F.Index a i) =
+        let inner = length-append (print_expr i.0) (mark marks.CloseBracket ∷ []) in
+        let whole = length-append (print_expr a.0) (mark marks.OpenBracket ∷ (print_expr i.0 ++ mark marks.CloseBracket ∷ [])) in
+        on-index l ((coded t a.0).code l s) ((coded t i.0).code l s) _ _ _ (a.1 l s) (i.1 l s) (omega (arith, inner, whole))
+    at (F.Call f xs) =
+        let few = separated-length marks.Comma (words xs) in
+        let inner = length-append (separated marks.Comma (words xs)) (mark marks.CloseParen ∷ []) in
+        let whole = length-append (print_expr f.0) (mark marks.OpenParen ∷ (separated marks.Comma (words xs) ++ mark marks.CloseParen ∷ [])) in
+        let args = subst (λ ps. size (all ps) ≤ 8 * total (words xs)) (sym (pushed-are xs)) (all-small (pieces xs) (words xs) (beside xs)) in
+        on-call l ((coded t f.0).judge l s).meaning ((coded t f.0).code l s) _ (words xs) _ _ (f.1 l s) args (omega (arith, few, inner, whole))
+    at (F.Unary o e) = on-unary l o ((coded t e.0).code l s) _ _ (e.1 l s) (omega arith)
+    at (F.Binary o a b) =
+        let whole = length-append (print_expr a.0) (mark (binary_mark o) ∷ print_expr b.0) in
+        on-binary l o ((coded t a.0).code l s) ((coded t b.0).code l s) _ _ _ (a.1 l s) (b.1 l s) (omega (arith, whole))
+
+  rolled : (y : Expr-F E D) → P (roll-Expr (bare y))
+  unfolding coded
+  rolled y l s =
+      subst (λ ws. Small (length ws) ((coded t (roll-Expr (bare y))).code l s)) (sym (fold-roll-Expr (List Word) (List Word) print_step print_element_step (bare y)))
+      (subst (λ (c : Coded). Small (length (print_step (map-Expr Expr Element (List Word) (List Word) print_expr print_element (bare y)))) (c.code l s)) (sym (fold-roll-Expr Coded CodedPut (coded_step t) element_coded_step (bare y))) (at l s y))
+
+  element-rolled : (y : Element-F E D) → Q (roll-Element (map-Element E D Expr Element (λ p. p.0) (λ p. p.0) y))
+  element-rolled y = y.value.1
+
+  pub expr-small : (e : Expr) → P e
+  expr-small = ind-Expr P Q (λ x y is. subst (λ z. P (roll-Expr z)) is (rolled y)) (λ x y is. subst (λ z. Q (roll-Element z)) is (element-rolled y))

@@ -1,0 +1,9 @@
+pub mod Words
+pub mod Small
+pub mod Exprs
+pub mod Light
+pub mod Loops
+pub mod Selects
+pub mod Stmts
+pub mod Bytes
+pub mod Files

@@ -1,0 +1,190 @@
+-- The code of every statement is light: one step for each kind of statement, and an induction.
+use Rattle.std.proofs.Common.{◌≡◌, ℕ, ◌+◌, ◌≤◌, List, [], ◌∷◌, ◌++◌, length, map, Option, Some, None, refl, sym, subst, arith, length-append}
+use Rattle.std.proofs.lemmas.List.{length-map}
+use Rattle.golf_data.specs.declared.code.Instr.{Instr}
+use Rattle.golf_tokens.specs.declared.token.Mark.TheVariants as marks
+use Rattle.golf_tokens.specs.declared.token.Keyword.TheVariants as keywords
+use Rattle.golf_grammar.specs.declared.expressions.Expr.{Expr}
+use Rattle.golf_grammar.specs.declared.statements.Simple.{Simple}
+use Rattle.golf_grammar.specs.declared.statements.Header.{Header}
+use Rattle.golf_grammar.specs.declared.statements.Header.TheVariants as header
+use Rattle.golf_grammar.specs.declared.statements.Stmt.{Stmt, roll-Stmt}
+use Rattle.golf_grammar.specs.declared.statements.Clause.{Clause, roll-Clause}
+use Rattle.golf_grammar.specs.declared.statements.Clause.TheOpen.{Stmt-F, Clause-F}
+use Rattle.golf_grammar.specs.declared.statements.Clause.TheOpen as F
+use Rattle.golf_grammar.specs.declared.statements.Clause.TheFolds.{fold-roll-Stmt, fold-roll-Clause, ind-Stmt, map-Stmt, map-Clause}
+use Rattle.golf_grammar.specs.Words.{Word, mark, keyword, separated}
+use Rattle.golf_grammar.specs.Expressions.{parens, print_expr}
+use Rattle.golf_grammar.specs.Simple.{print_simple, print_range_names, print_header, print_comm}
+use Rattle.golf_grammar.specs.Simple as G
+use Rattle.golf_grammar.specs.Statements as words
+use Rattle.golf_grammar.specs.Statements.{print_call, ClauseWords, print_block, print_stmt_step, print_clause_step, print_stmt, print_clause}
+use Rattle.golf_types.specs.Scopes.{begun}
+use Rattle.golf_code_of.specs.declared.tables.Tables.{Tables}
+use Rattle.golf_code_of.specs.Statements.{Part, block, in_order, in_block, optional, behind_test, then}
+use Rattle.golf_code_of.specs.Loops.{header_part, in_loop, stepping}
+use Rattle.golf_code_of.specs.Selects.{ClausePart}
+use Rattle.golf_code_of.specs.Laying.{stmt_part, clause_part, stmt_part_step, clause_part_step}
+use Rattle.golf_code_places.proofs.Words.{total, line-length, separated-length, separated-total, clause_total, clauses-length}
+use Rattle.golf_code_places.proofs.Light.{Light, EachLight, light-then, light-order, light-block, light-var, light-return, light-returns, light-begin, light-simple, optional_words, light-optional, light-test, light-ends, light-or-else}
+use Rattle.golf_code_places.proofs.Loops.{light-loop, light-forever, light-while, test_words, light-stepping, light-range}
+use Rattle.golf_code_places.proofs.Selects.{ClauseLight, EachClauseLight, light-case, light-default, light-select}
+
+-- How many words the parts of statements have.
+
+call-words : (f : Expr) (xs : List Expr) → length (print_expr f) + (total (map print_expr xs) + length xs) ≤ length (print_call f xs)
+call-words f xs =
+    let few = separated-length marks.Comma (map print_expr xs) in
+    let count = length-map xs print_expr in
+    let inner = length-append (separated marks.Comma (map print_expr xs)) (mark marks.CloseParen ∷ []) in
+    let whole = length-append (print_expr f) (parens (separated marks.Comma (map print_expr xs)) []) in
+    omega (arith, few, count, inner, whole)
+
+pub block-words : (ws : List (List Word)) → total ws + 2 ≤ length (print_block ws)
+block-words ws =
+    let few = separated-total marks.Semicolon ws in
+    let inner = length-append (separated marks.Semicolon ws) (mark marks.CloseBrace ∷ []) in
+    omega (arith, few, inner)
+
+abbrev first_words : Option Simple → List Word
+first_words o = G.optional (λ (x : Simple). print_simple x ++ mark marks.Semicolon ∷ []) o
+
+first-length : (o : Option Simple) → optional_words o ≤ length (first_words o)
+first-length None = omega arith
+first-length (Some x) = let w = length-append (print_simple x) (mark marks.Semicolon ∷ []) in omega (arith, w)
+
+optional-length : (o : Option Simple) → optional_words o ≡ length (G.optional print_simple o)
+optional-length None = refl
+optional-length (Some x) = refl
+
+test-length : (o : Option Expr) → test_words o ≡ length (G.optional print_expr o)
+test-length None = refl
+test-length (Some x) = refl
+
+module _ (t : Tables) where
+  abbrev Q : Clause → Type 0
+  Q c = ClauseLight (clause_total (print_clause c)) (clause_part t c)
+
+  abbrev P : Stmt → Type 0
+  P x = Light (length (print_stmt x)) (stmt_part t x)
+
+  abbrev S : Type 0
+  S = (x : Stmt) × P x
+
+  abbrev K : Type 0
+  K = (c : Clause) × Q c
+
+  abbrev parts : List S → List Part
+  parts xs = map (stmt_part t) (map (λ (p : S). p.0) xs)
+
+  abbrev texts : List S → List (List Word)
+  texts xs = map print_stmt (map (λ (p : S). p.0) xs)
+
+  each : (xs : List S) → EachLight (parts xs) (texts xs)
+  each [] = tt
+  each (x ∷ xs) = (x.1, each xs)
+
+  order : (xs : List S) → Light (total (texts xs)) (in_order (parts xs))
+  order xs = light-order (parts xs) (texts xs) (each xs)
+
+  body : (xs : List S) → Light (total (texts xs)) (block (parts xs))
+  body xs = light-block (parts xs) (texts xs) (each xs)
+
+  abbrev clause-words : List K → List ClauseWords
+  clause-words cs = map print_clause (map (λ (p : K). p.0) cs)
+
+  clauses : (cs : List K) → EachClauseLight (map (clause_part t) (map (λ (p : K). p.0) cs)) (clause-words cs)
+  clauses [] = tt
+  clauses (c ∷ cs) = (c.1, clauses cs)
+
+  -- a loop, whose words are those of the header and of the body, and one more
+  loop : (l : ℕ) (h : Header) (xs : List S) (k : ℕ) → length (print_header h) + total (texts xs) + 3 ≤ k → Light k (in_block (header_part t l h (parts xs)))
+  loop l header.Forever xs k more a s = light-forever l (in_loop 1 0 (block (parts xs))) (total (texts xs)) k (light-loop 1 0 (block (parts xs)) _ (body xs)) (omega (arith, more)) a (begun s)
+  loop l (header.While e) xs k more a s = light-while t l e (in_loop 1 0 (block (parts xs))) (total (texts xs)) k (light-loop 1 0 (block (parts xs)) _ (body xs)) (omega (arith, more)) a (begun s)
+  loop l (header.Steps first test post) xs k more a s =
+      let f = optional-length first in
+      let e = test-length test in
+      let p = optional-length post in
+      let inner = length-append (G.optional print_expr test) (mark marks.Semicolon ∷ G.optional print_simple post) in
+      let whole = length-append (G.optional print_simple first) (mark marks.Semicolon ∷ (G.optional print_expr test ++ mark marks.Semicolon ∷ G.optional print_simple post)) in
+      light-then (optional t first) (stepping t l test (optional t post) (in_loop 2 0 (block (parts xs)))) (optional_words first) (test_words test + optional_words post + total (texts xs) + 1) k
+      (light-optional t first _ (omega arith))
+      (light-stepping t l test (optional t post) (in_loop 2 0 (block (parts xs))) (optional_words post) (total (texts xs)) _ (light-optional t post _ (omega arith)) (light-loop 2 0 (block (parts xs)) _ (body xs)) (omega arith))
+      (omega (arith, f, e, p, inner, whole, more)) a (begun s)
+  loop l (header.Range names e) xs k more a s =
+      let w = length-append (print_range_names names) (keyword keywords.Range ∷ print_expr e) in
+      light-range t l names e (parts xs) (total (texts xs)) k (body xs) (omega (arith, w, more)) a (begun s)
+
+  abbrev bare : Stmt-F K S → Stmt-F Clause Stmt
+  bare y = map-Stmt K S Clause Stmt (λ p. p.0) (λ p. p.0) y
+
+  abbrev bare-clause : Clause-F K S → Clause-F Clause Stmt
+  bare-clause y = map-Clause K S Clause Stmt (λ p. p.0) (λ p. p.0) y
+
+  -- an `if` up to the end of its body
+  abbrev front : ℕ → Option Simple → Expr → List S → Part
+  front l first test xs = then (optional t first) (behind_test t l test (block (parts xs)))
+
+  abbrev front-words : Option Simple → Expr → List S → ℕ
+  front-words first test xs = optional_words first + (length (print_expr test) + total (texts xs))
+
+  head : (l : ℕ) (first : Option Simple) (test : Expr) (xs : List S) → Light (front-words first test xs) (front l first test xs)
+  head l first test xs =
+      light-then (optional t first) (behind_test t l test (block (parts xs))) (optional_words first) (length (print_expr test) + total (texts xs)) _
+      (light-optional t first _ (omega arith)) (light-test t l test (block (parts xs)) (total (texts xs)) _ (body xs) (omega arith)) (omega arith)
+
+  at : (y : Stmt-F K S) → Light (length (print_stmt_step (map-Stmt Clause Stmt ClauseWords (List Word) print_clause print_stmt (bare y)))) (stmt_part_step t (map-Stmt Clause Stmt ClausePart Part (clause_part t) (stmt_part t) (bare y)))
+  at (F.Var v) = light-var t v.line v.name v.content _ (omega arith)
+  at (F.Simple x) = light-simple t x
+  at (F.Go l f xs) = light-begin t l Instr.Go f xs _ (let w = call-words f xs in omega (arith, w))
+  at (F.Defer l f xs) = light-begin t l Instr.Defer f xs _ (let w = call-words f xs in omega (arith, w))
+  at (F.Return l None) = light-return t l 1 (omega arith)
+  at (F.Return l (Some e)) = light-returns t l e _ (omega arith)
+  at (F.Break l) = λ a s. omega arith
+  at (F.Continue l) = λ a s. omega arith
+  at (F.Block l xs) = λ a s.
+      let w = block-words (texts xs) in
+      let line = line-length l (print_block (texts xs)) in
+      let h = body xs a s in
+      omega (arith, w, line, h)
+  at (F.If l first test xs) = λ a s.
+      let f = first-length first in
+      let w = block-words (texts xs) in
+      let inner = length-append (print_expr test) (print_block (texts xs)) in
+      let whole = length-append (first_words first) (print_expr test ++ print_block (texts xs)) in
+      let h = light-ends (front l first test xs) (front-words first test xs) (head l first test xs) a (begun s) in
+      omega (arith, f, w, inner, whole, h)
+  at (F.IfElse l first test xs o) = λ a s.
+      let f = first-length first in
+      let w = block-words (texts xs) in
+      let last = length-append (print_block (texts xs)) (keyword keywords.Else ∷ print_stmt o.0) in
+      let inner = length-append (print_expr test) (print_block (texts xs) ++ keyword keywords.Else ∷ print_stmt o.0) in
+      let whole = length-append (first_words first) (print_expr test ++ (print_block (texts xs) ++ keyword keywords.Else ∷ print_stmt o.0)) in
+      light-or-else l (front l first test xs) (stmt_part t o.0) (front-words first test xs) (length (print_stmt o.0)) _ (head l first test xs) o.1 (omega (arith, f, w, last, inner, whole)) a (begun s)
+  at (F.For l h xs) =
+      let w = block-words (texts xs) in
+      let whole = length-append (print_header h) (print_block (texts xs)) in
+      loop l h xs _ (omega (arith, w, whole))
+  at (F.Select l cs) =
+      let few = clauses-length (clause-words cs) in
+      let inner = length-append (words.clauses (clause-words cs)) (mark marks.CloseBrace ∷ []) in
+      light-select l (map (clause_part t) (map (λ (p : K). p.0) cs)) (clause-words cs) _ (clauses cs) (omega (arith, few, inner))
+
+  clause-at : (y : Clause-F K S) → ClauseLight (clause_total (print_clause_step (map-Clause Clause Stmt ClauseWords (List Word) print_clause print_stmt (bare-clause y)))) (clause_part_step t (map-Clause Clause Stmt ClausePart Part (clause_part t) (stmt_part t) (bare-clause y)))
+  clause-at (F.Case k c xs) = light-case t k c (parts xs) (total (texts xs)) _ (order xs) (let w = length-append (print_comm c) (mark marks.Colon ∷ []) in omega (arith, w))
+  clause-at (F.Default k xs) = light-default k (parts xs) (total (texts xs)) _ (order xs) (omega arith)
+
+  rolled : (y : Stmt-F K S) → P (roll-Stmt (bare y))
+  unfolding stmt_part clause_part
+  rolled y =
+      subst (λ ws. Light (length ws) (stmt_part t (roll-Stmt (bare y)))) (sym (fold-roll-Stmt ClauseWords (List Word) print_clause_step print_stmt_step (bare y)))
+      (subst (Light (length (print_stmt_step (map-Stmt Clause Stmt ClauseWords (List Word) print_clause print_stmt (bare y))))) (sym (fold-roll-Stmt ClausePart Part (clause_part_step t) (stmt_part_step t) (bare y))) (at y))
+
+  clause-rolled : (y : Clause-F K S) → Q (roll-Clause (bare-clause y))
+  unfolding stmt_part clause_part
+  clause-rolled y =
+      subst (λ ws. ClauseLight (clause_total ws) (clause_part t (roll-Clause (bare-clause y)))) (sym (fold-roll-Clause ClauseWords (List Word) print_clause_step print_stmt_step (bare-clause y)))
+      (subst (ClauseLight (clause_total (print_clause_step (map-Clause Clause Stmt ClauseWords (List Word) print_clause print_stmt (bare-clause y))))) (sym (fold-roll-Clause ClausePart Part (clause_part_step t) (stmt_part_step t) (bare-clause y))) (clause-at y))
+
+  pub stmt-light : (x : Stmt) → P x
+  stmt-light = ind-Stmt Q P (λ x y is. subst (λ z. Q (roll-Clause z)) is (clause-rolled y)) (λ x y is. subst (λ z. P (roll-Stmt z)) is (rolled y))

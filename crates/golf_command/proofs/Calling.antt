@@ -1,0 +1,211 @@
+-- What the ends of a call mean, by its words.
+use Rattle.std.proofs.Common.{◌≡◌, ◌≤◌, ◌<◌, ◌+◌, ℕ, List, [], ◌∷◌, ◌++◌, length, length-append, refl, sym, subst, ap, ◌∙◌, ◌⊎◌, inl, inr, append-nil, arith}
+use Rattle.std.specs.Prelude.{Option, Some, None, IfSome, replicate}
+use Rattle.std.specs.Io.KnownBytes.{Keeps, Consumes, IsAtEnd}
+use Rattle.std.proofs.KnownBytes.{Keeps-refl}
+use Rattle.std.proofs.lemmas.List.{length-replicate}
+use Rattle.golf_base.specs.Causes.{Rose, ReadsSome}
+use Rattle.golf_code_of.specs.Files.{CodeOf}
+use Rattle.golf_schedules.specs.declared.options.Options.{Options}
+use Rattle.golf_generate.specs.File.{file as generated_file}
+use Rattle.golf_words.specs.declared.line.Line.{Line}
+use Rattle.golf_words.specs.Words.{line_of}
+use Rattle.golf_texts.specs.declared.status.Status.{Status}
+use Rattle.golf_texts.specs.declared.status.Status.TheVariants as s
+use Rattle.golf_texts.specs.declared.status.TheConstants.{LIMIT, USAGE, READ_FAULT, TOO_LONG, NO_MEMORY}
+use Rattle.golf_texts.specs.Writes.{Write}
+use Rattle.golf_run.specs.HasRun.{Sinks, sinks, GotWrites, HasFailed, IsSteady}
+use Rattle.golf_command.specs.Meaning.{IsLine, IsNoLine, writes_for, IsFileOf, Meaning}
+use Rattle.golf_command.specs.Meaning.RefusedBy.{TooLong}
+use Rattle.golf_command.specs.Meaning.Meaning.{Misused, Refused, Runs}
+use Rattle.golf_command.specs.Means.{View, seen, FileMeans, RunsWhole, Says, IsRunEnd, LineMeans, UsageMeans, SinkCauses, SourceCauses, Causes, IsQuiet, FileTells, LineTells, Tells}
+use Rattle.golf_command.proofs.Sinking.{some-rose}
+use Rattle.golf_command.proofs.Filing.{refused-tells, wanting-tells}
+
+-- ---- a line
+
+-- no count of the source rose, and no other than those of a file's run
+causes-of : (r : Status) (before now : ℕ) (a b : Sinks) → now ≡ before → SinkCauses r a b → (r ≡ s.ReadFault → ⊥) → SourceCauses r before now
+causes-of s.Clean before now a b e h never = e
+causes-of s.Found before now a b e h never = e
+causes-of s.Crashed before now a b e h never = e
+causes-of s.Spent before now a b e h never = e
+causes-of s.Refused before now a b e h never = e
+causes-of s.Usage before now a b e h never = e
+causes-of s.ReadFault before now a b e h never = absurd (never refl)
+causes-of s.WriteFault before now a b e h never = omega (arith, e)
+causes-of s.Memory before now a b e h never = e
+
+-- a run over a file's bytes does not end so
+no-read-fault : (line : Line) (bytes : List ℕ) (r : Status) (a b : Sinks) → FileMeans line bytes r a b → r ≡ s.ReadFault → ⊥
+no-read-fault line bytes s.Clean a b m e = cc
+no-read-fault line bytes s.Found a b m e = cc
+no-read-fault line bytes s.Crashed a b m e = cc
+no-read-fault line bytes s.Spent a b m e = cc
+no-read-fault line bytes s.Refused a b m e = cc
+no-read-fault line bytes s.Usage a b m e = cc
+no-read-fault line bytes s.ReadFault a b m e = m
+no-read-fault line bytes s.WriteFault a b m e = cc
+no-read-fault line bytes s.Memory a b m e = cc
+
+-- a file of which the status tells
+pub file-tells : (line : Line) (bytes : List ℕ) (left left' : Option (List ℕ)) (rf rf' : ℕ) (r : Status) (a b : Sinks)
+    → IsFileOf line left bytes → rf' ≡ rf → ((options : Options) → line ≡ Line.Run options → IsRunEnd r → IsAtEnd left') → FileTells line bytes r a b → LineTells line r (seen left rf a) (seen left' rf' b)
+file-tells line bytes left left' rf rf' r a b is same end h = record {
+  means = inr (record { bytes = bytes; is_file = is; means = h.means; at_end = end });
+  causes = record { source = causes-of r rf rf' a b same h.causes (no-read-fault line bytes r a b h.means); sinks = h.causes };
+}
+
+-- the bytes that were read to their end are those that were left
+pub all-left : (left left' : Option (List ℕ)) (bytes : List ℕ) → Consumes left left' bytes → IsAtEnd left' → IfSome left (λ told. told ≡ bytes)
+all-left None left' bytes t e = tt
+all-left (Some xs) None bytes t e = absurd t
+all-left (Some xs) (Some ys) bytes t e = t ∙ ap (λ zs. bytes ++ zs) e ∙ append-nil bytes
+
+-- bytes that may be those of the line
+known : (left : Option (List ℕ)) → (bytes : List ℕ) × IfSome left (λ told. told ≡ bytes)
+known None = ([], tt)
+known (Some xs) = (xs, refl)
+
+some-file : (line : Line) (left : Option (List ℕ)) → (bytes : List ℕ) × IsFileOf line left bytes
+some-file (Line.Run options) left = known left
+some-file (Line.Generate n) left = (generated_file n, refl)
+
+-- memory was wanting before anything was read
+pub wanting : (line : Line) (left left' : Option (List ℕ)) (rf rf' : ℕ) (r : Status) (a b : Sinks) → rf' ≡ rf → Says s.Memory NO_MEMORY.now r a b → LineTells line r (seen left rf a) (seen left' rf' b)
+wanting line left left' rf rf' r a b same h =
+    let file = some-file line left in
+    file-tells line file.0 left left' rf rf' r a b file.1 same (λ options is ran. absurd (no-run r a b h ran)) (wanting-tells line file.0 a b r h)
+  where
+    no-run : (r : Status) (a b : Sinks) → Says s.Memory NO_MEMORY.now r a b → IsRunEnd r → ⊥
+    no-run r a b (inl e) ran = subst IsRunEnd e.0 ran
+    no-run r a b (inr e) ran = subst IsRunEnd e.0 ran
+
+-- the source failed
+pub unread : (options : Options) (left left' : Option (List ℕ)) (rf rf' : ℕ) (r : Status) (a b : Sinks) → Rose rf rf' → rf ≤ rf' → Says s.ReadFault READ_FAULT.now r a b → LineTells (Line.Run options) r (seen left rf a) (seen left' rf' b)
+unread options left left' rf rf' r a b rose later h = record {
+  means = inl (record { options = options; is_run = refl; failed = rose; says = h });
+  causes = caused h;
+}
+  where
+    caused : Says s.ReadFault READ_FAULT.now r a b → Causes r (seen left rf a) (seen left' rf' b)
+    caused (inl e) = subst (λ t. Causes t (seen left rf a) (seen left' rf' b)) (sym e.0) (record { source = rose; sinks = e.2 })
+    caused (inr e) = subst (λ t. Causes t (seen left rf a) (seen left' rf' b)) (sym e.0) (record { source = later; sinks = some-rose (Write.ToErr READ_FAULT.now) a b e.1.failed })
+
+-- more bytes came than a file may have
+longer : (n : ℕ) → (bytes : List ℕ) × (n < length bytes)
+longer n = (replicate (n + 1) 0, omega (arith, length-replicate {A = ℕ}))
+
+long-file : (left left' : Option (List ℕ)) → ReadsSome left left' LIMIT → (bytes : List ℕ) × IfSome left (λ told. told ≡ bytes) × (LIMIT < length bytes)
+long-file None left' h = let some = longer LIMIT in (some.0, tt, some.1)
+long-file (Some xs) None h = absurd h.1
+long-file (Some xs) (Some ys) h = (xs, refl, omega (arith, ap length h.1, length-append h.0 ys, h.2))
+
+pub too-long : (options : Options) (left left' : Option (List ℕ)) (rf rf' : ℕ) (r : Status) (a b : Sinks) → ReadsSome left left' LIMIT → rf' ≡ rf → Says s.Refused TOO_LONG.now r a b → LineTells (Line.Run options) r (seen left rf a) (seen left' rf' b)
+too-long options left left' rf rf' r a b more same h =
+    let file = long-file left left' more in
+    file-tells (Line.Run options) file.0 left left' rf rf' r a b file.1 same (λ o is ran. absurd (no-run h ran)) (refused-tells (Line.Run options) file.0 a b TOO_LONG.now r (TooLong file.2) h)
+  where
+    no-run : Says s.Refused TOO_LONG.now r a b → IsRunEnd r → ⊥
+    no-run (inl e) ran = subst IsRunEnd e.0 ran
+    no-run (inr e) ran = subst IsRunEnd e.0 ran
+
+-- ---- all words
+
+same-line : (a b : Line) → ◌≡◌ {A = Option Line} (Some a) (Some b) → a ≡ b
+same-line a b e = cc
+
+not-none : (a : Line) → ◌≡◌ {A = Option Line} (Some a) None → ⊥
+not-none a e = cc
+
+-- a write that failed raised a count
+loud : (cut : Write) (left left' : Option (List ℕ)) (rf rf' : ℕ) (a b : Sinks) → IsQuiet (seen left rf a) (seen left' rf' b) → HasFailed cut a b → ⊥
+loud (Write.ToOut bytes) left left' rf rf' a b q f = q.out f.0
+loud (Write.ToErr bytes) left left' rf rf' a b q f = q.err f.1
+
+module _ (words : List (List ℕ)) (left left' : Option (List ℕ)) (rf rf' : ℕ) (a b : Sinks) where
+  abbrev before : View
+  before = seen left rf a
+
+  abbrev after : View
+  after = seen left' rf' b
+
+  abbrev Whole : Status → Type 0
+  Whole r = (r ≡ s.Memory) ⊎ ((writes : List Write) × Meaning words left r writes × GotWrites writes a b)
+
+  module _ (quiet : IsQuiet before after) where
+    -- a line that says why nothing was done
+    said : (status r : Status) (text : List ℕ) → Says status text r a b → (status ≡ s.Memory) ⊎ Meaning words left status (Write.ToErr text ∷ []) → Whole r
+    said status r text (inl e) (inl want) = inl (e.0 ∙ want)
+    said status r text (inl e) (inr why) = inr (Write.ToErr text ∷ [], subst (λ t. Meaning words left t (Write.ToErr text ∷ [])) (sym e.0) why, e.1)
+    said status r text (inr e) why = absurd (loud (Write.ToErr text) left left' rf rf' a b quiet e.1.failed)
+
+    ran : (line : Line) (bytes : List ℕ) (r : Status) → IsLine words line → IsFileOf line left bytes → RunsWhole line bytes r a b → Whole r
+    ran line bytes r is file h = inr (writes_for line (CodeOf h.file), subst (λ t. Meaning words left t (writes_for line (CodeOf h.file))) (sym h.status) (Runs line bytes h.file is file h.accepts), h.got)
+
+    of-file : (line : Line) (bytes : List ℕ) (r : Status) → IsLine words line → IsFileOf line left bytes → FileMeans line bytes r a b → Whole r
+    of-file line bytes s.Clean is file m = ran line bytes s.Clean is file m
+    of-file line bytes s.Found is file m = ran line bytes s.Found is file m
+    of-file line bytes s.Crashed is file m = ran line bytes s.Crashed is file m
+    of-file line bytes s.Spent is file m = ran line bytes s.Spent is file m
+    of-file line bytes s.Refused is file m = inr (Write.ToErr m.0 ∷ [], Refused line bytes m.0 is file m.1, m.2)
+    of-file line bytes s.Usage is file m = absurd m
+    of-file line bytes s.ReadFault is file m = absurd m
+    of-file line bytes s.WriteFault is file m = absurd (loud m.1.0 left left' rf rf' a b quiet m.1.2.failed)
+    of-file line bytes s.Memory is file m = inl refl
+
+    of-line : (line : Line) (r : Status) → IsLine words line → LineMeans line r before after → Whole r
+    of-line line r is (inl h) = absurd (quiet.source h.failed)
+    of-line line r is (inr h) = of-file line h.bytes r is h.is_file h.means
+
+    of-none : (r : Status) → IsNoLine words → UsageMeans r before after → Whole r
+    of-none r none (inl h) = said s.Usage r USAGE.now h (inr (Misused none))
+    of-none r none (inr h) = said s.Memory r NO_MEMORY.now h (inl refl)
+
+    of-words : (o : Option Line) (r : Status) → line_of words ≡ o → ((line : Line) → IsLine words line → LineMeans line r before after) → (IsNoLine words → UsageMeans r before after) → Whole r
+    of-words (Some line) r is m u = of-line line r is (m line is)
+    of-words None r is m u = of-none r is (u is)
+
+  tells : (r : Status) → ((line : Line) → IsLine words line → LineMeans line r before after) → (IsNoLine words → UsageMeans r before after) → (((options : Options) → IsLine words (Line.Run options) → ⊥) → Keeps left left') → Causes r before after → Tells words r before after
+  tells r means usage unread causes = record { line = means; usage = usage; unread = unread; causes = causes; complete = λ quiet. of-words quiet (line_of words) r refl means usage }
+
+  -- the words are a run line
+  pub tells-run : (options : Options) (r : Status) → IsLine words (Line.Run options) → LineTells (Line.Run options) r before after → Tells words r before after
+  tells-run options r is h = tells r
+      (λ other same. subst (λ l. LineMeans l r before after) (same-line (Line.Run options) other (sym is ∙ same)) h.means)
+      (λ none. absurd (not-none (Line.Run options) (sym is ∙ none)))
+      (λ none. absurd (none options is))
+      h.causes
+
+  -- they ask for a generated file
+  pub tells-generate : (n : ℕ) (r : Status) → IsLine words (Line.Generate n) → LineTells (Line.Generate n) r before after → left' ≡ left → Tells words r before after
+  tells-generate n r is h same = tells r
+      (λ other is'. subst (λ l. LineMeans l r before after) (same-line (Line.Generate n) other (sym is ∙ is')) h.means)
+      (λ none. absurd (not-none (Line.Generate n) (sym is ∙ none)))
+      (λ _. subst (Keeps left) (sym same) (Keeps-refl left))
+      h.causes
+
+  says-causes : (status r : Status) (text : List ℕ) → ((v w : View) → w.read_faults ≡ v.read_faults → IsSteady v.sinks w.sinks → Causes status v w) → rf' ≡ rf → Says status text r a b → Causes r before after
+  says-causes status r text quiet same (inl e) = subst (λ t. Causes t before after) (sym e.0) (quiet before after same e.2)
+  says-causes status r text quiet same (inr e) = subst (λ t. Causes t before after) (sym e.0) (record { source = omega (arith, same); sinks = some-rose (Write.ToErr text) a b e.1.failed })
+
+  -- they are no line
+  pub tells-usage : (r : Status) → IsNoLine words → Says s.Usage USAGE.now r a b → left' ≡ left → rf' ≡ rf → Tells words r before after
+  tells-usage r none h same counts = tells r
+      (λ line is. absurd (not-none line (sym is ∙ none)))
+      (λ _. inl h)
+      (λ _. subst (Keeps left) (sym same) (Keeps-refl left))
+      (says-causes s.Usage r USAGE.now (λ v w x y. record { source = x; sinks = y }) counts h)
+
+  -- memory was wanting for the words
+  pub tells-wanting : (r : Status) → Says s.Memory NO_MEMORY.now r a b → left' ≡ left → rf' ≡ rf → Tells words r before after
+  tells-wanting r h same counts =
+      let causes : Causes r before after = says-causes s.Memory r NO_MEMORY.now (λ v w x y. record { source = x; sinks = y }) counts h in
+      tells r (λ line is. (wanting line left left' rf rf' r a b counts h).means) (λ _. inr h) (λ _. subst (Keeps left) (sym same) (Keeps-refl left)) causes
+
+-- a line that asks for a generated file reads nothing
+pub generated-line : (n : ℕ) (left : Option (List ℕ)) (rf : ℕ) (r : Status) (a b : Sinks) → FileTells (Line.Generate n) (generated_file n) r a b → LineTells (Line.Generate n) r (seen left rf a) (seen left rf b)
+generated-line n left rf r a b h = file-tells (Line.Generate n) (generated_file n) left left rf rf r a b refl refl (λ options is ran. absurd (other-line n options is)) h
+  where
+    other-line : (n : ℕ) (options : Options) → Line.Generate n ≡ Line.Run options → ⊥
+    other-line n options e = cc

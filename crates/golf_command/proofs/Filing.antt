@@ -1,0 +1,143 @@
+-- What the ends of a file's run mean.
+use Rattle.std.proofs.Common.{◌≡◌, ◌≤◌, ℕ, Bool, true, false, List, [], ◌∷◌, ◌++◌, length, refl, sym, subst, ap, ◌∙◌, inl, inr, append_assoc}
+use Rattle.std.specs.Prelude.{Option, Some, None}
+use Rattle.std.specs.Io.KnownBytes.{Appends}
+use Rattle.golf_data.specs.declared.code.Code.{Code}
+use Rattle.golf_data.specs.declared.goroutine.Ending.{Ending}
+use Rattle.golf_model.specs.State.{ending}
+use Rattle.golf_grammar.specs.declared.declarations.File.{File}
+use Rattle.golf_code_of.specs.Files.{CodeOf}
+use Rattle.golf_schedules.specs.declared.options.Options.{Options}
+use Rattle.golf_words.specs.declared.line.Line.{Line}
+use Rattle.golf_texts.specs.declared.status.Status.{Status}
+use Rattle.golf_texts.specs.declared.status.Status.TheVariants as s
+use Rattle.golf_texts.specs.declared.status.TheConstants.{LIMIT, NO_MEMORY}
+use Rattle.golf_texts.specs.Texts.{lexical_line, syntax_line, rule_line}
+use Rattle.golf_texts.specs.Meaning.{out_of, err_of, status_by, status_of, last_of, reports_of, anyone_reported, events_of}
+use Rattle.golf_texts.specs.Writes.{Write, writes_of}
+use Rattle.golf_laws.proofs.MainLaws as Law
+use Rattle.golf_never_stuck.proofs.Reaching.{reached-moves-on}
+use Rattle.golf_reader.specs.declared.refusal.Refusal.{Refusal}
+use Rattle.golf_reader.specs.declared.refusal.Refusal.TheVariants as refusals
+use Rattle.golf_reader.specs.Refusals.{IsRefusedBy, HasTypedTree}
+use Rattle.golf_run.proofs.Writing.{out-whole, err-whole}
+use Rattle.golf_run.specs.HasRun.{Sinks, sinks, GotWrites, GotWhole, IsSteady}
+use Rattle.golf_command.specs.Ends.{EndsWith, Refuses}
+use Rattle.golf_command.specs.Meaning.{options_of, writes_for, Accepts, AreTrue, MovesAlways, RefusedBy}
+use Rattle.golf_command.specs.Meaning.RefusedBy.{Unlexed, Unparsed, Untyped}
+use Rattle.golf_command.specs.Means.{Breaks, AreFirst, MayFollow, RunsWhole, Says, FileTells}
+use Rattle.golf_command.specs.Means.IsCause.{Refusal as Refusing, Wanting}
+use Rattle.golf_command.specs.Means.MayFollow.{Next, Cause}
+use Rattle.golf_command.proofs.Sinking.{gets-more, breaks-later, some-rose, says}
+
+-- the reports of a run are true
+are-true : (code : Code) (options : Options) → AreTrue code options
+unfolding reports_of
+are-true code options = record { each = Law.book_tells_of_each code (events_of options) options.recover; still = Law.reported_are_still code (events_of options) }
+
+-- the code of a file that the program accepts is never stuck
+moves-always : (bytes : List ℕ) (file : File) → Accepts bytes file → MovesAlways (CodeOf file)
+moves-always bytes file a = λ s c leads going. reached-moves-on (CodeOf file) s c (record { file = file; program = record { good = a.typed.tree.reads.form.good; typed = a.typed.keeps }; coded = refl; leads = leads }) going
+
+-- whole texts are all writes
+whole-writes : (code : Code) (options : Options) (old new : Sinks) → Appends old.out new.out (out_of code options) → Appends old.err new.err (err_of code options) → GotWrites (writes_of code options) old new
+whole-writes code options old new out err = (subst (Appends old.out new.out) (sym (out-whole code options)) out, subst (Appends old.err new.err) (sym (err-whole code options)) err)
+
+module _ (line : Line) (bytes : List ℕ) where
+  none-first : AreFirst line bytes []
+  none-first = record { runs = λ file a. (writes_for line (CodeOf file), refl); refused = λ none. refl }
+
+  module _ (old new : Sinks) where
+    -- a write failed behind these
+    broken : (done : List Write) (cut : Write) (r : Status) → MayFollow line bytes done cut → r ≡ s.WriteFault → Breaks old new done cut → FileTells line bytes r old new
+    broken done cut r why is breaks = subst (λ t. FileTells line bytes t old new) (sym is) (record { means = (done, (cut, why, breaks)); causes = some-rose cut old new breaks.failed })
+
+    pub refused-tells : (text : List ℕ) (r : Status) → RefusedBy bytes text → Says s.Refused text r old new → FileTells line bytes r old new
+    refused-tells text r why (inl e) = subst (λ t. FileTells line bytes t old new) (sym e.0) (record { means = (text, why, e.1); causes = e.2 })
+    refused-tells text r why (inr e) = broken [] (Write.ToErr text) r (Cause text none-first (Refusing text why)) e.0 e.1
+
+    pub wanting-tells : (r : Status) → Says s.Memory NO_MEMORY.now r old new → FileTells line bytes r old new
+    wanting-tells r (inl e) = subst (λ t. FileTells line bytes t old new) (sym e.0) (record { means = ([], none-first, e.1); causes = e.2 })
+    wanting-tells r (inr e) = broken [] (Write.ToErr NO_MEMORY.now) r (Cause NO_MEMORY.now none-first Wanting) e.0 e.1
+
+  -- the file is refused
+  module _ (within : length bytes ≤ LIMIT) (out : Option (List ℕ)) (of : ℕ) (err err' : Option (List ℕ)) (ef ef' : ℕ) where
+    abbrev Told : Status → Type 0
+    Told r = FileTells line bytes r (sinks out of err ef) (sinks out of err' ef')
+
+    by-text : (text : List ℕ) (r : Status) → RefusedBy bytes text → EndsWith r s.Refused text err err' ef ef' → Told r
+    by-text text r why e = refused-tells (sinks out of err ef) (sinks out of err' ef') text r why (says out of err err' ef ef' s.Refused r text e)
+
+    by-want : (r : Status) → EndsWith r s.Memory NO_MEMORY.now err err' ef ef' → Told r
+    by-want r e = wanting-tells (sinks out of err ef) (sinks out of err' ef') r (says out of err err' ef ef' s.Memory r NO_MEMORY.now e)
+
+    pub refusal-tells : (refusal : Refusal) (r : Status) → IsRefusedBy bytes refusal → Refuses r refusal err err' ef ef' → Told r
+    refusal-tells (refusals.Lexical at byte) r why (inl e) = by-text (lexical_line at byte) r (Unlexed at byte within why) e
+    refusal-tells (refusals.Lexical at byte) r why (inr e) = by-want r e
+    refusal-tells (refusals.Syntax at) r why (inl e) = by-text (syntax_line at) r (Unparsed at within why) e
+    refusal-tells (refusals.Syntax at) r why (inr e) = by-want r e
+    refusal-tells (refusals.Untyped at rule) r why (inl e) = by-text (rule_line at rule) r (Untyped at rule within why) e
+    refusal-tells (refusals.Untyped at rule) r why (inr e) = by-want r e
+    refusal-tells refusals.Memory r why (inl e) = by-want r e
+    refusal-tells refusals.Memory r why (inr e) = by-want r e
+
+  -- the file has this code
+  module _ (file : File) (code : Code) (accepted : Accepts bytes file) (is : code ≡ CodeOf file) (all : (other : File) → HasTypedTree bytes other → code ≡ CodeOf other) where
+    first-of : (done more : List Write) → writes_for line code ≡ done ++ more → AreFirst line bytes done
+    first-of done more split = record { runs = λ other a. (more, ap (writes_for line) (sym (all other a.typed)) ∙ split); refused = λ none. absurd (none file accepted) }
+
+    module _ (old new : Sinks) where
+      whole-run : (r : Status) → r ≡ status_of code (options_of line) → GotWrites (writes_for line code) old new → RunsWhole line bytes r old new
+      whole-run r status gets = record {
+        file = file;
+        accepts = accepted;
+        status = status ∙ ap (λ c. status_of c (options_of line)) is;
+        got = subst (λ c. GotWrites (writes_for line c) old new) is gets;
+        reports = are-true (CodeOf file) (options_of line);
+        moves = moves-always bytes file accepted;
+      }
+
+      status-runs : (o : Option Ending) (b : Bool) → RunsWhole line bytes (status_by b o) old new → IsSteady old new → FileTells line bytes (status_by b o) old new
+      status-runs (Some Ending.Returned) true h steady = record { means = h; causes = steady }
+      status-runs (Some Ending.Returned) false h steady = record { means = h; causes = steady }
+      status-runs (Some (Ending.Panicked kind g at)) b h steady = record { means = h; causes = steady }
+      status-runs (Some Ending.Asleep) b h steady = record { means = h; causes = steady }
+      status-runs None b h steady = record { means = h; causes = steady }
+
+      -- the run went to its end
+      pub ran-tells : (r : Status) → r ≡ status_of code (options_of line) → GotWrites (writes_for line code) old new → IsSteady old new → FileTells line bytes r old new
+      unfolding status_of
+      ran-tells r status gets steady =
+          let options = options_of line in
+          subst (λ t. FileTells line bytes t old new) (sym status)
+          (status-runs (ending (last_of code options)) (anyone_reported (reports_of code options)) (subst (λ t. RunsWhole line bytes t old new) status (whole-run r status gets)) steady)
+
+      -- a write failed in it
+      pub failed-tells : (done rest : List Write) (cut : Write) → writes_for line code ≡ done ++ (cut ∷ rest) → Breaks old new done cut → FileTells line bytes s.WriteFault old new
+      failed-tells done rest cut split breaks = broken old new done cut s.WriteFault (Next cut (first-of (done ++ cut ∷ []) rest (split ∙ sym (append_assoc done (cut ∷ []) rest)))) refl breaks
+
+    -- memory was wanting in it, and then a line was written
+    module _ (out out' mid err err' : Option (List ℕ)) (of of' mf ef ef' : ℕ) (done more : List Write) (split : writes_for line code ≡ done ++ more) where
+      abbrev first : Sinks
+      first = sinks out of err ef
+
+      abbrev mid_way : Sinks
+      mid_way = sinks out' of' mid mf
+
+      abbrev last : Sinks
+      last = sinks out' of' err' ef'
+
+      stopped : (r : Status) → GotWrites done first mid_way → IsSteady first mid_way → Says s.Memory NO_MEMORY.now r mid_way last → FileTells line bytes r first last
+      stopped r got steady (inl e) = subst (λ t. FileTells line bytes t first last) (sym e.0) (record {
+        means = (done, first-of done more split, gets-more first mid_way last done (Write.ToErr NO_MEMORY.now ∷ []) got e.1);
+        causes = record { out = e.2.out ∙ steady.out; err = e.2.err ∙ steady.err };
+      })
+      stopped r got steady (inr e) = broken first last done (Write.ToErr NO_MEMORY.now) r (Cause NO_MEMORY.now (first-of done more split) Wanting) e.0 (breaks-later first mid_way last done (Write.ToErr NO_MEMORY.now) got steady e.1)
+
+      pub stopped-tells : (r : Status) → GotWrites done first mid_way → IsSteady first mid_way → EndsWith r s.Memory NO_MEMORY.now mid err' mf ef' → FileTells line bytes r first last
+      stopped-tells r got steady ends = stopped r got steady (says out' of' mid err' mf ef' s.Memory r NO_MEMORY.now ends)
+
+-- a run line's run went to its end
+pub went-tells : (options : Options) (bytes : List ℕ) (file : File) (code : Code) → Accepts bytes file → code ≡ CodeOf file → ((other : File) → HasTypedTree bytes other → code ≡ CodeOf other)
+    → (old new : Sinks) (r : Status) → GotWhole r code options old new → IsSteady old new → FileTells (Line.Run options) bytes r old new
+went-tells options bytes file code accepted is all old new r got steady = ran-tells (Line.Run options) bytes file code accepted is all old new r got.status (whole-writes code options old new got.out got.err) steady

@@ -1,0 +1,7 @@
+use Rattle.std.proofs.Common.{refl}
+use Rattle.golf_command.specs.Generating.{generated_options}
+use Rattle.golf_command.proofs.generated.generated_options.Goals as goal
+
+pub returns-clause-options : goal.returns-clause-options
+unfolding generated_options
+returns-clause-options c = refl

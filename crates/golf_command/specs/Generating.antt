@@ -1,0 +1,25 @@
+-- How a generated file is run, and what its run writes (profile).
+use Rattle.std.specs.Prelude.{ℕ, true, List, [], ◌∷◌, None}
+use Rattle.golf_data.specs.declared.code.Code.{Code}
+use Rattle.golf_schedules.specs.declared.schedule.Schedule.{Schedule}
+use Rattle.golf_schedules.specs.declared.options.Options.{Options}
+use Rattle.golf_generate.specs.declared.summary.Summary.{Summary}
+use Rattle.golf_generate.specs.File.{file as generated_file, summary}
+use Rattle.golf_generate.specs.Lines.{newlines}
+use Rattle.golf_texts.specs.declared.totals.Totals.{Totals}
+use Rattle.golf_texts.specs.Totals.{totals_of}
+use Rattle.golf_texts.specs.Meaning.{reports_of, end_of}
+use Rattle.golf_texts.specs.Writes.{Write}
+
+-- in rotation, by four markers, with recovery
+unfoldable pub generated_options : Options
+generated_options = record { schedule = Schedule.Rotate; turns = 10000000; every = None; markers = 4; recover = true }
+
+-- the numbers of the run of the generated file of n parts
+abbrev pub summary_of : ℕ → Totals → Summary
+summary_of n t = record { parts = n; lines = newlines (generated_file n); collections = t.collections; reported = t.reported; kept = t.kept; reclaimed = t.reclaimed; objects = t.objects }
+
+-- a summary for standard output, and how the run ended for standard error
+unfoldable pub generated_writes : ℕ → Code → List Write
+generated_writes n code =
+    Write.ToOut (summary (summary_of n (totals_of (reports_of code generated_options)))) ∷ Write.ToErr (end_of code generated_options) ∷ []

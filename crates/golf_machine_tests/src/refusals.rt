@@ -1,0 +1,135 @@
+//! Turns for which memory is refused: the state is as before, and the turn can be taken again.
+//!
+//! Memory is refused by `rt try --test --fail-alloc N`, for each N: the tests that are hit while they
+//! make their codes fail for want of memory, the others pass.
+
+use crate::programs::program;
+use crate::stepping::{HowBlocked, MAIN, blocked, holds, stands, step};
+use golf_base::{List, Memory, ObjectId};
+use golf_data::{CaseKind, Code, Ending, Instr, SelectCase, Side, Value};
+use golf_machine::start;
+use golf_state::State;
+use std::alloc::Global;
+use std::test::Fail;
+
+// What a state shows.
+#[derive(Clone, Copy, Debug, PartialEq, Eq)]
+struct Seen {
+    running: usize,
+    goroutines: usize,
+    depth: usize,
+    stands: Option<(u32, usize)>,
+    blocked: Option<HowBlocked>,
+    receives: bool,
+    sends: bool,
+    objects: u32,
+    printed: usize,
+}
+
+fn see(state: &State) -> Seen {
+    Seen {
+        running: state.runnable().len(),
+        goroutines: state.goroutines().len(),
+        depth: state.depth(MAIN),
+        stands: stands(state, MAIN),
+        blocked: blocked(state, MAIN),
+        receives: state.first_waiter(ObjectId(1), Side::Receive).is_some(),
+        sends: state.first_waiter(ObjectId(2), Side::Send).is_some(),
+        objects: state.heap().count(),
+        printed: state.output().len(),
+    }
+}
+
+// Takes a turn, and takes it again where memory was refused. It answers whether the state was as before
+// then.
+fn persist(alloc: Global, code: &Code, state: &mut State) -> Result<bool, Memory> {
+    let before = see(state);
+    match step(alloc, code, state, 0) {
+        Ok(()) => Ok(true),
+        Err(_) => {
+            let same = see(state) == before;
+            step(alloc, code, state, 0)?;
+            Ok(same)
+        }
+    }
+}
+
+// So many turns of the first goroutine that can run; whether the state was as before where memory was
+// refused.
+fn persist_all(alloc: Global, code: &Code, state: &mut State, count: u32) -> Result<bool, Memory> {
+    let mut same = true;
+    for _ in 0..count {
+        same &= persist(alloc, code, state)?;
+    }
+    Ok(same)
+}
+
+// The cases of a `select` that receives and sends.
+fn both_cases(alloc: Global) -> Result<List<SelectCase>, Memory> {
+    let mut cases = List::new(alloc);
+    cases.push(SelectCase {
+        kind: CaseKind::Take,
+        target: 10,
+    })?;
+    cases.push(SelectCase {
+        kind: CaseKind::Send,
+        target: 10,
+    })?;
+    Ok(cases)
+}
+
+// Whether a `select` that blocks is as it should be, or changes nothing.
+fn select_persists(alloc: Global) -> Result<bool, Memory> {
+    let main = vec![in alloc;
+        Instr::Int(0),
+        Instr::NewChan(Value::Int(0)),
+        Instr::Store(0),
+        Instr::Int(0),
+        Instr::NewChan(Value::Int(0)),
+        Instr::Store(1),
+        Instr::Load(0),
+        Instr::Load(1),
+        Instr::Int(5),
+        Instr::Select(both_cases(alloc)?, None),
+        Instr::Return,
+    ]?;
+    let code = program(alloc, main, Vec::new(alloc))?;
+    let mut state = start(alloc, &code)?;
+    let same = persist_all(alloc, &code, &mut state, 10)?;
+    let seen = see(&state);
+    Ok(
+        same && seen.blocked.is_some()
+            && seen.receives
+            && seen.sends
+            && state.ending() == Some(Ending::Asleep),
+    )
+}
+
+#[test]
+fn a_select_that_blocks_is_refused_memory(rt: HostRuntime) -> Result<(), Fail> {
+    holds(&rt, select_persists(rt.alloc())?)
+}
+
+// Whether calls, plain, deferred and as goroutines, are as they should be, or change nothing.
+fn calls_persist(alloc: Global) -> Result<bool, Memory> {
+    let main = vec![in alloc;
+        Instr::Int(7),
+        Instr::Call(1, 1),
+        Instr::Print(1),
+        Instr::Int(8),
+        Instr::Defer(1, 1),
+        Instr::Int(9),
+        Instr::Go(1, 1),
+        Instr::Return,
+    ]?;
+    let other = vec![in alloc; Instr::Load(0), Instr::ReturnValue]?;
+    let code = program(alloc, main, other)?;
+    let mut state = start(alloc, &code)?;
+    let same = persist_all(alloc, &code, &mut state, 16)?;
+    Ok(same && state.output() == b"7\n".as_slice() && state.ending() == Some(Ending::Returned))
+}
+
+#[test]
+fn a_call_is_refused_memory(rt: HostRuntime) -> Result<(), Fail> {
+    holds(&rt, calls_persist(rt.alloc())?)
+}

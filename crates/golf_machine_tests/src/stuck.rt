@@ -1,0 +1,60 @@
+//! Operands of the wrong kind: no rule fits, and the state stays as it is.
+
+use crate::programs::program;
+use crate::stepping::{MAIN, OTHER, after, blocked, holds, stands, take};
+use golf_base::{List, Memory};
+use golf_data::{CaseKind, Code, Instr, Object, SelectCase, Side, Value, Wait, WaitKind};
+use golf_machine::start;
+use golf_state::State;
+use std::alloc::Global;
+use std::test::Fail;
+
+// Whether a `select` on a number, with a default clause, stays where it is.
+fn select_on_a_number(alloc: Global) -> Result<bool, Memory> {
+    let mut cases = List::new(alloc);
+    cases.push(SelectCase {
+        kind: CaseKind::Take,
+        target: 2,
+    })?;
+    let main = vec![in alloc; Instr::Int(1), Instr::Select(cases, Some(2)), Instr::Return]?;
+    let code = program(alloc, main, Vec::new(alloc))?;
+    let state = after(alloc, &code, &[(0, 5)])?;
+    Ok(stands(&state, MAIN) == Some((1, 1)) && state.ending() == None)
+}
+
+#[test]
+fn a_select_on_a_number_is_stuck(rt: HostRuntime) -> Result<(), Fail> {
+    holds(&rt, select_on_a_number(rt.alloc())?)
+}
+
+// The state of a goroutine that waits on a condition without a mutex, which is the global.
+fn waiting_without_mutex(alloc: Global, code: &Code) -> Result<State, Memory> {
+    let mut state = start(alloc, code)?;
+    let object = state.make(Object::Cond(Value::Nil))?;
+    state.set_global(0, Value::Ref(object));
+    let waiter = state.spawn(List::new(alloc), 1)?;
+    let mut waits = List::new(alloc);
+    waits.push(Wait {
+        object,
+        side: Side::Cond,
+        value: Value::Nil,
+        target: None,
+        with_ok: false,
+    })?;
+    state.block(waiter, WaitKind::Condition, 1, waits, 0, 0)?;
+    Ok(state)
+}
+
+// Whether a signal to that condition stays where it is, and its waiter too.
+fn signal_without_mutex(alloc: Global) -> Result<bool, Memory> {
+    let main = vec![in alloc; Instr::LoadGlobal(0), Instr::CondSignal, Instr::Return]?;
+    let code = program(alloc, main, Vec::new(alloc))?;
+    let mut state = waiting_without_mutex(alloc, &code)?;
+    take(alloc, &code, &mut state, 0, 5)?;
+    Ok(stands(&state, MAIN) == Some((1, 1)) && blocked(&state, OTHER).is_some())
+}
+
+#[test]
+fn nobody_is_passed_on_to_a_nil_mutex(rt: HostRuntime) -> Result<(), Fail> {
+    holds(&rt, signal_without_mutex(rt.alloc())?)
+}

@@ -1,0 +1,59 @@
+-- What follows from where the writes of a run were cut: each sink got a front of its text.
+use Rattle.std.proofs.Common.{◌≡◌, ℕ, List, [], ◌∷◌, ◌++◌, inl, inr, sym, ap, ◌∙◌, append_assoc, append-nil}
+use Rattle.golf_data.specs.declared.code.Code.{Code}
+use Rattle.golf_schedules.specs.declared.options.Options.{Options}
+use Rattle.golf_texts.specs.Writes.{Write, out_bytes, err_bytes, writes_of}
+use Rattle.golf_run.specs.HasRun.{Sinks, IsFrontOf, HasFailed, WasCut, WasStopped, GotFronts, HasBroken}
+use Rattle.golf_run.proofs.Writing.{out-append, err-append, out-whole, err-whole}
+
+-- a text that begins so
+abbrev Begins : List ℕ → List ℕ → Type 0
+Begins front text = (more : List ℕ) × (text ≡ front ++ more)
+
+joined : (done front more text : List ℕ) → text ≡ done ++ (front ++ more) → (start : List ℕ) → start ≡ done ++ front → text ≡ start ++ more
+joined done front more text e start s = e ∙ sym (append_assoc done front more) ∙ ap (λ t. t ++ more) (sym s)
+
+module _ (done later : List Write) where
+  out-begins : (front cut : Write) → IsFrontOf front cut → Begins (out_bytes (done ++ front ∷ [])) (out_bytes (done ++ cut ∷ later))
+  out-begins (Write.ToOut f) (Write.ToOut b) (rest, e) = (
+    rest ++ out_bytes later,
+    joined (out_bytes done) (f ++ []) (rest ++ out_bytes later) _
+        (out-append done (Write.ToOut b ∷ later) ∙ ap (λ t. out_bytes done ++ (t ++ out_bytes later)) e ∙ ap (λ t. out_bytes done ++ t) (append_assoc f rest (out_bytes later) ∙ ap (λ t. t ++ (rest ++ out_bytes later)) (sym (append-nil f)))) _ (out-append done (Write.ToOut f ∷ [])),
+  )
+  out-begins (Write.ToErr f) (Write.ToErr b) h = (out_bytes later, joined (out_bytes done) [] (out_bytes later) _ (out-append done (Write.ToErr b ∷ later)) _ (out-append done (Write.ToErr f ∷ [])))
+  out-begins (Write.ToOut f) (Write.ToErr b) h = absurd h
+  out-begins (Write.ToErr f) (Write.ToOut b) h = absurd h
+
+  err-begins : (front cut : Write) → IsFrontOf front cut → Begins (err_bytes (done ++ front ∷ [])) (err_bytes (done ++ cut ∷ later))
+  err-begins (Write.ToErr f) (Write.ToErr b) (rest, e) = (
+    rest ++ err_bytes later,
+    joined (err_bytes done) (f ++ []) (rest ++ err_bytes later) _
+        (err-append done (Write.ToErr b ∷ later) ∙ ap (λ t. err_bytes done ++ (t ++ err_bytes later)) e ∙ ap (λ t. err_bytes done ++ t) (append_assoc f rest (err_bytes later) ∙ ap (λ t. t ++ (rest ++ err_bytes later)) (sym (append-nil f)))) _ (err-append done (Write.ToErr f ∷ [])),
+  )
+  err-begins (Write.ToOut f) (Write.ToOut b) h = (err_bytes later, joined (err_bytes done) [] (err_bytes later) _ (err-append done (Write.ToOut b ∷ later)) _ (err-append done (Write.ToOut f ∷ [])))
+  err-begins (Write.ToOut f) (Write.ToErr b) h = absurd h
+  err-begins (Write.ToErr f) (Write.ToOut b) h = absurd h
+
+module _ (code : Code) (options : Options) (old new : Sinks) where
+  pub cut-fronts : WasCut (writes_of code options) old new → GotFronts code options old new
+  cut-fronts w =
+      let o = out-begins w.done w.later w.front w.cut w.is_front in
+      let e = err-begins w.done w.later w.front w.cut w.is_front in
+      record {
+        out = (out_bytes (w.done ++ w.front ∷ []), o.0, sym (out-whole code options) ∙ ap out_bytes w.order ∙ o.1, w.got.0);
+        err = (err_bytes (w.done ++ w.front ∷ []), e.0, sym (err-whole code options) ∙ ap err_bytes w.order ∙ e.1, w.got.1);
+      }
+
+  pub stopped-fronts : WasStopped (writes_of code options) old new → GotFronts code options old new
+  stopped-fronts w = record {
+    out = (out_bytes w.done, out_bytes w.later, sym (out-whole code options) ∙ ap out_bytes w.order ∙ out-append w.done w.later, w.got.0);
+    err = (err_bytes w.done, err_bytes w.later, sym (err-whole code options) ∙ ap err_bytes w.order ∙ err-append w.done w.later, w.got.1);
+  }
+
+-- one sink failed, and the other did not
+failed-once : (cut : Write) (old new : Sinks) → HasFailed cut old new → HasBroken old new
+failed-once (Write.ToOut b) old new h = inl h
+failed-once (Write.ToErr b) old new h = inr h
+
+pub cut-broken : (writes : List Write) (old new : Sinks) → WasCut writes old new → HasBroken old new
+cut-broken writes old new w = failed-once w.cut old new w.failed

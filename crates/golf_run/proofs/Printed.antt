@@ -1,0 +1,59 @@
+-- What was printed before changes nothing of a collection, with recovery or without.
+use Rattle.std.proofs.Common.{◌≡◌, ℕ, ◌+◌, Bool, true, false, List, [], ◌∷◌, ◌++◌, length, map, refl, ap, ◌∙◌}
+use Rattle.golf_theory.specs.Maps.{find}
+use Rattle.golf_data.specs.declared.report.Book.{Book}
+use Rattle.golf_model.specs.State.{State}
+use Rattle.golf_model.specs.Reaching.{reach}
+use Rattle.golf_model.specs.Living.{live_list, live_objects, dead}
+use Rattle.golf_model.specs.Collecting.{real_collect}
+use Rattle.golf_model.specs.Reporting.{entries, entry_of, new_dead, new_gone, all_gone, without, retained_objects, goroutine_id, report, book_after}
+use Rattle.golf_laws.specs.Printing.{prefixed}
+
+same-entries : (w : List ℕ) (s : State) (gs : List ℕ) → entries (prefixed w s) gs ≡ entries s gs
+same-entries w s [] = refl
+same-entries w s (g ∷ gs) = ap (λ es. entry_of g (find g s.goroutines) ++ es) (same-entries w s gs)
+
+module _ (w : List ℕ) (s : State) where
+  pub collect-prefixed : (recover sets : Bool) → real_collect (prefixed w s) recover sets ≡ prefixed w (real_collect s recover sets)
+  unfolding reach live_list
+  collect-prefixed true sets = refl
+  collect-prefixed false sets = refl
+
+  same-live : live_objects (prefixed w s) ≡ live_objects s
+  unfolding live_list
+  same-live = refl
+
+  same-dead : dead (prefixed w s) ≡ dead s
+  unfolding live_list
+  same-dead = refl
+
+  same-objects : (gone : List ℕ) → retained_objects (prefixed w s) gone ≡ retained_objects s gone
+  unfolding reach
+  same-objects gone = refl
+
+  same-gone : (recover sets : Bool) (book : Book) → new_gone recover sets book (prefixed w s) ≡ new_gone recover sets book s
+  unfolding reach live_list
+  same-gone true sets book = refl
+  same-gone false sets book = refl
+
+  module _ (recover sets : Bool) (book : Book) where
+    same-new : new_dead book (prefixed w s) ≡ new_dead book s
+    same-new = ap (λ gs. without gs (map (λ g. g.0) book.reported)) same-dead
+
+    pub book-prefixed : book_after recover sets book (prefixed w s) ≡ book_after recover sets book s
+    book-prefixed =
+        let a = same-new in
+        let b = same-gone recover sets book in
+        λ i. record { collections = book.collections + 1; reported = book.reported ++ map goroutine_id (a i); reclaimed = book.reclaimed ++ map goroutine_id (b i) }
+
+    same-all : all_gone recover sets book (prefixed w s) ≡ all_gone recover sets book s
+    same-all = ap (λ (gs : List ℕ). map (λ g. g.0) book.reclaimed ++ gs) (same-gone recover sets book)
+
+    pub report-prefixed : report recover sets book (prefixed w s) ≡ report recover sets book s
+    report-prefixed =
+        let a = same-live in
+        let b = ap (entries (prefixed w s)) same-new ∙ same-entries w s (new_dead book s) in
+        let c = ap (λ gs. without gs (all_gone recover sets book (prefixed w s))) same-dead ∙ ap (without (dead s)) same-all in
+        let d = same-gone recover sets book in
+        let e = ap (retained_objects (prefixed w s)) same-all ∙ same-objects (all_gone recover sets book s) in
+        λ i. record { number = book.collections + 1; marked = length (a i); reported = b i; kept = length (c i); reclaimed = length (d i); objects = length (e i) }

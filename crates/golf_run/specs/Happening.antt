@@ -1,0 +1,42 @@
+-- One event of a run, before the collection that may follow it.
+use Rattle.std.specs.Prelude.{◌≡◌, ℕ, Bool, true, List, [], ◌∷◌, Option, Result, Ok, Err}
+use Rattle.std.specs.Io.KnownBytes.{Appends}
+use Rattle.golf_base.specs.Causes.{Rose, WritesFront}
+use Rattle.golf_data.specs.declared.code.Code.{Code}
+use Rattle.golf_model.specs.State.{State}
+use Rattle.golf_model.specs.Turn.{step}
+use Rattle.golf_model.specs.Running.{Event, wants_collection}
+use Rattle.golf_texts.specs.Writes.{Write, emptied}
+use Rattle.golf_run.specs.declared.fault.RunFault.{RunFault}
+use Rattle.golf_run.specs.declared.fault.RunFault.TheVariants as faults
+
+abbrev pub turn_event : ℕ → Event
+turn_event c = Event.Turn c
+
+-- the state after the event's turn, if it is one, and with what it printed taken
+abbrev pub turned : Code → Event → State → State
+turned code (Event.Turn c) s = emptied (step code s c)
+turned code Event.Collect s = s
+
+-- what the turn prints
+abbrev pub prints : Code → Event → State → List ℕ
+prints code (Event.Turn c) s = (step code s c).output
+prints code Event.Collect s = []
+
+-- the write of it
+abbrev pub says : Code → Event → State → List Write
+says code (Event.Turn c) s = Write.ToOut (step code s c).output ∷ []
+says code Event.Collect s = []
+
+-- whether a collection follows
+abbrev pub collects : Code → Event → State → Bool
+collects code (Event.Turn c) s = wants_collection code s c
+collects code Event.Collect s = true
+
+-- what the turn prints was written, and the state is the one after it; or the write failed in the middle; or memory was wanting, and nothing was written. Only turns fail.
+abbrev pub HasTurned : Result Bool RunFault → Code → Event → State → State → Option (List ℕ) → Option (List ℕ) → ℕ → ℕ → Type 0
+HasTurned (Ok wants) code e s after out out' before now = (wants ≡ collects code e s) × (after ≡ turned code e s) × Appends out out' (prints code e s) × (now ≡ before)
+HasTurned (Err faults.Write) code (Event.Turn c) s after out out' before now = WritesFront out out' (step code s c).output × Rose before now
+HasTurned (Err faults.Memory) code (Event.Turn c) s after out out' before now = (out' ≡ out) × (now ≡ before)
+HasTurned (Err faults.Write) code Event.Collect s after out out' before now = ⊥
+HasTurned (Err faults.Memory) code Event.Collect s after out out' before now = ⊥

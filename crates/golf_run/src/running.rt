@@ -1,0 +1,68 @@
+//! Runs code, and writes what it prints, what its collections report and how it ended.
+
+ghost use Rattle.std.specs.Prelude.{◌≡◌, IfOk};
+ghost use Rattle.golf_data.specs.Places.{HasPlaces};
+ghost use Rattle.golf_schedules.specs.Options.{IsWithinLimits};
+ghost use Rattle.golf_texts.specs.Texts.{last_line as last_bytes};
+ghost use Rattle.golf_texts.specs.Meaning.{status_by as status_when};
+ghost use Rattle.golf_run.specs.HasRun.{HasRun, sinks};
+
+use crate::fault::RunFault;
+use crate::turns::go_through;
+use golf_base::{Gate, List, Memory, Sink, write_all};
+use golf_data::{Code, Ending};
+use golf_schedules::Options;
+use golf_texts::{Status, ending_line, stopped_line};
+use std::alloc::Global;
+use std::thread::Threads;
+
+// The last line of a run of so many turns.
+pub(crate) fn last_line(
+    alloc: Global,
+    texts: &[List<u8>],
+    turns: u32,
+    ending: Option<Ending>,
+) -> Result<List<u8>, Memory>
+    ensures { IfOk result (λ line. line ≡ last_bytes texts.now turns ending) }
+{
+    match ending {
+        Some(ending) => ending_line(alloc, texts, ending),
+        None => stopped_line(alloc, turns),
+    }
+}
+
+pub(crate) fn status_by(reported: bool, ending: Option<Ending>) -> Status
+    ensures { result ≡ status_when reported ending }
+{
+    match ending {
+        Some(Ending::Returned) if reported => Status::Found,
+        Some(Ending::Returned) => Status::Clean,
+        Some(Ending::Panicked { .. } | Ending::Asleep) => Status::Crashed,
+        None => Status::Spent,
+    }
+}
+
+/// Runs the code by the options, and answers how the program ends. What a turn prints is written to
+/// `out` after it, the report of a collection to `err` after that, and at the end the last line.
+/// Behind a write that failed nothing is written, and where memory is wanting no write is cut. The
+/// gate is handed to each marking.
+pub fn run<R: Threads + Sync, O: Sink, E: Sink, G: Gate + Sync>(
+    rt: &R,
+    alloc: Global,
+    code: &Code,
+    options: Options,
+    out: &mut O,
+    err: &mut E,
+    gate: &G,
+) -> Result<Status, RunFault>
+    requires places { HasPlaces code.now }
+    requires limits { IsWithinLimits options }
+    ensures { HasRun result code.now options
+        (sinks (O.written out.old) (O.faults out.old) (E.written err.old) (E.faults err.old))
+        (sinks (O.written out.new) (O.faults out.new) (E.written err.new) (E.faults err.new)) }
+{
+    let course = go_through(rt, alloc, code, options, out, err, gate)?;
+    let line = last_line(alloc, code.texts.as_slice(), course.turns, course.ending)?;
+    write_all(err, line.as_slice())?;
+    Ok(status_by(course.totals.reported != 0, course.ending))
+}

@@ -1,0 +1,67 @@
+//! Runs code, and writes nothing.
+
+ghost use Rattle.std.specs.Prelude.{None, IfOk};
+ghost use Rattle.golf_data.specs.Places.{HasPlaces};
+ghost use Rattle.golf_schedules.specs.Options.{IsWithinLimits};
+ghost use Rattle.golf_run.specs.IsOutcome.{IsOutcome};
+
+use crate::running::{last_line, status_by};
+use crate::turns::go_through;
+use golf_base::{Failed, Gate, List, Memory, Sink};
+use golf_data::Code;
+use golf_schedules::Options;
+use golf_texts::{Status, Totals};
+use std::alloc::Global;
+use std::thread::Threads;
+
+/// What a run came to.
+#[derive(Debug, Drop)]
+pub struct Outcome {
+    /// How the program ends.
+    pub status: Status,
+    /// What the reports of its collections come to.
+    pub totals: Totals,
+    /// The last line.
+    pub line: List<u8>,
+}
+
+// A sink that lets all bytes go.
+#[derive(Drop)]
+struct Nowhere;
+
+impl Sink for Nowhere {
+    ghost written = { λ _. None };
+
+    ghost faults = { λ _. 0 };
+
+    fn write(&mut self, piece: &[u8]) -> Result<usize, Failed> {
+        Ok(piece.len())
+    }
+}
+
+/// Runs the code by the options as `run` does, but writes nothing, and answers what the run came to.
+pub fn survey<R: Threads + Sync, G: Gate + Sync>(
+    rt: &R,
+    alloc: Global,
+    code: &Code,
+    options: Options,
+    gate: &G,
+) -> Result<Outcome, Memory>
+    requires places { HasPlaces code.now }
+    requires limits { IsWithinLimits options }
+    ensures { IfOk result (λ outcome. IsOutcome outcome code.now options) }
+{
+    let mut out = Nowhere;
+    let mut err = Nowhere;
+    // A write to nowhere does not fail.
+    let course = match go_through(rt, alloc, code, options, &mut out, &mut err, gate) {
+        Ok(course) => course,
+        Err(_) => return Err(Memory),
+    };
+    let line = last_line(alloc, code.texts.as_slice(), course.turns, course.ending)?;
+    Ok(Outcome {
+        status: status_by(course.totals.reported != 0, course.ending),
+        totals: course.totals,
+        line,
+    })
+}

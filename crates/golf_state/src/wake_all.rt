@@ -1,0 +1,74 @@
+//! Who is woken where all who wait on an object are, by the lines that they stand in.
+
+ghost use Rattle.std.specs.Prelude.{◌≡◌, ◌≤◌, ◌^◌, false, true, Some};
+ghost use Rattle.golf_model.specs.Changes.{wake_all};
+ghost use Rattle.golf_model.specs.ReadersWriters.{readers_next};
+ghost use Rattle.golf_state.specs.Lined.{has_line};
+ghost use Rattle.golf_state.specs.Woken.{waking_of};
+ghost use Rattle.golf_state.specs.WokenAll.{HasWoken, NobodyWoken};
+
+use crate::state::State;
+use crate::waking::Waking;
+use golf_base::ObjectId;
+use golf_data::Side;
+
+// All goroutines that wait on the object with that side go on, as far as they are woken.
+//
+// The last one comes first: it stands last in line, from where it is gone at no cost.
+fn wake_side(state: &mut State, object: ObjectId, side: Side, how: Waking)
+    requires { has_line false side ≡ true }
+    ensures woken { HasWoken object.0 how state.old state.new }
+    ensures nobody { NobodyWoken object.0 side how state.new.goroutines }
+{
+    let mut before = state.ticket_bound(object, side, how);
+    while let Some(holder) = state.holder_before(object, side, before) {
+        before = holder.ticket;
+        if let Some(wakening) = state.wakening(holder.goroutine, object, how) {
+            state.wake(holder.goroutine, wakening);
+        }
+    }
+}
+
+// How many readers of a reader and writer mutex have a ticket below this one.
+fn readers_before(state: &State, object: ObjectId, ticket: u64) -> usize
+    ensures count { result ≡ readers_next (Some ticket) object.0 state.now.goroutines }
+    ensures few { result ≤ 2 ^ 32 }
+{
+    let mut count = 0;
+    let mut before = ticket;
+    while let Some(holder) = state.holder_before(object, Side::Read, before) {
+        before = holder.ticket;
+        if state.is_waiting(holder, object, Side::Read) {
+            count += 1;
+        }
+    }
+    count
+}
+
+/// How many readers of a reader and writer mutex are served: those with a ticket below this one, or
+/// all. It looks at those that stand in line there alone.
+pub fn readers_next(state: &State, object: ObjectId, below: Option<u64>) -> usize
+    ensures count { result ≡ readers_next below object.0 state.now.goroutines }
+    ensures few { result ≤ 2 ^ 32 }
+{
+    let bound = match below {
+        Some(ticket) => ticket,
+        None => state.ticket_bound(object, Side::Read, Waking::ToReaders(None)),
+    };
+    readers_before(state, object, bound)
+}
+
+/// All goroutines that wait on the object go on, as far as they are woken. It looks at those that
+/// stand in line there alone.
+pub fn wake_all(state: &mut State, object: ObjectId, how: Waking)
+    ensures { state.new ≡ wake_all object.0 (waking_of how) state.old }
+{
+    match how {
+        Waking::Closing(_) => {
+            wake_side(state, object, Side::Receive, how);
+            wake_side(state, object, Side::Send, how);
+        }
+        Waking::AtZero => wake_side(state, object, Side::Group, how),
+        Waking::ToReaders(_) => wake_side(state, object, Side::Read, how),
+    }
+}

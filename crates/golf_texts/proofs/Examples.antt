@@ -1,0 +1,36 @@
+-- The writes of a small run, worked out by hand.
+use Rattle.std.proofs.Common.{◌≡◌, refl, ℕ, true, List, [], ◌∷◌, ◌++◌, replicate, None}
+use Rattle.std.specs.Prelude.{codes}
+use Rattle.std.specs.Fmt.{digits}
+use Rattle.golf_data.specs.declared.code.Code.{Code}
+use Rattle.golf_data.specs.declared.code.Instr.{Instr}
+use Rattle.golf_model.specs.Living.{live_list}
+use Rattle.golf_model.specs.Reaching.{reach}
+use Rattle.golf_model.proofs.Examples.Writing.{function, push, new_channel, code_with, lowest, second}
+use Rattle.golf_schedules.specs.declared.options.Options.{Options}
+use Rattle.golf_schedules.specs.declared.schedule.Schedule.{Schedule}
+use Rattle.golf_texts.specs.Meaning.{events_of, last_of, end_of}
+use Rattle.golf_texts.specs.Writes.{Write, event_writes_of, writes_of}
+
+-- it prints, leaves a goroutine behind, collects and prints again
+abbrev leak : Code
+leak =
+    code_with []
+    (function 0 0 1 (push 1 ∷ Instr.Print 1 ∷ (new_channel 0 ++ (Instr.Go 1 1 ∷ Instr.Collect ∷ push 2 ∷ Instr.Print 1 ∷ Instr.Return ∷ [])))
+    ∷ function 1 1 11 (Instr.Load 0 ∷ Instr.Receive ∷ Instr.Drop ∷ Instr.Return ∷ [])
+    ∷ [])
+
+-- goroutine 2 comes to its wait before the collection
+abbrev choices : Options
+choices = record { schedule = Schedule.Choices (lowest 5 ++ (second 2 ++ lowest 4)); turns = 100; every = None; markers = 1; recover = true }
+
+abbrev silent : ℕ → List Write
+silent n = replicate n (Write.ToOut [])
+
+pub leak_writes : writes_of leak choices
+    ≡ silent 1 ++ (Write.ToOut (codes "1\n") ∷ silent 6
+    ++ (Write.ToErr (codes "collection 1: marked 0, reported 1, kept 0, reclaimed 1, objects 0\ngoroutine 2: chan receive at line 12, started at line 5\n") ∷ silent 1
+    ++ (Write.ToOut (codes "2\n") ∷ silent 1
+    ++ (Write.ToErr [] ∷ []))))
+unfolding event_writes_of writes_of events_of last_of end_of reach live_list digits
+leak_writes = refl

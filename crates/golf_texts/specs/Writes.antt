@@ -1,0 +1,66 @@
+-- What the run of a code writes, in its order.
+use Rattle.std.specs.Prelude.{ℕ, Bool, true, false, List, [], ◌∷◌, ◌++◌, map}
+use Rattle.golf_data.specs.declared.code.Code.{Code}
+use Rattle.golf_data.specs.declared.report.Book.{Book}
+use Rattle.golf_data.specs.declared.report.Report.{Report}
+use Rattle.golf_model.specs.State.{State, start}
+use Rattle.golf_model.specs.Turn.{step}
+use Rattle.golf_model.specs.Collecting.{plain_collect, sets_finalisers}
+use Rattle.golf_model.specs.Running.{Event, has_ended, happens, stop_in}
+use Rattle.golf_model.specs.Reporting.{book_after, new_book, reports_from}
+use Rattle.golf_schedules.specs.declared.options.Options.{Options}
+use Rattle.golf_texts.specs.Texts.{report_text}
+use Rattle.golf_texts.specs.Meaning.{events_of, end_of}
+
+-- bytes that go to standard output, or to standard error
+pub data Write : Type 0 where
+  ToOut : (bytes : List ℕ) → Write
+  ToErr : (bytes : List ℕ) → Write
+
+-- what goes to standard output of these writes, and to standard error
+abbrev pub out_bytes : List Write → List ℕ
+out_bytes [] = []
+out_bytes (Write.ToOut bytes ∷ ws) = bytes ++ out_bytes ws
+out_bytes (Write.ToErr bytes ∷ ws) = out_bytes ws
+
+abbrev pub err_bytes : List Write → List ℕ
+err_bytes [] = []
+err_bytes (Write.ToOut bytes ∷ ws) = err_bytes ws
+err_bytes (Write.ToErr bytes ∷ ws) = bytes ++ err_bytes ws
+
+-- the state with its output taken
+abbrev pub emptied : State → State
+emptied s = record s { output = [] }
+
+abbrev pub tells : Report → Write
+tells r = Write.ToErr (report_text r)
+
+-- a book, and the collections at these stops after it
+abbrev pub books : Bool → Bool → Book → List State → Book
+books recover sets book [] = book
+books recover sets book (p ∷ ps) = books recover sets (book_after recover sets book p) ps
+
+module _ (code : Code) where
+  -- what an event prints: what its turn does, if it is one
+  abbrev pub prints_in : State → Event → List Write
+  prints_in s (Event.Turn c) = Write.ToOut (step code (emptied s) c).output ∷ []
+  prints_in s Event.Collect = []
+
+  module _ (recover sets : Bool) where
+    -- what an event writes: what its turn prints, and then the report of the collection that follows; nothing where the program has ended
+    abbrev pub writes_in : Bool → Book → State → Event → List Write
+    writes_in true book s e = []
+    writes_in false book s e = prints_in s e ++ map tells (reports_from recover sets book (stop_in plain_collect code false s e))
+
+    -- what the events write, one after another
+    abbrev pub writes_from : Book → State → List Event → List Write
+    writes_from book s [] = []
+    writes_from book s (e ∷ es) = writes_in (has_ended s) book s e ++ writes_from (books recover sets book (stop_in plain_collect code (has_ended s) s e)) (happens code s e) es
+
+-- what the events of a run write
+unfoldable pub event_writes_of : Code → Options → List Write
+event_writes_of code options = writes_from code options.recover (sets_finalisers code) new_book (start code) (events_of options)
+
+-- what a run writes: what its events write, and then its last line
+unfoldable pub writes_of : Code → Options → List Write
+writes_of code options = event_writes_of code options ++ Write.ToErr (end_of code options) ∷ []

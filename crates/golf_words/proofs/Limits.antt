@@ -1,0 +1,64 @@
+-- The numbers of a line are within their limits.
+use Rattle.std.proofs.Common.{◌≡◌, ◌&&◌, ℕ, ◌≤◌, Bool, true, false, if◌then◌else◌, List, [], ◌∷◌, Option, Some, None, IfSome, Result, Ok, Err, IfOk, option_and_then, option_map, nat_le, bytes_eq, codes, refl, sym, subst, arith}
+use Rattle.std.proofs.lemmas.Bool.{and_parts}
+use Rattle.std.proofs.lemmas.Bool.Decides.{nat_tests}
+use Rattle.golf_schedules.specs.declared.schedule.Schedule.{Schedule}
+use Rattle.golf_words.specs.Values.{Text, if_within, number_of, number_within}
+use Rattle.golf_words.specs.Words.{Use, schedule_in, setting, value_in, is_used, every_in, markers_in, turns_in, run_of, uses_after, number_word, generate_of, line_of, IsWithin}
+use Rattle.golf_words.specs.declared.line.Line.{Line}
+
+true-le : (a b : ℕ) → nat_le a b ≡ true → a ≤ b
+true-le a b h = grind (arith, nat_tests)
+
+-- what is said of a number that is read
+abbrev Between : ℕ → ℕ → Option ℕ → Type 0
+Between least most o = IfSome o (λ n. (least ≤ n) × (n ≤ most))
+
+module _ (least most : ℕ) where
+  tested : (k : ℕ) (b : Bool) → (nat_le least k && nat_le k most) ≡ b → Between least most (if b then Some k else None)
+  tested k true e = let p = and_parts (nat_le least k) (nat_le k most) e in (true-le least k p.0, true-le k most p.1)
+  tested k false e = tt
+
+  within : (m : Option ℕ) → Between least most (option_and_then (if_within least most) m)
+  within None = tt
+  within (Some k) = tested k (nat_le least k && nat_le k most) refl
+
+  set-within : (default : ℕ) → least ≤ default → default ≤ most → (v : Option Text) → Between least most (setting v default (number_within least most))
+  set-within default low high None = (low, high)
+  set-within default low high (Some text) = within (number_of text)
+
+run-by : (recover : Bool) (schedule : Option Schedule) (turns : Option ℕ) (every : Option (Option ℕ)) (markers : Option ℕ) → Between 1 10000000 turns → Between 1 16 markers
+    → IfSome (option_and_then (λ schedule. option_and_then (λ turns. option_and_then (λ every. option_map (λ markers. Line.Run (record { schedule = schedule; turns = turns; every = every; markers = markers; recover = recover })) markers) every) turns) schedule) IsWithin
+run-by recover None turns every markers t m = tt
+run-by recover (Some s) None every markers t m = tt
+run-by recover (Some s) (Some n) None markers t m = tt
+run-by recover (Some s) (Some n) (Some e) None t m = tt
+run-by recover (Some s) (Some n) (Some e) (Some k) t m = record { turns = t.1; some = m.0; few = m.1 }
+
+run-within : (o : Option (List Use)) → IfSome (option_and_then run_of o) IsWithin
+run-within None = tt
+run-within (Some us) = run-by (is_used us (codes "recover")) (schedule_in us) (turns_in us) (every_in us) (markers_in us)
+    (set-within 1 10000000 1000000 (omega arith) (omega arith) (value_in us (codes "turns")))
+    (set-within 1 16 1 (omega arith) (omega arith) (value_in us (codes "markers")))
+
+number-within : (o : Option ℕ) → Between 1 5000 o → IfSome (option_map (λ number. Line.Generate number) o) IsWithin
+number-within None h = tt
+number-within (Some n) h = h
+
+generate-within : (o : Option Text) → IfSome (option_and_then (λ n. option_map (λ number. Line.Generate number) (number_within 1 5000 n)) o) IsWithin
+generate-within None = tt
+generate-within (Some text) = number-within (number_within 1 5000 text) (within 1 5000 (number_of text))
+
+by-name : (a b : Bool) (x y : Option Line) → IfSome x IsWithin → IfSome y IsWithin → IfSome (if a then x else (if b then y else None)) IsWithin
+by-name true b x y h i = h
+by-name false true x y h i = i
+by-name false false x y h i = tt
+
+-- every line
+pub line-within : (words : List Text) → IfSome (line_of words) IsWithin
+line-within [] = tt
+line-within (word ∷ rest) = by-name (bytes_eq (codes "run") word) (bytes_eq (codes "generate") word) (option_and_then run_of (uses_after [] None rest)) (generate_of rest) (run-within (uses_after [] None rest)) (generate-within (number_word rest))
+
+pub as_within : {E : Type 0} (words : List Text) (r : Result (Option Line) E) → IfOk r (λ line. line ≡ line_of words) → IfOk r (λ line. IfSome line IsWithin)
+as_within words (Ok line) h = subst (λ o. IfSome o IsWithin) (sym h) (line-within words)
+as_within words (Err e) h = tt
