@@ -40,8 +40,7 @@ def best(measure):
 
 
 def turn(program, kind, blocked):
-    # a mutex is unlocked with a look at all goroutines
-    turns = 5_000_000 // (1 + blocked // 500) if kind == 'mutex' else 5_000_000
+    turns = 5_000_000
     before = best(lambda: processor_time(program, kind, blocked, 0))
     return (best(lambda: processor_time(program, kind, blocked, turns)) - before) / turns * 1e9
 

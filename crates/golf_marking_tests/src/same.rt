@@ -12,7 +12,7 @@ use std::test::Fail;
 use std::thread::Threads;
 
 /// How many graphs that look random are marked.
-const GRAPHS: u32 = 1000;
+const GRAPHS: u32 = 200;
 
 fn is_same(one: &Marked, other: &Marked) -> bool {
     one.flags.as_slice() == other.flags.as_slice()
