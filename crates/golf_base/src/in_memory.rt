@@ -1,7 +1,7 @@
 //! A source and a sink over memory, for tests: which of their calls fail, and how much they give
 //! or take, is the caller's choice.
 
-ghost use Rattle.std.specs.Prelude.{◌≡◌, ◌<◌, ◌≤◌, ◌↔◌, [], IfOk, IsErr, OnOk, OnErr, length, take, drop, Some, Contains};
+ghost use Rattle.std.specs.Prelude.{◌≡◌, ◌<◌, ◌≤◌, ◌↔◌, [], IfOk, IsErr, OnOk, OnErr, length, drop, Some, Contains};
 ghost use Rattle.std.specs.Io.{ReadsAtMost, WritesAtMost};
 ghost use Rattle.std.specs.Io.KnownBytes.{ReadConsumes, WriteAppends};
 ghost use Rattle.golf_base.specs.Causes.{HasCause};

@@ -19,7 +19,7 @@ pub struct Room<T> {
 }
 
 impl<T> Model for Room<T> {
-    ghost use Rattle.std.specs.Prelude.{List, ℕ, ◌-◌, vec_len, vec_capacity};
+    ghost use Rattle.std.specs.Prelude.{List, ◌-◌, vec_len, vec_capacity};
     ghost use Rattle.golf_base.specs.Roomy.{Roomy, roomy_code};
 
     ghost Value = { Roomy T };

@@ -1,9 +1,9 @@
 //! What a program reads from, what it writes to, and the gate that markers pass.
 
-ghost use Rattle.std.specs.Prelude.{◌≡◌, ◌<◌, ◌≤◌, List, ℕ, length, Option, IfOk, IsErrOf, OnOk, take};
+ghost use Rattle.std.specs.Prelude.{◌≡◌, ◌<◌, ◌≤◌, List, ℕ, length, Option, IfOk, IsErrOf, OnOk};
 ghost use Rattle.std.specs.Io.{ReadsAtMost, WritesAtMost};
 ghost use Rattle.std.specs.Io.KnownBytes.{Appends, Consumes, IsAtEnd, ReadConsumes, WriteAppends};
-ghost use Rattle.golf_base.specs.Causes.{next_fault, HasCause, Rose, ReadsSome, WritesFront};
+ghost use Rattle.golf_base.specs.Causes.{next_fault, HasCause, ReadsSome, WritesFront};
 ghost use Rattle.golf_base.specs.ReadCause.{ReadCause};
 ghost use Rattle.golf_base.specs.declared.streams.ReadError.TheVariants as errors;
 

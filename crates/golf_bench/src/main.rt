@@ -1,7 +1,7 @@
 //! Measures the marking.
 //!
-//! With the words SHAPE NODES MARKERS it makes a graph of that shape (`list`, `shuffled` or `tree`)
-//! with so many nodes, marks it by so many markers, 0 for the plain marking in one thread, and
+//! With the words SHAPE NODES MARKERS it makes a graph of that shape (`list`, `shuffled`, `tree`,
+//! `quad`, `random` or `dense`) with so many nodes, marks it by so many markers, 0 for the plain marking in one thread, and
 //! prints what that took. With no word it marks a small graph of each shape, and prints how many
 //! nodes are marked.
 #![tactic(auto)]
@@ -14,13 +14,23 @@ use measure::{BenchFault, count_marked, measure};
 use order::{Order, read_order};
 use std::env;
 
+/// All shapes.
+const SHAPES: [Shape; 6] = [
+    Shape::List,
+    Shape::Shuffled,
+    Shape::Tree,
+    Shape::Quad,
+    Shape::Random,
+    Shape::Dense,
+];
+
 /// How many nodes the small graphs have.
 const SMALL: u32 = 1000;
 
 fn main(rt: HostRuntime) -> Result<(), BenchFault> {
     let words = env::args(&rt)?.skip(1).collect::<Vec<String>>(rt.alloc())?;
     if words.is_empty() {
-        for shape in [Shape::List, Shape::Shuffled, Shape::Tree] {
+        for shape in SHAPES {
             let graph = shaped(rt.alloc(), shape, SMALL)?;
             let marked = count_marked(&rt, rt.alloc(), &graph)?;
             println!(rt; "{shape:?}: {marked} of {SMALL} nodes are marked")?;
@@ -35,7 +45,7 @@ fn main(rt: HostRuntime) -> Result<(), BenchFault> {
         },
     ) = read_order(words.as_slice())
     else {
-        eprintln!(rt; "usage: golf_bench [list|shuffled|tree NODES MARKERS]")?;
+        eprintln!(rt; "usage: golf_bench [list|shuffled|tree|quad|random|dense NODES MARKERS]")?;
         return Ok(());
     };
     let graph = shaped(rt.alloc(), shape, nodes)?;

@@ -18,6 +18,9 @@ fn shape_of(word: &str) -> Option<Shape> {
         "list" => Some(Shape::List),
         "shuffled" => Some(Shape::Shuffled),
         "tree" => Some(Shape::Tree),
+        "quad" => Some(Shape::Quad),
+        "random" => Some(Shape::Random),
+        "dense" => Some(Shape::Dense),
         _ => None,
     }
 }

@@ -1,10 +1,10 @@
 //! A close.
 
-ghost use Rattle.std.specs.Prelude.{◌≡◌, drop};
+ghost use Rattle.std.specs.Prelude.{drop};
 ghost use Rattle.golf_theory.specs.Maps.{find};
 ghost use Rattle.golf_model.specs.Acting.{at_channel};
 ghost use Rattle.golf_model.specs.Channels.{closes, closes_open};
-ghost use Rattle.golf_state.specs.Doing.{does, Stands};
+ghost use Rattle.golf_state.specs.Doing.{Stands};
 ghost use Rattle.golf_state.specs.Outcomes.{Comes};
 
 use crate::channel::{channel_at, close_it};

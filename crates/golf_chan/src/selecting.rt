@@ -2,7 +2,7 @@
 
 ghost use Rattle.std.specs.Prelude.{◌≡◌, Some, reverse, drop, IfOk, OnErr, option_map};
 ghost use Rattle.golf_model.specs.Selecting.{selects, selects_from, selects_none, proceeds, chosen};
-ghost use Rattle.golf_state.specs.Doing.{does, Stands};
+ghost use Rattle.golf_state.specs.Doing.{Stands};
 ghost use Rattle.golf_state.specs.Operands.{operands_of};
 ghost use Rattle.golf_state.specs.Outcomes.{Comes};
 ghost use Rattle.golf_chan.specs.Offers.{plain_offer, plain_offers};

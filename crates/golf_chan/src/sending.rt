@@ -2,7 +2,7 @@
 
 ghost use Rattle.std.specs.Prelude.{◌≡◌, [], IfOk, OnErr};
 ghost use Rattle.golf_model.specs.Channels.{sends, sends_on};
-ghost use Rattle.golf_state.specs.Doing.{does, Stands};
+ghost use Rattle.golf_state.specs.Doing.{Stands};
 ghost use Rattle.golf_state.specs.Going.{went};
 ghost use Rattle.golf_state.specs.Outcomes.{Comes};
 

@@ -19,12 +19,22 @@ use std::alloc::Global;
 /// tree, in the order in which their prints begin, an outer one before an inner one that begins at
 /// the same token. `None` stands for a callee, a package, a function's name, `_`, `nil` and a call
 /// without a result.
-#[derive(Drop)]
 pub struct Checked {
     pub file: File,
     /// What names mean outside all functions.
     pub scope: Scope,
     pub types: List<Option<GoType>>,
+}
+
+// Written out once here, so that no other crate goes through the fields where it lets a checked file go.
+impl Drop for Checked {
+    fn drop(self) {
+        let Checked {
+            file: _,
+            scope: _,
+            types: _,
+        } = self;
+    }
 }
 
 // What was found of the declarations of a file: the scope outside all functions, and the types of

@@ -11,9 +11,10 @@ use golf_check_expressions::{plain_type, pointer_to};
 use golf_check_forms::{TypedName, result_type, typed_names};
 use golf_check_statements::all;
 use golf_endings::all_ending;
-use golf_grammar::{Func, Name, Receiver};
+use golf_grammar::{Func, Receiver};
 use golf_types::{
-    GoType, Scope, TypeFault, copy_optional, declare, may_be_declared, meaning_at, require,
+    GoType, Scope, TypeFault, copy_name, copy_optional, declare, may_be_declared, meaning_at,
+    require,
 };
 use std::alloc::Global;
 
@@ -118,14 +119,6 @@ fn head(
 {
     optional_parameter(alloc, func.line, scope, receiver)?;
     behind_receiver(alloc, scope, func, names, types)
-}
-
-fn copy_name(alloc: Global, name: &[u8]) -> Result<Name, Memory>
-    ensures { IfOk result (λ n. n ≡ name.now) }
-{
-    let mut copy = List::new(alloc);
-    copy.extend_from_slice(name)?;
-    Ok(copy)
 }
 
 fn named_receiver(alloc: Global, scope: &Scope, receiver: &Receiver) -> Result<TypedName, Memory>

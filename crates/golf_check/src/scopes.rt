@@ -1,36 +1,14 @@
 //! The scope outside all functions.
 
-ghost use Rattle.std.specs.Prelude.{◌≡◌, [], IfOk, OnOk};
+ghost use Rattle.std.specs.Prelude.{◌≡◌, IfOk, OnOk};
 ghost use Rattle.golf_types.specs.Files.{bare_file, with_types, with_forms, outside as outside_of};
 
-use golf_base::{List, Memory};
+use golf_base::Memory;
 use golf_check_forms::{form_globals, function_types, global_types, struct_types};
 use golf_check_names::{add_methods, naming_of};
 use golf_grammar::Decl;
-use golf_types::{FileScope, Imports, Locals, Naming, Scope};
+use golf_types::{FileScope, Imports, Locals, Scope};
 use std::alloc::Global;
-
-fn bare(alloc: Global, imports: Imports, naming: Naming) -> FileScope
-    ensures { result ≡ record { imports = imports; names = naming.names; meanings = naming.meanings; structs = naming.structs; fields = []; globals = []; functions = [] } }
-{
-    let Naming {
-        constants: _,
-        globals: _,
-        functions: _,
-        names,
-        meanings,
-        structs,
-    } = naming;
-    FileScope {
-        imports,
-        names,
-        meanings,
-        structs,
-        fields: List::new(alloc),
-        globals: List::new(alloc),
-        functions: List::new(alloc),
-    }
-}
 
 fn outside(alloc: Global, file: FileScope) -> Scope
     ensures { result ≡ outside_of file }
@@ -53,7 +31,7 @@ pub fn bare_scope(alloc: Global, imports: Imports, decls: &[Decl]) -> Result<Sco
 {
     let mut naming = naming_of(alloc, decls)?;
     add_methods(alloc, &mut naming, decls)?;
-    Ok(outside(alloc, bare(alloc, imports, naming)))
+    Ok(outside(alloc, naming.into_file_scope(alloc, imports)))
 }
 
 fn add_written_types(alloc: Global, scope: &mut Scope, decls: &[Decl]) -> Result<(), Memory>

@@ -15,7 +15,7 @@ pub use literals::fits_int;
 pub use operators::{as_value, is_name, is_value, late, result_base, value, without_package};
 pub use selectors::select;
 pub use values::{
-    assignable, assignable_to, can_give, can_take, element, has_any, has_base, has_channel,
-    has_slice,
+    assignable, assignable_to, begins_channel, begins_slice, can_give, can_take, element, has_any,
+    has_base, has_channel, has_slice,
 };
 pub use written_types::{made_base, plain_type, pointer_to, type_is_there, written, written_type};

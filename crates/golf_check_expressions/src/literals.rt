@@ -1,6 +1,6 @@
 //! Names and literals, `make` and `new`.
 
-ghost use Rattle.std.specs.Prelude.{◌≡◌, ◌≤◌, ◌++◌, ◌&&◌, [], map, flat_map, SomeIff, IfOk, is_some, slice_get, option_and_then};
+ghost use Rattle.std.specs.Prelude.{◌≡◌, ◌≤◌, ◌++◌, [], map, flat_map, SomeIff, IfOk, is_some, slice_get, option_and_then};
 ghost use Rattle.std.specs.List.{list_any};
 ghost use Rattle.std.specs.Str.{bytes_eq};
 ghost use Rattle.golf_types.specs.Faults.{Tells, broken as broken_of};

@@ -1,6 +1,6 @@
 //! How operands stand, and what operators make of them.
 
-ghost use Rattle.std.specs.Prelude.{◌≡◌, ◌&&◌, ◌++◌};
+ghost use Rattle.std.specs.Prelude.{◌≡◌, ◌&&◌};
 ghost use Rattle.golf_types.specs.Faults.{Tells, broken as broken_of};
 ghost use Rattle.golf_types.specs.Types.{given as given_of, has_base as has_base_of, has_layer, is_slice, element as element_of};
 ghost use Rattle.golf_types.specs.Expressions.{late_faults, value_faults, name_faults, value as value_of_base, unary_faults, unary_meaning, result_base as result_base_of, operand_base as operand_base_of, binary_fits as binary_fits_of, without_package as without_package_of};
@@ -76,7 +76,7 @@ pub fn without_package(operand: Operand) -> Operand
     ensures { result ≡ without_package_of operand }
 {
     match operand {
-        Operand::Package(_) => Operand::TypeName,
+        Operand::Package(..) => Operand::TypeName,
         _ => operand,
     }
 }

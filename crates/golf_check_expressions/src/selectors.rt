@@ -213,8 +213,8 @@ pub fn select(
 ) -> Result<Operand, TypeFault>
     ensures { Finds result (selected_from line file.now name.now operand) }
 {
-    match operand {
-        Operand::Package(from) => called_name(line, package_member(from, name)),
+    match &operand {
+        Operand::Package(from) => called_name(line, package_member(*from, name)),
         _ => {
             let given = as_value(alloc, line, operand)?;
             value_member(alloc, line, file, name, &given)

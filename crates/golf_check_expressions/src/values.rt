@@ -2,9 +2,8 @@
 //! is not known passes all.
 
 ghost use Rattle.std.specs.Prelude.{◌≡◌};
-ghost use Rattle.golf_types.specs.Types.{has_base as has_base_of, has_layer, starts_with, is_slice, is_channel, is_any, gives, takes, element as element_of, inside as inside_of, takes_nil as takes_nil_of, narrows as narrows_of, assignable_type as assignable_type_of, assignable_to as assignable_to_of, assignable as assignable_of, comparable as comparable_of};
+ghost use Rattle.golf_types.specs.Types.{has_base as has_base_of, has_layer, starts_with, is_slice, is_channel, is_any, gives, takes, element as element_of, takes_nil as takes_nil_of, narrows as narrows_of, assignable_type as assignable_type_of, assignable_to as assignable_to_of, assignable as assignable_of, comparable as comparable_of};
 
-use golf_base::List;
 use golf_types::{Base, Given, GoType, Layer, same_base, same_layers, same_type};
 
 /// Whether a value has this type without layers.
@@ -18,7 +17,8 @@ pub fn has_base(base: Base, given: &Given) -> bool
     }
 }
 
-fn begins_slice(layers: &[Layer]) -> bool
+/// Whether layers are those of a slice.
+pub fn begins_slice(layers: &[Layer]) -> bool
     ensures { result ≡ starts_with is_slice layers.now }
 {
     match layers {
@@ -38,7 +38,8 @@ pub fn has_slice(given: &Given) -> bool
     }
 }
 
-fn begins_channel(layers: &[Layer]) -> bool
+/// Whether layers are those of a channel.
+pub fn begins_channel(layers: &[Layer]) -> bool
     ensures { result ≡ starts_with is_channel layers.now }
 {
     match layers {
@@ -116,28 +117,11 @@ pub fn can_take(given: &Given) -> bool
     }
 }
 
-fn inside(layers: List<Layer>, base: Base) -> Option<GoType>
-    ensures { result ≡ inside_of layers base }
-{
-    if layers.is_empty() {
-        return None;
-    }
-    let mut layers = layers;
-    layers.remove(0);
-    Some(GoType { layers, base })
-}
-
 /// What a slice has or a channel carries.
 pub fn element(given: Given) -> Option<GoType>
     ensures { result ≡ element_of given }
 {
-    match given {
-        Given::Typed(t) => {
-            let GoType { layers, base } = t;
-            inside(layers, base)
-        }
-        _ => None,
-    }
+    given.into_element()
 }
 
 fn takes_nil(t: &GoType) -> bool

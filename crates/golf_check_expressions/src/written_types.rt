@@ -63,8 +63,8 @@ pub fn pointer_to(meaning: Option<Operand>) -> Option<Base>
 {
     match meaning {
         None => None,
-        Some(operand) => match operand {
-            Operand::Struct(number) => Some(Base::Pointer(number)),
+        Some(operand) => match &operand {
+            Operand::Struct(number) => Some(Base::Pointer(*number)),
             _ => None,
         },
     }

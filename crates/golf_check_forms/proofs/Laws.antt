@@ -1,6 +1,6 @@
 -- What a form keeps: everything but the rule that the arguments of a call break.
 use Rattle.std.proofs.Common.{◌≡◌, ℕ, ◌≤◌, List, [], ◌∷◌, length, refl, sym, ap, subst, ◌∙◌}
-use Rattle.std.specs.Prelude.{Option, Some, None, Result, Ok, Err, slice_get, slice_set, Bool, true, false, cond, codes}
+use Rattle.std.specs.Prelude.{Option, Some, None, Result, Ok, Err, slice_set, true, false, cond, codes}
 use Rattle.std.specs.Str.{bytes_eq}
 use Rattle.std.proofs.Math.Seq.{set_out}
 use Rattle.golf_base.specs.declared.Memory.{Memory}
@@ -23,7 +23,7 @@ use Rattle.golf_types.specs.declared.scopes.Member.{Member}
 use Rattle.golf_types.specs.declared.scopes.Member.TheVariants as members
 use Rattle.golf_types.specs.declared.scopes.FileScope.{FileScope}
 use Rattle.golf_types.specs.declared.scopes.Scope.{Scope}
-use Rattle.golf_types.specs.Faults.{IsFirst, Refuses, Tells}
+use Rattle.golf_types.specs.Faults.{IsFirst, Tells}
 use Rattle.golf_types.specs.Types.{given, given_type, type_of, type_given}
 use Rattle.golf_types.specs.Scopes.{member}
 use Rattle.golf_types.specs.Expressions.{Judged, leaf, value, called_name, struct_member, condition_member, condition_method, mutex_method, group_method, read_method, base_member, type_member, value_member, selected_from, package_member, without_package}

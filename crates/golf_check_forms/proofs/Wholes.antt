@@ -1,6 +1,6 @@
 -- What the answer for an expression with a list of parts is.
 use Rattle.std.proofs.Common.{◌≡◌, ℕ, List, map, sym, ap, subst, ◌∙◌}
-use Rattle.std.specs.Prelude.{Option, Result, Ok, Err}
+use Rattle.std.specs.Prelude.{Result}
 use Rattle.golf_base.specs.declared.Memory.{Memory}
 use Rattle.golf_grammar.specs.declared.types.TypeExpr.{TypeExpr}
 use Rattle.golf_grammar.specs.declared.expressions.Expr.{Expr}
@@ -12,12 +12,12 @@ use Rattle.golf_types.specs.declared.operands.Operand.TheVariants as operand
 use Rattle.golf_types.specs.declared.scopes.Scope.{Scope}
 use Rattle.golf_types.specs.Types.{with_layer}
 use Rattle.golf_types.specs.Scopes.{meaning}
-use Rattle.golf_types.specs.Written.{write, write_at, pointer_to}
+use Rattle.golf_types.specs.Written.{write, pointer_to}
 use Rattle.golf_types.specs.Expressions.{Judged, pointer_value}
 use Rattle.golf_types.specs.Calls.{called_with}
 use Rattle.golf_types.specs.Judging.{judge, judge_at}
 use Rattle.golf_types.proofs.JudgeLaws.{judge-Call, judge-SliceLiteral, judge-StructLiteral}
-use Rattle.golf_check_forms.specs.Forms.{without_late, Forms}
+use Rattle.golf_check_forms.specs.Forms.{Forms}
 
 module _ (r : Result Operand Memory) (l : ℕ) (s : Scope) (e : Expr) where
   same_form : (i j : Operand) → i ≡ j → Forms r i → Forms r j

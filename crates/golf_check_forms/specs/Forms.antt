@@ -1,5 +1,5 @@
 -- What an expression is by its form, whatever rules it breaks (Go specification, "Variable declarations": a variable has the type of its initialiser).
-use Rattle.std.specs.Prelude.{◌≡◌, ℕ, slice_get, Option, Some, None, Result, Ok, Err}
+use Rattle.std.specs.Prelude.{◌≡◌, ℕ, slice_get, None, Result, Ok, Err}
 use Rattle.golf_base.specs.declared.Memory.{Memory}
 use Rattle.golf_grammar.specs.declared.declarations.Decl.{Decl}
 use Rattle.golf_grammar.specs.declared.declarations.Decl.TheVariants as d

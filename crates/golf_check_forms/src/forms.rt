@@ -96,9 +96,9 @@ fn function_result(alloc: Global, file: &FileScope, number: u32) -> Result<Opera
 fn called(alloc: Global, file: &FileScope, callee: Operand) -> Result<Operand, Memory>
     ensures { Forms result (called_form file.now callee) }
 {
-    match callee {
-        Operand::Function(number) => function_result(alloc, file, number),
-        Operand::Method(number) => function_result(alloc, file, number),
+    match &callee {
+        Operand::Function(number) => function_result(alloc, file, *number),
+        Operand::Method(number) => function_result(alloc, file, *number),
         Operand::BuiltIn(built_in) => match built_in {
             BuiltIn::Length => Ok(value(alloc, Base::Int)),
             BuiltIn::NewCondition => Ok(value(alloc, Base::Condition)),

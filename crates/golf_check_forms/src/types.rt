@@ -7,19 +7,11 @@ ghost use Rattle.golf_types.specs.Files.{typed_names as typed_names_of, all_type
 use golf_base::{List, Memory};
 use golf_check_expressions::written_type;
 use golf_grammar::{Decl, Field, Func, Name, OwnedType, VarContent};
-use golf_types::{GoType, Scope, Signature, copy_optional};
+use golf_types::{GoType, Scope, Signature, copy_name, copy_optional};
 use std::alloc::Global;
 
 /// A name of a field or parameter, and its type, `None` where it is not known.
 pub type TypedName = (Name, Option<GoType>);
-
-fn copy_name(alloc: Global, name: &[u8]) -> Result<Name, Memory>
-    ensures { IfOk result (λ n. n ≡ name.now) }
-{
-    let mut copy = List::new(alloc);
-    copy.extend_from_slice(name)?;
-    Ok(copy)
-}
 
 fn typed_name(alloc: Global, scope: &Scope, name: &[u8], field: &Field) -> Result<TypedName, Memory>
     ensures { IfOk result (λ p. p ≡ (name.now, (write_at 0 scope.now field.now.of_type).type)) }

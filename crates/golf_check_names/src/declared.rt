@@ -2,7 +2,7 @@
 
 ghost use Rattle.std.specs.Prelude.{◌≡◌, flat_map, slice_get, OnOk, option_and_then};
 ghost use Rattle.golf_types.specs.Faults.{Tells, broken as broken_of};
-ghost use Rattle.golf_types.specs.Scopes.{kind_in as kind_in_of, meaning_in};
+ghost use Rattle.golf_types.specs.Scopes.{meaning_in};
 ghost use Rattle.golf_types.specs.Names.{number_of, is_number as is_number_of};
 ghost use Rattle.golf_types.specs.Files.{struct_number as struct_number_of, receiver_struct as receiver_struct_of, with_method, method_added, methods_added, may_be_named as may_be_named_of, kind_of as kind_of_of, is_field as is_field_of, is_method as is_method_of, fields_are as fields_are_of, method_is as method_is_of, function_faults, name_faults, names_faults, none_above, names_in as names_in_of, structs_in as structs_in_of, functions_in as functions_in_of, field_fault, content_faults, result_fault, type_faults, is_main as is_main_of, fits_main as fits_main_of, declares_main as declares_main_of, line_of as line_of_of, main_faults};
 
@@ -12,7 +12,7 @@ use golf_check_expressions::type_is_there;
 use golf_grammar::{Decl, Field, Func, Name, OwnedType, Receiver, VarContent};
 use golf_types::{
     FileScope, Meaning, Member, Members, Naming, Scope, Table, TypeFault, is_blank, is_reserved,
-    require,
+    kind_at, require,
 };
 use std::alloc::Global;
 
@@ -110,21 +110,12 @@ fn may_be_named(file: &FileScope, at: usize, name: &[u8]) -> bool
     !is_blank(name) && !is_reserved(name) && is_number(file.names.number_of(name), at)
 }
 
-fn kind_in(members: &Members, name: &[u8]) -> Option<Member>
-    ensures { result ≡ kind_in_of members.now name.now }
-{
-    match members.names.number_of(name) {
-        None => None,
-        Some(number) => members.kinds.as_slice().get(number).copied(),
-    }
-}
-
 fn kind_of(structs: &[Members], number: usize, name: &[u8]) -> Option<Member>
     ensures { result ≡ kind_of_of structs.now number name.now }
 {
     match structs.get(number) {
         None => None,
-        Some(members) => kind_in(members, name),
+        Some(members) => kind_at(members, name),
     }
 }
 

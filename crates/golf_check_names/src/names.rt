@@ -5,7 +5,7 @@ ghost use Rattle.golf_types.specs.Files.{const_base as const_base_of, field_name
 
 use golf_base::{List, Memory};
 use golf_grammar::{Const, Decl, Field, Name, Receiver};
-use golf_types::{Base, Meaning, Member, Members, Naming, Table};
+use golf_types::{Base, Meaning, Member, Members, Naming, Table, copy_name};
 use std::alloc::Global;
 
 /// The type of a constant.
@@ -39,14 +39,6 @@ fn add_field(alloc: Global, members: &mut Members, name: &[u8]) -> Result<(), Me
     members.names.add(alloc, name, place)?;
     members.kinds.push(field)?;
     Ok(())
-}
-
-fn copy_name(alloc: Global, name: &[u8]) -> Result<Name, Memory>
-    ensures { IfOk result (λ n. n ≡ name.now) }
-{
-    let mut copy = List::new(alloc);
-    copy.extend_from_slice(name)?;
-    Ok(copy)
 }
 
 fn add_names(alloc: Global, names: &mut List<Name>, field: &Field) -> Result<(), Memory>

@@ -10,7 +10,7 @@ use Rattle.golf_grammar.specs.declared.statements.Clause.TheFolds.{fold-roll-Stm
 use Rattle.golf_types.specs.declared.fault.TypeFault.{TypeFault}
 use Rattle.golf_types.specs.declared.types.GoType.{GoType}
 use Rattle.golf_types.specs.declared.scopes.Scope.{Scope}
-use Rattle.golf_types.specs.Statements.{Walk, Walked, in_order, clause_step, stmt_step, walk, walk_clause, walk_clause_at, Walks}
+use Rattle.golf_types.specs.Statements.{Walk, in_order, clause_step, stmt_step, walk, walk_clause, walk_clause_at, Walks}
 
 pub walk-Select : (l : ℕ) (cs : List Clause) (s : Scope) → walk (st.Select l cs) s ≡ in_order (map (walk_clause_at l) cs) s
 unfolding walk walk_clause

@@ -7,16 +7,17 @@ ghost use Rattle.golf_types.specs.Expressions.{given_by};
 ghost use Rattle.golf_types.specs.Judging.{judge};
 ghost use Rattle.golf_types.specs.Statements.{Adds, Moves, Walks, zero as zero_of, typed as typed_of, untyped as untyped_of, var_content, may_be_begun as may_be_begun_of, done_faults, begin_call as begin_call_of, result_faults, returned as returned_of, condition as condition_of, optional as optional_of, optional_test as optional_test_of, range_names_differ as range_names_differ_of, are_two as are_two_of, only_takes, is_outer, range_faults, hidden, hides, range_name as range_name_of, first_type as first_type_of, range_names as range_names_of, range_head as range_head_of, range_slots as range_slots_of, communication as communication_of, received as received_of, then};
 
-use crate::pairs::{assign_name, declare_new, define_name};
-use crate::simple::{define_received, is_nil, received, send, simple, type_given};
+use crate::pairs::{assign_name, define_name};
+use crate::simple::{define_received, is_nil, received, send, simple};
 use golf_base::List;
 use golf_check_expressions::{
-    assignable, assignable_to, called, callee, element, given, has_any, has_base, late, written,
+    assignable, assignable_to, begins_channel, begins_slice, called, callee, element, given,
+    has_any, has_base, late, written,
 };
 use golf_grammar::{Communication, Expr, OwnedExpr, OwnedSimple, RangeNames, TypeExpr, VarContent};
 use golf_types::{
-    Base, BuiltIn, Given, GoType, Layer, Operand, Scope, TypeFault, copy_optional, declare, hide,
-    is_blank, is_reserved, may_be_declared, plain, require,
+    Base, BuiltIn, Given, GoType, Layer, Operand, Scope, TypeFault, copy_optional, declare,
+    declare_new, hide, is_blank, is_reserved, may_be_declared, plain, require,
 };
 use std::alloc::Global;
 
@@ -68,7 +69,7 @@ fn untyped(
     let value = given(alloc, line, scope, e, types)?;
     require(line, 2, may_be_declared(scope, name))?;
     require(line, 23, !is_nil(&value))?;
-    declare(alloc, scope, name, type_given(value))?;
+    declare(alloc, scope, name, value.into_type())?;
     Ok(())
 }
 
@@ -262,31 +263,11 @@ fn only_takes_values(given: &Given) -> bool
     }
 }
 
-fn begins_channel(layers: &[Layer]) -> bool
-    ensures { result ≡ starts_with is_channel_layer layers.now }
-{
-    match layers {
-        [Layer::Chan, ..] => true,
-        [Layer::SendChan, ..] => true,
-        [Layer::ReceiveChan, ..] => true,
-        _ => false,
-    }
-}
-
 fn is_channel(given: &Given) -> bool
     ensures { result ≡ is_outer is_channel_layer given.now }
 {
     match given {
         Given::Typed(t) => begins_channel(t.layers.as_slice()),
-        _ => false,
-    }
-}
-
-fn begins_slice(layers: &[Layer]) -> bool
-    ensures { result ≡ starts_with is_slice_layer layers.now }
-{
-    match layers {
-        [Layer::Slice, ..] => true,
         _ => false,
     }
 }
@@ -328,6 +309,7 @@ pub fn range_head(
     Ok(value)
 }
 
+#[tactic(auto, using(golf_types::proofs::WalkLaws::new_breaks_none))]
 fn range_name(
     alloc: Global,
     scope: &mut Scope,
@@ -336,7 +318,8 @@ fn range_name(
 ) -> Result<(), TypeFault>
     ensures { Moves result (range_name_of name.now t scope.old) scope.old scope.new }
 {
-    declare_new(alloc, scope, !is_blank(name), name, t)
+    declare_new(alloc, scope, !is_blank(name), name, t)?;
+    Ok(())
 }
 
 fn first_type(alloc: Global, slice: bool, t: &Option<GoType>) -> Result<Option<GoType>, TypeFault>

@@ -6,5 +6,5 @@ mod pairs;
 mod simple;
 mod statements;
 
-pub use simple::{is_nil, type_given};
+pub use simple::is_nil;
 pub use statements::all;

@@ -1,24 +1,16 @@
 //! Names left of `:=` and `=` beside a receive.
 
-ghost use Rattle.std.specs.Prelude.{◌≡◌, IfOk};
+ghost use Rattle.std.specs.Prelude.{◌≡◌};
 ghost use Rattle.golf_types.specs.Faults.{Tells};
-ghost use Rattle.golf_types.specs.Statements.{Moves, kept_local as kept_local_of, kept_faults, is_new as is_new_of, pair_differs as pair_differs_of, kept_pair_faults, pair_faults, one_new as one_new_of, then, pair as pair_of, bool_type, assigned_name as assigned_name_of, put_in_faults, takes_value as takes_value_of, assigned_faults, assigned_pair_faults, assign_name as assign_name_of, assign_pair as assign_pair_of, define_name as define_name_of};
+ghost use Rattle.golf_types.specs.Statements.{Moves, kept_local as kept_local_of, kept_faults, is_new as is_new_of, pair_differs as pair_differs_of, kept_pair_faults, pair_faults, one_new as one_new_of, then, pair as pair_of, bool_type, put_in_faults, takes_value as takes_value_of, assigned_faults, assigned_pair_faults, assign_name as assign_name_of, assign_pair as assign_pair_of, define_name as define_name_of};
 
 use crate::simple::is_place;
-use golf_base::Memory;
 use golf_check_expressions::assignable;
 use golf_types::{
-    Base, GoType, Local, Operand, Scope, TypeFault, copy_optional, declare, given_type, is_blank,
-    is_here, is_reserved, may_be_declared, meaning_at, plain, require, type_of,
+    Base, GoType, Local, Operand, Scope, TypeFault, assigned_name, copy_optional, declare,
+    declare_new, given_type, is_new, is_reserved, may_be_declared, plain, require, type_of,
 };
 use std::alloc::Global;
-
-/// Whether a name would be declared.
-fn is_new(scope: &Scope, name: &[u8]) -> bool
-    ensures { result ≡ is_new_of scope.now name.now }
-{
-    !is_blank(name) && !is_here(scope, name)
-}
 
 fn keep_local(
     alloc: Global,
@@ -108,23 +100,7 @@ fn pair_fits(
     require(line, 24, is_new(scope, first) || is_new(scope, second))
 }
 
-/// Declares a variable where it is new.
-#[tactic(auto, using(golf_types::proofs::WalkLaws::stays))]
-pub fn declare_new(
-    alloc: Global,
-    scope: &mut Scope,
-    new: bool,
-    name: &[u8],
-    t: Option<GoType>,
-) -> Result<(), TypeFault>
-    ensures { Moves result (one_new_of new name.now t scope.old) scope.old scope.new }
-{
-    if new {
-        declare(alloc, scope, name, t)?;
-    }
-    Ok(())
-}
-
+#[tactic(auto, using(golf_types::proofs::WalkLaws::new_breaks_none))]
 fn declare_both(
     alloc: Global,
     scope: &mut Scope,
@@ -137,7 +113,8 @@ fn declare_both(
     let first_new = is_new(scope, first);
     let second_new = is_new(scope, second);
     declare_new(alloc, scope, first_new, first, t)?;
-    declare_new(alloc, scope, second_new, second, truth_type(alloc))
+    declare_new(alloc, scope, second_new, second, truth_type(alloc))?;
+    Ok(())
 }
 
 /// `first, second := <-e`, behind the receive: rules 2, 9 and 24.
@@ -153,16 +130,6 @@ pub fn define_pair(
 {
     pair_fits(alloc, line, scope, first, second, &t)?;
     declare_both(alloc, scope, first, second, t)
-}
-
-#[tactic(auto, unfolding(golf_types::specs::Statements::assigned_name))]
-fn assigned_name(alloc: Global, scope: &Scope, name: &[u8]) -> Result<Option<Operand>, Memory>
-    ensures { IfOk result (λ m. m ≡ assigned_name_of scope.now name.now) }
-{
-    if is_blank(name) {
-        return Ok(Some(Operand::Blank));
-    }
-    meaning_at(alloc, scope, name)
 }
 
 #[tactic(auto, unfolding(golf_types::specs::Statements::put_in_faults))]

@@ -2,7 +2,7 @@
 
 ghost use Rattle.std.specs.Prelude.{◌≡◌, ◌++◌};
 ghost use Rattle.golf_types.specs.Faults.{Tells, broken as broken_of};
-ghost use Rattle.golf_types.specs.Types.{type_given as type_given_of, is_nil as is_nil_of, assignable as assignable_of, type_of as type_of_of};
+ghost use Rattle.golf_types.specs.Types.{is_nil as is_nil_of, assignable as assignable_of, type_of as type_of_of};
 ghost use Rattle.golf_types.specs.Statements.{Adds, Walks, action_faults, action as action_of, send_faults, send as send_of, is_place as is_place_of, step_faults, step as step_of, update_faults, update as update_of, left_faults, assign_faults, assignment as assignment_of, definition as definition_of, received as received_of, carried, define_received as define_received_of, assign_received as assign_received_of, simple_walk};
 
 use crate::pairs::{assign_pair, define_pair};
@@ -24,16 +24,6 @@ pub fn is_nil(given: &Given) -> bool
     match given {
         Given::Nil => true,
         _ => false,
-    }
-}
-
-/// The type of a value, where it has one.
-pub fn type_given(given: Given) -> Option<GoType>
-    ensures { result ≡ type_given_of given }
-{
-    match given {
-        Given::Typed(t) => Some(t),
-        _ => None,
     }
 }
 
@@ -215,7 +205,7 @@ fn definition(
     require(line, 2, !is_blank(name) && !is_reserved(name))?;
     require(line, 23, !is_nil(&value))?;
     require(line, 24, !is_here(scope, name))?;
-    declare(alloc, scope, name, type_given(value))?;
+    declare(alloc, scope, name, value.into_type())?;
     Ok(())
 }
 

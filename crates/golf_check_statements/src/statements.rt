@@ -1,6 +1,6 @@
 //! Whether statements keep the rules.
 
-ghost use Rattle.std.specs.Prelude.{◌≡◌, map};
+ghost use Rattle.std.specs.Prelude.{map};
 ghost use Rattle.golf_types.specs.Statements.{Walks, in_order, block as block_of, loop_body as loop_body_of, then_walk, if_walk, else_walk, behind_test, behind_optional, steps as steps_of, then, optional as optional_of, range_walk, header_walk, for_walk, case_walk, breaking as breaking_of, in_block, communication as communication_of, walk, walk_clause, walk_clause_at};
 
 use crate::bodies::{

@@ -8,43 +8,71 @@ fn names_are_known_values(rt: HostRuntime) -> Result<(), Fail> {
     expect(
         &rt,
         rt.alloc(),
-        &[
-            ("package main\nfunc main() {\ny := x\n}", 3, 3),
-            ("package main\nfunc main() {\nx := main\n}", 3, 3),
-            ("package main\nfunc main() {\nx := int\n}", 3, 3),
-            ("package main\nfunc main() {\nx := _\n}", 3, 3),
-            ("package main\nfunc main() {\nfmt.Println(1)\n}", 3, 3),
-            (
-                "package main\nimport \"fmt\"\nfunc main() {\nfmt.Print(1)\n}",
-                4,
-                3,
-            ),
-            (
-                "package main\nimport \"fmt\"\nfunc main() {\n(fmt).Println(1)\n}",
-                4,
-                3,
-            ),
-            (
-                "package main\nimport \"fmt\"\nfunc main() {\n(fmt.Println)(1)\n}",
-                0,
-                0,
-            ),
-            (
-                "package main\nimport \"fmt\"\nfunc main() {\nx := fmt\n}",
-                4,
-                3,
-            ),
-            (
-                "package main\ntype T struct { a int }\nfunc main() {\nt := &T{}\n_ = t.b\n}",
-                5,
-                3,
-            ),
-            (
-                "package main\ntype T struct { a int }\nfunc (t *T) m() {}\nfunc main() {\nt := &T{}\n_ = t.m\n}",
-                6,
-                3,
-            ),
-        ],
+        r#"
+--- 3 3
+package main
+func main() {
+y := x
+}
+--- 3 3
+package main
+func main() {
+x := main
+}
+--- 3 3
+package main
+func main() {
+x := int
+}
+--- 3 3
+package main
+func main() {
+x := _
+}
+--- 3 3
+package main
+func main() {
+fmt.Println(1)
+}
+--- 4 3
+package main
+import "fmt"
+func main() {
+fmt.Print(1)
+}
+--- 4 3
+package main
+import "fmt"
+func main() {
+(fmt).Println(1)
+}
+--- 0 0
+package main
+import "fmt"
+func main() {
+(fmt.Println)(1)
+}
+--- 4 3
+package main
+import "fmt"
+func main() {
+x := fmt
+}
+--- 5 3
+package main
+type T struct { a int }
+func main() {
+t := &T{}
+_ = t.b
+}
+--- 6 3
+package main
+type T struct { a int }
+func (t *T) m() {}
+func main() {
+t := &T{}
+_ = t.m
+}"#,
     );
     Ok(())
 }
@@ -54,55 +82,110 @@ fn operands_have_their_types(rt: HostRuntime) -> Result<(), Fail> {
     expect(
         &rt,
         rt.alloc(),
-        &[
-            ("package main\nfunc main() {\n_ = 1 + true\n}", 3, 8),
-            ("package main\nfunc main() {\n_ = \"a\" + \"b\"\n}", 3, 8),
-            ("package main\nfunc main() {\n_ = -true\n}", 3, 8),
-            ("package main\nfunc main() {\n_ = !1\n}", 3, 8),
-            ("package main\nfunc main() {\n_ = 1 && true\n}", 3, 8),
-            (
-                "package main\nfunc main() {\n_ = \"a\" == \"b\" || 1 < 2\n}",
-                0,
-                0,
-            ),
-            ("package main\nfunc main() {\n_ = nil == nil\n}", 3, 8),
-            (
-                "package main\nfunc main() {\nvar s []int\n_ = s == nil\n_ = s == s\n}",
-                5,
-                8,
-            ),
-            (
-                "package main\nfunc main() {\nvar c chan int\nvar d <-chan int\n_ = c == d\n_ = d != nil\n_ = 1 == nil\n}",
-                7,
-                8,
-            ),
-            (
-                "package main\nfunc main() {\n_ = struct{}{} == struct{}{}\n}",
-                0,
-                0,
-            ),
-            (
-                "package main\nfunc main() {\nvar s []int\n_ = s[true]\n}",
-                4,
-                8,
-            ),
-            ("package main\nfunc main() {\n_ = 1[0]\n}", 3, 8),
-            (
-                "package main\nfunc main() {\nvar s []int\n_ = s[0].x\n}",
-                4,
-                8,
-            ),
-            ("package main\nfunc main() {\n_ = nil.x\n}", 3, 8),
-            ("package main\nfunc main() {\n_ = len(1)\n}", 3, 8),
-            ("package main\nfunc main() {\n_ = len(nil)\n}", 3, 8),
-            ("package main\nfunc main() {\n_ = len(1, 2)\n}", 3, 8),
-            ("package main\nfunc main() {\n_ = len()\n}", 3, 11),
-            (
-                "package main\nfunc main() {\n_ = make([]int, true)\n}",
-                3,
-                8,
-            ),
-        ],
+        r#"
+--- 3 8
+package main
+func main() {
+_ = 1 + true
+}
+--- 3 8
+package main
+func main() {
+_ = "a" + "b"
+}
+--- 3 8
+package main
+func main() {
+_ = -true
+}
+--- 3 8
+package main
+func main() {
+_ = !1
+}
+--- 3 8
+package main
+func main() {
+_ = 1 && true
+}
+--- 0 0
+package main
+func main() {
+_ = "a" == "b" || 1 < 2
+}
+--- 3 8
+package main
+func main() {
+_ = nil == nil
+}
+--- 5 8
+package main
+func main() {
+var s []int
+_ = s == nil
+_ = s == s
+}
+--- 7 8
+package main
+func main() {
+var c chan int
+var d <-chan int
+_ = c == d
+_ = d != nil
+_ = 1 == nil
+}
+--- 0 0
+package main
+func main() {
+_ = struct{}{} == struct{}{}
+}
+--- 4 8
+package main
+func main() {
+var s []int
+_ = s[true]
+}
+--- 3 8
+package main
+func main() {
+_ = 1[0]
+}
+--- 4 8
+package main
+func main() {
+var s []int
+_ = s[0].x
+}
+--- 3 8
+package main
+func main() {
+_ = nil.x
+}
+--- 3 8
+package main
+func main() {
+_ = len(1)
+}
+--- 3 8
+package main
+func main() {
+_ = len(nil)
+}
+--- 3 8
+package main
+func main() {
+_ = len(1, 2)
+}
+--- 3 11
+package main
+func main() {
+_ = len()
+}
+--- 3 8
+package main
+func main() {
+_ = make([]int, true)
+}"#,
     );
     Ok(())
 }
@@ -112,70 +195,115 @@ fn literals_name_fields_once(rt: HostRuntime) -> Result<(), Fail> {
     expect(
         &rt,
         rt.alloc(),
-        &[
-            (
-                "package main\ntype T struct { a int; b bool }\nfunc main() {\n_ = &T{b: true, a: 1}\n}",
-                0,
-                0,
-            ),
-            (
-                "package main\ntype T struct { a int; b bool }\nfunc main() {\n_ = &T{c: 1}\n}",
-                4,
-                20,
-            ),
-            (
-                "package main\ntype T struct { a int; b bool }\nfunc main() {\n_ = &T{a: 1, a: 2}\n}",
-                4,
-                20,
-            ),
-            (
-                "package main\ntype T struct { a int; b bool }\nfunc main() {\n_ = &T{a: true, c: 2}\n}",
-                4,
-                9,
-            ),
-            (
-                "package main\ntype T struct { a int; b bool }\nfunc main() {\n_ = &T{a: x, c: 2}\n}",
-                4,
-                3,
-            ),
-            ("package main\nfunc main() {\n_ = &T{}\n}", 3, 20),
-            (
-                "package main\ntype T struct {}\nfunc main() {\nT := 1\n_ = &T{}\n}",
-                5,
-                20,
-            ),
-            (
-                "package main\ntype T struct {}\nfunc main() {\nT := 1\n_ = new(T)\n}",
-                5,
-                4,
-            ),
-            (
-                "package main\ntype T struct {}\nfunc main() {\nT := 1\nvar x *T\n}",
-                5,
-                4,
-            ),
-            ("package main\nfunc main() {\n_ = new(int)\n}", 3, 4),
-            ("package main\nfunc main() {\n_ = []int{1, true}\n}", 3, 9),
-            ("package main\nfunc main() {\n_ = []float{1}\n}", 3, 4),
-            (
-                "package main\nimport \"sync\"\nfunc main() {\n_ = &sync.Mutex{}\n_ = new(sync.WaitGroup)\n_ = &sync.RWMutex{}\n_ = &sync.Cond{}\n}",
-                7,
-                4,
-            ),
-            ("package main\nfunc main() {\n_ = new(sync.Mutex)\n}", 3, 3),
-            (
-                "package main\nimport \"sync\"\nfunc main() {\n_ = new(sync.Map)\n}",
-                4,
-                4,
-            ),
-            ("package main\nfunc main() {\n_ = make(int)\n}", 3, 11),
-            ("package main\nfunc main() {\n_ = make([]int)\n}", 3, 11),
-            (
-                "package main\nfunc main() {\n_ = make(chan int)\n_ = make([]int, 3)\n_ = make(int, 3)\n}",
-                5,
-                11,
-            ),
-        ],
+        r#"
+--- 0 0
+package main
+type T struct { a int; b bool }
+func main() {
+_ = &T{b: true, a: 1}
+}
+--- 4 20
+package main
+type T struct { a int; b bool }
+func main() {
+_ = &T{c: 1}
+}
+--- 4 20
+package main
+type T struct { a int; b bool }
+func main() {
+_ = &T{a: 1, a: 2}
+}
+--- 4 9
+package main
+type T struct { a int; b bool }
+func main() {
+_ = &T{a: true, c: 2}
+}
+--- 4 3
+package main
+type T struct { a int; b bool }
+func main() {
+_ = &T{a: x, c: 2}
+}
+--- 3 20
+package main
+func main() {
+_ = &T{}
+}
+--- 5 20
+package main
+type T struct {}
+func main() {
+T := 1
+_ = &T{}
+}
+--- 5 4
+package main
+type T struct {}
+func main() {
+T := 1
+_ = new(T)
+}
+--- 5 4
+package main
+type T struct {}
+func main() {
+T := 1
+var x *T
+}
+--- 3 4
+package main
+func main() {
+_ = new(int)
+}
+--- 3 9
+package main
+func main() {
+_ = []int{1, true}
+}
+--- 3 4
+package main
+func main() {
+_ = []float{1}
+}
+--- 7 4
+package main
+import "sync"
+func main() {
+_ = &sync.Mutex{}
+_ = new(sync.WaitGroup)
+_ = &sync.RWMutex{}
+_ = &sync.Cond{}
+}
+--- 3 3
+package main
+func main() {
+_ = new(sync.Mutex)
+}
+--- 4 4
+package main
+import "sync"
+func main() {
+_ = new(sync.Map)
+}
+--- 3 11
+package main
+func main() {
+_ = make(int)
+}
+--- 3 11
+package main
+func main() {
+_ = make([]int)
+}
+--- 5 11
+package main
+func main() {
+_ = make(chan int)
+_ = make([]int, 3)
+_ = make(int, 3)
+}"#,
     );
     Ok(())
 }
@@ -185,81 +313,128 @@ fn calls_have_their_arguments(rt: HostRuntime) -> Result<(), Fail> {
     expect(
         &rt,
         rt.alloc(),
-        &[
-            (
-                "package main\nfunc f(a int, b bool) {}\nfunc main() {\nf(1, true)\n(f)(1, false)\n}",
-                0,
-                0,
-            ),
-            (
-                "package main\nfunc f(a int, b bool) {}\nfunc main() {\nf(1)\n}",
-                4,
-                11,
-            ),
-            (
-                "package main\nfunc f(a int, b bool) {}\nfunc main() {\nf(1, 2, 3)\n}",
-                4,
-                9,
-            ),
-            (
-                "package main\nfunc f(a int) {}\nfunc main() {\nf(true, x)\n}",
-                4,
-                3,
-            ),
-            ("package main\nfunc main() {\nx := 1\nx()\n}", 4, 11),
-            ("package main\nfunc main() {\nint(1)\n}", 3, 11),
-            (
-                "package main\nimport \"fmt\"\nfunc main() {\nfmt()\n}",
-                4,
-                11,
-            ),
-            ("package main\nfunc main() {\n_()\n}", 3, 3),
-            (
-                "package main\nfunc f() {}\nfunc main() {\nx := f()\n}",
-                4,
-                18,
-            ),
-            (
-                "package main\nfunc f() {}\nfunc main() {\nx := f(1)\n}",
-                4,
-                11,
-            ),
-            (
-                "package main\nimport \"fmt\"\nfunc main() {\nx := fmt.Println(nil)\n}",
-                4,
-                18,
-            ),
-            (
-                "package main\nimport \"fmt\"\nfunc main() {\nfmt.Println(1, true, \"a\")\nfmt.Println(nil)\n}",
-                5,
-                21,
-            ),
-            (
-                "package main\nimport \"fmt\"\nfunc main() {\nfmt.Println(struct{}{})\n}",
-                4,
-                21,
-            ),
-            ("package main\nfunc main() {\npanic(1)\n}", 3, 21),
-            ("package main\nfunc main() {\npanic()\n}", 3, 11),
-            (
-                "package main\nfunc main() {\nvar c <-chan int\nclose(c)\n}",
-                4,
-                16,
-            ),
-            ("package main\nfunc main() {\nclose(nil)\n}", 3, 16),
-            ("package main\nfunc main() {\nclose(1, 2)\n}", 3, 11),
-            ("package main\nfunc main() {\n_ = <-nil\n}", 3, 16),
-            (
-                "package main\nfunc main() {\nvar c chan<- int\n<-c\n}",
-                4,
-                16,
-            ),
-            (
-                "package main\nimport \"sync\"\nfunc main() {\nvar w sync\n}",
-                4,
-                4,
-            ),
-        ],
+        r#"
+--- 0 0
+package main
+func f(a int, b bool) {}
+func main() {
+f(1, true)
+(f)(1, false)
+}
+--- 4 11
+package main
+func f(a int, b bool) {}
+func main() {
+f(1)
+}
+--- 4 9
+package main
+func f(a int, b bool) {}
+func main() {
+f(1, 2, 3)
+}
+--- 4 3
+package main
+func f(a int) {}
+func main() {
+f(true, x)
+}
+--- 4 11
+package main
+func main() {
+x := 1
+x()
+}
+--- 3 11
+package main
+func main() {
+int(1)
+}
+--- 4 11
+package main
+import "fmt"
+func main() {
+fmt()
+}
+--- 3 3
+package main
+func main() {
+_()
+}
+--- 4 18
+package main
+func f() {}
+func main() {
+x := f()
+}
+--- 4 11
+package main
+func f() {}
+func main() {
+x := f(1)
+}
+--- 4 18
+package main
+import "fmt"
+func main() {
+x := fmt.Println(nil)
+}
+--- 5 21
+package main
+import "fmt"
+func main() {
+fmt.Println(1, true, "a")
+fmt.Println(nil)
+}
+--- 4 21
+package main
+import "fmt"
+func main() {
+fmt.Println(struct{}{})
+}
+--- 3 21
+package main
+func main() {
+panic(1)
+}
+--- 3 11
+package main
+func main() {
+panic()
+}
+--- 4 16
+package main
+func main() {
+var c <-chan int
+close(c)
+}
+--- 3 16
+package main
+func main() {
+close(nil)
+}
+--- 3 11
+package main
+func main() {
+close(1, 2)
+}
+--- 3 16
+package main
+func main() {
+_ = <-nil
+}
+--- 4 16
+package main
+func main() {
+var c chan<- int
+<-c
+}
+--- 4 4
+package main
+import "sync"
+func main() {
+var w sync
+}"#,
     );
     Ok(())
 }
@@ -269,58 +444,94 @@ fn types_of_package_sync_have_their_methods(rt: HostRuntime) -> Result<(), Fail>
     expect(
         &rt,
         rt.alloc(),
-        &[
-            (
-                "package main\nimport \"sync\"\nfunc main() {\nm := &sync.Mutex{}\nm.Lock()\nm.Unlock()\nr := new(sync.RWMutex)\nr.RLock()\nr.RUnlock()\nr.Lock()\nr.Unlock()\nw := &sync.WaitGroup{}\nw.Add(1)\nw.Done()\nw.Wait()\nc := sync.NewCond(m)\nc.Wait()\nc.Signal()\nc.Broadcast()\nc.L.Lock()\n}",
-                0,
-                0,
-            ),
-            (
-                "package main\nimport \"sync\"\nfunc main() {\nm := &sync.Mutex{}\nm.RLock()\n}",
-                5,
-                3,
-            ),
-            (
-                "package main\nimport \"sync\"\nfunc main() {\nm := &sync.Mutex{}\nx := m.Lock\n}",
-                5,
-                3,
-            ),
-            (
-                "package main\nimport \"sync\"\nfunc main() {\nm := &sync.Mutex{}\nm.Lock(1)\n}",
-                5,
-                11,
-            ),
-            (
-                "package main\nimport \"sync\"\nfunc main() {\nw := &sync.WaitGroup{}\nw.Add(\"a\")\n}",
-                5,
-                9,
-            ),
-            (
-                "package main\nimport \"sync\"\nfunc main() {\nr := &sync.RWMutex{}\n_ = sync.NewCond(r)\n}",
-                5,
-                9,
-            ),
-            (
-                "package main\nimport \"sync\"\nfunc main() {\n_ = sync.NewCond(nil)\nsync.NewCond(nil)\n}",
-                5,
-                18,
-            ),
-            (
-                "package main\nimport \"sync\"\nfunc main() {\nm := &sync.Mutex{}\nc := sync.NewCond(m)\nc.L = m\n}",
-                6,
-                10,
-            ),
-            (
-                "package main\nimport \"sync\"\nfunc main() {\nm := &sync.Mutex{}\nc := sync.NewCond(m)\nc.L = 1\n}",
-                6,
-                9,
-            ),
-            (
-                "package main\nimport \"sync\"\nfunc main() {\nm := &sync.Mutex{}\n_ = m.L\n}",
-                5,
-                3,
-            ),
-        ],
+        r#"
+--- 0 0
+package main
+import "sync"
+func main() {
+m := &sync.Mutex{}
+m.Lock()
+m.Unlock()
+r := new(sync.RWMutex)
+r.RLock()
+r.RUnlock()
+r.Lock()
+r.Unlock()
+w := &sync.WaitGroup{}
+w.Add(1)
+w.Done()
+w.Wait()
+c := sync.NewCond(m)
+c.Wait()
+c.Signal()
+c.Broadcast()
+c.L.Lock()
+}
+--- 5 3
+package main
+import "sync"
+func main() {
+m := &sync.Mutex{}
+m.RLock()
+}
+--- 5 3
+package main
+import "sync"
+func main() {
+m := &sync.Mutex{}
+x := m.Lock
+}
+--- 5 11
+package main
+import "sync"
+func main() {
+m := &sync.Mutex{}
+m.Lock(1)
+}
+--- 5 9
+package main
+import "sync"
+func main() {
+w := &sync.WaitGroup{}
+w.Add("a")
+}
+--- 5 9
+package main
+import "sync"
+func main() {
+r := &sync.RWMutex{}
+_ = sync.NewCond(r)
+}
+--- 5 18
+package main
+import "sync"
+func main() {
+_ = sync.NewCond(nil)
+sync.NewCond(nil)
+}
+--- 6 10
+package main
+import "sync"
+func main() {
+m := &sync.Mutex{}
+c := sync.NewCond(m)
+c.L = m
+}
+--- 6 9
+package main
+import "sync"
+func main() {
+m := &sync.Mutex{}
+c := sync.NewCond(m)
+c.L = 1
+}
+--- 5 3
+package main
+import "sync"
+func main() {
+m := &sync.Mutex{}
+_ = m.L
+}"#,
     );
     Ok(())
 }
@@ -330,53 +541,85 @@ fn finalisers_take_a_pointer_to_a_struct(rt: HostRuntime) -> Result<(), Fail> {
     expect(
         &rt,
         rt.alloc(),
-        &[
-            (
-                "package main\nimport \"runtime\"\ntype T struct {}\nfunc f(t *T) {}\nfunc g(t *T) int { return 1 }\nfunc main() {\nt := &T{}\nruntime.SetFinalizer(t, f)\nruntime.SetFinalizer(t, g)\nruntime.SetFinalizer(t, nil)\n}",
-                0,
-                0,
-            ),
-            (
-                "package main\nimport \"runtime\"\ntype T struct {}\nfunc f(t *T) {}\nfunc main() {\nruntime.SetFinalizer(1, f)\n}",
-                6,
-                22,
-            ),
-            (
-                "package main\nimport \"runtime\"\ntype T struct {}\nfunc f(t *T, n int) {}\nfunc main() {\nruntime.SetFinalizer(&T{}, f)\n}",
-                6,
-                22,
-            ),
-            (
-                "package main\nimport \"runtime\"\ntype T struct {}\ntype U struct {}\nfunc f(t *U) {}\nfunc main() {\nruntime.SetFinalizer(&T{}, f)\n}",
-                7,
-                22,
-            ),
-            (
-                "package main\nimport \"runtime\"\ntype T struct {}\nfunc (t *T) f() {}\nfunc main() {\nt := &T{}\nruntime.SetFinalizer(t, t.f)\n}",
-                7,
-                22,
-            ),
-            (
-                "package main\nimport \"runtime\"\ntype T struct {}\nfunc main() {\nt := &T{}\nruntime.SetFinalizer(t, int)\n}",
-                6,
-                22,
-            ),
-            (
-                "package main\nimport \"runtime\"\ntype T struct {}\nfunc main() {\nt := &T{}\nruntime.SetFinalizer(t)\n}",
-                6,
-                11,
-            ),
-            (
-                "package main\nimport \"runtime\"\ntype T struct {}\nfunc main() {\nt := &T{}\nruntime.SetFinalizer(t, x)\n}",
-                6,
-                3,
-            ),
-            (
-                "package main\nimport \"runtime\"\ntype T struct {}\nfunc f(t *T) {}\nfunc main() {\nx := runtime.SetFinalizer(1, f)\n}",
-                6,
-                18,
-            ),
-        ],
+        r#"
+--- 0 0
+package main
+import "runtime"
+type T struct {}
+func f(t *T) {}
+func g(t *T) int { return 1 }
+func main() {
+t := &T{}
+runtime.SetFinalizer(t, f)
+runtime.SetFinalizer(t, g)
+runtime.SetFinalizer(t, nil)
+}
+--- 6 22
+package main
+import "runtime"
+type T struct {}
+func f(t *T) {}
+func main() {
+runtime.SetFinalizer(1, f)
+}
+--- 6 22
+package main
+import "runtime"
+type T struct {}
+func f(t *T, n int) {}
+func main() {
+runtime.SetFinalizer(&T{}, f)
+}
+--- 7 22
+package main
+import "runtime"
+type T struct {}
+type U struct {}
+func f(t *U) {}
+func main() {
+runtime.SetFinalizer(&T{}, f)
+}
+--- 7 22
+package main
+import "runtime"
+type T struct {}
+func (t *T) f() {}
+func main() {
+t := &T{}
+runtime.SetFinalizer(t, t.f)
+}
+--- 6 22
+package main
+import "runtime"
+type T struct {}
+func main() {
+t := &T{}
+runtime.SetFinalizer(t, int)
+}
+--- 6 11
+package main
+import "runtime"
+type T struct {}
+func main() {
+t := &T{}
+runtime.SetFinalizer(t)
+}
+--- 6 3
+package main
+import "runtime"
+type T struct {}
+func main() {
+t := &T{}
+runtime.SetFinalizer(t, x)
+}
+--- 6 18
+package main
+import "runtime"
+type T struct {}
+func f(t *T) {}
+func main() {
+x := runtime.SetFinalizer(1, f)
+}"#,
     );
     Ok(())
 }

@@ -9,25 +9,35 @@ fn imports_are_known_and_there_once(rt: HostRuntime) -> Result<(), Fail> {
     expect(
         &rt,
         rt.alloc(),
-        &[
-            (
-                "package main\nimport \"fmt\"\nimport \"sync\"\nfunc main() {}",
-                0,
-                0,
-            ),
-            (
-                "package main\nimport (\n\"fmt\"\n\"runtime\"\n)\nfunc main() {}",
-                0,
-                0,
-            ),
-            ("package main\nimport \"os\"\nfunc main() {}", 2, 1),
-            (
-                "package main\nimport \"fmt\"\nimport (\n\"runtime\"\n\"fmt\"\n)\nfunc main() {}",
-                3,
-                1,
-            ),
-            ("package main\nimport \"os\"\nvar x = y", 2, 1),
-        ],
+        r#"
+--- 0 0
+package main
+import "fmt"
+import "sync"
+func main() {}
+--- 0 0
+package main
+import (
+"fmt"
+"runtime"
+)
+func main() {}
+--- 2 1
+package main
+import "os"
+func main() {}
+--- 3 1
+package main
+import "fmt"
+import (
+"runtime"
+"fmt"
+)
+func main() {}
+--- 2 1
+package main
+import "os"
+var x = y"#,
     );
     Ok(())
 }
@@ -37,25 +47,46 @@ fn names_of_a_file_are_declared_once(rt: HostRuntime) -> Result<(), Fail> {
     expect(
         &rt,
         rt.alloc(),
-        &[
-            ("package main\nvar x int\nconst x = 1\nfunc main() {}", 3, 2),
-            ("package main\nvar len int\nfunc main() {}", 2, 2),
-            ("package main\nvar make int\nfunc main() {}", 2, 2),
-            ("package main\nfunc fmt() {}\nfunc main() {}", 2, 2),
-            ("package main\nvar _ int\nfunc main() {}", 2, 2),
-            ("package main\nfunc init() {}\nfunc main() {}", 2, 2),
-            ("package main\nvar init int\nfunc main() {}", 0, 0),
-            (
-                "package main\ntype T struct { len, init, _ int }\nfunc (t *T) make() {}\nfunc main() {}",
-                0,
-                0,
-            ),
-            (
-                "package main\nfunc main() {}\ntype T struct {}\nfunc (t *T) main() {}",
-                0,
-                0,
-            ),
-        ],
+        r#"
+--- 3 2
+package main
+var x int
+const x = 1
+func main() {}
+--- 2 2
+package main
+var len int
+func main() {}
+--- 2 2
+package main
+var make int
+func main() {}
+--- 2 2
+package main
+func fmt() {}
+func main() {}
+--- 2 2
+package main
+var _ int
+func main() {}
+--- 2 2
+package main
+func init() {}
+func main() {}
+--- 0 0
+package main
+var init int
+func main() {}
+--- 0 0
+package main
+type T struct { len, init, _ int }
+func (t *T) make() {}
+func main() {}
+--- 0 0
+package main
+func main() {}
+type T struct {}
+func (t *T) main() {}"#,
     );
     Ok(())
 }
@@ -65,44 +96,48 @@ fn members_differ_and_methods_have_structs(rt: HostRuntime) -> Result<(), Fail> 
     expect(
         &rt,
         rt.alloc(),
-        &[
-            (
-                "package main\ntype T struct {\na int\na bool }\nfunc main() {}",
-                2,
-                5,
-            ),
-            ("package main\nfunc (t *T) a() {}\nfunc main() {}", 2, 5),
-            (
-                "package main\nvar T int\nfunc (t *T) a() {}\nfunc main() {}",
-                3,
-                5,
-            ),
-            (
-                "package main\nfunc (t *T) a() {}\ntype T struct { a int }\nfunc main() {}",
-                2,
-                5,
-            ),
-            (
-                "package main\ntype T struct {}\nfunc (t *T) a() {}\nfunc (t *T) a() {}\nfunc main() {}",
-                4,
-                5,
-            ),
-            (
-                "package main\ntype T struct {}\ntype U struct {}\nfunc (t *T) a() {}\nfunc (t *U) a() {}\nfunc main() {}",
-                0,
-                0,
-            ),
-            (
-                "package main\ntype T struct { a1,a2,a3,a4,a5,a6,a7,a8,a9,b1,b2,b3,b4,b5,b6,b7,b8,b9,c1,c2,c3,c4,c5,c6,c7,c8,c9,d1,d2,d3,d4,d5,d6,d7,d8,d9,e1,e2,e3,e4,e5,e6,e7,e8,e9,f1,f2,f3,f4,f5,f6,f7,f8,f9,g1,g2,g3,g4,g5,g6,g7,g8,g9,h1 int }\nfunc main() {}",
-                0,
-                0,
-            ),
-            (
-                "package main\ntype T struct { a1,a2,a3,a4,a5,a6,a7,a8,a9,b1,b2,b3,b4,b5,b6,b7,b8,b9,c1,c2,c3,c4,c5,c6,c7,c8,c9,d1,d2,d3,d4,d5,d6,d7,d8,d9,e1,e2,e3,e4,e5,e6,e7,e8,e9,f1,f2,f3,f4,f5,f6,f7,f8,f9,g1,g2,g3,g4,g5,g6,g7,g8,g9,h1,h2 int }\nfunc main() {}",
-                2,
-                5,
-            ),
-        ],
+        r#"
+--- 2 5
+package main
+type T struct {
+a int
+a bool }
+func main() {}
+--- 2 5
+package main
+func (t *T) a() {}
+func main() {}
+--- 3 5
+package main
+var T int
+func (t *T) a() {}
+func main() {}
+--- 2 5
+package main
+func (t *T) a() {}
+type T struct { a int }
+func main() {}
+--- 4 5
+package main
+type T struct {}
+func (t *T) a() {}
+func (t *T) a() {}
+func main() {}
+--- 0 0
+package main
+type T struct {}
+type U struct {}
+func (t *T) a() {}
+func (t *U) a() {}
+func main() {}
+--- 0 0
+package main
+type T struct { a1,a2,a3,a4,a5,a6,a7,a8,a9,b1,b2,b3,b4,b5,b6,b7,b8,b9,c1,c2,c3,c4,c5,c6,c7,c8,c9,d1,d2,d3,d4,d5,d6,d7,d8,d9,e1,e2,e3,e4,e5,e6,e7,e8,e9,f1,f2,f3,f4,f5,f6,f7,f8,f9,g1,g2,g3,g4,g5,g6,g7,g8,g9,h1 int }
+func main() {}
+--- 2 5
+package main
+type T struct { a1,a2,a3,a4,a5,a6,a7,a8,a9,b1,b2,b3,b4,b5,b6,b7,b8,b9,c1,c2,c3,c4,c5,c6,c7,c8,c9,d1,d2,d3,d4,d5,d6,d7,d8,d9,e1,e2,e3,e4,e5,e6,e7,e8,e9,f1,f2,f3,f4,f5,f6,f7,f8,f9,g1,g2,g3,g4,g5,g6,g7,g8,g9,h1,h2 int }
+func main() {}"#,
     );
     Ok(())
 }
@@ -112,37 +147,47 @@ fn written_types_are_known(rt: HostRuntime) -> Result<(), Fail> {
     expect(
         &rt,
         rt.alloc(),
-        &[
-            (
-                "package main\nimport \"sync\"\ntype T struct { m *sync.Mutex; w *sync.WaitGroup; r *sync.RWMutex; c *sync.Cond }\nfunc main() {}",
-                0,
-                0,
-            ),
-            (
-                "package main\ntype T struct { m *sync.Mutex }\nfunc main() {}",
-                2,
-                3,
-            ),
-            (
-                "package main\nimport \"sync\"\nvar m *sync.Map\nfunc main() {}",
-                3,
-                4,
-            ),
-            ("package main\nvar m *sync.Map\nfunc main() {}", 2, 3),
-            (
-                "package main\ntype T struct { n *T; s []chan<- *T }\nfunc main() {}",
-                0,
-                0,
-            ),
-            ("package main\ntype T struct { n T }\nfunc main() {}", 2, 4),
-            ("package main\nfunc f(x *int) {}\nfunc main() {}", 2, 4),
-            (
-                "package main\nfunc f() float {\nreturn 1 }\nfunc main() {}",
-                2,
-                4,
-            ),
-            ("package main\nvar T int\nvar x *T\nfunc main() {}", 3, 4),
-        ],
+        r#"
+--- 0 0
+package main
+import "sync"
+type T struct { m *sync.Mutex; w *sync.WaitGroup; r *sync.RWMutex; c *sync.Cond }
+func main() {}
+--- 2 3
+package main
+type T struct { m *sync.Mutex }
+func main() {}
+--- 3 4
+package main
+import "sync"
+var m *sync.Map
+func main() {}
+--- 2 3
+package main
+var m *sync.Map
+func main() {}
+--- 0 0
+package main
+type T struct { n *T; s []chan<- *T }
+func main() {}
+--- 2 4
+package main
+type T struct { n T }
+func main() {}
+--- 2 4
+package main
+func f(x *int) {}
+func main() {}
+--- 2 4
+package main
+func f() float {
+return 1 }
+func main() {}
+--- 3 4
+package main
+var T int
+var x *T
+func main() {}"#,
     );
     Ok(())
 }
@@ -152,14 +197,27 @@ fn main_is_a_function_without_parameters_and_result(rt: HostRuntime) -> Result<(
     expect(
         &rt,
         rt.alloc(),
-        &[
-            ("package main\n", 1, 6),
-            ("package main\nvar main int", 2, 6),
-            ("package main\nfunc main(x int) {}", 2, 6),
-            ("package main\n\nfunc main() int { return 1 }", 3, 6),
-            ("package main\nvar x float", 2, 4),
-            ("package main\nfunc f() { x }\n", 1, 6),
-        ],
+        r#"
+--- 1 6
+package main
+
+--- 2 6
+package main
+var main int
+--- 2 6
+package main
+func main(x int) {}
+--- 3 6
+package main
+
+func main() int { return 1 }
+--- 2 4
+package main
+var x float
+--- 1 6
+package main
+func f() { x }
+"#,
     );
     Ok(())
 }
@@ -169,43 +227,63 @@ fn initialisers_call_receive_and_read_nothing_below(rt: HostRuntime) -> Result<(
     expect(
         &rt,
         rt.alloc(),
-        &[
-            (
-                "package main\nvar s []int\nvar n = len(s) + 1\nvar c = make(chan int)\nvar p = new(T)\ntype T struct {}\nfunc main() {}",
-                0,
-                0,
-            ),
-            ("package main\nvar x = y\nvar y = 1\nfunc main() {}", 2, 7),
-            ("package main\nvar x int = x\nfunc main() {}", 2, 7),
-            ("package main\nvar x = k\nconst k = 1\nfunc main() {}", 0, 0),
-            (
-                "package main\nvar x = f()\nfunc f() int { return 1 }\nfunc main() {}",
-                2,
-                7,
-            ),
-            (
-                "package main\nvar x = f(true)\nfunc f(a int) int { return 1 }\nfunc main() {}",
-                2,
-                7,
-            ),
-            (
-                "package main\nvar c chan int\nvar x = <-c\nfunc main() {}",
-                3,
-                7,
-            ),
-            (
-                "package main\nvar c chan<- int\nvar x = <-c\nfunc main() {}",
-                3,
-                7,
-            ),
-            (
-                "package main\nimport \"sync\"\nvar m = &sync.Mutex{}\nvar c = sync.NewCond(m)\nfunc main() { c.L.Lock() }",
-                0,
-                0,
-            ),
-            ("package main\nvar x = nil\nfunc main() {}", 2, 23),
-            ("package main\nvar x int = true\nfunc main() {}", 2, 9),
-        ],
+        r#"
+--- 0 0
+package main
+var s []int
+var n = len(s) + 1
+var c = make(chan int)
+var p = new(T)
+type T struct {}
+func main() {}
+--- 2 7
+package main
+var x = y
+var y = 1
+func main() {}
+--- 2 7
+package main
+var x int = x
+func main() {}
+--- 0 0
+package main
+var x = k
+const k = 1
+func main() {}
+--- 2 7
+package main
+var x = f()
+func f() int { return 1 }
+func main() {}
+--- 2 7
+package main
+var x = f(true)
+func f(a int) int { return 1 }
+func main() {}
+--- 3 7
+package main
+var c chan int
+var x = <-c
+func main() {}
+--- 3 7
+package main
+var c chan<- int
+var x = <-c
+func main() {}
+--- 0 0
+package main
+import "sync"
+var m = &sync.Mutex{}
+var c = sync.NewCond(m)
+func main() { c.L.Lock() }
+--- 2 23
+package main
+var x = nil
+func main() {}
+--- 2 9
+package main
+var x int = true
+func main() {}"#,
     );
     Ok(())
 }
@@ -215,75 +293,104 @@ fn bodies_use_globals_below_by_their_forms(rt: HostRuntime) -> Result<(), Fail> 
     expect(
         &rt,
         rt.alloc(),
-        &[
-            (
-                "package main\nfunc main() {\nvar s string = x\n}\nvar x = 1 + 2",
-                3,
-                9,
-            ),
-            (
-                "package main\nfunc main() {\nvar s int = x\n}\nvar x = 1 + 2",
-                0,
-                0,
-            ),
-            (
-                "package main\nfunc main() {\nvar s string = x\n}\nvar x = y\nvar y = 1",
-                5,
-                7,
-            ),
-            (
-                "package main\nfunc main() {\nvar s int = p.next.n\n}\nvar p = &T{n: 1}\ntype T struct { n int; next *T }",
-                0,
-                0,
-            ),
-            // A form sees written types wherever they stand, and globals above it.
-            (
-                "package main\nfunc main() {\nvar s string = x\n}\nvar x = y\nvar y int",
-                3,
-                9,
-            ),
-            (
-                "package main\nfunc main() {\nvar s string = x\n}\nvar y = 1\nvar x = y",
-                3,
-                9,
-            ),
-            (
-                "package main\nfunc main() {\nvar s string = x\n}\nvar x = f()\nfunc f() int { return 1 }",
-                3,
-                9,
-            ),
-            (
-                "package main\nfunc main() {\nvar s string = x\n}\nvar x = nil",
-                5,
-                23,
-            ),
-            // What is not known breaks nothing: the fault is that of the initialiser.
-            (
-                "package main\nfunc main() {\nx.y = 1\nx.m()\ngo x.m(2)\n_ = x.y.z[0].w + x.m()\nx.n++\n}\nvar x = y\nvar y = 1",
-                9,
-                7,
-            ),
-            (
-                "package main\nfunc main() {\nfor a, b := range x { c := a == b }\nx <- 1\nv, ok := <-x\nclose(x)\n_ = len(x)\npanic(x)\n}\nvar x = y\nvar y = 1",
-                10,
-                7,
-            ),
-            (
-                "package main\nfunc main() {\nx.y\n}\nvar x = y\nvar y = 1",
-                3,
-                18,
-            ),
-            (
-                "package main\nfunc main() {\nx.y = 1\nx()\n}\nvar x = y",
-                4,
-                11,
-            ),
-            (
-                "package main\nfunc main() {\nvar s string = x\n}\nvar x = s[0]\nvar s = []int{1}",
-                5,
-                7,
-            ),
-        ],
+        r#"
+--- 3 9
+package main
+func main() {
+var s string = x
+}
+var x = 1 + 2
+--- 0 0
+package main
+func main() {
+var s int = x
+}
+var x = 1 + 2
+--- 5 7
+package main
+func main() {
+var s string = x
+}
+var x = y
+var y = 1
+--- 0 0
+package main
+func main() {
+var s int = p.next.n
+}
+var p = &T{n: 1}
+type T struct { n int; next *T }
+--- 3 9 // A form sees written types wherever they stand, and globals above it.
+package main
+func main() {
+var s string = x
+}
+var x = y
+var y int
+--- 3 9
+package main
+func main() {
+var s string = x
+}
+var y = 1
+var x = y
+--- 3 9
+package main
+func main() {
+var s string = x
+}
+var x = f()
+func f() int { return 1 }
+--- 5 23
+package main
+func main() {
+var s string = x
+}
+var x = nil
+--- 9 7 // What is not known breaks nothing: the fault is that of the initialiser.
+package main
+func main() {
+x.y = 1
+x.m()
+go x.m(2)
+_ = x.y.z[0].w + x.m()
+x.n++
+}
+var x = y
+var y = 1
+--- 10 7
+package main
+func main() {
+for a, b := range x { c := a == b }
+x <- 1
+v, ok := <-x
+close(x)
+_ = len(x)
+panic(x)
+}
+var x = y
+var y = 1
+--- 3 18
+package main
+func main() {
+x.y
+}
+var x = y
+var y = 1
+--- 4 11
+package main
+func main() {
+x.y = 1
+x()
+}
+var x = y
+--- 5 7
+package main
+func main() {
+var s string = x
+}
+var x = s[0]
+var s = []int{1}"#,
     );
     Ok(())
 }
@@ -293,28 +400,24 @@ fn integers_have_64_bits(rt: HostRuntime) -> Result<(), Fail> {
     expect(
         &rt,
         rt.alloc(),
-        &[
-            (
-                "package main\nconst k = 9223372036854775807\nfunc main() {}",
-                0,
-                0,
-            ),
-            (
-                "package main\nconst k = 9223372036854775808\nfunc main() {}",
-                2,
-                19,
-            ),
-            (
-                "package main\nconst k = -9223372036854775808\nfunc main() {}",
-                2,
-                19,
-            ),
-            (
-                "package main\nfunc main() {\nx := -9223372036854775808\n_ = x }",
-                3,
-                19,
-            ),
-        ],
+        r#"
+--- 0 0
+package main
+const k = 9223372036854775807
+func main() {}
+--- 2 19
+package main
+const k = 9223372036854775808
+func main() {}
+--- 2 19
+package main
+const k = -9223372036854775808
+func main() {}
+--- 3 19
+package main
+func main() {
+x := -9223372036854775808
+_ = x }"#,
     );
     Ok(())
 }
@@ -324,45 +427,65 @@ fn functions_with_a_result_end_in_a_terminating_statement(rt: HostRuntime) -> Re
     expect(
         &rt,
         rt.alloc(),
-        &[
-            ("package main\nfunc f() int {\n}\nfunc main() {}", 2, 14),
-            (
-                "package main\nfunc f() int {\nfor { }\n}\nfunc main() {}",
-                0,
-                0,
-            ),
-            (
-                "package main\nfunc f() int {\nfor { break }\n}\nfunc main() {}",
-                2,
-                14,
-            ),
-            (
-                "package main\nfunc f() int {\nfor {\nfor { break } }\n}\nfunc main() {}",
-                0,
-                0,
-            ),
-            (
-                "package main\nfunc f(b bool) int {\nif b { return 1 } else { panic(\"x\") }\n}\nfunc main() {}",
-                0,
-                0,
-            ),
-            (
-                "package main\nfunc f(b bool) int {\nif b { return 1 }\n}\nfunc main() {}",
-                2,
-                14,
-            ),
-            (
-                "package main\nfunc f(c chan int) int {\nselect {\ncase <-c: return 1\ndefault: (panic(\"x\")) }\n}\nfunc main() {}",
-                0,
-                0,
-            ),
-            (
-                "package main\nfunc f(c chan int) int {\nselect {\ncase <-c: break\ndefault: return 1 }\n}\nfunc main() {}",
-                2,
-                14,
-            ),
-            ("package main\nfunc f() int {\nx\n}\nfunc main() {}", 3, 3),
-        ],
+        r#"
+--- 2 14
+package main
+func f() int {
+}
+func main() {}
+--- 0 0
+package main
+func f() int {
+for { }
+}
+func main() {}
+--- 2 14
+package main
+func f() int {
+for { break }
+}
+func main() {}
+--- 0 0
+package main
+func f() int {
+for {
+for { break } }
+}
+func main() {}
+--- 0 0
+package main
+func f(b bool) int {
+if b { return 1 } else { panic("x") }
+}
+func main() {}
+--- 2 14
+package main
+func f(b bool) int {
+if b { return 1 }
+}
+func main() {}
+--- 0 0
+package main
+func f(c chan int) int {
+select {
+case <-c: return 1
+default: (panic("x")) }
+}
+func main() {}
+--- 2 14
+package main
+func f(c chan int) int {
+select {
+case <-c: break
+default: return 1 }
+}
+func main() {}
+--- 3 3
+package main
+func f() int {
+x
+}
+func main() {}"#,
     );
     Ok(())
 }

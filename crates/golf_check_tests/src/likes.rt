@@ -9,60 +9,90 @@ fn each_rule_of_declarations_is_broken_and_nearly_so(rt: HostRuntime) -> Result<
     expect(
         &rt,
         rt.alloc(),
-        &[
-            ("package main\nimport \"time\"\nfunc main() {}", 2, 1),
-            ("package main\nimport \"sync\"\nfunc main() {}", 0, 0),
-            ("package main\nvar a int\nfunc a() {}\nfunc main() {}", 3, 2),
-            ("package main\nvar a int\nfunc b() {}\nfunc main() {}", 0, 0),
-            ("package main\nvar m *sync.Cond\nfunc main() {}", 2, 3),
-            (
-                "package main\nimport \"sync\"\nvar m *sync.Cond\nfunc main() {}",
-                0,
-                0,
-            ),
-            ("package main\ntype T struct { t T }\nfunc main() {}", 2, 4),
-            ("package main\ntype T struct { t *T }\nfunc main() {}", 0, 0),
-            (
-                "package main\ntype T struct { a, a int }\nfunc main() {}",
-                2,
-                5,
-            ),
-            (
-                "package main\ntype T struct { a, b int }\nfunc main() {}",
-                0,
-                0,
-            ),
-            ("package main\nfunc main() int { return 1 }", 2, 6),
-            ("package main\nfunc main() { return }", 0, 0),
-            ("package main\nvar a = b\nvar b = 1\nfunc main() {}", 2, 7),
-            ("package main\nvar b = 1\nvar a = b\nfunc main() {}", 0, 0),
-            (
-                "package main\nfunc f() int { return }\nfunc main() {}",
-                2,
-                13,
-            ),
-            ("package main\nfunc f() { return }\nfunc main() {}", 0, 0),
-            (
-                "package main\nfunc f() int { for true { } }\nfunc main() {}",
-                2,
-                14,
-            ),
-            (
-                "package main\nfunc f() int { for { } }\nfunc main() {}",
-                0,
-                0,
-            ),
-            (
-                "package main\nconst k = 9223372036854775808\nfunc main() {}",
-                2,
-                19,
-            ),
-            (
-                "package main\nconst k = -9223372036854775807\nfunc main() {}",
-                0,
-                0,
-            ),
-        ],
+        r#"
+--- 2 1
+package main
+import "time"
+func main() {}
+--- 0 0
+package main
+import "sync"
+func main() {}
+--- 3 2
+package main
+var a int
+func a() {}
+func main() {}
+--- 0 0
+package main
+var a int
+func b() {}
+func main() {}
+--- 2 3
+package main
+var m *sync.Cond
+func main() {}
+--- 0 0
+package main
+import "sync"
+var m *sync.Cond
+func main() {}
+--- 2 4
+package main
+type T struct { t T }
+func main() {}
+--- 0 0
+package main
+type T struct { t *T }
+func main() {}
+--- 2 5
+package main
+type T struct { a, a int }
+func main() {}
+--- 0 0
+package main
+type T struct { a, b int }
+func main() {}
+--- 2 6
+package main
+func main() int { return 1 }
+--- 0 0
+package main
+func main() { return }
+--- 2 7
+package main
+var a = b
+var b = 1
+func main() {}
+--- 0 0
+package main
+var b = 1
+var a = b
+func main() {}
+--- 2 13
+package main
+func f() int { return }
+func main() {}
+--- 0 0
+package main
+func f() { return }
+func main() {}
+--- 2 14
+package main
+func f() int { for true { } }
+func main() {}
+--- 0 0
+package main
+func f() int { for { } }
+func main() {}
+--- 2 19
+package main
+const k = 9223372036854775808
+func main() {}
+--- 0 0
+package main
+const k = -9223372036854775807
+func main() {}"#,
     );
     Ok(())
 }
@@ -72,62 +102,104 @@ fn each_rule_of_bodies_is_broken_and_nearly_so(rt: HostRuntime) -> Result<(), Fa
     expect_in_main(
         &rt,
         rt.alloc(),
-        &[
-            ("_ = 1 < true", 3, 8),
-            ("_ = 1 < 2", 0, 0),
-            ("var s []int = 1", 3, 9),
-            ("var s []int = nil", 0, 0),
-            ("x := 1\n-x = 2", 4, 10),
-            ("x := 1\n(x) = 2", 0, 0),
-            ("s := make([]int)", 3, 11),
-            ("s := make([]int, 0)", 0, 0),
-            ("c := make(chan int)\ngo panic(\"a\")", 4, 12),
-            ("c := make(chan int)\ngo close(c)", 0, 0),
-            ("return nil", 3, 13),
-            ("return", 0, 0),
-            ("select {\ndefault: continue }", 4, 15),
-            ("select {\ndefault: break }", 0, 0),
-            ("var c <-chan int\nc <- 1", 4, 16),
-            ("var c chan<- int\nc <- 1", 0, 0),
-            ("var c chan int\nfor a, b := range c { }", 4, 17),
-            ("var c []int\nfor a, b := range c { }", 0, 0),
-            ("var s []int\nlen(s)", 4, 18),
-            ("var s []int\n_ = len(s)", 0, 0),
-            ("_ = 9223372036854775808", 3, 19),
-            ("_ = 9223372036854775807", 0, 0),
-            ("panic(1)", 3, 21),
-            ("panic(\"1\")", 0, 0),
-            ("var x = nil", 3, 23),
-            ("var x []int = nil", 0, 0),
-            ("var c chan int\na, b := <-c\na, b := <-c", 5, 24),
-            ("var c chan int\na, b := <-c\na, d := <-c", 0, 0),
-        ],
+        r#"
+--- 3 8
+_ = 1 < true
+--- 0 0
+_ = 1 < 2
+--- 3 9
+var s []int = 1
+--- 0 0
+var s []int = nil
+--- 4 10
+x := 1
+-x = 2
+--- 0 0
+x := 1
+(x) = 2
+--- 3 11
+s := make([]int)
+--- 0 0
+s := make([]int, 0)
+--- 4 12
+c := make(chan int)
+go panic("a")
+--- 0 0
+c := make(chan int)
+go close(c)
+--- 3 13
+return nil
+--- 0 0
+return
+--- 4 15
+select {
+default: continue }
+--- 0 0
+select {
+default: break }
+--- 4 16
+var c <-chan int
+c <- 1
+--- 0 0
+var c chan<- int
+c <- 1
+--- 4 17
+var c chan int
+for a, b := range c { }
+--- 0 0
+var c []int
+for a, b := range c { }
+--- 4 18
+var s []int
+len(s)
+--- 0 0
+var s []int
+_ = len(s)
+--- 3 19
+_ = 9223372036854775808
+--- 0 0
+_ = 9223372036854775807
+--- 3 21
+panic(1)
+--- 0 0
+panic("1")
+--- 3 23
+var x = nil
+--- 0 0
+var x []int = nil
+--- 5 24
+var c chan int
+a, b := <-c
+a, b := <-c
+--- 0 0
+var c chan int
+a, b := <-c
+a, d := <-c"#,
     )?;
     expect(
         &rt,
         rt.alloc(),
-        &[
-            (
-                "package main\ntype T struct { a int }\nfunc main() { _ = &T{b: 1} }",
-                3,
-                20,
-            ),
-            (
-                "package main\ntype T struct { a int }\nfunc main() { _ = &T{a: 1} }",
-                0,
-                0,
-            ),
-            (
-                "package main\nimport \"runtime\"\ntype T struct {}\nfunc f(n int) {}\nfunc main() { runtime.SetFinalizer(&T{}, f) }",
-                5,
-                22,
-            ),
-            (
-                "package main\nimport \"runtime\"\ntype T struct {}\nfunc f(n *T) {}\nfunc main() { runtime.SetFinalizer(&T{}, f) }",
-                0,
-                0,
-            ),
-        ],
+        r#"
+--- 3 20
+package main
+type T struct { a int }
+func main() { _ = &T{b: 1} }
+--- 0 0
+package main
+type T struct { a int }
+func main() { _ = &T{a: 1} }
+--- 5 22
+package main
+import "runtime"
+type T struct {}
+func f(n int) {}
+func main() { runtime.SetFinalizer(&T{}, f) }
+--- 0 0
+package main
+import "runtime"
+type T struct {}
+func f(n *T) {}
+func main() { runtime.SetFinalizer(&T{}, f) }"#,
     );
     Ok(())
 }

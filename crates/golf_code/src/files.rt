@@ -1,8 +1,8 @@
 //! The code of a file.
 
-ghost use Rattle.std.specs.Prelude.{◌≡◌, ◌++◌, ◌∷◌, map, length, [], IfOk, OnOk};
+ghost use Rattle.std.specs.Prelude.{◌≡◌, IfOk, OnOk};
 ghost use Rattle.golf_types.specs.Files.{outside};
-ghost use Rattle.golf_code_of.specs.Files.{CodeOf, code_in, tables_of, giving as giving_in, main_line as main_line_in};
+ghost use Rattle.golf_code_of.specs.Files.{CodeOf, code_in, tables_of};
 ghost use Rattle.golf_check.specs.Heads.{scope_of};
 ghost use Rattle.golf_code.specs.Wholes.{functions_with, code_of_parts};
 

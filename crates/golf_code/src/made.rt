@@ -1,16 +1,16 @@
 //! The functions that are made for `go` and `defer`.
 
 ghost use Rattle.std.specs.Prelude.{◌≡◌, ◌++◌, ◌+◌, map, length, IfOk, OnOk};
-ghost use Rattle.golf_emission.specs.Marks.{Adds, onto};
-ghost use Rattle.golf_code_of.specs.Calls.{operation as operation_of};
+ghost use Rattle.golf_emission.specs.Marks.{Adds};
 ghost use Rattle.golf_code_of.specs.Files.{loads as loads_of, made_body as made_body_of, made_function as made_function_of};
 
 use golf_base::{List, Memory};
 use golf_code_of::Making;
 use golf_data::{Function, Instr};
 use golf_emission::{Mark, op};
+use golf_emit_expressions::operation;
 use golf_targets::function;
-use golf_types::{BuiltIn, GoType};
+use golf_types::GoType;
 use std::alloc::Global;
 
 // The parameters are pushed.
@@ -25,46 +25,12 @@ fn loads(marks: &mut List<Mark>, line: u32, parameters: &[Option<GoType>]) -> Re
     Ok(())
 }
 
-fn done(marks: &mut List<Mark>, line: u32) -> Result<(), Memory>
-    ensures { Adds result (operation_of line BuiltIn.Done 0) marks.old marks.new }
-{
-    op(marks, line, Instr::Int(-1))?;
-    op(marks, line, Instr::GroupAdd)
-}
-
-// What a built-in call does with so many operands.
-fn operation(marks: &mut List<Mark>, line: u32, built_in: BuiltIn, count: u32) -> Result<(), Memory>
-    ensures { Adds result (operation_of line built_in count) marks.old marks.new }
-{
-    match built_in {
-        BuiltIn::Length => op(marks, line, Instr::Len),
-        BuiltIn::Close => op(marks, line, Instr::Close),
-        BuiltIn::Panic => op(marks, line, Instr::Panic),
-        BuiltIn::Print => op(marks, line, Instr::Print(count)),
-        BuiltIn::Collect => op(marks, line, Instr::Collect),
-        BuiltIn::SetFinalizer => Ok(()),
-        BuiltIn::NewCondition => op(marks, line, Instr::NewCond),
-        BuiltIn::Lock => op(marks, line, Instr::Lock),
-        BuiltIn::Unlock => op(marks, line, Instr::Unlock),
-        BuiltIn::Add => op(marks, line, Instr::GroupAdd),
-        BuiltIn::Done => done(marks, line),
-        BuiltIn::WaitGroup => op(marks, line, Instr::GroupWait),
-        BuiltIn::WriteLock => op(marks, line, Instr::RwLock),
-        BuiltIn::WriteUnlock => op(marks, line, Instr::RwUnlock),
-        BuiltIn::ReadLock => op(marks, line, Instr::ReadLock),
-        BuiltIn::ReadUnlock => op(marks, line, Instr::ReadUnlock),
-        BuiltIn::WaitCondition => op(marks, line, Instr::CondWait),
-        BuiltIn::Signal => op(marks, line, Instr::CondSignal),
-        BuiltIn::Broadcast => op(marks, line, Instr::CondBroadcast),
-    }
-}
-
 fn made_body(marks: &mut List<Mark>, making: &Making, count: u32) -> Result<(), Memory>
     requires { count ≡ length making.now.parameters }
     ensures { Adds result (made_body_of making.now) marks.old marks.new }
 {
     loads(marks, making.line, making.parameters.as_slice())?;
-    operation(marks, making.line, making.operation, count)?;
+    operation(marks, making.line, making.operation, count as usize)?;
     op(marks, making.line, Instr::Return)
 }
 

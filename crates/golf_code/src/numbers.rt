@@ -1,6 +1,6 @@
 //! Lines and numbers of functions.
 
-ghost use Rattle.std.specs.Prelude.{◌≡◌, ◌+◌, ◌∷◌, map, false, length, is_some, codes, IfOk};
+ghost use Rattle.std.specs.Prelude.{◌≡◌, ◌+◌, false, length, is_some, IfOk};
 ghost use Rattle.golf_types.specs.Scopes.{meaning_in};
 ghost use Rattle.golf_code_of.specs.Files.{number_of_function as number_of_function_at, main_number as main_number_in, main_line as main_line_in, giving as giving_in};
 

@@ -4,7 +4,7 @@ use Rattle.std.specs.Prelude.{is_some, OnOk, OnErr}
 use Rattle.std.specs.Option.{option_map}
 use Rattle.std.proofs.lemmas.List.{take_more, take_all, map-append}
 use Rattle.golf_theory.specs.Membership.{In, any_of}
-use Rattle.golf_theory.specs.Maps.{Entry, find, keys}
+use Rattle.golf_theory.specs.Maps.{find, keys}
 use Rattle.golf_theory.proofs.Lists.{In-cases}
 use Rattle.golf_theory.proofs.MapEntries.{Entry-keys}
 use Rattle.golf_theory.proofs.MapFinds.{none-find}

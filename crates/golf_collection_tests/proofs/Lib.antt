@@ -1,3 +1,2 @@
 mod StuckStates
-pub mod Readiness
 pub mod Leading

@@ -1,5 +1,5 @@
 -- The state of the tests has its numbers in order, and refers to what is there.
-use Rattle.std.proofs.Common.{◌≡◌, ℕ, ◌+◌, false, List, [], ◌∷◌, None, inl, refl, sym, ap, ◌∙◌, subst, arith}
+use Rattle.std.proofs.Common.{◌≡◌, ℕ, ◌+◌, false, List, [], ◌∷◌, None, inl, refl, ap, ◌∙◌, arith}
 use Rattle.golf_theory.specs.Membership.{Every}
 use Rattle.golf_theory.proofs.MapEntries.{Entry-Every}
 use Rattle.golf_data.specs.declared.value.Object.{Object}

@@ -1,6 +1,6 @@
 //! Collections of states that a code leads to.
 
-ghost use Rattle.std.specs.Prelude.{◌≡◌, ◌<◌, ◌-◌, ◌^◌, ◌||◌, IsTrue};
+ghost use Rattle.std.specs.Prelude.{◌≡◌, ◌<◌, ◌-◌, ◌||◌, IsTrue};
 ghost use Rattle.golf_model.specs.Collecting.{is_setting, sets_finalisers};
 ghost use Rattle.golf_model.specs.Futures.{Leads};
 ghost use Rattle.golf_reclaim.specs.Noting.{AreGone};

@@ -10,8 +10,6 @@ mod graphs;
 #[cfg(test)]
 mod programs;
 #[cfg(test)]
-mod ready;
-#[cfg(test)]
 mod recovery;
 #[cfg(test)]
 mod states;

@@ -3,37 +3,15 @@
 ghost use Rattle.std.specs.Prelude.{IfOk};
 ghost use Rattle.golf_model.specs.Futures.{Leads};
 
-use crate::ready::can_run;
 use golf_base::{List, Memory};
-use golf_data::{Code, Function, Instr, Line, Value};
+use golf_data::{Code, Instr, Value};
 use golf_machine::{start, turn};
 use golf_state::State;
+use golf_trials::{can_run, function, lines};
 use std::alloc::Global;
 
 /// How many turns lead to the states.
 const TURNS: u64 = 200;
-
-// Instructions at the lines 1, 2 and so on.
-fn lines(alloc: Global, instrs: Vec<Instr>) -> Result<List<Line>, Memory> {
-    let mut body = List::new(alloc);
-    let mut line = 0u32;
-    for instr in instrs {
-        line = line.saturating_add(1);
-        body.push(Line { instr, line })?;
-    }
-    Ok(body)
-}
-
-// A function with four slots, of which its arguments take the first.
-fn function(params: u32, body: List<Line>) -> Function {
-    Function {
-        params,
-        slots: 4,
-        depth: 4,
-        line: 1,
-        body,
-    }
-}
 
 /// The code of `main`, of a function 1 with two arguments and of a function 2 that takes an object and
 /// returns; there is a global, and a struct type with a pointer.

@@ -1,6 +1,6 @@
 //! The code of an expression, and what the expression is.
 
-ghost use Rattle.std.specs.Prelude.{◌≡◌, ◌∷◌, [], map, length, pos, true, false, cond, option_map, List};
+ghost use Rattle.std.specs.Prelude.{◌∷◌, [], map, length, pos, true, false, option_map, List};
 ghost use Rattle.golf_types.specs.Types.{plain as plain_of, given as given_of, element as element_of, with_layer as with_layer_of};
 ghost use Rattle.golf_types.specs.Scopes.{meaning as meaning_of};
 ghost use Rattle.golf_types.specs.Written.{write, made_base as made_base_of, pointer_to as pointer_to_of};

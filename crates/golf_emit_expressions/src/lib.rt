@@ -8,5 +8,6 @@ mod operators;
 mod places;
 mod values;
 
+pub use calls::operation;
 pub use expressions::{arguments, expression};
 pub use places::{Target, named, place, read, store, twice};

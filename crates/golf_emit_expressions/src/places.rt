@@ -1,13 +1,11 @@
 //! Left sides: what tells a place, and how it is read and written.
 
-ghost use Rattle.std.specs.Prelude.{◌≡◌, ℕ, ◌∷◌, []};
 ghost use Rattle.golf_types.specs.Expressions.{named as named_of, selected_from};
 ghost use Rattle.golf_types.specs.Judging.{judge_at};
-ghost use Rattle.golf_layout.specs.Piece.{Piece};
 ghost use Rattle.golf_emission.specs.Marks.{Adds};
 ghost use Rattle.golf_code_of.specs.Expressions.{name as name_of, selector, index};
 ghost use Rattle.golf_code_of.specs.Coding.{code_at, piece_at};
-ghost use Rattle.golf_emit_expressions.specs.Targets.{twice_of, read_of, store_of, IsPlace, IsNamed, IsVariable, LaysPlace};
+ghost use Rattle.golf_emit_expressions.specs.Targets.{twice_of, read_of, store_of, IsNamed, IsVariable, LaysPlace};
 ghost use Rattle.golf_emit_expressions.specs.Taking.{IsBehind};
 
 use crate::expressions::expression;

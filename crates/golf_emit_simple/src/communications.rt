@@ -3,7 +3,6 @@
 ghost use Rattle.std.specs.Prelude.{◌≡◌, IfOk};
 ghost use Rattle.golf_types.specs.Statements.{carried as carried_of, communication as communication_of};
 ghost use Rattle.golf_code_of.specs.Selects.{takes_in};
-ghost use Rattle.golf_emission.specs.Marks.{Adds};
 ghost use Rattle.golf_emit_simple.specs.Writes.{Writes};
 
 use crate::names::{define_pair, store_name};

@@ -1,7 +1,7 @@
 //! Names left of `:=` and `=` beside a receive.
 
 ghost use Rattle.std.specs.Prelude.{◌≡◌, ℕ, cond, Option, IfOk};
-ghost use Rattle.golf_types.specs.Statements.{behind, is_new as is_new_of, assigned_name as assigned_name_of, one_new as one_new_of, then, pair, bool_type};
+ghost use Rattle.golf_types.specs.Statements.{behind, is_new as is_new_of, one_new as one_new_of, then, pair, bool_type};
 ghost use Rattle.golf_layout.specs.Piece.{op as op_of};
 ghost use Rattle.golf_code_of.specs.declared.tables.Tables.{Tables};
 ghost use Rattle.golf_code_of.specs.Statements.{stores_to, stores_name, stores_pair};
@@ -12,25 +12,8 @@ use golf_base::{List, Memory};
 use golf_data::Instr;
 use golf_emission::{Mark, op};
 use golf_emit_expressions::{named, store};
-use golf_types::{Base, GoType, Operand, Scope, declare, is_blank, is_here, meaning_at, plain};
+use golf_types::{Base, GoType, Operand, Scope, assigned_name, declare_new, is_new, plain};
 use std::alloc::Global;
-
-// Whether a name would be declared.
-fn is_new(scope: &Scope, name: &[u8]) -> bool
-    ensures { result ≡ is_new_of scope.now name.now }
-{
-    !is_blank(name) && !is_here(scope, name)
-}
-
-#[tactic(auto, unfolding(golf_types::specs::Statements::assigned_name))]
-fn assigned_name(alloc: Global, scope: &Scope, name: &[u8]) -> Result<Option<Operand>, Memory>
-    ensures { IfOk result (λ m. m ≡ assigned_name_of scope.now name.now) }
-{
-    if is_blank(name) {
-        return Ok(Some(Operand::Blank));
-    }
-    meaning_at(alloc, scope, name)
-}
 
 // Stores to what a name means.
 fn store_to(marks: &mut List<Mark>, line: u32, operand: &Option<Operand>) -> Result<(), Memory>
@@ -104,23 +87,6 @@ fn store_pair(
     let slot = slot_behind(scope, first)?;
     store_new(alloc, line, scope, second, slot, marks)?;
     store_new(alloc, line, scope, first, scope.next, marks)?;
-    Ok(())
-}
-
-/// Declares a variable where it is new.
-#[tactic(auto, using(golf_types::proofs::WalkLaws::stays))]
-pub fn declare_new(
-    alloc: Global,
-    scope: &mut Scope,
-    new: bool,
-    name: &[u8],
-    t: Option<GoType>,
-) -> Result<(), Memory>
-    ensures { Moves result (one_new_of new name.now t scope.old) scope.old scope.new }
-{
-    if new {
-        declare(alloc, scope, name, t)?;
-    }
     Ok(())
 }
 

@@ -7,12 +7,11 @@ ghost use Rattle.golf_layout.specs.Piece.{Piece, all, op as op_of};
 ghost use Rattle.golf_code_of.specs.Loops.{slice_names as slice_names_of, channel_name as channel_name_of};
 ghost use Rattle.golf_emit_simple.specs.Writes.{Moves, Writes};
 
-use crate::names::declare_new;
 use golf_base::{List, Memory};
 use golf_data::Instr;
 use golf_emission::{Mark, op};
 use golf_grammar::RangeNames;
-use golf_types::{Base, GoType, Scope, copy_optional, declare, is_blank, plain};
+use golf_types::{Base, GoType, Scope, copy_optional, declare, declare_new, is_blank, plain};
 use std::alloc::Global;
 
 // The index, which stands in this slot.
@@ -121,7 +120,8 @@ fn range_name(
 ) -> Result<(), Memory>
     ensures { Moves result (range_name_of name.now t scope.old) scope.old scope.new }
 {
-    declare_new(alloc, scope, !is_blank(name), name, t)
+    declare_new(alloc, scope, !is_blank(name), name, t)?;
+    Ok(())
 }
 
 // What was received is stored, or dropped.

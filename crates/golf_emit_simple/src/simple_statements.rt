@@ -3,7 +3,7 @@
 ghost use Rattle.std.specs.Prelude.{◌≡◌, pos};
 ghost use Rattle.golf_types.specs.Statements.{definition as definition_of, define_received as define_received_of, simple_walk, optional as optional_of};
 ghost use Rattle.golf_layout.specs.Piece.{op as op_of};
-ghost use Rattle.golf_code_of.specs.Coding.{code_at, piece_at};
+ghost use Rattle.golf_code_of.specs.Coding.{code_at};
 ghost use Rattle.golf_code_of.specs.Statements.{drops as drops_of, updates, update_instr as update_instr_of, simple_piece};
 ghost use Rattle.golf_emission.specs.Marks.{Adds};
 ghost use Rattle.golf_emit_simple.specs.Writes.{Writes, first_piece};

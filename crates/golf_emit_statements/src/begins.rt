@@ -1,10 +1,8 @@
 //! Go and defer statements.
 
-ghost use Rattle.std.specs.Prelude.{◌≡◌, ◌+◌, List, [], map, length, IfOk};
-ghost use Rattle.golf_types.specs.Judging.{judge_at};
+ghost use Rattle.std.specs.Prelude.{◌≡◌, ◌+◌, List, [], map, IfOk};
 ghost use Rattle.golf_types.specs.Types.{given, type_given};
-ghost use Rattle.golf_code_of.specs.Calls.{Argument, receiver_base as receiver_base_of, with_receiver, begun_parameters, makings, beginning};
-ghost use Rattle.golf_code_of.specs.Coding.{argument_at};
+ghost use Rattle.golf_code_of.specs.Calls.{Argument, receiver_base as receiver_base_of, with_receiver, makings, beginning};
 ghost use Rattle.golf_layout.specs.Piece.{op as op_of};
 ghost use Rattle.golf_code_of.specs.Statements.{begin_lay, laid};
 ghost use Rattle.golf_emit_statements.specs.Begins.{begin_of};

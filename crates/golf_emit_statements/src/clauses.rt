@@ -1,6 +1,6 @@
 //! What a `select` chooses from, in front of its clauses.
 
-ghost use Rattle.std.specs.Prelude.{◌≡◌, ℕ, List, [], ◌∷◌, ◌++◌, map, None, OnOk};
+ghost use Rattle.std.specs.Prelude.{◌≡◌, List, ◌++◌, map, None, OnOk};
 ghost use Rattle.golf_code_of.specs.declared.tables.Tables.{Tables};
 ghost use Rattle.golf_code_of.specs.Coding.{piece_at};
 ghost use Rattle.golf_code_of.specs.Selects.{kind_of, operands_of, case_to, default_or, choice as choice_of};

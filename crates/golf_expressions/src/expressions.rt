@@ -1,12 +1,12 @@
 //! Expressions. Nothing recurs here: what waits for an expression stands in a list.
 
-ghost use Rattle.std.specs.Prelude.{false, Some, ◌∷◌, ◌++◌, ◌≡◌, ◌+◌, ◌*◌, ◌<◌, ◌≤◌, [], length, IfOk, IfSome};
+ghost use Rattle.std.specs.Prelude.{false, Some, ◌≡◌, ◌+◌, ◌*◌, ◌<◌, length, IfOk, IfSome};
 ghost use Rattle.golf_expressions.specs.Front as front_spec;
 ghost use Rattle.golf_expressions.specs.Front.{seen};
 ghost use Rattle.golf_expressions.specs.ExprReading.{expr_at, Suffixes, Prefixed, Level, Climb};
 ghost use Rattle.golf_expressions.specs.Places as places_spec;
 ghost use Rattle.golf_expressions.specs.Moves as moves_spec;
-ghost use Rattle.golf_expressions.specs.Moves.{goal_at, pending_at, argument_at, item_at, element_at, closed_at, move_at, waited, field_at, started_at, extended_at, goal_weight, weight};
+ghost use Rattle.golf_expressions.specs.Moves.{goal_at, pending_at, argument_at, item_at, element_at, closed_at, field_at, started_at, extended_at, goal_weight, weight};
 
 use crate::front::{after, copied, name_at};
 use crate::operators::{binary_at, binds, unary_at};

@@ -1,6 +1,6 @@
 //! The generated file, made in memory.
 
-ghost use Rattle.std.specs.Prelude.{◌≡◌, ◌≤◌, ◌<◌, ◌^◌, ◌-◌, ◌++◌, IfOk, OnOk, decimal};
+ghost use Rattle.std.specs.Prelude.{◌≡◌, ◌<◌, ◌-◌, ◌++◌, IfOk, OnOk, decimal};
 ghost use Rattle.golf_generate.specs.File.{part, parts, call, calls, tail, file as file_of};
 ghost use Rattle.golf_generate.specs.Lines.{HasLines};
 

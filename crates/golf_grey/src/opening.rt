@@ -1,6 +1,6 @@
 //! A pool with its hands, as they are made.
 
-ghost use Rattle.std.specs.Prelude.{◌≡◌, ◌<◌, ◌≤◌, length, IfOk, []};
+ghost use Rattle.std.specs.Prelude.{◌≡◌, ◌<◌, length, IfOk};
 ghost use Rattle.crossbeam_deque.specs.Handles.{worker_flavor, worker_view};
 
 use crate::hand::GreyHand;

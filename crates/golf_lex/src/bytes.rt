@@ -1,6 +1,6 @@
 //! Classes of bytes.
 
-ghost use Rattle.std.specs.Prelude.{◌≡◌, ℕ};
+ghost use Rattle.std.specs.Prelude.{◌≡◌};
 ghost use Rattle.golf_tokens.specs.Bytes as bytes_spec;
 
 pub(crate) fn is_letter(byte: u8) -> bool

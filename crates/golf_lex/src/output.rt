@@ -24,7 +24,7 @@ pub(crate) struct Output {
 
 impl Output {
     ghost use Rattle.golf_lex.specs.Output as output_spec;
-    ghost use Rattle.golf_lex.specs.Output.{empty, pushed, with_token, with_space, with_lexemes, moved, finished};
+    ghost use Rattle.golf_lex.specs.Output.{empty, pushed, with_token, with_lexemes, finished};
     ghost use Rattle.golf_lex.specs.Automaton.{is_complete};
     ghost use Rattle.golf_lex.specs.Scanning.{ended};
 

@@ -1,6 +1,6 @@
 //! String literals.
 
-ghost use Rattle.std.specs.Prelude.{◌≡◌, ℕ, IfOk, false};
+ghost use Rattle.std.specs.Prelude.{◌≡◌, IfOk, false};
 ghost use Rattle.golf_lex.specs.Strings as strings_spec;
 ghost use Rattle.golf_lex.specs.Strings.{content_from};
 

@@ -6,12 +6,11 @@ ghost use Rattle.golf_model.specs.State.{call_frame};
 ghost use Rattle.golf_model.specs.Changes.{apply_all, finish};
 ghost use Rattle.golf_data.specs.declared.goroutine.Ending.{Ending};
 ghost use Rattle.golf_data.specs.declared.goroutine.PanicKind.{PanicKind};
-ghost use Rattle.golf_model.specs.Calls.{calls, spawns, defers, begins_deferred};
-ghost use Rattle.golf_model.specs.Finalising.{begins_queued};
+ghost use Rattle.golf_model.specs.Calls.{calls, spawns, defers};
 ghost use Rattle.golf_model.specs.Turn.{turn_of};
 ghost use Rattle.golf_theory.specs.Maps.{find};
 ghost use Rattle.golf_state.specs.Operands.{operands_of};
-ghost use Rattle.golf_state.specs.Doing.{does, Stands, Runs};
+ghost use Rattle.golf_state.specs.Doing.{does, Stands};
 ghost use Rattle.golf_machine.specs.Acts.{Acts, HasNoFrame, last_of, deferred_of, begins_latest};
 
 use golf_base::{GoroutineId, List, Memory, Room};

@@ -2,7 +2,7 @@
 
 ghost use Rattle.std.specs.Prelude.{◌≡◌, ◌∷◌, OnOk, OnErr, drop};
 ghost use Rattle.golf_theory.specs.Maps.{find};
-ghost use Rattle.golf_model.specs.Acting.{goes, at_reference, at_reference_or, at_struct};
+ghost use Rattle.golf_model.specs.Acting.{goes, at_struct};
 ghost use Rattle.golf_model.specs.Changes.{Change};
 ghost use Rattle.golf_model.specs.Finalising.{finalises, finalises_by, unfinalises};
 ghost use Rattle.golf_state.specs.Doing.{does, Stands};

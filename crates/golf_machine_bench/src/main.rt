@@ -13,7 +13,6 @@ mod collections;
 mod fault;
 mod order;
 mod pairs;
-mod ready;
 mod turns;
 
 ghost use Rattle.std.specs.Prelude.{◌<◌, ◌≤◌};

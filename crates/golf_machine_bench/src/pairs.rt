@@ -4,26 +4,12 @@ ghost use Rattle.std.specs.Prelude.{IfOk};
 ghost use Rattle.golf_model.specs.Futures.{Leads, Numbered};
 ghost use Rattle.golf_model.specs.Presence.{IsWhole};
 
-use crate::ready::can_run;
 use golf_base::{List, Memory};
-use golf_data::{Code, Function, Instr, Line, Value};
+use golf_data::{Code, Instr, Value};
 use golf_machine::{start, turn};
 use golf_state::State;
+use golf_trials::{can_run, function, lines};
 use std::alloc::Global;
-
-fn function(alloc: Global, params: u32, instrs: Vec<Instr>) -> Result<Function, Memory> {
-    let mut body = List::new(alloc);
-    for instr in instrs {
-        body.push(Line { instr, line: 1 })?;
-    }
-    Ok(Function {
-        params,
-        slots: 4,
-        depth: 4,
-        line: 1,
-        body,
-    })
-}
 
 // `main` starts two goroutines a pair, each of which receives from a channel of its own. The channel of
 // the second stands in a list of structs that a global holds. Then `main` runs on.
@@ -72,8 +58,8 @@ fn receives(alloc: Global) -> Result<Vec<Instr>, Memory> {
 // The code that starts so many pairs of goroutines.
 fn pairs_code(alloc: Global, pairs: u32) -> Result<Code, Memory> {
     let mut functions = List::new(alloc);
-    functions.push(function(alloc, 0, starts(alloc, pairs)?)?)?;
-    functions.push(function(alloc, 1, receives(alloc)?)?)?;
+    functions.push(function(0, lines(alloc, starts(alloc, pairs)?)?))?;
+    functions.push(function(1, lines(alloc, receives(alloc)?)?))?;
     let mut globals = List::new(alloc);
     globals.push(Value::Nil)?;
     let mut fields = List::new(alloc);

@@ -2,11 +2,11 @@
 
 use crate::codes::{Kind, code_of};
 use crate::fault::BenchFault;
-use crate::ready::can_run;
 use golf_base::{List, Memory};
 use golf_data::{Channel, Code, Object, Side, Value, Wait, WaitKind};
 use golf_machine::{start, turn};
 use golf_state::State;
+use golf_trials::can_run;
 use std::alloc::Global;
 use std::rt::Clock;
 use std::time::Instant;

@@ -13,8 +13,6 @@ mod instructions;
 #[cfg(test)]
 mod programs;
 #[cfg(test)]
-mod ready;
-#[cfg(test)]
 mod refusals;
 #[cfg(test)]
 mod runs;

@@ -1,38 +1,16 @@
 //! Codes of two functions with a global, a struct type and texts, and what their runs come to.
 
-use crate::ready::can_run;
 use golf_base::{List, Memory};
-use golf_data::{Code, Ending, Function, Instr, Line, Value};
+use golf_data::{Code, Ending, Instr, Value};
 use golf_machine::{start, turn};
 use golf_state::State;
+use golf_trials::{can_run, function, lines};
 use std::alloc::Global;
 use std::process::Abort;
 use std::test::Fail;
 
 /// How many turns a run has.
 const TURNS: u64 = 120;
-
-// Instructions at the lines 1, 2 and so on.
-fn lines(alloc: Global, instrs: Vec<Instr>) -> Result<List<Line>, Memory> {
-    let mut body = List::new(alloc);
-    let mut line = 0u32;
-    for instr in instrs {
-        line = line.saturating_add(1);
-        body.push(Line { instr, line })?;
-    }
-    Ok(body)
-}
-
-// A function with four slots, of which its arguments take the first.
-fn function(params: u32, body: List<Line>) -> Function {
-    Function {
-        params,
-        slots: 4,
-        depth: 4,
-        line: 1,
-        body,
-    }
-}
 
 // The texts: the empty one, `a` and `b`.
 fn texts(alloc: Global) -> Result<List<List<u8>>, Memory> {

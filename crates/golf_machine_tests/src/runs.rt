@@ -1,10 +1,10 @@
 //! Runs of codes, and what they come to.
 
-use crate::ready::can_run;
 use golf_base::{GoroutineId, List, Memory, ObjectId};
 use golf_data::{Code, Ending, Goroutine, Mode, Side, Value, WaitKind};
 use golf_machine::{Turned, start, turn};
 use golf_state::State;
+use golf_trials::can_run;
 use std::alloc::Global;
 
 /// How many turns the first goroutine that can run takes, then the second, and the first again.

@@ -1,10 +1,10 @@
 //! Turns of goroutines by their places, and what a state shows after them.
 
-use crate::ready::can_run;
 use golf_base::{GoroutineId, Memory};
 use golf_data::{Code, Ending, Mode, PanicKind, WaitKind};
 use golf_machine::{start, turn};
 use golf_state::State;
+use golf_trials::can_run;
 use std::alloc::Global;
 use std::process::Abort;
 use std::test::Fail;

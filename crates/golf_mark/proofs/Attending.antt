@@ -10,7 +10,7 @@ use Rattle.golf_grey.specs.declared.pool.GreyPool.{GreyPool}
 use Rattle.golf_grey.specs.Hands.{pushed}
 use Rattle.golf_mark.specs.declared.marker.Marker.{Marker}
 use Rattle.golf_mark.specs.declared.scanner.Scanner.{Scanner}
-use Rattle.golf_mark.specs.Scanning.{Wins}
+use Rattle.golf_mark.specs.Scanning.{Wins, with_seat}
 use Rattle.golf_mark.specs.Turning.{IsMarkerOf, Attends}
 use Rattle.golf_mark.specs.Working.{IsScanned}
 use Rattle.golf_mark.proofs.Winning.{Wins-looked}
@@ -29,10 +29,10 @@ IsMarkerOf-wins marks pool a s fits w = record {
 
 pub Attends-scanned : (marks : Marks) (pool : GreyPool) (place : ℕ) (a : Marker) (seat : MarkSeat) (s : Scanner)
     → IsMarkerOf marks pool a → IsSameSeat a.scanner.seat seat → claimed seat ≡ claimed a.scanner.seat → known seat ≡ known a.scanner.seat ++ place ∷ []
-    → Wins marks (record { seat = seat; won = a.scanner.won }) s → IsScanned (graph_in marks) (known s.seat) place
+    → Wins marks (with_seat a.scanner seat) s → IsScanned (graph_in marks) (known s.seat) place
     → Attends marks pool place a (record a { scanner = s })
 Attends-scanned marks pool place a seat s fits same claims knows wins scanned =
-    let looked : Scanner = record { seat = seat; won = a.scanner.won } in
+    let looked : Scanner = with_seat a.scanner seat in
     let keep : (p : ℕ) → In p (known a.scanner.seat) → In p (known seat) = λ p h. subst (λ (l : List ℕ). In p l) (sym knows) (In-left p (known a.scanner.seat) (place ∷ []) h) in
     record {
       fits = record {
@@ -53,17 +53,17 @@ Attends-scanned marks pool place a seat s fits same claims knows wins scanned =
 pub Attends-deferred : (marks : Marks) (pool : GreyPool) (place : ℕ) (a : Marker) (seat : MarkSeat) (notes : List Bool)
     → IsMarkerOf marks pool a → IsSameSeat a.scanner.seat seat → claimed seat ≡ claimed a.scanner.seat → known seat ≡ known a.scanner.seat
     → length notes ≡ length a.deferred → ((p : ℕ) → IsSet a.deferred p → IsSet notes p) → IsSet notes place
-    → Attends marks pool place a (record a { scanner = record { seat = seat; won = a.scanner.won }; deferred = notes })
+    → Attends marks pool place a (record a { scanner = with_seat a.scanner seat; deferred = notes })
 Attends-deferred marks pool place a seat notes fits same claims knows size kept noted =
-    let looked = Wins-looked marks a.scanner seat fits.scanner same claims knows in
-    let with_seat = IsMarkerOf-wins marks pool a (record { seat = seat; won = a.scanner.won }) fits looked in
+    let looked = Wins-looked marks a.scanner seat fits.scanner same claims (λ p h. subst (λ (l : List ℕ). In p l) (sym knows) h) in
+    let with_look = IsMarkerOf-wins marks pool a (with_seat a.scanner seat) fits looked in
     record {
       fits = record {
-        scanner = with_seat.scanner;
-        own = with_seat.own;
-        hand = with_seat.hand;
-        covered = with_seat.covered;
-        budget = with_seat.budget;
+        scanner = with_look.scanner;
+        own = with_look.own;
+        hand = with_look.hand;
+        covered = with_look.covered;
+        budget = with_look.budget;
         deferred = size ∙ fits.deferred;
       };
       keeps = record { known = looked.known; parts = looked.parts; number = refl };

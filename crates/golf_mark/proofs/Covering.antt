@@ -1,12 +1,12 @@
 -- What each place that was claimed comes to.
-use Rattle.std.proofs.Common.{◌≡◌, ℕ, inl, inr, List, [], ◌∷◌, ◌++◌, sym, subst}
+use Rattle.std.proofs.Common.{◌≡◌, ℕ, ◌⊎◌, inl, inr, List, [], ◌∷◌, ◌++◌, sym, subst}
 use Rattle.golf_theory.specs.Membership.{In}
 use Rattle.golf_theory.proofs.Lists.{In-left, In-right, In-cases}
 use Rattle.golf_base.specs.Roomy.{Roomy}
 use Rattle.golf_marks.specs.declared.marks.Marks.{Marks}
 use Rattle.golf_marks.specs.Seats.{graph_in, claimed, known}
 use Rattle.golf_mark.specs.declared.scanner.Scanner.{Scanner}
-use Rattle.golf_mark.specs.Scanning.{IsCovered, KnowsWon, Wins}
+use Rattle.golf_mark.specs.Scanning.{IsCovered, KnowsWon, Wins, with_won}
 use Rattle.golf_mark.specs.Working.{IsScanned}
 
 -- what it wins it knows
@@ -19,6 +19,13 @@ own_wins marks a b w own p h = elim (In-cases p a.won.items w.won.0 (subst (λ (
 -- it has the same list, or a part of it, and knows no less
 pub own_less : (marks : Marks) (a b : Scanner) → ((p : ℕ) → In p (known a.seat) → In p (known b.seat)) → ((p : ℕ) → In p b.won.items → In p a.won.items) → KnowsWon marks a → KnowsWon marks b
 own_less marks a b knows part own p h = let r = own p (part p h) in (r.0, knows p r.1)
+
+-- the last place, or one of the others
+pub last_or : (place : ℕ) (all rest : List ℕ) → all ≡ rest ++ place ∷ [] → (p : ℕ) → In p all → (p ≡ place) ⊎ In p rest
+last_or place all rest is p h = elim (In-cases p rest (place ∷ []) (subst (λ (l : List ℕ). In p l) is h)) [
+  | inl i ↦ inr i
+  | inr i ↦ elim i [ inl e ↦ inl e | inr none ↦ absurd none ]
+]
 
 module _ (Elsewhere : ℕ → Type 0) where
   -- what it wins is in its own list
@@ -44,16 +51,16 @@ module _ (Elsewhere : ℕ → Type 0) where
     ]
   ]
 
-  -- the last place is taken out and scanned
-  pub covered_scan : (marks : Marks) (place : ℕ) (a b : Scanner) (won : Roomy ℕ) → a.won.items ≡ won.items ++ place ∷ [] → Wins marks (record { seat = a.seat; won = won }) b
+  -- a place is taken out and scanned
+  pub covered_scan : (marks : Marks) (place : ℕ) (a b : Scanner) (won : Roomy ℕ) → ((p : ℕ) → In p a.won.items → (p ≡ place) ⊎ In p won.items) → Wins marks (with_won a won) b
       → IsScanned (graph_in marks) (known b.seat) place → IsCovered marks Elsewhere a → IsCovered marks Elsewhere b
   covered_scan marks place a b won items w scanned covered p low h = elim (In-cases p (claimed a.seat) w.won.0 (subst (λ (l : List ℕ). In p l) w.won.1 h)) [
     | inl i ↦ elim (covered p low i) [
       | inl done ↦ inl (λ q j. w.known q (done q j))
       | inr j ↦ elim j [
-        | inl k ↦ elim (In-cases p won.items (place ∷ []) (subst (λ (l : List ℕ). In p l) items k)) [
-          | inl m ↦ inr (inl (subst (λ (l : List ℕ). In p l) (sym w.won.2) (In-left p won.items w.won.0 m)))
-          | inr m ↦ elim m [ inl e ↦ inl (subst (λ (q : ℕ). IsScanned (graph_in marks) (known b.seat) q) (sym e) scanned) | inr none ↦ absurd none ]
+        | inl k ↦ elim (items p k) [
+          | inl e ↦ inl (subst (λ (q : ℕ). IsScanned (graph_in marks) (known b.seat) q) (sym e) scanned)
+          | inr m ↦ inr (inl (subst (λ (l : List ℕ). In p l) (sym w.won.2) (In-left p won.items w.won.0 m)))
         ]
         | inr k ↦ inr (inr k)
       ]

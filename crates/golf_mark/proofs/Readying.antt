@@ -12,7 +12,7 @@ use Rattle.golf_marks.specs.declared.marks.MarkSeat.{MarkSeat}
 use Rattle.golf_grey.specs.declared.hand.GreyHand.{GreyHand}
 use Rattle.golf_theory.proofs.Sums.{total_set, get_or_of}
 use Rattle.golf_marks.specs.declared.marks.Marks.{Marks}
-use Rattle.golf_marks.specs.Places.{place_count, word_count}
+use Rattle.golf_marks.specs.Places.{place_count}
 use Rattle.golf_marks.specs.Seats.{graph_in, known, parts, IsNewSeatOf}
 use Rattle.golf_grey.specs.declared.pool.GreyPool.{GreyPool}
 use Rattle.golf_grey.specs.Hands.{capacity_of, hand_count, IsHandOf, IsNewHand}
@@ -122,7 +122,7 @@ pub record IsEquipping (marks : Marks) (pool : GreyPool) (total : ℕ) (seats : 
 
 pub equipped : (marks : Marks) (pool : GreyPool) (total : ℕ) (seats some_seats : List MarkSeat) (hands some_hands : List GreyHand) (ms : List Marker) (m : Marker)
     → IsEquipping marks pool total seats hands ms → seats ≡ some_seats ++ m.scanner.seat ∷ [] → hands ≡ some_hands ++ m.hand ∷ []
-    → length m.deferred ≡ place_count (graph_in marks) → m.scanner.won.items ≡ [] → word_count (graph_in marks) ≤ m.scanner.won.spare → m.budget ≤ capacity_of pool
+    → length m.deferred ≡ place_count (graph_in marks) → m.scanner.won.items ≡ [] → place_count (graph_in marks) ≤ m.scanner.won.spare → m.budget ≤ capacity_of pool
     → IsEquipping marks pool total some_seats some_hands (ms ++ m ∷ [])
 equipped marks pool total seats some_seats hands some_hands ms m q seat_is hand_is deferred idle room capacity =
     let seat_facts = subst (λ (l : List MarkSeat). Every (IsNewSeatOf marks) l) seat_is q.all_seats in

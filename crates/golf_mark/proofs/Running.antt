@@ -15,9 +15,9 @@ use Rattle.golf_grey.specs.Hands.{pushed, took, IsHandOf}
 use Rattle.golf_mark.specs.declared.marker.Marker.{Marker}
 use Rattle.golf_mark.specs.declared.scanner.Scanner.{Scanner}
 use Rattle.golf_mark.specs.Turning.{IsMarkerOf, Keeps, Attends, Runs, EachRuns, is_one}
-use Rattle.golf_mark.specs.Scanning.{IsCovered, Wins}
+use Rattle.golf_mark.specs.Scanning.{IsCovered, Wins, with_won}
 use Rattle.golf_mark.specs.Working.{IsScanned}
-use Rattle.golf_mark.proofs.Covering.{own_wins, own_less, covered_same, covered_scan, covered_share}
+use Rattle.golf_mark.proofs.Covering.{own_wins, own_less, covered_same, last_or, covered_scan, covered_share}
 
 pub Keeps-none : (m : Marker) → Keeps m m
 Keeps-none m = record { known = λ p h. h; parts = refl; number = refl }
@@ -75,9 +75,9 @@ IsMarkerOf-hand marks pool a hand fits its_hand pushes = record {
 -- its own list is the same, and so is what its hand pushed and took
 pub Runs-idle : (marks : Marks) (pool : GreyPool) (a : Marker) (won : Roomy ℕ) (hand : GreyHand) → IsMarkerOf marks pool a → won.items ≡ a.scanner.won.items → won.spare ≡ a.scanner.won.spare
     → IsHandOf pool hand → pushed hand ≡ pushed a.hand → ((f : ℕ → ℕ) → took f hand ≡ took f a.hand) → hand.number ≡ a.hand.number
-    → Runs marks pool a (record a { scanner = record { seat = a.scanner.seat; won = won }; hand = hand })
+    → Runs marks pool a (record a { scanner = with_won a.scanner won; hand = hand })
 Runs-idle marks pool a won hand fits items spare its_hand pushes same number =
-    let s : Scanner = record { seat = a.scanner.seat; won = won } in
+    let s : Scanner = with_won a.scanner won in
     Runs-still marks pool a (record a { scanner = s; hand = hand })
     (record {
       scanner = record { seat = fits.scanner.seat; bounded = fits.scanner.bounded; room = omega (arith, fits.scanner.room, spare) };
@@ -92,15 +92,15 @@ Runs-idle marks pool a won hand fits items spare its_hand pushes same number =
 
 -- the last place of its own list is scanned
 pub Runs-own : (marks : Marks) (pool : GreyPool) (place : ℕ) (a : Marker) (won : Roomy ℕ) (s : Scanner) → IsMarkerOf marks pool a → a.scanner.won.items ≡ won.items ++ place ∷ []
-    → Wins marks (record { seat = a.scanner.seat; won = won }) s → IsScanned (graph_in marks) (known s.seat) place → Runs marks pool a (record a { scanner = s })
+    → Wins marks (with_won a.scanner won) s → IsScanned (graph_in marks) (known s.seat) place → Runs marks pool a (record a { scanner = s })
 Runs-own marks pool place a won s fits items wins scanned =
-    let rest : Scanner = record { seat = a.scanner.seat; won = won } in
+    let rest : Scanner = with_won a.scanner won in
     Runs-still marks pool a (record a { scanner = s })
     (record {
       scanner = wins.fits;
       own = own_wins marks rest s wins (own_less marks a.scanner rest (λ p h. h) (λ p h. subst (λ (l : List ℕ). In p l) (sym items) (In-left p won.items (place ∷ []) h)) fits.own);
       hand = fits.hand;
-      covered = covered_scan (λ p. In p (pushed a.hand)) marks place a.scanner s won items wins scanned fits.covered;
+      covered = covered_scan (λ p. In p (pushed a.hand)) marks place a.scanner s won (last_or place a.scanner.won.items won.items items) wins scanned fits.covered;
       budget = fits.budget;
       deferred = fits.deferred;
     })
@@ -110,9 +110,9 @@ Runs-own marks pool place a won s fits items wins scanned =
 -- the first place of its own list is shared
 pub Runs-shared : (marks : Marks) (pool : GreyPool) (place budget : ℕ) (a : Marker) (won : Roomy ℕ) (hand : GreyHand) → IsMarkerOf marks pool a → a.scanner.won.items ≡ place ∷ won.items → won.spare ≡ a.scanner.won.spare
     → IsHandOf pool hand → pushed hand ≡ pushed a.hand ++ place ∷ [] → ((f : ℕ → ℕ) → took f hand ≡ took f a.hand) → hand.number ≡ a.hand.number → budget + 1 ≡ a.budget
-    → Runs marks pool a (record a { scanner = record { seat = a.scanner.seat; won = won }; hand = hand; budget = budget })
+    → Runs marks pool a (record a { scanner = with_won a.scanner won; hand = hand; budget = budget })
 Runs-shared marks pool place budget a won hand fits items spare its_hand pushes same number less =
-    let s : Scanner = record { seat = a.scanner.seat; won = won } in
+    let s : Scanner = with_won a.scanner won in
     Runs-still marks pool a (record a { scanner = s; hand = hand; budget = budget })
     (record {
       scanner = record { seat = fits.scanner.seat; bounded = fits.scanner.bounded; room = omega (arith, fits.scanner.room, spare) };

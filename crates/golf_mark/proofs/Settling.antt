@@ -8,17 +8,17 @@ use Rattle.golf_base.specs.Roomy.{Roomy}
 use Rattle.golf_marks.specs.declared.marks.Marks.{Marks}
 use Rattle.golf_marks.specs.declared.marks.MarkSeat.{MarkSeat}
 use Rattle.golf_marks.specs.Flags.{IsSet}
-use Rattle.golf_marks.specs.Places.{word_count}
+use Rattle.golf_marks.specs.Places.{place_count}
 use Rattle.golf_marks.specs.Seats.{graph_in, claimed, known, IsSameSeat}
 use Rattle.golf_mark.specs.declared.scanner.Scanner.{Scanner}
 use Rattle.golf_mark.specs.Finishing.{IsIdle, IsPending, KeepsSeat}
-use Rattle.golf_mark.specs.Scanning.{IsScannerOf, IsCovered, KnowsWon, Wins}
+use Rattle.golf_mark.specs.Scanning.{IsScannerOf, IsCovered, KnowsWon, Wins, with_won, with_seat}
 use Rattle.golf_mark.specs.Working.{IsScanned}
-use Rattle.golf_mark.proofs.Covering.{own_wins, own_less, covered_scan}
+use Rattle.golf_mark.proofs.Covering.{own_wins, own_less, last_or, covered_scan}
 
 -- what is left to do
 abbrev pub work_of : Marks → Scanner → ℕ
-work_of marks s = 2 * (word_count (graph_in marks) - length (claimed s.seat)) + length s.won.items
+work_of marks s = 2 * (place_count (graph_in marks) - length (claimed s.seat)) + length s.won.items
 
 -- what settling keeps: what is covered stays covered, whatever is noted
 pub record IsSettling (marks : Marks) (old s : Scanner) : Type 0 where
@@ -28,7 +28,7 @@ pub record IsSettling (marks : Marks) (old s : Scanner) : Type 0 where
   pub covered : (todo : List Bool) (from : ℕ) → IsCovered marks (IsPending todo from) old → IsCovered marks (IsPending todo from) s
 
 -- a place is taken out
-pub popped : (marks : Marks) (s : Scanner) (won : Roomy ℕ) → s.won.spare ≤ won.spare → IsScannerOf marks s → IsScannerOf marks (record { seat = s.seat; won = won })
+pub popped : (marks : Marks) (s : Scanner) (won : Roomy ℕ) → s.won.spare ≤ won.spare → IsScannerOf marks s → IsScannerOf marks (with_won s won)
 popped marks s won spare fits = record {
   seat = fits.seat;
   bounded = fits.bounded;
@@ -36,28 +36,32 @@ popped marks s won spare fits = record {
 }
 
 -- a place that was won is taken out, and scanned
-pub settles : (marks : Marks) (place : ℕ) (old a b : Scanner) (won : Roomy ℕ) → a.won.items ≡ won.items ++ place ∷ [] → Wins marks (record { seat = a.seat; won = won }) b
+pub settles : (marks : Marks) (place : ℕ) (old a b : Scanner) (won : Roomy ℕ) → a.won.items ≡ won.items ++ place ∷ [] → Wins marks (with_won a won) b
     → IsScanned (graph_in marks) (known b.seat) place → IsSettling marks old a → IsSettling marks old b
 settles marks place old a b won items w scanned s = record {
   fits = w.fits;
-  won = own_wins marks (record { seat = a.seat; won = won }) b w
-      (own_less marks a (record { seat = a.seat; won = won }) (λ p h. h) (λ p h. subst (λ (l : List ℕ). In p l) (sym items) (In-left p won.items (place ∷ []) h)) s.won);
+  won = own_wins marks (with_won a won) b w
+      (own_less marks a (with_won a won) (λ p h. h) (λ p h. subst (λ (l : List ℕ). In p l) (sym items) (In-left p won.items (place ∷ []) h)) s.won);
   keeps = record { known = λ p h. w.known p (s.keeps.known p h); parts = w.parts ∙ s.keeps.parts };
-  covered = λ todo from before. covered_scan (IsPending todo from) marks place a b won items w scanned (s.covered todo from before);
+  covered = λ todo from before. covered_scan (IsPending todo from) marks place a b won (last_or place a.won.items won.items items) w scanned (s.covered todo from before);
 }
 
 -- which leaves less to do
-pub settles_less : (marks : Marks) (place : ℕ) (a b : Scanner) (won : Roomy ℕ) → a.won.items ≡ won.items ++ place ∷ [] → Wins marks (record { seat = a.seat; won = won }) b → work_of marks b < work_of marks a
+pub settles_less : (marks : Marks) (place : ℕ) (a b : Scanner) (won : Roomy ℕ) → a.won.items ≡ won.items ++ place ∷ [] → Wins marks (with_won a won) b → work_of marks b < work_of marks a
 settles_less marks place a b won items w =
     omega (arith, ap length items, length_push won.items place, ap length w.won.1, length-append (claimed a.seat) w.won.0, ap length w.won.2, length-append won.items w.won.0, w.fits.bounded)
 
--- a scanner whose seat has looked at a place
-pub looked : (marks : Marks) (s : Scanner) (seat : MarkSeat) → IsIdle marks s → IsSameSeat s.seat seat → claimed seat ≡ claimed s.seat → length (claimed s.seat) ≤ word_count (graph_in marks) → IsScannerOf marks (record { seat = seat; won = s.won })
-looked marks s seat idle same claims bounded = record {
+-- an idle scanner whose seat has looked at a place
+pub idle_looked : (marks : Marks) (s : Scanner) (seat : MarkSeat) → IsIdle marks s → IsSameSeat s.seat seat → claimed seat ≡ claimed s.seat → IsIdle marks (with_seat s seat)
+idle_looked marks s seat idle same claims = record {
   seat = record { table = same.table ∙ idle.seat.table; graph = same.graph ∙ idle.seat.graph };
-  bounded = omega (arith, bounded, ap length claims);
+  none = idle.none;
   room = omega (arith, idle.room, ap length claims);
 }
+
+-- which has claimed no more places than there are
+pub looked : (marks : Marks) (s : Scanner) → length (claimed s.seat) ≤ place_count (graph_in marks) → IsIdle marks s → IsScannerOf marks s
+looked marks s bounded idle = record { seat = idle.seat; bounded = bounded; room = idle.room }
 
 -- a place that is not noted, or not claimed
 pub passes_over : (marks : Marks) (todo : List Bool) (place : ℕ) (a b : Scanner) → claimed b.seat ≡ claimed a.seat → ((p : ℕ) → In p (known a.seat) → In p (known b.seat)) → b.won ≡ a.won → (In place (claimed a.seat) → IsSet todo place → ⊥)
@@ -77,7 +81,7 @@ passes_over marks todo place a b claims knows won none covered p low h =
 
 -- the place is scanned
 pub settled_at : (marks : Marks) (todo : List Bool) (place : ℕ) (a b : Scanner) (seat : MarkSeat) → a.won.items ≡ [] → claimed seat ≡ claimed a.seat → ((p : ℕ) → In p (known a.seat) → In p (known seat))
-    → Wins marks (record { seat = seat; won = a.won }) b → IsScanned (graph_in marks) (known b.seat) place → IsCovered marks (IsPending todo place) a → IsCovered marks (IsPending todo (place + 1)) b
+    → Wins marks (with_seat a seat) b → IsScanned (graph_in marks) (known b.seat) place → IsCovered marks (IsPending todo place) a → IsCovered marks (IsPending todo (place + 1)) b
 settled_at marks todo place a b seat idle claims knows w scanned covered p low h =
     elim (In-cases p (claimed seat) w.won.0 (subst (λ (l : List ℕ). In p l) w.won.1 h)) [
       | inl i ↦ elim (covered p low (subst (λ (l : List ℕ). In p l) claims i)) [

@@ -5,10 +5,10 @@ use Rattle.golf_theory.specs.Membership.{In}
 use Rattle.golf_theory.proofs.Lists.{In-left, In-right, In-cases}
 use Rattle.golf_marks.specs.declared.marks.Marks.{Marks}
 use Rattle.golf_marks.specs.declared.marks.MarkSeat.{MarkSeat}
-use Rattle.golf_marks.specs.Places.{place_count, word_count}
+use Rattle.golf_marks.specs.Places.{place_count}
 use Rattle.golf_marks.specs.Seats.{graph_in, claimed, known, IsSeatOf, IsSameSeat}
 use Rattle.golf_mark.specs.declared.scanner.Scanner.{Scanner}
-use Rattle.golf_mark.specs.Scanning.{IsScannerOf, Wins}
+use Rattle.golf_mark.specs.Scanning.{IsScannerOf, Wins, with_seat}
 
 pub Wins-none : (marks : Marks) (s : Scanner) → IsScannerOf marks s → Wins marks s s
 Wins-none marks s fits = record { fits = fits; known = λ p h. h; parts = refl; won = ([], sym (append-nil (claimed s.seat)), sym (append-nil s.won.items), λ p h. absurd h) }
@@ -32,22 +32,22 @@ same_seat marks a b fits same = record { table = same.table ∙ fits.seat.table;
 keeps_known : (a b : Scanner) (place : ℕ) → known b.seat ≡ known a.seat ++ place ∷ [] → (p : ℕ) → In p (known a.seat) → In p (known b.seat)
 keeps_known a b place is p h = subst (λ (l : List ℕ). In p l) (sym is) (In-left p (known a.seat) (place ∷ []) h)
 
--- it looks at a place that is not marked
-pub Wins-looked : (marks : Marks) (a : Scanner) (seat : MarkSeat) → IsScannerOf marks a → IsSameSeat a.seat seat → claimed seat ≡ claimed a.seat → known seat ≡ known a.seat → Wins marks a (record { seat = seat; won = a.won })
-Wins-looked marks a seat fits same claims knows = record {
+-- it looks at a place
+pub Wins-looked : (marks : Marks) (a : Scanner) (seat : MarkSeat) → IsScannerOf marks a → IsSameSeat a.seat seat → claimed seat ≡ claimed a.seat → ((p : ℕ) → In p (known a.seat) → In p (known seat)) → Wins marks a (with_seat a seat)
+Wins-looked marks a seat fits same claims keep = record {
   fits = record {
     seat = record { table = same.table ∙ fits.seat.table; graph = same.graph ∙ fits.seat.graph };
     bounded = omega (arith, fits.bounded, ap length claims);
     room = omega (arith, fits.room, ap length claims);
   };
-  known = λ p h. subst (λ (l : List ℕ). In p l) (sym knows) h;
+  known = keep;
   parts = same.parts;
   won = ([], claims ∙ sym (append-nil (claimed a.seat)), sym (append-nil a.won.items), λ p h. absurd h);
 }
 
 -- the claim is won
 pub Wins-won : (marks : Marks) (a b : Scanner) (place : ℕ) → place < place_count (graph_in marks) → IsScannerOf marks a → IsSameSeat a.seat b.seat → claimed b.seat ≡ claimed a.seat ++ place ∷ [] → known b.seat ≡ known a.seat ++ place ∷ []
-    → length (claimed b.seat) ≤ word_count (graph_in marks) → b.won.items ≡ a.won.items ++ place ∷ [] → b.won.spare + 1 ≡ a.won.spare → Wins marks a b
+    → length (claimed b.seat) ≤ place_count (graph_in marks) → b.won.items ≡ a.won.items ++ place ∷ [] → b.won.spare + 1 ≡ a.won.spare → Wins marks a b
 Wins-won marks a b place low fits same claims knows bounded items spare = record {
   fits = record {
     seat = same_seat marks a b fits same;

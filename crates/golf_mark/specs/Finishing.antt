@@ -3,7 +3,7 @@ use Rattle.std.specs.Prelude.{◌≡◌, ◌+◌, ◌≤◌, ℕ, List, [], Bool
 use Rattle.golf_theory.specs.Membership.{In}
 use Rattle.golf_marks.specs.declared.marks.Marks.{Marks}
 use Rattle.golf_marks.specs.Flags.{IsSet}
-use Rattle.golf_marks.specs.Places.{word_count}
+use Rattle.golf_marks.specs.Places.{place_count}
 use Rattle.golf_marks.specs.Seats.{graph_in, claimed, known, parts, IsSeatOf}
 use Rattle.golf_mark.specs.declared.scanner.Scanner.{Scanner}
 
@@ -11,7 +11,7 @@ use Rattle.golf_mark.specs.declared.scanner.Scanner.{Scanner}
 pub record IsIdle (marks : Marks) (s : Scanner) : Type 0 where
   pub seat : IsSeatOf marks s.seat
   pub none : s.won.items ≡ []
-  pub room : word_count (graph_in marks) ≤ length (claimed s.seat) + s.won.spare
+  pub room : place_count (graph_in marks) ≤ length (claimed s.seat) + s.won.spare
 
 -- the place is noted, and not gone through yet
 abbrev pub IsPending : List Bool → ℕ → ℕ → Type 0

@@ -1,17 +1,26 @@
 -- What a marker claims with, and what it has won.
 use Rattle.std.specs.Prelude.{◌≡◌, ◌+◌, ◌<◌, ◌≤◌, ◌++◌, ◌⊎◌, ℕ, List, length}
 use Rattle.golf_theory.specs.Membership.{In}
+use Rattle.golf_base.specs.Roomy.{Roomy}
 use Rattle.golf_marks.specs.declared.marks.Marks.{Marks}
-use Rattle.golf_marks.specs.Places.{place_count, word_count}
+use Rattle.golf_marks.specs.declared.marks.MarkSeat.{MarkSeat}
+use Rattle.golf_marks.specs.Places.{place_count}
 use Rattle.golf_marks.specs.Seats.{graph_in, claimed, known, parts, IsSeatOf}
 use Rattle.golf_mark.specs.declared.scanner.Scanner.{Scanner}
 use Rattle.golf_mark.specs.Working.{IsScanned}
 
+-- the same, with another list or seat
+abbrev pub with_won : Scanner → Roomy ℕ → Scanner
+with_won s won = record { seat = s.seat; won = won }
+
+abbrev pub with_seat : Scanner → MarkSeat → Scanner
+with_seat s seat = record { seat = seat; won = s.won }
+
 -- its seat is one of these words, and there is room for all that it may win
 pub record IsScannerOf (marks : Marks) (s : Scanner) : Type 0 where
   pub seat : IsSeatOf marks s.seat
-  pub bounded : length (claimed s.seat) ≤ word_count (graph_in marks)
-  pub room : word_count (graph_in marks) ≤ length (claimed s.seat) + s.won.spare
+  pub bounded : length (claimed s.seat) ≤ place_count (graph_in marks)
+  pub room : place_count (graph_in marks) ≤ length (claimed s.seat) + s.won.spare
 
 -- each place that it claimed is scanned, or in its own list, or elsewhere
 abbrev pub IsCovered : Marks → (ℕ → Type 0) → Scanner → Type 0

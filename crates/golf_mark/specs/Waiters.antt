@@ -1,13 +1,10 @@
 -- For each node of a graph the sleepers that wait on it.
-use Rattle.std.specs.Prelude.{ℕ, List}
-use Rattle.golf_rows.specs.Rows.{IsInverseBelow}
+use Rattle.std.specs.Prelude.{◌<◌, ◌↔◌, ℕ, List}
+use Rattle.golf_theory.specs.Membership.{In}
+use Rattle.golf_rows.specs.Rows.{row_of}
 use Rattle.golf_model.specs.declared.graph.GraphParts.{GraphParts}
-use Rattle.golf_model.specs.Graph.{node_count, sleeper_count, sleeper_waits}
+use Rattle.golf_model.specs.Graph.{sleeper_count, sleeper_waits}
 
--- each node's row has the sleepers below the bound that wait on it
-abbrev pub IsWaitersBelow : ℕ → GraphParts → List (List ℕ) → Type 0
-IsWaitersBelow bound g rows = IsInverseBelow bound (node_count g) (sleeper_waits g) rows
-
--- each node's row has the sleepers that wait on it
-abbrev pub IsWaiters : GraphParts → List (List ℕ) → Type 0
-IsWaiters g rows = IsWaitersBelow (sleeper_count g) g rows
+-- each node's row has the sleepers that wait on it. Where there is no sleeper there need be no rows
+pub record IsWaiters (g : GraphParts) (rows : List (List ℕ)) : Type 0 where
+  pub members : (n s : ℕ) → In s (row_of rows n) ↔ ((s < sleeper_count g) × In n (sleeper_waits g s))

@@ -1,6 +1,6 @@
 //! What several markers have marked, taken together.
 
-ghost use Rattle.std.specs.Prelude.{◌≡◌, ◌+◌, ◌<◌, ◌≤◌, ℕ, [], length, false};
+ghost use Rattle.std.specs.Prelude.{◌≡◌, ◌<◌, ◌≤◌, [], length};
 ghost use mathlib.Core.Option.{some};
 ghost use lib.ListN.{get_elem?};
 ghost use Rattle.golf_model.specs.Graph.{IsInRange};
@@ -51,6 +51,7 @@ pub(crate) fn conclude(
         hand,
         deferred: mut todo,
         budget: _,
+        apart: _,
     } = first;
     todo.add_all(scanner.won.as_slice());
     scanner.won.clear();
@@ -61,6 +62,7 @@ pub(crate) fn conclude(
             hand,
             deferred,
             budget: _,
+            apart: _,
         } = marker;
         hands.push_ready(hand);
         let Scanner { seat, won } = theirs;

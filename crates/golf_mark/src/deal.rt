@@ -1,10 +1,10 @@
 //! The markers before their run: what each works with, and the roots that each claims.
 
-ghost use Rattle.std.specs.Prelude.{◌≡◌, ◌<◌, ◌≤◌, ℕ, length, IfOk};
+ghost use Rattle.std.specs.Prelude.{◌≡◌, ◌<◌, ◌≤◌, length, IfOk};
 ghost use Rattle.golf_theory.specs.Membership.{In, Every};
 ghost use Rattle.golf_model.specs.Graph.{IsInRange};
-ghost use Rattle.golf_marks.specs.Places.{place_count, word_count};
-ghost use Rattle.golf_marks.specs.Seats.{graph_in, seat_count, IsNewSeatOf};
+ghost use Rattle.golf_marks.specs.Places.{place_count};
+ghost use Rattle.golf_marks.specs.Seats.{graph_in, IsNewSeatOf};
 ghost use Rattle.golf_grey.specs.Hands.{AreAllHands, AreNewHands, capacity_of, hand_count};
 ghost use Rattle.golf_mark.specs.Gathering.{IsRooted, marker_parts};
 ghost use Rattle.golf_mark.specs.Ready.{AllFresh, Seeds};
@@ -48,13 +48,14 @@ pub(crate) fn equip(
             unreachable!()
         };
         let deferred = Notes::new(alloc, places)?;
-        let won = Stack::new(alloc, places.max(1) as usize)?;
+        let won = Stack::new(alloc, places as usize)?;
         let scanner = Scanner { seat, won };
         markers.push(Marker {
             scanner,
             hand,
             deferred,
             budget,
+            apart: [0; 16],
         })?;
     }
     Ok(markers)

@@ -1,6 +1,6 @@
 //! The finishing scan, of what the markers have left.
 
-ghost use Rattle.std.specs.Prelude.{◌≡◌, ◌+◌, ◌<◌, ◌≤◌, ℕ, Bool, List, length};
+ghost use Rattle.std.specs.Prelude.{◌≡◌, ◌+◌, ◌<◌, ℕ, Bool, List, length};
 ghost use Rattle.golf_marks.specs.Places.{place_count};
 ghost use Rattle.golf_marks.specs.Seats.{graph_in};
 ghost use Rattle.golf_mark.specs.Finishing.{IsIdle, IsPending, KeepsSeat};

@@ -16,13 +16,20 @@ use golf_marks::Marks;
 use golf_model::Graph;
 use std::hint::spin_loop;
 use std::sync::atomic::{AtomicU64, Ordering};
-use std::thread::{Threads, join_mut};
+use std::thread::{Threads, join_mut, yield_now};
 
 /// How many places lie in a deque before its marker shares more.
 const SHARED: usize = 4;
 
+/// In every turn whose number this divides a marker looks whether its deque is short.
+const LOOK_EVERY: u64 = 4;
+
 /// How often a marker that finds nothing looks again before it ends.
-const LOOKS: u32 = 65_536;
+const LOOKS: u32 = 16_384;
+
+/// How many of these looks come right after one another. After each of the others another thread may
+/// run.
+const AT_ONCE: u32 = 64;
 
 /// What all markers of a run share: the mark words, the deques, the graph, who waits on its nodes,
 /// and how many markers there are and how many of them find nothing.
@@ -45,6 +52,8 @@ pub(crate) struct Marker {
     pub(crate) deferred: Notes,
     /// How often it may still share a place.
     pub(crate) budget: u32,
+    /// Nothing. It keeps what this marker writes off the line of memory that its neighbour writes.
+    pub(crate) apart: [u64; 16],
 }
 
 // Scans the last place of its own list. False where that is empty.
@@ -90,12 +99,13 @@ fn scan_or_defer(shared: &Shared, marker: &mut Marker, place: u32)
     marker.deferred.add(place);
 }
 
-// Shares the first place of its own list, where it has more and its deque is short.
-fn share(shared: &Shared, marker: &mut Marker)
+// Shares the first place of its own list, where it has more and its deque is short. In most turns it
+// does not look.
+fn share(shared: &Shared, marker: &mut Marker, turn: u64)
     requires { IsMarkerOf shared.now.marks.now shared.now.pool.now marker.old }
     ensures { Runs shared.now.marks.now shared.now.pool.now marker.old marker.new }
 {
-    if marker.budget == 0 || marker.scanner.won.len() < 2 {
+    if turn % LOOK_EVERY != 0 || marker.budget == 0 || marker.scanner.won.len() < 2 {
         return;
     }
     if shared.pool.len(&mut marker.hand) >= SHARED {
@@ -108,6 +118,15 @@ fn share(shared: &Shared, marker: &mut Marker)
     marker.budget -= 1;
 }
 
+// Waits between two looks.
+fn pause(look: u32) {
+    if look < AT_ONCE {
+        spin_loop();
+    } else {
+        yield_now();
+    }
+}
+
 // Looks again for a place in the deques, until all markers do.
 fn look_again(shared: &Shared, hand: &mut GreyHand) -> Option<u32>
     requires { IsHandOf shared.now.pool.now hand.old }
@@ -116,14 +135,14 @@ fn look_again(shared: &Shared, hand: &mut GreyHand) -> Option<u32>
     ensures took { (f : ℕ → ℕ) → took f hand.new ≡ took f hand.old + option_weight f result }
     ensures number { hand.new.number ≡ hand.old.number }
 {
-    for _ in 0..LOOKS {
+    for look in 0..LOOKS {
         if shared.idle.load(Ordering::SeqCst) >= shared.count {
             return None;
         }
         if let Some(place) = shared.pool.take(hand) {
             return Some(place);
         }
-        spin_loop();
+        pause(look);
     }
     None
 }
@@ -146,21 +165,21 @@ fn seek(shared: &Shared, hand: &mut GreyHand) -> Option<u32>
 }
 
 // Scans a place, its own or one that it takes, and shares one. False where there is none.
-fn step(shared: &Shared, marker: &mut Marker) -> bool
+fn step(shared: &Shared, marker: &mut Marker, turn: u64) -> bool
     requires fits { IsMarkerOf shared.now.marks.now shared.now.pool.now marker.old }
     requires graph { graph_in shared.now.marks.now ≡ shared.now.graph.now }
     requires waiters { IsWaiters shared.now.graph.now shared.now.waiters.now }
     ensures { Runs shared.now.marks.now shared.now.pool.now marker.old marker.new }
 {
     if scan_own(shared, marker) {
-        share(shared, marker);
+        share(shared, marker, turn);
         return true;
     }
     let Some(place) = seek(shared, &mut marker.hand) else {
         return false;
     };
     scan_or_defer(shared, marker, place);
-    share(shared, marker);
+    share(shared, marker, turn);
     true
 }
 
@@ -173,7 +192,7 @@ fn run<G: Gate>(gate: &G, number: u32, shared: &Shared, marker: &mut Marker)
 {
     for turn in 0..u64::MAX {
         gate.pass(number, turn);
-        if !step(shared, marker) {
+        if !step(shared, marker, turn) {
             return;
         }
     }

@@ -3,7 +3,6 @@
 ghost use Rattle.std.specs.Prelude.{◌≡◌, ◌<◌, ◌≤◌, length, IfOk};
 ghost use Rattle.golf_marks.specs.Seats.{graph_in};
 ghost use Rattle.golf_mark.specs.Marking.{MarksLeast};
-ghost use Rattle.golf_mark.specs.Gathering.{AllRun, IsRooted, marker_parts};
 ghost use Rattle.golf_mark.specs.Ready.{AllFresh};
 ghost use Rattle.golf_mark.specs.Turning.{EachRuns};
 ghost use Rattle.golf_mark.specs.Waiters.{IsWaiters};
@@ -22,7 +21,7 @@ use std::sync::atomic::AtomicU64;
 use std::thread::Threads;
 
 /// How often a marker shares a place at most. Then it keeps what it finds to itself.
-const SHARES: u32 = 65_536;
+const SHARES: u32 = 16_384;
 
 /// All that some markers need to mark one graph, which is what contracts see.
 pub struct Markers {

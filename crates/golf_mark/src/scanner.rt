@@ -2,7 +2,6 @@
 
 ghost use Rattle.std.specs.Prelude.{◌≡◌, ◌+◌, ◌<◌, ℕ};
 ghost use Rattle.golf_theory.specs.Membership.{In, Every};
-ghost use Rattle.golf_model.specs.Graph.{node_count, sleeper_count};
 ghost use Rattle.golf_marks.specs.Places.{place_count, IsJustified};
 ghost use Rattle.golf_marks.specs.Seats.{graph_in, known};
 ghost use Rattle.golf_mark.specs.Scanning.{IsScannerOf, Wins};
@@ -21,8 +20,8 @@ pub(crate) struct Scanner {
     pub(crate) won: Stack,
 }
 
-/// Claims a place. It looks first, since a look costs less than a claim where others have marked the
-/// place.
+/// Claims a place. It glances first, since a glance costs less than a claim where others have marked
+/// the place.
 pub(crate) fn claim(marks: &Marks, scanner: &mut Scanner, place: u32)
     requires fits { IsScannerOf marks.now scanner.old }
     requires place { place < place_count (graph_in marks.now) }
@@ -30,7 +29,7 @@ pub(crate) fn claim(marks: &Marks, scanner: &mut Scanner, place: u32)
     ensures wins { Wins marks.now scanner.old scanner.new }
     ensures there { In place (known scanner.new.seat) }
 {
-    if marks.is_marked(&mut scanner.seat, place) {
+    if marks.glance(&mut scanner.seat, place) {
         return;
     }
     if marks.claim(&mut scanner.seat, place) {

@@ -1,6 +1,6 @@
 //! For each node the sleepers that wait on it.
 
-ghost use Rattle.std.specs.Prelude.{◌≡◌, ◌<◌, IfOk, length};
+ghost use Rattle.std.specs.Prelude.{◌≡◌, IfOk};
 
 use golf_base::{List, Memory};
 use golf_model::Graph;
@@ -8,8 +8,8 @@ use golf_rows::{add_to_all, empty_rows};
 use std::alloc::Global;
 use std::marker::Model;
 
-/// A list of sleepers for each node of a graph. A sleeper stands in the lists of all nodes that it
-/// waits on.
+/// A list of sleepers for each node of a graph, and none at all where there is no sleeper. A sleeper
+/// stands in the lists of all nodes that it waits on.
 #[derive(Drop)]
 pub(crate) struct Waiters {
     rows: List<List<u32>>,
@@ -30,6 +30,11 @@ impl Waiters {
     pub(crate) fn new(alloc: Global, graph: &Graph) -> Result<Waiters, Memory>
         ensures { IfOk result (IsWaiters graph.now) }
     {
+        if graph.sleepers() == 0 {
+            return Ok(Waiters {
+                rows: List::new(alloc),
+            });
+        }
         let mut rows = empty_rows(alloc, graph.nodes())?;
         for sleeper in 0..graph.sleepers() {
             add_to_all(&mut rows, sleeper, graph.waits(sleeper))?;
@@ -39,9 +44,11 @@ impl Waiters {
 
     /// The sleepers that wait on a node.
     pub(crate) fn of(&self, node: u32) -> &[u32]
-        requires { node < length self.now }
         ensures { result.now ≡ row_of self.now node }
     {
-        self.rows.as_slice()[node as usize].as_slice()
+        match self.rows.as_slice().get(node as usize) {
+            Some(row) => row.as_slice(),
+            None => &[],
+        }
     }
 }

@@ -1,6 +1,6 @@
 //! What hands push, take and steal.
 
-ghost use Rattle.std.specs.Prelude.{◌≡◌, ◌<◌, ◌+◌, ◌∷◌, [], length, IfOk};
+ghost use Rattle.std.specs.Prelude.{◌≡◌, ◌<◌, ◌∷◌, [], length, IfOk};
 ghost use Rattle.golf_grey.specs.Hands.{IsHandOf, capacity_of, hand_count, pushed};
 
 use golf_base::{List, Memory};

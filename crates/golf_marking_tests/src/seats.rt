@@ -84,6 +84,21 @@ fn look(marks: &Marks, first: &mut MarkSeat, second: &mut MarkSeat) -> [bool; 4]
     [claimed, sees_first, sees_second, claimed_again]
 }
 
+// The first seat claims place 0. Then the second one glances at both places.
+fn glance(marks: &Marks, first: &mut MarkSeat, second: &mut MarkSeat) -> [bool; 2]
+    requires first { IsSeatOf marks.now first.old }
+    requires second { IsSeatOf marks.now second.old }
+    requires places { 1 < place_count (graph_in marks.now) }
+    requires root { In 0 (graph_in marks.now).roots }
+    ensures first { IsSameSeat first.old first.new }
+    ensures second { IsSameSeat second.old second.new }
+{
+    let _claimed = marks.claim(first, 0);
+    let sees_first = marks.glance(second, 0);
+    let sees_second = marks.glance(second, 1);
+    [sees_first, sees_second]
+}
+
 #[test]
 fn a_seat_sees_what_another_one_claimed(rt: HostRuntime) -> Result<(), Fail> {
     let alloc = rt.alloc();
@@ -95,6 +110,18 @@ fn a_seat_sees_what_another_one_claimed(rt: HostRuntime) -> Result<(), Fail> {
     assert!(rt; marked.flags.as_slice() == [true, false].as_slice());
     assert!(rt; marked.awake.as_slice() == [false].as_slice());
     assert!(rt; marked.order.as_slice() == [0].as_slice());
+    Ok(())
+}
+
+#[test]
+fn a_glance_sees_what_another_seat_claimed(rt: HostRuntime) -> Result<(), Fail> {
+    let alloc = rt.alloc();
+    let graph = Graph::new(two_roots(alloc)?);
+    let (marks, mut first, mut second) = two_seats(alloc, &graph)?;
+    let seen = glance(&marks, &mut first, &mut second);
+    let marked = marks.close(both(alloc, first, second)?);
+    assert!(rt; seen == [true, false]);
+    assert!(rt; marked.flags.as_slice() == [true, false].as_slice());
     Ok(())
 }
 

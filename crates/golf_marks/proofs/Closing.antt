@@ -1,6 +1,6 @@
 -- From the words at the end to flags.
 use Rattle.std.proofs.Common.{◌≡◌, ℕ, ◌+◌, ◌<◌, ◌≤◌, ◌⊎◌, inl, inr, List, [], ◌∷◌, ◌++◌, length, get_or, false, sym, ap, ◌∙◌, subst, arith}
-use Rattle.std.specs.Prelude.{◌==◌, ◌↔◌, slice_index}
+use Rattle.std.specs.Prelude.{◌==◌, ◌↔◌}
 use Rattle.std.specs.List.Sorted.{IsStrictlyIncreasing}
 use Rattle.std.proofs.lemmas.Bool.{eqb-true, eq-eqb}
 use Rattle.std.proofs.lemmas.List.Sums.{sum_by_push}
@@ -11,15 +11,16 @@ use Rattle.golf_theory.proofs.Times.{times-append}
 use Rattle.golf_model.specs.declared.graph.Marked.{Marked}
 use Rattle.golf_marks.specs.declared.marks.Marks.{Marks}
 use Rattle.golf_marks.specs.declared.marks.MarkSeat.{MarkSeat}
+use Rattle.golf_marks.specs.Bits.{bit_at}
 use Rattle.golf_marks.specs.Flags.{IsSet, HasMarked}
 use Rattle.golf_marks.specs.Seats.{claimed, known, parts, claim_count, part_count, IsSeatOf}
 use Rattle.golf_marks.proofs.Flags.{IsSet-below}
 
--- flags that say which words are 1, where the words count
+-- flags that say which bits are set, where the bits count
 pub HasMarked-words : (words : List ℕ) (count : ℕ → ℕ) (nodes sleepers : ℕ) (m : Marked)
-    → ((p : ℕ) → slice_index words p ≡ count p) → ((p : ℕ) → count p ≤ 1)
-    → length m.flags ≡ nodes → ((k : ℕ) → k < nodes → get_or m.flags k false ≡ (slice_index words (0 + k) == 1))
-    → length m.awake ≡ sleepers → ((k : ℕ) → k < sleepers → get_or m.awake k false ≡ (slice_index words (nodes + k) == 1))
+    → ((p : ℕ) → bit_at words p ≡ count p) → ((p : ℕ) → count p ≤ 1)
+    → length m.flags ≡ nodes → ((k : ℕ) → k < nodes → get_or m.flags k false ≡ (bit_at words (0 + k) == 1))
+    → length m.awake ≡ sleepers → ((k : ℕ) → k < sleepers → get_or m.awake k false ≡ (bit_at words (nodes + k) == 1))
     → IsStrictlyIncreasing m.order → ((n : ℕ) → In n m.order ↔ IsSet m.flags n)
     → HasMarked nodes sleepers (λ p. 0 < count p) m
 HasMarked-words words count nodes sleepers m is once flags_long flags awake_long awake rising members = record {
@@ -28,15 +29,15 @@ HasMarked-words words count nodes sleepers m is once flags_long flags awake_long
   flags = λ p. (
     λ h.
         let low : p < nodes = omega (arith, IsSet-below m.flags p h) in
-        let one : slice_index words (0 + p) ≡ 1 = eqb-true (slice_index words (0 + p)) 1 (sym (flags p low) ∙ h) in
+        let one : bit_at words (0 + p) ≡ 1 = eqb-true (bit_at words (0 + p)) 1 (sym (flags p low) ∙ h) in
         (low, omega (arith, one, is (0 + p), ap count (zero_plus p))),
     λ h.
-        let one : slice_index words (0 + p) ≡ 1 = omega (arith, is (0 + p), ap count (zero_plus p), once p, h.1) in
-        flags p h.0 ∙ eq-eqb (slice_index words (0 + p)) 1 one,
+        let one : bit_at words (0 + p) ≡ 1 = omega (arith, is (0 + p), ap count (zero_plus p), once p, h.1) in
+        flags p h.0 ∙ eq-eqb (bit_at words (0 + p)) 1 one,
   );
   awake = λ s low. (
-    λ h. let one : slice_index words (nodes + s) ≡ 1 = eqb-true (slice_index words (nodes + s)) 1 (sym (awake s low) ∙ h) in omega (arith, one, is (nodes + s)),
-    λ h. let one : slice_index words (nodes + s) ≡ 1 = omega (arith, is (nodes + s), once (nodes + s), h) in awake s low ∙ eq-eqb (slice_index words (nodes + s)) 1 one,
+    λ h. let one : bit_at words (nodes + s) ≡ 1 = eqb-true (bit_at words (nodes + s)) 1 (sym (awake s low) ∙ h) in omega (arith, one, is (nodes + s)),
+    λ h. let one : bit_at words (nodes + s) ≡ 1 = omega (arith, is (nodes + s), once (nodes + s), h) in awake s low ∙ eq-eqb (bit_at words (nodes + s)) 1 one,
   );
   rising = rising;
   order = members;

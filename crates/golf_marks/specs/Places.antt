@@ -1,5 +1,5 @@
 -- The places of a graph, and what justifies that one is marked.
-use Rattle.std.specs.Prelude.{ℕ, ◌+◌, List, max}
+use Rattle.std.specs.Prelude.{ℕ, ◌+◌, ◌/◌, List}
 use Rattle.golf_theory.specs.Membership.{In}
 use Rattle.golf_theory.specs.Reached.{Follows}
 use Rattle.golf_model.specs.declared.graph.GraphParts.{GraphParts}
@@ -9,9 +9,9 @@ use Rattle.golf_model.specs.Graph.{node_count, sleeper_count, Justifies}
 abbrev pub place_count : GraphParts → ℕ
 place_count g = node_count g + sleeper_count g
 
--- one word for each place, and one that stands for nothing where there is no place
+-- one word for each 64 places, and one more, so that there is one where there is no place
 abbrev pub word_count : GraphParts → ℕ
-word_count g = max 1 (place_count g)
+word_count g = place_count g / 64 + 1
 
 -- the place is a root, or one of these places justifies it
 abbrev pub IsJustified : GraphParts → List ℕ → ℕ → Type 0

@@ -1,5 +1,5 @@
 -- The rule of the mark words: what holds between any two steps of any threads, and what a step tells its seat.
-use Rattle.std.specs.Prelude.{◌≡◌, ℕ, ◌+◌, ◌-◌, ◌<◌, ◌≤◌, ◌==◌, List, [], ◌∷◌, ◌++◌, length, slice_index, sum_by, if◌then◌else◌}
+use Rattle.std.specs.Prelude.{◌≡◌, ℕ, ◌+◌, ◌-◌, ◌<◌, ◌≤◌, ◌==◌, List, [], ◌∷◌, ◌++◌, length, sum_by, if◌then◌else◌}
 use mathlib.Core.Option.{some}
 use lib.ListN.{get_elem?}
 use Rattle.atomic_table.specs.Table.{State, Me, Step}
@@ -9,7 +9,8 @@ use Rattle.golf_model.specs.declared.graph.GraphParts.{GraphParts}
 use Rattle.golf_model.specs.Graph.{Least}
 use Rattle.golf_marks.specs.declared.rule.View.{View}
 use Rattle.golf_marks.specs.declared.rule.Plan.{Plan}
-use Rattle.golf_marks.specs.Places.{word_count}
+use Rattle.golf_marks.specs.Bits.{word_of, mask_of, bit_in, bit_at, marked_in}
+use Rattle.golf_marks.specs.Places.{place_count, word_count}
 
 abbrev pub view_of : GraphParts → ℕ → List ℕ → List ℕ → View
 view_of g parts claimed known = record { graph = g; parts = parts; claimed = claimed; known = known }
@@ -23,41 +24,51 @@ pub record Fits (g : GraphParts) (words : List ℕ) (v : View) : Type 0 where
   pub ignorant : v.parts ≡ 0 → v.known ≡ []
   pub graph : 0 < v.parts → v.graph ≡ g
   pub own : (p : ℕ) → In p v.claimed → In p v.known
-  pub known : (p : ℕ) → In p v.known → slice_index words p ≡ 1
+  pub known : (p : ℕ) → In p v.known → bit_at words p ≡ 1
 
--- words are bits; a place is claimed as often as its bit says; the parts add up to the seats; each view fits; and a marked place is in the least closed set
+-- a place is claimed as often as its bit says; the parts add up to the seats; each view fits; and what is marked is a place of the least closed set
 pub record Holds (plan : Plan) (s : State (Unit {0}) View) : Type 0 where
   pub size : length s.words ≡ word_count (graph_of plan)
-  pub bits : (p : ℕ) → slice_index s.words p ≤ 1
-  pub claims : (p : ℕ) → sum_by (λ v. times p v.claimed) s.views ≡ slice_index s.words p
+  pub claims : (p : ℕ) → sum_by (λ v. times p v.claimed) s.views ≡ bit_at s.words p
   pub parts : sum_by (λ v. v.parts) s.views ≡ plan.seats
   pub views : (seat : ℕ) (v : View) → get_elem? s.views seat ≡ some v → Fits (graph_of plan) s.words v
-  pub sound : (p : ℕ) → slice_index s.words p ≡ 1 → Least (graph_of plan) p
+  pub low : (p : ℕ) → bit_at s.words p ≡ 1 → p < place_count (graph_of plan)
+  pub sound : (p : ℕ) → bit_at s.words p ≡ 1 → Least (graph_of plan) p
 
 -- the first view has all parts
 abbrev pub first_view : Plan → View
 first_view plan = view_of (graph_of plan) plan.seats [] []
 
--- what a claim that found the word n tells
-pub record Claims (place : ℕ) (v : View) (n : ℕ) (w : View) : Type 0 where
-  pub bit : n ≤ 1
-  pub view : w ≡ view_of v.graph v.parts (if n == 0 then v.claimed ++ place ∷ [] else v.claimed) (v.known ++ place ∷ [])
-  pub once : n ≡ 0 → times place v.claimed ≡ 0
-  pub bounded : length w.claimed ≤ word_count v.graph
+-- what a claim that found this bit tells
+pub record Claims (place : ℕ) (v : View) (bit : ℕ) (w : View) : Type 0 where
+  pub small : bit ≤ 1
+  pub view : w ≡ view_of v.graph v.parts (if bit == 0 then v.claimed ++ place ∷ [] else v.claimed) (v.known ++ place ∷ [])
+  pub once : bit ≡ 0 → times place v.claimed ≡ 0
+  pub bounded : length w.claimed ≤ place_count v.graph
 
--- what a look that found the word n tells
-pub record Looks (place : ℕ) (v : View) (n : ℕ) (w : View) : Type 0 where
-  pub bit : n ≤ 1
-  pub view : w ≡ view_of v.graph v.parts v.claimed (if n == 1 then v.known ++ place ∷ [] else v.known)
-  pub known : In place v.known → n ≡ 1
-  pub unclaimed : n ≡ 0 → times place v.claimed ≡ 0
-  pub bounded : length v.claimed ≤ word_count v.graph
+-- what a look that found this bit tells
+pub record Looks (place : ℕ) (v : View) (bit : ℕ) (w : View) : Type 0 where
+  pub small : bit ≤ 1
+  pub view : w ≡ view_of v.graph v.parts v.claimed (if bit == 1 then v.known ++ place ∷ [] else v.known)
+  pub known : In place v.known → bit ≡ 1
+  pub unclaimed : bit ≡ 0 → times place v.claimed ≡ 0
+  pub bounded : length v.claimed ≤ place_count v.graph
 
+-- the place of a step is the one of its word and of its first operand
 abbrev pub ClaimTells : Step (Unit {0}) → Me (Unit {0}) View → ℕ → Me (Unit {0}) View → Type 0
-ClaimTells step me n now = Claims step.word me.0 n now.0 × (now.1 ≡ me.1)
+ClaimTells step me n now = ((p : ℕ) → word_of p ≡ step.word → mask_of p ≡ step.first → Claims p me.0 (bit_in p n) now.0) × (now.1 ≡ me.1)
 
 abbrev pub LookTells : Step (Unit {0}) → Me (Unit {0}) View → ℕ → Me (Unit {0}) View → Type 0
-LookTells step me n now = Looks step.word me.0 n now.0 × (now.1 ≡ me.1)
+LookTells step me n now = ((p : ℕ) → word_of p ≡ step.word → mask_of p ≡ step.first → Looks p me.0 (bit_in p n) now.0) × (now.1 ≡ me.1)
+
+-- a glance tells all places of its word that are marked
+pub record Glances (word : ℕ) (v : View) (n : ℕ) (w : View) : Type 0 where
+  pub view : w ≡ view_of v.graph v.parts v.claimed (v.known ++ marked_in word n)
+  pub known : (p : ℕ) → word_of p ≡ word → In p v.known → bit_in p n ≡ 1
+  pub unclaimed : (p : ℕ) → word_of p ≡ word → bit_in p n ≡ 0 → times p v.claimed ≡ 0
+
+abbrev pub GlanceTells : Step (Unit {0}) → Me (Unit {0}) View → ℕ → Me (Unit {0}) View → Type 0
+GlanceTells step me n now = Glances step.word me.0 n now.0 × (now.1 ≡ me.1)
 
 -- a split gives one part away, and all that is known
 abbrev pub left_view : View → View

@@ -1,24 +1,28 @@
 //! From the words to flags and numbers.
 
-ghost use Rattle.std.specs.Prelude.{◌≡◌, ◌<◌, ◌≤◌, ◌+◌, ◌==◌, ◌↔◌, ℕ, [], length, slice_index, slice_index_or, false};
+ghost use Rattle.std.specs.Prelude.{◌≡◌, ◌<◌, ◌≤◌, ◌+◌, ◌*◌, ◌==◌, ◌↔◌, ℕ, [], length, slice_index_or, false};
 ghost use Rattle.std.specs.List.Sorted.{IsStrictlyIncreasing};
 ghost use Rattle.std.specs.Mem.Slots.{slots_items, slots_len, IsFull};
 ghost use Rattle.golf_theory.specs.Membership.{In};
+ghost use Rattle.golf_marks.specs.Bits.{bit_at};
 ghost use Rattle.golf_marks.specs.Flags.{IsSet};
 
+use crate::bits::bit;
 use atomic_table::Closed;
 use golf_base::{List, Room};
 use std::alloc::Global;
 
-// Writes which of the words from `first` on are 1.
+// Writes which places from `first` on are marked.
 pub(crate) fn fill(closed: &Closed<(), Global>, first: usize, mut flags: List<bool>) -> List<bool>
-    requires within { first + length flags ≤ slots_len closed.now.words }
+    requires within { first + length flags ≤ 64 * slots_len closed.now.words }
+    requires small { first + length flags < 4294967296 }
     requires full { IsFull closed.now.words }
     ensures length { length result ≡ length flags }
-    ensures flags { (k : ℕ) → k < length flags → slice_index_or result k false ≡ (slice_index (slots_items closed.now.words) (first + k) == 1) }
+    ensures flags { (k : ℕ) → k < length flags → slice_index_or result k false ≡ (bit_at (slots_items closed.now.words) (first + k) == 1) }
 {
     for i in 0..flags.len() {
-        flags.set(i, closed.word(first + i) == 1);
+        let place = first + i;
+        flags.set(i, bit(closed.word(place / 64), place) == 1);
     }
     flags
 }

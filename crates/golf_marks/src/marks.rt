@@ -3,18 +3,19 @@
 ghost use Rattle.std.specs.Prelude.{◌≡◌, ◌<◌, ◌≤◌, ◌+◌, ◌++◌, ◌∷◌, ℕ, [], length, IfOk, IsTrue, if◌then◌else◌, false};
 ghost use Rattle.golf_model.specs.Graph.{node_count, sleeper_count};
 ghost use Rattle.golf_marks.specs.Places.{place_count, word_count};
-ghost use Rattle.golf_marks.specs.Rule.{graph_of};
+ghost use Rattle.golf_marks.specs.Rule.{graph_of, Claims, Looks};
 
+use crate::bits::{bit, mask};
 use crate::close::{fill, numbers_of};
 use crate::deal::deal;
-use crate::rule::{Claim, Deal, Look, Plan, Ruled, View};
+use crate::rule::{Claim, Deal, Glance, Look, Plan, Ruled, View};
 use atomic_table::{Seat, Table};
 use golf_base::{List, Memory, Room};
 use golf_model::{Graph, Marked};
 use std::alloc::Global;
 use std::snapshot::Snapshot;
 
-/// One word for each place of a graph, shared by threads through a `&`.
+/// One bit for each place of a graph, shared by threads through a `&`.
 #[derive(Drop)]
 pub struct Marks {
     pub(crate) table: Table<(), View, Plan, Ruled, Global>,
@@ -28,7 +29,7 @@ pub struct Marks {
     ghost awake_for_each: { length awake ≡ sleeper_count (graph_of table.shared.key) },
     ghost empty: { order.items ≡ [] },
     ghost room: { node_count (graph_of table.shared.key) ≤ order.spare },
-    ghost small: { node_count (graph_of table.shared.key) < 4294967296 },
+    ghost small: { place_count (graph_of table.shared.key) < 4294967296 },
 }
 
 /// What one thread claims with and looks with. It has no bytes.
@@ -63,7 +64,7 @@ impl Marks {
         awake.extend_with(sleepers, false)?;
         let mut order = Room::new(alloc);
         order.reserve(nodes)?;
-        let words = Vec::from_elem(alloc, 0u64, (nodes + sleepers).max(1))?;
+        let words = Vec::from_elem(alloc, 0u64, (nodes + sleepers) / 64 + 1)?;
         let plan = Plan {
             graph: Snapshot::of(graph),
             seats,
@@ -79,6 +80,40 @@ impl Marks {
         Ok((marks, list))
     }
 
+    // Sets the bit of a place, and tells what it was.
+    fn put_bit(&self, seat: &mut MarkSeat, place: u32) -> u64
+        requires seat { IsSeatOf self.now seat.old }
+        requires place { place < place_count (graph_in self.now) }
+        requires justified { IsJustified (graph_in self.now) (known seat.old) place }
+        ensures table { seat.new.seat.table_id ≡ seat.old.seat.table_id }
+        ensures tells { Claims place seat.old.seat.me.0 result seat.new.seat.me.0 }
+    {
+        let at = place as usize;
+        let own = mask(at);
+        let found = self
+            .table
+            .shared
+            .fetch_or::<Claim>(&mut seat.seat, at / 64, own);
+        bit(found, at)
+    }
+
+    // The bit of a place. The step names the place by its bit, and so it is an exchange that changes
+    // nothing, and no load.
+    fn find_bit(&self, seat: &mut MarkSeat, place: u32) -> u64
+        requires seat { IsSeatOf self.now seat.old }
+        requires place { place < place_count (graph_in self.now) }
+        ensures table { seat.new.seat.table_id ≡ seat.old.seat.table_id }
+        ensures tells { Looks place seat.old.seat.me.0 result seat.new.seat.me.0 }
+    {
+        let at = place as usize;
+        let own = mask(at);
+        let found = self
+            .table
+            .shared
+            .compare_exchange::<Look>(&mut seat.seat, at / 64, own, own);
+        bit(found, at)
+    }
+
     /// Marks a place that is a root, or that a known place justifies: true exactly where this step
     /// set the bit. It is false only where the bit was set before.
     pub fn claim(&self, seat: &mut MarkSeat, place: u32) -> bool
@@ -89,13 +124,9 @@ impl Marks {
         ensures claimed { claimed seat.new ≡ (if result then claimed seat.old ++ place ∷ [] else claimed seat.old) }
         ensures known { known seat.new ≡ known seat.old ++ place ∷ [] }
         ensures once { IsTrue result → times place (claimed seat.old) ≡ 0 }
-        ensures bounded { length (claimed seat.new) ≤ word_count (graph_in self.now) }
+        ensures bounded { length (claimed seat.new) ≤ place_count (graph_in self.now) }
     {
-        let found = self
-            .table
-            .shared
-            .fetch_or::<Claim>(&mut seat.seat, place as usize, 1);
-        found == 0
+        self.put_bit(seat, place) == 0
     }
 
     /// Whether a place is marked. It is never false for a place that the seat knows or claimed.
@@ -107,13 +138,27 @@ impl Marks {
         ensures known { known seat.new ≡ (if result then known seat.old ++ place ∷ [] else known seat.old) }
         ensures knew { In place (known seat.old) → IsTrue result }
         ensures unclaimed { result ≡ false → times place (claimed seat.old) ≡ 0 }
-        ensures bounded { length (claimed seat.old) ≤ word_count (graph_in self.now) }
+        ensures bounded { length (claimed seat.old) ≤ place_count (graph_in self.now) }
     {
-        let found = self
-            .table
-            .shared
-            .load::<Look>(&mut seat.seat, place as usize);
-        found == 1
+        self.find_bit(seat, place) == 1
+    }
+
+    /// Whether a place is marked. The seat then knows the place, and with it other marked places
+    /// that have their bits in the same word. This costs no more than reading it: `is_marked` is a
+    /// step that writes, and `claim` another one.
+    pub fn glance(&self, seat: &mut MarkSeat, place: u32) -> bool
+        requires seat { IsSeatOf self.now seat.old }
+        requires place { place < place_count (graph_in self.now) }
+        ensures same { IsSameSeat seat.old seat.new }
+        ensures claimed { claimed seat.new ≡ claimed seat.old }
+        ensures kept { (p : ℕ) → In p (known seat.old) → In p (known seat.new) }
+        ensures there { IsTrue result → In place (known seat.new) }
+        ensures knew { In place (known seat.old) → IsTrue result }
+        ensures unclaimed { result ≡ false → times place (claimed seat.old) ≡ 0 }
+    {
+        let at = place as usize;
+        let found = self.table.shared.load::<Glance>(&mut seat.seat, at / 64);
+        bit(found, at) == 1
     }
 
     /// Takes in what another seat claimed and knows, and what it stands for.

@@ -52,6 +52,15 @@ impl Play<(), View> for Look {
     ghost then = { LookTells };
 }
 
+/// A glance at all places of a word.
+pub struct Glance;
+
+impl Play<(), View> for Glance {
+    ghost use Rattle.golf_marks.specs.Rule.{GlanceTells};
+
+    ghost then = { GlanceTells };
+}
+
 /// Seats that are cut off and taken in.
 pub struct Deal;
 

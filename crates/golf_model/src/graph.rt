@@ -1,6 +1,6 @@
 //! The dense graph that a collection marks.
 
-ghost use Rattle.std.specs.Prelude.{◌≡◌, ◌<◌, slice_get, IfOk, Some};
+ghost use Rattle.std.specs.Prelude.{◌≡◌, ◌<◌, slice_get, Some};
 ghost use Rattle.golf_model.specs.Graph.{IsInRange, node_count, sleeper_count, children_of, goroutine_at, sleeper_waits, sleeper_references};
 
 use golf_base::{GoroutineId, List, ObjectId};

@@ -1,11 +1,10 @@
 -- Those in a line, by rising ticket.
-use Rattle.std.proofs.Common.{◌≡◌, ℕ, zero, suc, ◌<◌, ◌≤◌, true, false, cond, List, [], ◌∷◌, ◌++◌, take, Some, nat_lt, ◌⊎◌, inl, inr, refl, sym, ap, ◌∙◌, arith, slice_get}
+use Rattle.std.proofs.Common.{◌≡◌, ℕ, zero, suc, ◌<◌, ◌≤◌, true, false, cond, List, [], ◌∷◌, ◌++◌, take, Some, nat_lt, inl, inr, refl, sym, ap, ◌∙◌, arith, slice_get}
 use Rattle.std.specs.Prelude.{remove}
 use Rattle.std.proofs.lemmas.Bool.{ltb-true, ltb-false}
 use Rattle.std.proofs.lemmas.List.{map-append}
 use Rattle.golf_theory.specs.Maps.{Entry, Rises, AllBelow}
 use Rattle.golf_theory.proofs.MapFinds.{Entry-above}
-use Rattle.golf_theory.proofs.MapOrder.{Rises-less}
 use Rattle.golf_heap.specs.Objects.{rank}
 use Rattle.golf_queues.specs.Lines.{held}
 use Rattle.golf_queues.specs.declared.line.TicketHolder.{TicketHolder}
@@ -83,27 +82,6 @@ module _ {X : Type 0} where
     | false ↦ λ t z. absurd (omega (arith, z))
     | true ↦ λ t z. let n : rank k es ≡ i = omega (arith, z) in last-more k i f es e r.1 (ltb-true f.0 k t) n s (λ m q g. last-before k (suc f.0) m es e r.1 (n ∙ q) g)
   ] refl h
-
-  -- ---- without one
-
-  pub Entry-remove : (i : ℕ) (es : List (ℕ × X)) (e : ℕ × X) (u : ℕ) (x : X) → slice_get es i ≡ Some e → Entry es u x → ((u ≡ e.0) × (x ≡ e.1)) ⊎ Entry (remove es i) u x
-  Entry-remove i [] e u x h k = absurd k
-  Entry-remove zero (f ∷ es) e u x h (inl k) = let same : f ≡ e = cc in inl (k.0 ∙ ap (λ (d : ℕ × X). d.0) same, k.1 ∙ ap (λ (d : ℕ × X). d.1) same)
-  Entry-remove zero (f ∷ es) e u x h (inr k) = inr k
-  Entry-remove (suc i) (f ∷ es) e u x h (inl k) = inr (inl k)
-  Entry-remove (suc i) (f ∷ es) e u x h (inr k) = elim (Entry-remove i es e u x h k) [ inl a ↦ inl a | inr a ↦ inr (inr a) ]
-
-  pub Rises-remove : (i j : ℕ) (es : List (ℕ × X)) → Rises j es → Rises j (remove es i)
-  Rises-remove zero j [] r = tt
-  Rises-remove (suc i) j [] r = tt
-  Rises-remove zero j (e ∷ es) r = Rises-less j (suc e.0) es (omega (arith, r.0)) r.1
-  Rises-remove (suc i) j (e ∷ es) r = (r.0, Rises-remove i (suc e.0) es r.1)
-
-  pub AllBelow-remove : (i n : ℕ) (es : List (ℕ × X)) → AllBelow n es → AllBelow n (remove es i)
-  AllBelow-remove zero n [] a = tt
-  AllBelow-remove (suc i) n [] a = tt
-  AllBelow-remove zero n (e ∷ es) a = a.1
-  AllBelow-remove (suc i) n (e ∷ es) a = (a.0, AllBelow-remove i n es a.1)
 
 -- ---- in memory
 

@@ -1,6 +1,8 @@
 -- Lines of goroutines that wait, by object and side.
-use Rattle.std.specs.Prelude.{ℕ, ◌+◌, ◌*◌, ◌<◌, ◌≤◌, Bool, true, false, List, [], ◌∷◌, map, filter, Option, Some, None, ◌==◌}
+use Rattle.std.specs.Prelude.{◌≡◌, ℕ, ◌+◌, ◌*◌, ◌<◌, ◌≤◌, Bool, true, false, not, ◌&&◌, List, [], ◌∷◌, map, filter, Option, Some, None, ◌==◌}
 use Rattle.golf_theory.specs.Maps.{Entry, find, Rises, AllBelow}
+use Rattle.golf_theory.specs.Membership.{is_in}
+use Rattle.golf_base.specs.declared.ids.GoroutineId.{GoroutineId}
 use Rattle.golf_data.specs.declared.goroutine.Side.{Side}
 use Rattle.golf_data.specs.declared.goroutine.Wait.{Wait}
 use Rattle.golf_model.specs.Waiting.{side_number}
@@ -38,7 +40,19 @@ has_anyone (e ∷ es) = true
 abbrev pub standing : Lines → Lines
 standing ls = filter (λ e. has_anyone e.1) ls
 
-abbrev pub has_key : ℕ → Option (ℕ × List (ℕ × ℕ)) → Bool
+-- the goroutines of a line that are among these
+abbrev pub among : List ℕ → List (ℕ × ℕ) → List (ℕ × ℕ)
+among gs es = filter (λ e. is_in e.1 gs) es
+
+-- the lines, of each those who are among these
+abbrev pub narrowed : List ℕ → Lines → Lines
+narrowed gs ls = map (λ e. (e.0, among gs e.1)) ls
+
+-- goroutines by their numbers
+abbrev pub listed : List GoroutineId → List (ℕ × ℕ)
+listed gs = map (λ g. (g.0, g.0)) gs
+
+abbrev pub has_key : {X : Type 0} → ℕ → Option (ℕ × X) → Bool
 has_key k None = false
 has_key k (Some e) = e.0 == k
 
@@ -58,6 +72,30 @@ KeepsIn P old new = (t g : ℕ) → P t g → Entry old t g → Entry new t g
 -- in each line
 abbrev pub Keeps : (ℕ → ℕ → Type 0) → Lines → Lines → Type 0
 Keeps P old new = (k : ℕ) → KeepsIn P (line_at k old) (line_at k new)
+
+-- whether this one of a line is the goroutine with this ticket
+abbrev pub is_holder : ℕ → ℕ → ℕ × ℕ → Bool
+is_holder t g h = (h.1 == g) && (h.0 == t)
+
+abbrev pub is_holder_in : ℕ → ℕ → Option (ℕ × ℕ) → Bool
+is_holder_in t g None = false
+is_holder_in t g (Some h) = is_holder t g h
+
+-- the line without the goroutine with this ticket
+abbrev pub parted : ℕ → ℕ → List (ℕ × ℕ) → List (ℕ × ℕ)
+parted t g es = filter (λ h. not (is_holder t g h)) es
+
+-- those who pass the test for the key of their line are gone; all others stand where they stood, in the same order
+abbrev pub IsWithout : (ℕ → ℕ × ℕ → Bool) → Lines → Lines → Type 0
+IsWithout gone old new = (k : ℕ) → line_at k new ≡ filter (λ h. not (gone k h)) (line_at k old)
+
+-- whether one in the line of key k is the goroutine with this ticket, and k one of these keys
+abbrev pub leaves : ℕ → ℕ → List ℕ → ℕ → ℕ × ℕ → Bool
+leaves t g ks k h = is_in k ks && is_holder t g h
+
+-- the keys of the lines of these waits
+abbrev pub keys_of : List Wait → List ℕ
+keys_of ws = map (λ w. key w.object.0 w.side) ws
 
 -- the goroutine stands in the line of the wait
 abbrev pub StandsIn : ℕ → ℕ → Wait → Lines → Type 0

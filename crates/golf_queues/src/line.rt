@@ -1,9 +1,10 @@
 //! Those in a line, by rising ticket.
 
-ghost use Rattle.std.specs.Prelude.{◌≡◌, ◌<◌, ◌≤◌, ◌+◌, ℕ, length, OnOk};
+ghost use Rattle.std.specs.Prelude.{◌≡◌, ◌<◌, ◌≤◌, ◌+◌, length, map, slice_get, OnOk};
 ghost use Rattle.golf_theory.specs.Maps.{Entry, Rises, AllBelow};
+ghost use Rattle.golf_theory.specs.Membership.{is_in};
 ghost use Rattle.golf_heap.specs.Objects.{rank};
-ghost use Rattle.golf_queues.specs.Lines.{held, has_anyone, KeepsIn, IsLastBefore};
+ghost use Rattle.golf_queues.specs.Lines.{held, has_anyone, has_key, is_holder_in, listed, among, parted, KeepsIn, IsLastBefore};
 
 use golf_base::{GoroutineId, Memory};
 
@@ -37,17 +38,60 @@ pub fn join(line: &mut Vec<TicketHolder>, ticket: u64, goroutine: GoroutineId) -
     Ok(())
 }
 
-/// The goroutine with this ticket is gone from the line, where it stands there.
+// Whether the goroutine with this ticket is the one at a place.
+fn stands_at(line: &[TicketHolder], at: usize, ticket: u64, goroutine: GoroutineId) -> bool
+    ensures { result ≡ is_holder_in ticket goroutine.0 (slice_get (held line.now) at) }
+{
+    match line.get(at) {
+        Some(holder) => holder.goroutine.0 == goroutine.0 && holder.ticket == ticket,
+        None => false,
+    }
+}
+
+/// The goroutine with this ticket is gone from the line, where it stands there; all others stand where
+/// they stood.
 pub fn part(line: &mut Vec<TicketHolder>, ticket: u64, goroutine: GoroutineId)
     requires { Rises 0 (held line.old.items) }
-    ensures rises { Rises 0 (held line.new.items) }
-    ensures kept { KeepsIn (λ t g. g ≡ goroutine.0 → ⊥) (held line.old.items) (held line.new.items) }
-    ensures below { (n : ℕ) → AllBelow n (held line.old.items) → AllBelow n (held line.new.items) }
+    ensures { held line.new.items ≡ parted ticket goroutine.0 (held line.old.items) }
 {
     let at = rank_of(line.as_slice(), ticket);
-    if at < line.len() && line[at].goroutine.0 == goroutine.0 {
+    if stands_at(line.as_slice(), at, ticket, goroutine) {
         line.remove(at);
     }
+}
+
+// How many of these goroutines have a smaller number.
+fn rank_among(goroutines: &[GoroutineId], number: u32) -> usize
+    ensures place { Rises 0 (listed goroutines.now) → result ≡ rank number (listed goroutines.now) }
+    ensures within { result ≤ length goroutines.now }
+{
+    goroutines.partition_point(|other| other.0 < number)
+}
+
+// Whether the goroutine at a place has the number.
+fn is_at(goroutines: &[GoroutineId], at: usize, number: u32) -> bool
+    ensures { result ≡ has_key number (slice_get (listed goroutines.now) at) }
+{
+    match goroutines.get(at) {
+        Some(other) => other.0 == number,
+        None => false,
+    }
+}
+
+// Whether a goroutine is among these, where they rise.
+fn is_among(goroutines: &[GoroutineId], g: GoroutineId) -> bool
+    ensures { Rises 0 (listed goroutines.now) → result ≡ is_in g.0 (map (λ h. h.0) goroutines.now) }
+{
+    let at = rank_among(goroutines, g.0);
+    is_at(goroutines, at, g.0)
+}
+
+/// Those whose goroutine is among these, which rise, stand in the line still, and nobody else.
+pub fn narrow(line: &mut Vec<TicketHolder>, goroutines: &[GoroutineId])
+    requires { Rises 0 (listed goroutines.now) }
+    ensures { held line.new.items ≡ among (map (λ h. h.0) goroutines.now) (held line.old.items) }
+{
+    line.retain(|holder| is_among(goroutines, holder.goroutine));
 }
 
 /// The last in a line whose ticket is below this one.

@@ -1,12 +1,13 @@
 //! The lines of all objects.
 
-ghost use Rattle.std.specs.Prelude.{◌≡◌, ◌<◌, ◌≤◌, ◌+◌, ℕ, [], length, OnOk, slice_get};
+ghost use Rattle.std.specs.Prelude.{◌≡◌, ◌<◌, ◌≤◌, ◌+◌, ℕ, [], ◌∷◌, true, length, map, OnOk, slice_get};
 ghost use Rattle.golf_theory.specs.Maps.{Entry, Rises};
+ghost use Rattle.golf_theory.specs.Membership.{is_in};
 ghost use Rattle.golf_heap.specs.Objects.{rank};
 ghost use Rattle.golf_model.specs.Waiting.{side_number};
-ghost use Rattle.golf_queues.specs.Lines.{Lines, IsInOrder, key, held, lines_of, line_at, has_key, standing, AreBelow, Keeps, StandsInAll};
+ghost use Rattle.golf_queues.specs.Lines.{Lines, IsInOrder, key, held, lines_of, line_at, has_key, keys_of, leaves, listed, standing, narrowed, AreBelow, IsWithout, Keeps, StandsInAll};
 
-use crate::line::{TicketHolder, has_anyone, join, part};
+use crate::line::{TicketHolder, has_anyone, join, narrow, part};
 use golf_base::{GoroutineId, Memory, ObjectId};
 use golf_data::{Side, Wait};
 use std::alloc::Global;
@@ -79,6 +80,16 @@ fn stands_at(queues: &[Queue], at: usize, key: u64) -> bool
     }
 }
 
+// In each line those stand still whose goroutine is among these, which rise, and nobody else.
+fn narrow_all(queues: &mut Vec<Queue>, goroutines: &[GoroutineId])
+    requires { Rises 0 (listed goroutines.now) }
+    ensures { lines_of queues.new.items ≡ narrowed (map (λ g. g.0) goroutines.now) (lines_of queues.old.items) }
+{
+    for at in 0..queues.len() {
+        narrow(&mut queues[at].line, goroutines);
+    }
+}
+
 impl Queues {
     /// No line. It takes no memory.
     pub fn new(alloc: Global) -> Queues
@@ -148,10 +159,9 @@ impl Queues {
     }
 
     /// The goroutine is gone from the line for the object with that side, where it stands there with
-    /// this ticket. It takes no memory.
+    /// this ticket; all others stand where they stood. It takes no memory.
     pub fn leave(&mut self, object: ObjectId, side: Side, ticket: u64, goroutine: GoroutineId)
-        ensures kept { Keeps (λ t g. g ≡ goroutine.0 → ⊥) self.old self.new }
-        ensures below { (n : ℕ) → AreBelow n self.old → AreBelow n self.new }
+        ensures { IsWithout (leaves ticket goroutine.0 (key object.0 side ∷ [])) self.old self.new }
     {
         let key = key_of(object, side);
         let at = rank_of(self.queues.as_slice(), key);
@@ -160,15 +170,25 @@ impl Queues {
         }
     }
 
-    /// The goroutine is gone from the lines of these waits, where it stands there with this ticket.
-    /// It takes no memory.
+    /// The goroutine is gone from the lines of these waits, where it stands there with this ticket; all
+    /// others stand where they stood. It takes no memory.
     pub fn leave_all(&mut self, waits: &[Wait], ticket: u64, goroutine: GoroutineId)
-        ensures kept { Keeps (λ t g. g ≡ goroutine.0 → ⊥) self.old self.new }
-        ensures below { (n : ℕ) → AreBelow n self.old → AreBelow n self.new }
+        ensures { IsWithout (leaves ticket goroutine.0 (keys_of waits.now)) self.old self.new }
     {
         for wait in waits {
             self.leave(wait.object, wait.side, ticket, goroutine);
         }
+    }
+
+    /// Those whose goroutine is among these, which rise, stand in line still, and nobody else. It
+    /// takes no memory.
+    pub fn retain(&mut self, goroutines: &[GoroutineId])
+        requires { Rises 0 (listed goroutines.now) }
+        ensures lines { self.new ≡ narrowed (map (λ g. g.0) goroutines.now) self.old }
+        ensures kept { Keeps (λ t g. is_in g (map (λ h. h.0) goroutines.now) ≡ true) self.old self.new }
+        ensures below { (n : ℕ) → AreBelow n self.old → AreBelow n self.new }
+    {
+        narrow_all(&mut self.queues, goroutines);
     }
 
     /// Lines in which nobody stands are gone. It takes no memory.

@@ -1,6 +1,6 @@
 //! Reads a file: its tokens, its tree, its types, its code.
 
-ghost use Rattle.std.specs.Prelude.{◌≡◌, ◌≤◌, ◌<◌, ◌-◌, ◌^◌, length, IfOk};
+ghost use Rattle.std.specs.Prelude.{◌<◌, ◌-◌, ◌^◌, length, IfOk};
 ghost use Rattle.golf_data.specs.Places.{HasPlaces};
 ghost use Rattle.golf_reader.specs.Refusals.{Parses, Keeps, WasParsed, WasTyped, WasRead};
 

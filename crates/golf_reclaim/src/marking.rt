@@ -1,6 +1,6 @@
 //! What is live, who is removed, and what is left.
 
-ghost use Rattle.std.specs.Prelude.{◌≡◌, ◌<◌, ◌≤◌, ◌^◌, [], IfOk, length, map};
+ghost use Rattle.std.specs.Prelude.{◌≡◌, ◌<◌, ◌≤◌, ◌^◌, IfOk, length, map};
 ghost use Rattle.golf_model.specs.Futures.{Numbered};
 ghost use Rattle.golf_model.specs.Graph.{node_count, sleeper_count};
 ghost use Rattle.golf_model.specs.Living.{dead, live_objects};

@@ -29,7 +29,7 @@ use Rattle.golf_run.proofs.Totalling.{counted-more, totals-are}
 use Rattle.golf_run.proofs.Printed.{collect-prefixed, report-prefixed, book-prefixed}
 use Rattle.golf_run.proofs.Real.{same-output, real-next, real_stops-next, reports-next, real_book-next}
 use Rattle.golf_run.proofs.Leaving.{step-left, emptied-left, collect-left}
-use Rattle.golf_run.proofs.Collecting.{collecting-goes}
+use Rattle.golf_state_laws.proofs.Collecting.{collecting-goes}
 
 not-ended : (o : Option Ending) → o ≡ None → is_some o ≡ false
 not-ended None e = refl

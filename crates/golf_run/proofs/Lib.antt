@@ -3,7 +3,6 @@ pub mod Writing
 mod Printed
 mod Real
 mod Searching
-mod Collecting
 mod Leaving
 mod Totalling
 mod Goings

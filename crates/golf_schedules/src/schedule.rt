@@ -1,6 +1,6 @@
 //! Where the numbers of the turns come from.
 
-ghost use Rattle.std.specs.Prelude.{◌≡◌, ◌<◌, ◌-◌, ◌∷◌, [], MatchOption, ℕ, suc, pred};
+ghost use Rattle.std.specs.Prelude.{◌≡◌, ◌<◌, ◌-◌, ◌∷◌, [], MatchOption, ℕ, suc};
 ghost use Rattle.golf_schedules.specs.Events.{congruent as congruent_to, numbers_left};
 
 use golf_base::List;

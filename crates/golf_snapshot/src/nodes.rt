@@ -1,6 +1,6 @@
 //! The nodes: one for each object that is there, by its rank.
 
-ghost use Rattle.std.specs.Prelude.{◌≡◌, ◌++◌, ◌<◌, IfOk, OnOk, length, map};
+ghost use Rattle.std.specs.Prelude.{◌≡◌, ◌++◌, ◌<◌, IfOk, OnOk, map};
 ghost use Rattle.golf_theory.specs.Maps.{find};
 ghost use Rattle.golf_model.specs.Refs.{object_refs, has_finaliser, refs_where};
 ghost use Rattle.golf_snapshot.specs.Parts.{ranks, number_of, row_of};

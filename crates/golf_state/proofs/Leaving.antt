@@ -1,14 +1,26 @@
--- Goroutines that a collection takes away are gone from their lines.
-use Rattle.std.proofs.Common.{◌≡◌, ℕ, zero, suc, ◌+◌, ◌<◌, ◌≤◌, Bool, true, false, cond, List, [], ◌∷◌, length, get_or, Some, inl, inr, sym, ap, subst, arith, slice_get}
+-- Goroutines that leave their lines, and those that a collection leaves there.
+use Rattle.std.proofs.Common.{◌≡◌, ℕ, suc, ◌+◌, Bool, true, false, cond, List, [], ◌∷◌, Option, Some, None, inl, inr, refl, sym, subst}
+use Rattle.golf_base.specs.declared.ids.GoroutineId.{GoroutineId}
+use Rattle.golf_data.specs.declared.goroutine.Mode.{Mode}
+use Rattle.golf_data.specs.declared.goroutine.Wait.{Wait}
+use Rattle.golf_data.specs.declared.goroutine.WaitKind.{WaitKind}
 use Rattle.golf_theory.specs.Maps.{Entry, Rises, keys}
-use Rattle.golf_theory.specs.Membership.{In}
-use Rattle.golf_theory.proofs.MapEntries.{Entry-keys}
-use Rattle.golf_theory.proofs.MapFinds.{Entry-above}
-use Rattle.golf_heap.specs.Objects.{kept, left_out}
+use Rattle.golf_theory.specs.Membership.{is_in}
+use Rattle.golf_theory.proofs.MapEntries.{In-keys}
+use Rattle.golf_theory.proofs.Tests.{is_in-from}
+use Rattle.golf_heap.specs.Objects.{kept}
 use Rattle.golf_model.specs.Views.{GoroutineView}
-use Rattle.golf_model.specs.Waiting.{ticket_of}
-use Rattle.golf_queues.specs.Lines.{Lines, key, AreBelow, Keeps}
+use Rattle.golf_model.specs.Waiting.{ticket_of, waits_of}
+use Rattle.golf_queues.specs.Lines.{Lines, listed, key, keys_of, leaves, AreBelow, IsWithout, Keeps}
+use Rattle.golf_queues.proofs.Partings.{without-none, keeps-without, keeps-others}
+use Rattle.golf_state.specs.Inside.{numbers}
+use Rattle.golf_state.specs.Left.{leaves_in, leaves_where}
 use Rattle.golf_state.specs.Lined.{AreLined}
+use Rattle.golf_state.specs.Rising.{RisesFrom}
+
+pub Rises-listed : (j : ℕ) (gs : List GoroutineId) → RisesFrom j (numbers gs) → Rises j (listed gs)
+Rises-listed j [] r = tt
+Rises-listed j (g ∷ gs) r = (r.0, Rises-listed (suc g.0) gs r.1)
 
 Entry-kept : {X : Type 0} (flags : List Bool) (es : List (ℕ × X)) (k : ℕ) (x : X) → Entry (kept flags es) k x → Entry es k x
 Entry-kept [] es k x h = absurd h
@@ -19,55 +31,34 @@ Entry-kept {X} (b ∷ bs) (e ∷ es) k x h =
       | false ↦ λ i. inr (Entry-kept bs es k x i)
     ] h
 
-Entry-left_out : {X : Type 0} (flags : List Bool) (es : List (ℕ × X)) (k : ℕ) (x : X) → Entry (left_out flags es) k x → Entry es k x
-Entry-left_out [] es k x h = absurd h
-Entry-left_out (b ∷ bs) [] k x h = h
-Entry-left_out {X} (b ∷ bs) (e ∷ es) k x h =
-    elim b as (λ c. Entry (cond c (left_out bs es) (e ∷ left_out bs es)) k x → Entry (e ∷ es) k x) [
-      | true ↦ λ i. inr (Entry-left_out bs es k x i)
-      | false ↦ λ i. elim i [ inl d ↦ inl d | inr j ↦ inr (Entry-left_out bs es k x j) ]
-    ] h
-
-above-left : {X : Type 0} (j : ℕ) (flags : List Bool) (es : List (ℕ × X)) (k : ℕ) → Rises j es → In k (keys (left_out flags es)) → j ≤ k
-above-left j flags es k r i = let e = Entry-keys (left_out flags es) k i in Entry-above j es k e.0 r (Entry-left_out flags es k e.0 e.1)
-
--- who is kept is none of those who are left out
-not-left : {X : Type 0} (j : ℕ) (flags : List Bool) (es : List (ℕ × X)) (k : ℕ) (x : X) → Rises j es → Entry (kept flags es) k x → In k (keys (left_out flags es)) → ⊥
-not-left j [] es k x r h i = h
-not-left j (b ∷ bs) [] k x r h i = h
-not-left {X} j (b ∷ bs) (e ∷ es) k x r h i =
-    elim b as (λ c. Entry (cond c (e ∷ kept bs es) (kept bs es)) k x → In k (keys (cond c (left_out bs es) (e ∷ left_out bs es))) → ⊥) [
-      | true ↦ λ m o. elim m [
-        | inl d ↦ let a = above-left (suc e.0) bs es k r.1 o in absurd (omega (arith, a, d.0))
-        | inr n ↦ not-left (suc e.0) bs es k x r.1 n o
-      ]
-      | false ↦ λ m o. elim o [
-        | inl d ↦ let a = Entry-above (suc e.0) es k x r.1 (Entry-kept bs es k x m) in absurd (omega (arith, a, d))
-        | inr n ↦ not-left (suc e.0) bs es k x r.1 m n
-      ]
-    ] h i
-
--- the entry at a place whose flag is false is left out
-pub In-left_out : {X : Type 0} (flags : List Bool) (es : List (ℕ × X)) (at : ℕ) (e : ℕ × X) (d : Bool) → at < length flags → slice_get es at ≡ Some e → get_or flags at d ≡ false → In e.0 (keys (left_out flags es))
-In-left_out [] es at e d l h f = absurd (omega (arith, l))
-In-left_out (b ∷ bs) [] at e d l h f = absurd (cc)
-In-left_out {X} (b ∷ bs) (x ∷ xs) zero e d l h f =
-    let same : x ≡ e = cc in
-    subst (λ (c : Bool). In e.0 (keys (cond c (left_out bs xs) (x ∷ left_out bs xs)))) (sym f) (inl (ap (λ (y : ℕ × X). y.0) (sym same)))
-In-left_out {X} (b ∷ bs) (x ∷ xs) (suc at) e d l h f =
-    let rest = In-left_out bs xs at e d (omega (arith, l)) h f in
-    elim b as (λ c. In e.0 (keys (cond c (left_out bs xs) (x ∷ left_out bs xs)))) [
-      | true ↦ rest
-      | false ↦ inr rest
-    ]
-
 -- those who are kept stand in line where the others are gone from it
-pub lined-kept : (listed : Bool) (flags : List Bool) (es : List (ℕ × GoroutineView)) (old thinned new : Lines) (next : ℕ) → Rises 0 es → AreLined listed es old next
-    → Keeps (λ t h. In h (keys (left_out flags es)) → ⊥) old thinned → Keeps (λ t h. Unit {0}) thinned new → ((n : ℕ) → AreBelow n old → AreBelow n new) → AreLined listed (kept flags es) new next
-lined-kept listed flags es old thinned new next r a others all below = record {
+pub lined-kept : (listed : Bool) (flags : List Bool) (es : List (ℕ × GoroutineView)) (old narrow new : Lines) (next : ℕ) → AreLined listed es old next
+    → Keeps (λ t h. is_in h (keys (kept flags es)) ≡ true) old narrow → Keeps (λ t h. Unit {0}) narrow new → ((n : ℕ) → AreBelow n old → AreBelow n new) → AreLined listed (kept flags es) new next
+lined-kept listed flags es old narrow new next a others all below = record {
   below = below (next + 1) a.below;
   early = λ g v h. a.early g v (Entry-kept flags es g v h);
   all = λ o side q g v w h e.
       all (key o side) (ticket_of v.mode) g tt
-      (others (key o side) (ticket_of v.mode) g (not-left 0 flags es g v r h) (a.all o side q g v w (Entry-kept flags es g v h) e));
+      (others (key o side) (ticket_of v.mode) g (is_in-from g (keys (kept flags es)) (In-keys (kept flags es) g v h)) (a.all o side q g v w (Entry-kept flags es g v h) e));
 }
+
+-- ---- who leaves
+
+-- a blocked goroutine leaves the lines of its waits
+pub left-blocked : (g : ℕ) (m : Mode) (kind : WaitKind) (line : ℕ) (waits seen : List Wait) (ticket : ℕ) (old new : Lines) → m ≡ Mode.Blocked kind line waits ticket → seen ≡ waits
+    → IsWithout (leaves ticket g (keys_of seen)) old new → IsWithout (leaves_in g m) old new
+left-blocked g m kind line waits seen ticket old new e s w =
+    subst (λ (n : Mode). IsWithout (leaves_in g n) old new) (sym e) (subst (λ (ws : List Wait). IsWithout (leaves ticket g (keys_of ws)) old new) s w)
+
+-- a running one stands in none
+pub left-running : (g : ℕ) (m : Mode) (ls : Lines) → m ≡ Mode.Running → IsWithout (leaves_in g m) ls ls
+left-running g m ls e = subst (λ (n : Mode). IsWithout (leaves_in g n) ls ls) (sym e) (without-none (leaves_in g Mode.Running) ls (λ k h. refl))
+
+-- ---- the others stand where they stood
+
+pub others-stay : (g : ℕ) (m : Mode) (old new : Lines) → IsWithout (leaves_in g m) old new → Keeps (λ t h. h ≡ g → ⊥) old new
+others-stay g m old new w = keeps-others (ticket_of m) g (keys_of (waits_of m)) old new w
+
+pub others-stay-where : (g : ℕ) (o : Option GoroutineView) (old new : Lines) → IsWithout (leaves_where g o) old new → Keeps (λ t h. h ≡ g → ⊥) old new
+others-stay-where g None old new w = keeps-without (λ t h. h ≡ g → ⊥) (leaves_where g None) old new (λ k t h n. refl) w
+others-stay-where g (Some r) old new w = others-stay g r.mode old new w

@@ -18,3 +18,4 @@ pub mod Outcomes
 pub mod Handing
 pub mod Collecting
 pub mod Lined
+pub mod Left

@@ -1,6 +1,6 @@
 //! What a collection takes out of a state.
 
-ghost use Rattle.std.specs.Prelude.{◌≡◌, ℕ, length, IfOk};
+ghost use Rattle.std.specs.Prelude.{◌≡◌, length, IfOk};
 ghost use Rattle.golf_heap.specs.Objects.{left_out};
 ghost use Rattle.golf_model.specs.Collecting.{queued};
 

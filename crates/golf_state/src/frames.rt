@@ -1,6 +1,6 @@
 //! The innermost frame of a goroutine, and how it goes on.
 
-ghost use Rattle.std.specs.Prelude.{◌≡◌, ◌<◌, ◌≤◌, ◌-◌, ◌++◌, [], length, reverse, OnOk, OnErr, Some, slice_get, slice_set};
+ghost use Rattle.std.specs.Prelude.{◌≡◌, ◌<◌, ◌≤◌, ◌-◌, ◌++◌, [], length, reverse, OnOk, OnErr, Some, slice_get};
 ghost use Rattle.std.specs.Borrow.{sem};
 ghost use Rattle.golf_model.specs.Views.{frame_view, frame_views, goroutine_view};
 ghost use Rattle.golf_model.specs.Waking.{resumed_frame, unwinding, on_top};

@@ -1,15 +1,15 @@
 //! The state: what it tells, and the changes that a turn is made of.
 
-ghost use Rattle.std.specs.Prelude.{◌≡◌, ◌<◌, ◌≤◌, ◌^◌, ◌+◌, ◌-◌, ◌↔◌, IsTrue, ℕ, [], ◌∷◌, ◌++◌, length, vec_capacity, map, true, false, Some, None, IfOk, OnOk, OnErr, IsSome, IfSome, is_some, option_map, slice_get};
+ghost use Rattle.std.specs.Prelude.{◌≡◌, ◌<◌, ◌≤◌, ◌^◌, ◌+◌, ◌-◌, ◌↔◌, IsTrue, [], ◌∷◌, ◌++◌, length, vec_capacity, map, true, false, Some, None, IfOk, OnOk, OnErr, IsSome, IfSome, is_some, option_map, slice_get};
 ghost use Rattle.std.specs.Borrow.{sem};
 ghost use Rattle.golf_theory.specs.Maps.{find, keys, Rises, IsRising};
 ghost use Rattle.golf_data.specs.declared.goroutine.Mode.{Mode};
-ghost use Rattle.golf_model.specs.Views.{GoroutineView, frame_view, frame_views, goroutine_view};
+ghost use Rattle.golf_model.specs.Views.{frame_view, frame_views, goroutine_view};
 ghost use Rattle.golf_model.specs.State.{runnable, ending, is_running};
 ghost use Rattle.golf_model.specs.Waiting.{first};
 ghost use Rattle.golf_model.specs.ReadersWriters.{readers_next};
 ghost use Rattle.golf_model.specs.Changes.{make, replace, set_global, become, block, spawn, leave, finish, set_finaliser, clear_finaliser, take_queued, output as printed, wake_all, pass_on, move_wait};
-ghost use Rattle.golf_heap.specs.Objects.{NumberedObjects, kept};
+ghost use Rattle.golf_heap.specs.Objects.{kept};
 ghost use Rattle.golf_state.specs.Collecting.{queue_unflagged};
 ghost use Rattle.golf_state.specs.Looked.{looked_up, runs, is_blocked, frames_of, reframed, advanced, opening};
 ghost use Rattle.golf_state.specs.Wakening.{wakened};
@@ -29,7 +29,7 @@ use crate::places::{
 use crate::rising::{add_last, behind_first, leave_out, put_in};
 use crate::waiters::{
     Waiting, enter_for_mutex, first_in_line, first_waiter, forget, has_line, leave_lines,
-    leave_unflagged, move_mode, waiter_by,
+    move_mode, waiter_by,
 };
 use crate::wake_all::{readers_next, wake_all};
 use crate::waking::{Waking, wakening_of};
@@ -554,10 +554,10 @@ impl State {
         requires { length stays.now ≡ length self.old.goroutines }
         ensures { self.new ≡ record self.old { goroutines = kept stays.now self.old.goroutines } }
     {
-        leave_unflagged(&mut self.waiting, self.goroutines.as_slice(), stays);
-        self.waiting.drop_empty();
         close_up(&mut self.goroutines, stays);
         close_up(&mut self.present, stays);
+        self.waiting.retain(self.present.as_slice());
+        self.waiting.drop_empty();
         list_running(self.goroutines.as_slice(), &mut self.running);
     }
 

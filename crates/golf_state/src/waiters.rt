@@ -1,15 +1,14 @@
 //! Who waits on an object.
 
-ghost use Rattle.std.specs.Prelude.{◌≡◌, ◌<◌, ◌+◌, ◌==◌, ℕ, ◌&&◌, false, true, length, Some, None, option_map};
+ghost use Rattle.std.specs.Prelude.{◌≡◌, ◌<◌, ◌+◌, ◌==◌, ◌&&◌, false, true, Some, None, option_map};
 ghost use Rattle.golf_data.specs.declared.goroutine.Side.{Side};
-ghost use Rattle.golf_theory.specs.Maps.{Entry, Rises, keys};
-ghost use Rattle.golf_theory.specs.Membership.{In};
-ghost use Rattle.golf_heap.specs.Objects.{left_out};
+ghost use Rattle.golf_theory.specs.Maps.{Entry, Rises, find};
 ghost use Rattle.golf_model.specs.Waiting.{same_side, wait_for, waiter_of, first};
 ghost use Rattle.golf_model.specs.Changes.{moved, moved_waits};
 ghost use Rattle.golf_state.specs.Places.{plain_entry, plain_entries};
-ghost use Rattle.golf_queues.specs.Lines.{held, key, line_at, Keeps, AreBelow};
+ghost use Rattle.golf_queues.specs.Lines.{held, key, line_at, IsWithout, Keeps, AreBelow};
 ghost use Rattle.golf_state.specs.Seen.{sooner, waiter_by};
+ghost use Rattle.golf_state.specs.Left.{leaves_in, leaves_where};
 ghost use Rattle.golf_state.specs.Lined.{HasWaiters, has_line};
 ghost use Rattle.golf_state.specs.Waited.{waiting_of};
 
@@ -111,31 +110,6 @@ pub fn waiter_by(
     }
 }
 
-// The goroutine at a place is gone from its lines, unless it stays.
-fn leave_unless(queues: &mut Queues, place: &Place, stays: bool)
-    ensures kept { Keeps (λ t h. stays ≡ false → h ≡ place.now.number → ⊥) queues.old queues.new }
-    ensures below { (n : ℕ) → AreBelow n queues.old → AreBelow n queues.new }
-{
-    if !stays {
-        leave_lines(queues, GoroutineId(place.number), &place.goroutine.mode);
-    }
-}
-
-/// The goroutines whose flag is false are gone from their lines. It takes no memory.
-///
-/// The last ones come first: they mostly stand last in line, from where they are gone at no cost.
-pub fn leave_unflagged(queues: &mut Queues, places: &[Place], stays: &[bool])
-    requires { length stays.now ≡ length places.now }
-    ensures kept { Keeps (λ t h. In h (keys (left_out stays.now (plain_entries places.now))) → ⊥) queues.old queues.new }
-    ensures below { (n : ℕ) → AreBelow n queues.old → AreBelow n queues.new }
-{
-    let mut at = places.len();
-    while at > 0 {
-        at -= 1;
-        leave_unless(queues, &places[at], stays[at]);
-    }
-}
-
 /// The goroutine of least ticket among those that wait on the object with that side, by the line of
 /// those who stood there.
 pub fn first_in_line(
@@ -158,10 +132,9 @@ pub fn first_in_line(
     None
 }
 
-/// A goroutine in this mode is gone from the lines that it stands in.
+/// A goroutine in this mode is gone from the lines that it stands in; all others stand where they stood.
 pub fn leave_lines(queues: &mut Queues, g: GoroutineId, mode: &Mode)
-    ensures kept { Keeps (λ t h. h ≡ g.0 → ⊥) queues.old queues.new }
-    ensures below { (n : ℕ) → AreBelow n queues.old → AreBelow n queues.new }
+    ensures { IsWithout (leaves_in g.0 mode.now) queues.old queues.new }
 {
     match mode {
         Mode::Running => {}
@@ -169,11 +142,11 @@ pub fn leave_lines(queues: &mut Queues, g: GoroutineId, mode: &Mode)
     }
 }
 
-/// The goroutine of this number is gone from the lines that it stands in, where it is there.
+/// The goroutine of this number is gone from the lines that it stands in, where it is there; all others
+/// stand where they stood.
 pub fn forget(queues: &mut Queues, places: &[Place], g: GoroutineId)
     requires { Rises 0 (plain_entries places.now) }
-    ensures kept { Keeps (λ t h. h ≡ g.0 → ⊥) queues.old queues.new }
-    ensures below { (n : ℕ) → AreBelow n queues.old → AreBelow n queues.new }
+    ensures { IsWithout (leaves_where g.0 (find g.0 (plain_entries places.now))) queues.old queues.new }
 {
     if let Some(goroutine) = goroutine_at(places, g.0) {
         leave_lines(queues, g, &goroutine.mode);

@@ -1,14 +1,10 @@
 //! Who is woken where all who wait on an object are.
 
-ghost use Rattle.std.specs.Prelude.{◌≡◌, ◌≤◌, ℕ, length, map, is_some};
-ghost use Rattle.golf_theory.specs.Maps.{Rises};
-ghost use Rattle.golf_model.specs.Views.{goroutine_view};
+ghost use Rattle.std.specs.Prelude.{◌≡◌};
 ghost use Rattle.golf_model.specs.Waiting.{wait_on};
 ghost use Rattle.golf_model.specs.Waking.{received, is_below};
 ghost use Rattle.golf_state.specs.Looked.{values_of};
-ghost use Rattle.golf_state.specs.Places.{plain_entry, plain_entries};
-ghost use Rattle.golf_state.specs.Ready.{IsReady, AllReady};
-ghost use Rattle.golf_state.specs.Woken.{given_for, waking_of, wakening_by_close, released_where, wakening_of, woken_entry};
+ghost use Rattle.golf_state.specs.Woken.{given_for, wakening_by_close, released_where, wakening_of};
 
 use crate::frames::{Given, Wakening, waken};
 use crate::places::Place;

@@ -4,3 +4,4 @@ pub mod Keeping
 pub mod Whole
 pub mod Leading
 pub mod FinaliserGoroutine
+pub mod Collecting

@@ -7,7 +7,7 @@ ghost use Rattle.golf_expressions.specs.Front.{seen};
 ghost use Rattle.golf_statements.specs.StmtReading as stmt_spec;
 ghost use Rattle.golf_statements.specs.StmtReading.{OfStmt, body, block, else_plan, if_plan, for_plan, select_plan, keyword_plan, kind_plan};
 ghost use Rattle.golf_statements.specs.Moves as moves_spec;
-ghost use Rattle.golf_statements.specs.Moves.{owned, closed_at, body_at, case_at, pending_at, move_at, weight};
+ghost use Rattle.golf_statements.specs.Moves.{owned, closed_at, body_at, pending_at, weight};
 
 use crate::clauses::{case_move, clauses_move, colon_move};
 use crate::headers::{header_at, test_at};

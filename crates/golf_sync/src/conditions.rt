@@ -7,7 +7,7 @@ ghost use Rattle.golf_model.specs.Acting.{goes, taking_one, at_reference, at_mut
 ghost use Rattle.golf_model.specs.Waiting.{first, waiters};
 ghost use Rattle.golf_model.specs.Conditions.{awaits, awaits_by, signals, broadcasts, notifies, first_only, passes_on};
 ghost use Rattle.golf_data.specs.declared.goroutine.Side.{Side};
-ghost use Rattle.golf_state.specs.Doing.{does, Stands};
+ghost use Rattle.golf_state.specs.Doing.{Stands};
 ghost use Rattle.golf_state.specs.Outcomes.{Comes};
 ghost use Rattle.golf_sync.specs.Objects.{mutex_of};
 ghost use Rattle.golf_sync.specs.Notified.{notified};

@@ -5,7 +5,7 @@ ghost use Rattle.golf_theory.specs.Maps.{find};
 ghost use Rattle.golf_model.specs.Acting.{at_group, at_reference};
 ghost use Rattle.golf_model.specs.Calculating.{sum};
 ghost use Rattle.golf_model.specs.Mutexes.{adds, counts, waits, waits_by};
-ghost use Rattle.golf_state.specs.Doing.{does, Stands};
+ghost use Rattle.golf_state.specs.Doing.{Stands};
 ghost use Rattle.golf_state.specs.Outcomes.{Comes};
 
 use crate::objects::group_at;

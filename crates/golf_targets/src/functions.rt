@@ -2,7 +2,6 @@
 
 ghost use Rattle.std.specs.Prelude.{◌≡◌, IfOk};
 ghost use Rattle.golf_targets.specs.Passes.{lines_of as lines_in};
-ghost use Rattle.golf_targets.specs.Heights.{most_of as most_in};
 ghost use Rattle.golf_targets.specs.Functions.{IsFunction};
 
 use crate::bodies::lines_of;
@@ -24,7 +23,8 @@ fn body_of(alloc: Global, marks: &[Mark]) -> Result<List<Line>, Memory>
 ///
 /// # Errors
 ///
-/// `Memory` also where the body has more places, or more operands stand at one, than a `u32` can name.
+/// `Memory` also where the body has more instructions, or more operands stand at a place, than a `u32` can count. No body of a
+/// file that is read has so many instructions (`golf_code_places`).
 pub fn function(
     alloc: Global,
     gives: &[bool],

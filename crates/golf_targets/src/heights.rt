@@ -1,10 +1,10 @@
 //! The third pass: the most operands that stand at a place.
 
-ghost use Rattle.std.specs.Prelude.{◌≡◌, ◌-◌, ◌+◌, ◌∷◌, ◌<◌, ◌^◌, true, false, Some, None, max, IfOk, OnOk};
+ghost use Rattle.std.specs.Prelude.{◌≡◌, ◌-◌, ◌∷◌, ◌<◌, true, false, Some, None, max, IfOk, OnOk};
 ghost use Rattle.std.specs.Option.{option_map};
-ghost use Rattle.golf_layout.specs.Depth.{height as height_of, met as met_of, reached, behind as behind_of, through as through_of, above as above_of, case_left as left_by_case, case_taken as taken_by_case, cases_taken as taken_by_cases, chosen, defaulted, innermost, outer};
+ghost use Rattle.golf_layout.specs.Depth.{height as height_of, met as met_of, reached, behind as behind_of, through as through_of, above as above_of, case_left as left_by_case, case_taken as taken_by_case, cases_taken as taken_by_cases, innermost, outer};
 ghost use Rattle.golf_targets.specs.Passes.{rest};
-ghost use Rattle.golf_targets.specs.Heights.{stands, leads, takes_in, choice_flow, case_chosen, cases_chosen, default_chosen, end_height, height_step, height_steps, no_heights as none_yet, most_of as most_in};
+ghost use Rattle.golf_targets.specs.Heights.{stands, leads, takes_in, choice_flow, case_chosen, cases_chosen, default_chosen, end_height, height_step, no_heights as none_yet, most_of as most_in};
 
 use crate::instructions::{goes_on, left, taken};
 use crate::stack::Stack;

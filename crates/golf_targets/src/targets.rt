@@ -1,7 +1,7 @@
 //! The first pass: the target of each block.
 
 ghost use Rattle.std.specs.Prelude.{◌≡◌, ◌+◌, ◌∷◌, ◌++◌, [], Some, None, length, slice_set, OnOk, IfOk};
-ghost use Rattle.golf_targets.specs.Passes.{rest, ended, target_step, target_steps, no_targets as none_yet, targets_of as found_in};
+ghost use Rattle.golf_targets.specs.Passes.{rest, ended, target_step, no_targets as none_yet, targets_of as found_in};
 
 use crate::stack::Stack;
 use golf_base::{List, Memory};

@@ -98,7 +98,6 @@ fn are_taken_back(errors: &[u8], last: &str) -> bool {
 #[test]
 fn memory_is_taken_back(rt: HostRuntime) -> Result<(), Fail> {
     let ends = [
-        ("--turns=1000000", Status::Found, "\n"),
         ("--turns=160009", Status::Found, "\n"),
         (
             "--turns=160008",

@@ -1,6 +1,6 @@
 //! The texts of statements.
 
-ghost use Rattle.std.specs.Prelude.{◌≡◌, ◌++◌, flat_map, OnOk};
+ghost use Rattle.std.specs.Prelude.{◌≡◌, flat_map, OnOk};
 ghost use Rattle.golf_code_of.specs.Texts.{stmt_texts, optional_simple_texts, expr_texts, header_texts, comm_texts};
 ghost use Rattle.golf_code_of.proofs.TextEquations.{clause_texts};
 ghost use Rattle.golf_text_walk.specs.Adding.{with_texts};

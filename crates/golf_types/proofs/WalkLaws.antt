@@ -1,5 +1,5 @@
 -- Scopes behind what was walked, and what the answer of the last of several walks tells.
-use Rattle.std.proofs.Common.{◌≡◌, ℕ, ◌+◌, ◌-◌, List, [], ◌++◌, length, sym, ap, ◌∙◌, append_assoc, append-nil, length-append, arith}
+use Rattle.std.proofs.Common.{◌≡◌, ℕ, ◌+◌, ◌-◌, Bool, true, false, List, [], ◌++◌, length, refl, sym, ap, ◌∙◌, append_assoc, append-nil, length-append, arith}
 use Rattle.std.specs.Prelude.{Option, Result}
 use Rattle.std.proofs.Math.Seq.{take-append_seam}
 use Rattle.golf_types.specs.declared.fault.TypeFault.{TypeFault}
@@ -8,7 +8,7 @@ use Rattle.golf_types.specs.declared.locals.Local.{Local}
 use Rattle.golf_types.specs.declared.scopes.Scope.{Scope}
 use Rattle.golf_types.specs.Faults.{Fault}
 use Rattle.golf_types.specs.Scopes.{declared, begun, closed_to}
-use Rattle.golf_types.specs.Statements.{Walked, judges, both, behind, closed, Walks}
+use Rattle.golf_types.specs.Statements.{Walked, judges, both, behind, closed, one_new, Walks}
 use Rattle.golf_types.proofs.Seams.{tells_behind}
 
 scope_at : Scope → List Local → ℕ → Scope
@@ -34,6 +34,11 @@ unfolding scope_at
 behind-closed s w =
     ap (λ ds. record (scope_at s ds (s.next + length w.slots)) { depth = s.depth + 1 - 1 }) (take-append_seam s.locals w.declares ∙ sym (append-nil s.locals))
     ∙ ap (λ d. record (scope_at s (s.locals ++ []) (s.next + length w.slots)) { depth = d }) (let e : s.depth + 1 - 1 ≡ s.depth = omega arith in e)
+
+-- a name that is declared where it is new breaks no rule
+pub new_breaks_none : (b : Bool) (n : List ℕ) (t : Option GoType) (s : Scope) → (one_new b n t s).faults ≡ []
+new_breaks_none true n t s = refl
+new_breaks_none false n t s = refl
 
 -- Where the first walk breaks nothing, the answer of the second tells of both.
 pub then_tells : {A : Type 0} (r : Result A TypeFault) (a b : Walked) (s mid t : Scope) (old some new : List (Option GoType)) → a.faults ≡ [] → mid ≡ behind s a → some ≡ old ++ a.types → Walks r b mid t some new → Walks r (both a b) s t old new

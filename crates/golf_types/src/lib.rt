@@ -2,6 +2,7 @@
 //! breaks.
 #![tactic(auto)]
 
+mod assigned;
 mod endings;
 mod fault;
 mod locals;
@@ -10,6 +11,7 @@ mod scopes;
 mod table;
 mod types;
 
+pub use assigned::{assigned_name, declare_new, is_new};
 pub use endings::{Ending, Panics};
 pub use fault::{TypeFault, require};
 pub use locals::{Local, Locals};
@@ -17,8 +19,8 @@ pub use operands::{
     BuiltIn, Given, Operand, Package, Signature, Where, given_type, type_of, value_of,
 };
 pub use scopes::{
-    FileScope, Imports, Meaning, Member, Members, Naming, Scope, begin, declare, end, hide,
-    is_blank, is_here, is_reserved, may_be_declared, meaning_at, member_at, type_at,
+    FileScope, Imports, Meaning, Member, Members, Naming, Scope, begin, copy_name, declare, end,
+    hide, is_blank, is_here, is_reserved, kind_at, may_be_declared, meaning_at, member_at, type_at,
 };
 pub use table::Table;
 pub use types::{

@@ -13,7 +13,7 @@ use std::collections::HashMap;
 use std::marker::Model;
 
 /// A declared variable of a function.
-#[derive(Debug, Drop)]
+#[derive(Debug)]
 pub struct Local {
     pub name: Name,
     /// How many blocks are open where it is declared.
@@ -21,6 +21,17 @@ pub struct Local {
     pub slot: u32,
     /// None where its type is not known.
     pub of_type: Option<GoType>,
+}
+
+impl Drop for Local {
+    fn drop(self) {
+        let Local {
+            name: _,
+            depth: _,
+            slot: _,
+            of_type: _,
+        } = self;
+    }
 }
 
 // The places of each name in a list, rising.
@@ -60,10 +71,15 @@ fn last_place_at(places: &Places, name: &[u8]) -> Option<usize>
 
 /// The variables of a function that are declared at a place, the later ones last. A look-up takes
 /// the time of one in a hash map.
-#[derive(Drop)]
 pub struct Locals {
     list: List<Local>,
     places: Places,
+}
+
+impl Drop for Locals {
+    fn drop(self) {
+        let Locals { list: _, places: _ } = self;
+    }
 }
 
 impl Model for Locals {

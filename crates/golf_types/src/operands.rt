@@ -1,7 +1,7 @@
 //! What an expression can be.
 
 ghost use Rattle.std.specs.Prelude.{◌≡◌, IfOk};
-ghost use Rattle.golf_types.specs.Types.{given as given_of, type_of as type_of_of, given_type as given_type_of};
+ghost use Rattle.golf_types.specs.Types.{given as given_of, type_of as type_of_of, given_type as given_type_of, type_given, element};
 
 use crate::types::{Base, GoType, copy_optional, plain};
 use golf_base::{List, Memory};
@@ -18,11 +18,20 @@ pub enum Where {
 }
 
 /// The types of a function. `None` stands for a type that is not known.
-#[derive(Debug, Drop)]
+#[derive(Debug)]
 pub struct Signature {
     pub parameters: List<Option<GoType>>,
     /// None where the function has no result.
     pub result: Option<GoType>,
+}
+
+impl Drop for Signature {
+    fn drop(self) {
+        let Signature {
+            parameters: _,
+            result: _,
+        } = self;
+    }
 }
 
 /// A package of the language.
@@ -77,7 +86,7 @@ pub enum BuiltIn {
 }
 
 /// What an expression is. `None` stands for a type that is not known.
-#[derive(Debug, Drop)]
+#[derive(Debug)]
 pub enum Operand {
     /// A value that stands nowhere.
     Value(Option<GoType>),
@@ -111,13 +120,97 @@ pub enum Operand {
     TypeName,
 }
 
+// Written out once here, so that no other crate goes through the variants where it lets an operand go.
+impl Drop for Operand {
+    fn drop(self) {
+        match self {
+            Operand::Value(_) => {}
+            Operand::Outcome(_) => {}
+            Operand::Constant(_, _) => {}
+            Operand::Truth(_) => {}
+            Operand::Variable(_, _) => {}
+            Operand::Field(_, _) => {}
+            Operand::Element(_) => {}
+            Operand::Unknown => {}
+            Operand::Nil => {}
+            Operand::Blank => {}
+            Operand::Nothing(_) => {}
+            Operand::Function(_) => {}
+            Operand::Method(_) => {}
+            Operand::BuiltIn(_) => {}
+            Operand::Package(_) => {}
+            Operand::Struct(_) => {}
+            Operand::TypeName => {}
+        }
+    }
+}
+
+impl Operand {
+    /// What it gives as a value.
+    pub fn into_given(self, alloc: Global) -> Given
+        ensures { result ≡ given_of self }
+    {
+        match self {
+            Operand::Value(t)
+            | Operand::Outcome(t)
+            | Operand::Variable(_, t)
+            | Operand::Field(_, t)
+            | Operand::Element(t) => given_type(t),
+            Operand::Constant(_, base) => Given::Typed(plain(alloc, base)),
+            Operand::Truth(_) => Given::Typed(plain(alloc, Base::Bool)),
+            Operand::Nil => Given::Nil,
+            Operand::Unknown
+            | Operand::Blank
+            | Operand::Nothing(_)
+            | Operand::Function(_)
+            | Operand::Method(_)
+            | Operand::BuiltIn(_)
+            | Operand::Package(_)
+            | Operand::Struct(_)
+            | Operand::TypeName => Given::Unknown,
+        }
+    }
+}
+
 /// What an expression gives where it stands as a value.
-#[derive(Debug, Drop)]
+#[derive(Debug)]
 pub enum Given {
     Typed(GoType),
     Nil,
     /// A value whose type is not known breaks no rule.
     Unknown,
+}
+
+impl Drop for Given {
+    fn drop(self) {
+        match self {
+            Given::Typed(_) => {}
+            Given::Nil => {}
+            Given::Unknown => {}
+        }
+    }
+}
+
+impl Given {
+    /// Its type, where it has one.
+    pub fn into_type(self) -> Option<GoType>
+        ensures { result ≡ type_given self }
+    {
+        match self {
+            Given::Typed(t) => Some(t),
+            Given::Nil | Given::Unknown => None,
+        }
+    }
+
+    /// What a slice has or a channel carries.
+    pub fn into_element(self) -> Option<GoType>
+        ensures { result ≡ element self }
+    {
+        match self {
+            Given::Typed(t) => t.into_element(),
+            Given::Nil | Given::Unknown => None,
+        }
+    }
 }
 
 /// What a type gives as a value.
@@ -134,25 +227,7 @@ pub fn given_type(t: Option<GoType>) -> Given
 pub fn value_of(alloc: Global, operand: Operand) -> Given
     ensures { result ≡ given_of operand }
 {
-    match operand {
-        Operand::Value(t)
-        | Operand::Outcome(t)
-        | Operand::Variable(_, t)
-        | Operand::Field(_, t)
-        | Operand::Element(t) => given_type(t),
-        Operand::Constant(_, base) => Given::Typed(plain(alloc, base)),
-        Operand::Truth(_) => Given::Typed(plain(alloc, Base::Bool)),
-        Operand::Nil => Given::Nil,
-        Operand::Unknown
-        | Operand::Blank
-        | Operand::Nothing(_)
-        | Operand::Function(_)
-        | Operand::Method(_)
-        | Operand::BuiltIn(_)
-        | Operand::Package(_)
-        | Operand::Struct(_)
-        | Operand::TypeName => Given::Unknown,
-    }
+    operand.into_given(alloc)
 }
 
 /// The type of an operand, where it has one.

@@ -9,6 +9,7 @@ use crate::operands::{BuiltIn, Operand, Package, Signature, Where};
 use crate::table::Table;
 use crate::types::{Base, GoType, copy_optional};
 use golf_base::{List, Memory};
+use golf_grammar::Name;
 use std::alloc::Global;
 
 /// Which packages a file imports.
@@ -39,14 +40,20 @@ pub enum Member {
 }
 
 /// The fields and methods of a struct: what each name is stands at its number.
-#[derive(Drop)]
 pub struct Members {
     pub names: Table,
     pub kinds: List<Member>,
 }
 
+// The drops of what scopes are made of are written out once here, so that no other crate goes through the fields where it lets
+// one go.
+impl Drop for Members {
+    fn drop(self) {
+        let Members { names: _, kinds: _ } = self;
+    }
+}
+
 /// What the names of a file mean: what each is stands at its number.
-#[derive(Drop)]
 pub struct FileScope {
     pub imports: Imports,
     pub names: Table,
@@ -61,8 +68,21 @@ pub struct FileScope {
     pub functions: List<Signature>,
 }
 
+impl Drop for FileScope {
+    fn drop(self) {
+        let FileScope {
+            imports: _,
+            names: _,
+            meanings: _,
+            structs: _,
+            fields: _,
+            globals: _,
+            functions: _,
+        } = self;
+    }
+}
+
 /// The names of a file's first declarations, and how many of each kind there are.
-#[derive(Drop)]
 pub struct Naming {
     pub constants: u32,
     pub globals: u32,
@@ -72,8 +92,45 @@ pub struct Naming {
     pub structs: List<Members>,
 }
 
+impl Drop for Naming {
+    fn drop(self) {
+        let Naming {
+            constants: _,
+            globals: _,
+            functions: _,
+            names: _,
+            meanings: _,
+            structs: _,
+        } = self;
+    }
+}
+
+impl Naming {
+    /// What the names of a file mean that has these imports, without types.
+    pub fn into_file_scope(self, alloc: Global, imports: Imports) -> FileScope
+        ensures { result ≡ record { imports = imports; names = self.names; meanings = self.meanings; structs = self.structs; fields = []; globals = []; functions = [] } }
+    {
+        let Naming {
+            constants: _,
+            globals: _,
+            functions: _,
+            names,
+            meanings,
+            structs,
+        } = self;
+        FileScope {
+            imports,
+            names,
+            meanings,
+            structs,
+            fields: List::new(alloc),
+            globals: List::new(alloc),
+            functions: List::new(alloc),
+        }
+    }
+}
+
 /// What names mean at a place, and what the function around it allows.
-#[derive(Drop)]
 pub struct Scope {
     pub file: FileScope,
     pub locals: Locals,
@@ -89,6 +146,21 @@ pub struct Scope {
     pub next: u32,
     /// The global that is initialised here, if any.
     pub initialises: Option<u32>,
+}
+
+impl Drop for Scope {
+    fn drop(self) {
+        let Scope {
+            file: _,
+            locals: _,
+            depth: _,
+            result: _,
+            breaks: _,
+            loops: _,
+            next: _,
+            initialises: _,
+        } = self;
+    }
 }
 
 #[tactic(auto, unfolding(crate::specs::Scopes::type_name))]
@@ -281,6 +353,15 @@ pub fn may_be_declared(scope: &Scope, name: &[u8]) -> bool
     !is_blank(name) && !is_reserved(name) && !is_here(scope, name)
 }
 
+/// The same name.
+pub fn copy_name(alloc: Global, name: &[u8]) -> Result<Name, Memory>
+    ensures { IfOk result (λ n. n ≡ name.now) }
+{
+    let mut copy = List::new(alloc);
+    copy.extend_from_slice(name)?;
+    Ok(copy)
+}
+
 /// Adds a variable in the next slot. On an `Err` nothing is said of the scope.
 pub fn declare(
     alloc: Global,
@@ -290,12 +371,10 @@ pub fn declare(
 ) -> Result<(), Memory>
     ensures { OnOk result (scope.new ≡ declared scope.old (variable scope.old name.now of_type ∷ []) 1) }
 {
-    let mut copy = List::new(alloc);
-    copy.extend_from_slice(name)?;
     let slot = scope.next;
     let next = slot.checked_add(1).ok_or(Memory)?;
     let local = Local {
-        name: copy,
+        name: copy_name(alloc, name)?,
         depth: scope.depth,
         slot,
         of_type,
@@ -342,7 +421,8 @@ pub fn member_at(file: &FileScope, number: u32, name: &[u8]) -> Option<Member>
     }
 }
 
-fn kind_at(members: &Members, name: &[u8]) -> Option<Member>
+/// What a name is among the members of a struct.
+pub fn kind_at(members: &Members, name: &[u8]) -> Option<Member>
     ensures { result ≡ kind_in members.now name.now }
 {
     match members.names.number_of(name) {

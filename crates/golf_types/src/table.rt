@@ -1,6 +1,6 @@
 //! Names with their numbers.
 
-ghost use Rattle.std.specs.Prelude.{◌≡◌, [], OnOk, OnErr};
+ghost use Rattle.std.specs.Prelude.{◌≡◌, [], OnOk};
 ghost use Rattle.golf_types.specs.Names.{number_of, with_name};
 
 use golf_base::Memory;
@@ -10,9 +10,14 @@ use std::marker::Model;
 
 /// Different names in the order in which they came, with a number for each. A look-up takes the
 /// time of one in a hash map.
-#[derive(Drop)]
 pub struct Table {
     entries: IndexMap<Vec<u8>, usize>,
+}
+
+impl Drop for Table {
+    fn drop(self) {
+        let Table { entries: _ } = self;
+    }
 }
 
 impl Model for Table {

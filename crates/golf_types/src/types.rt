@@ -1,7 +1,7 @@
 //! Types (Go specification, "Types", cut down to those of the language).
 
 ghost use Rattle.std.specs.Prelude.{◌≡◌, IfOk};
-ghost use Rattle.golf_types.specs.Types.{same_layer as same_layer_of, same_layers as same_layers_of, same_base as same_base_of, same_type as same_type_of, plain as plain_of, with_layer as with_layer_of};
+ghost use Rattle.golf_types.specs.Types.{same_layer as same_layer_of, same_layers as same_layers_of, same_base as same_base_of, same_type as same_type_of, plain as plain_of, with_layer as with_layer_of, inside};
 
 use golf_base::{List, Memory};
 use std::alloc::Global;
@@ -41,10 +41,32 @@ pub enum Base {
 }
 
 /// A type: the layers from the outermost on, and what they end in.
-#[derive(Debug, Drop)]
+#[derive(Debug)]
 pub struct GoType {
     pub layers: List<Layer>,
     pub base: Base,
+}
+
+// Written out once here, so that no other crate goes through the fields where it lets a type go.
+impl Drop for GoType {
+    fn drop(self) {
+        let GoType { layers: _, base: _ } = self;
+    }
+}
+
+impl GoType {
+    /// What a slice of this type has or a channel carries.
+    pub fn into_element(self) -> Option<GoType>
+        ensures { result ≡ inside self.layers self.base }
+    {
+        let GoType { layers, base } = self;
+        if layers.is_empty() {
+            return None;
+        }
+        let mut layers = layers;
+        layers.remove(0);
+        Some(GoType { layers, base })
+    }
 }
 
 fn same_layer(a: Layer, b: Layer) -> bool
@@ -119,11 +141,13 @@ pub fn with_layer(
     let Some(inner) = inner else {
         return Ok(None);
     };
-    let GoType { layers, base } = inner;
-    let mut all = List::new(alloc);
-    all.push(layer)?;
-    all.extend_from_slice(layers.as_slice())?;
-    Ok(Some(GoType { layers: all, base }))
+    let mut layers = List::new(alloc);
+    layers.push(layer)?;
+    layers.extend_from_slice(inner.layers.as_slice())?;
+    Ok(Some(GoType {
+        layers,
+        base: inner.base,
+    }))
 }
 
 /// The same type.

@@ -32,7 +32,7 @@ use Rattle.golf_code_of.specs.Coding.{Coded, coded, argument}
 use Rattle.golf_code_of.specs.declared.making.Making.{Making}
 use Rattle.golf_code_of.specs.Calls.{Argument, makings, beginning, pushes}
 use Rattle.golf_code_of.specs.Statements as C
-use Rattle.golf_code_of.specs.Statements.{Laid, Part, laid, wrapped}
+use Rattle.golf_code_of.specs.Statements.{Part, laid, wrapped}
 use Rattle.golf_code_of.specs.Loops as L
 use Rattle.golf_code_of.specs.Selects as S
 use Rattle.golf_code_of.specs.Selects.{ClausePart}

@@ -1,4 +1,4 @@
-use Rattle.std.proofs.Common.{◌∙◌, ◌<◌, List, get_or, length, sym, subst, take}
+use Rattle.std.proofs.Common.{◌∙◌, ◌<◌, List, get_or, length, sym, subst}
 use Rattle.golf_theory.specs.Maps.{keys}
 use Rattle.golf_theory.specs.Membership.{In}
 use Rattle.golf_base.specs.declared.ids.GoroutineId.{GoroutineId}

@@ -1,5 +1,4 @@
 use Rattle.std.proofs.Common.{arith, ◌∙◌}
-use Rattle.std.proofs.Common.{length-set}
 use Rattle.golf_heap.specs.Objects.{kept}
 use Rattle.golf_heap.proofs.Freeing.{swapped_more, swapped-length, skipped_more}
 use Rattle.golf_heap.proofs.places.close_up.Goals as goal

@@ -1,11 +1,18 @@
-use Rattle.std.proofs.Common.{ℕ, List, sym, subst}
+use Rattle.std.proofs.Common.{ℕ, ◌∷◌, [], List, sym, subst}
 use Rattle.golf_theory.specs.Membership.{In}
-use Rattle.golf_theory.proofs.Lists.{In-push}
+use Rattle.golf_theory.proofs.Lists.{In-left, In-push}
 use Rattle.golf_model.specs.declared.graph.GraphParts.{GraphParts}
 use Rattle.golf_marks.specs.Seats.{known}
 use Rattle.golf_mark.specs.Working.{IsScanned}
 use Rattle.golf_mark.proofs.Attending.{Attends-scanned, Attends-deferred}
+use Rattle.golf_mark.proofs.Winning.{Wins-looked}
 use Rattle.golf_mark.proofs.marker.scan_or_defer.Goals as goal
+
+pub scan-requires-clause-fits : goal.scan-requires-clause-fits
+scan-requires-clause-fits c =
+    let a = c.args.marker.now.scanner in
+    (Wins-looked c.args.shared.now.marks.now a c.is_marked.new.seat c.requires.fits.scanner c.is_marked.ensures.same c.is_marked.ensures.claimed
+    (λ p h. subst (λ (l : List ℕ). In p l) (sym c.if-is_marked.ensures.known) (In-left p (known a.seat) (c.args.place ∷ []) h))).fits
 
 pub scan-requires-clause-known : goal.scan-requires-clause-known
 scan-requires-clause-known c = subst (λ (l : List ℕ). In c.args.place l) (sym c.if-is_marked.ensures.known) (In-push c.args.place (known c.args.marker.now.scanner.seat))

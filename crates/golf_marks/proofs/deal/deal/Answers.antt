@@ -1,4 +1,4 @@
-use Rattle.std.proofs.Common.{◌-◌, ap, arith}
+use Rattle.std.proofs.Common.{ap, arith}
 use Rattle.atomic_table.specs.Table.{Me}
 use Rattle.golf_marks.specs.declared.rule.View.{View}
 use Rattle.golf_marks.proofs.Steps.{forks}

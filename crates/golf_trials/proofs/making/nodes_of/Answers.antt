@@ -1,4 +1,4 @@
-use Rattle.std.proofs.Common.{◌≡◌, ◌<◌, ◌∙◌, ◌++◌, ◌∷◌, ℕ, List, [], get_or, subst, sym, ap, arith}
+use Rattle.std.proofs.Common.{◌<◌, ◌∙◌, ◌++◌, ◌∷◌, ℕ, List, [], get_or, subst, sym, ap, arith}
 use Rattle.std.proofs.lemmas.List.{take_more}
 use Rattle.golf_theory.specs.Membership.{Every}
 use Rattle.golf_theory.proofs.Lists.{Every-push}

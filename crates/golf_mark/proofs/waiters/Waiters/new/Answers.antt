@@ -1,8 +1,7 @@
 use Rattle.std.proofs.Common.{◌≡◌, ℕ, ◌<◌, List, length, arith, subst, sym, ◌∙◌}
 use Rattle.golf_theory.specs.Membership.{In, Every}
 use Rattle.golf_model.specs.Graph.{node_count, sleeper_count, sleeper_waits}
-use Rattle.golf_rows.specs.Rows.{AddsTo}
-use Rattle.golf_mark.specs.Waiters.{IsWaitersBelow}
+use Rattle.golf_rows.specs.Rows.{AddsTo, IsInverseBelow}
 use Rattle.golf_mark.proofs.Ranges.{waits-nodes}
 use Rattle.golf_rows.proofs.Adding.{IsInverseBelow-none, IsInverseBelow-more}
 use Rattle.golf_mark.proofs.waiters.Waiters.new.Goals as goal
@@ -24,4 +23,5 @@ loop-sleeper-preserved c =
 pub returns : goal.returns
 returns c =
     let all : c.loop-sleeper.sleeper ≡ sleeper_count c.args.graph.now = omega (arith, c.sleepers-sleeper-end.ensures) in
-    subst (λ (k : ℕ). IsWaitersBelow k c.args.graph.now c.loop-sleeper.rows) all c.loop-sleeper.invariant
+    let g = c.args.graph.now in
+    record { members = (subst (λ (k : ℕ). IsInverseBelow k (node_count g) (sleeper_waits g) c.loop-sleeper.rows) all c.loop-sleeper.invariant).members }

@@ -1,10 +1,7 @@
-use Rattle.std.proofs.Common.{◌≡◌, ℕ}
-use Rattle.golf_queues.specs.Lines.{AreBelow, Keeps}
+use Rattle.std.proofs.Common.{take}
+use Rattle.golf_queues.specs.Lines.{keys_of, leaves, IsWithout}
 use Rattle.golf_queues.proofs.queues.Queues.leave_all.Given as goal
 
--- the others stand where they stood
+-- the goroutine is gone from the lines of the waits so far
 abbrev pub invariant-loop-wait : goal.invariant-loop-wait
-invariant-loop-wait l = record {
-  kept : Keeps (λ t g. g ≡ l.goroutine.0 → ⊥) l.initial.self l.self;
-  below : (n : ℕ) → AreBelow n l.initial.self → AreBelow n l.self;
-}
+invariant-loop-wait l = IsWithout (leaves l.ticket l.goroutine.0 (keys_of (take l.wait-index l.waits))) l.initial.self l.self

@@ -1,5 +1,5 @@
 use Rattle.std.proofs.Common.{◌==◌, not, ℕ, List, subst, sym, ap, ◌∙◌, arith}
-use Rattle.golf_theory.specs.Maps.{keys, Rises, AllBelow}
+use Rattle.golf_theory.specs.Maps.{keys, find, Rises, AllBelow}
 use Rattle.golf_theory.specs.Stored.{without}
 use Rattle.golf_theory.proofs.MapKeys.{keys-only}
 use Rattle.golf_theory.proofs.MapOrder.{Rises-only, AllBelow-only}
@@ -7,7 +7,10 @@ use Rattle.golf_model.specs.State.{is_running}
 use Rattle.golf_model.specs.Views.{GoroutineView}
 use Rattle.golf_state.specs.Inside.{plain_state}
 use Rattle.golf_state.specs.Places.{plain_entries, running_of}
+use Rattle.golf_state.specs.Left.{leaves_where}
 use Rattle.golf_state.specs.Lined.{AreLined}
+use Rattle.golf_queues.proofs.Partings.{below-without}
+use Rattle.golf_state.proofs.Leaving.{others-stay-where}
 use Rattle.golf_state.proofs.LinedLaws.{lined-left}
 use Rattle.golf_state.proofs.PlaceLaws.{runs-left}
 use Rattle.golf_state.proofs.Rises.{Rises-keys, Rises-keys_where}
@@ -20,6 +23,7 @@ invariant_of-self c =
     let g = c.args.g.0 in
     let k = c.self.invariant.kept in
     let e = c.take_place.ensures.others in
+    let was = find g (plain_entries c.as_slice.result.now) in
     record {
       kept = record {
         rises = subst (Rises 0) (sym e) (Rises-only 0 (λ h. not (h == g)) es k.rises);
@@ -31,7 +35,7 @@ invariant_of-self c =
         room = omega (arith, c.take_place.ensures.fewer, c.leave_out-2.ensures.room, k.room);
         ready = c.take_place.ensures.ready;
       };
-      lined = subst (λ (fs : List (ℕ × GoroutineView)). AreLined s.are_mutexes_lined fs c.forget.new.queues s.next_ticket) (sym e) (lined-left s.are_mutexes_lined es s.waiting c.forget.new.queues s.next_ticket c.self.invariant.lined k.rises g c.forget.ensures.below c.forget.ensures.kept);
+      lined = subst (λ (fs : List (ℕ × GoroutineView)). AreLined s.are_mutexes_lined fs c.forget.new.queues s.next_ticket) (sym e) (lined-left s.are_mutexes_lined es s.waiting c.forget.new.queues s.next_ticket c.self.invariant.lined k.rises g (below-without (leaves_where g was) s.waiting c.forget.new.queues c.forget.ensures) (others-stay-where g was s.waiting c.forget.new.queues c.forget.ensures));
       finalisers = c.self.invariant.finalisers;
     }
 

@@ -11,7 +11,10 @@ use Rattle.golf_state.specs.Looked.{on_goroutine, is_blocked}
 use Rattle.golf_state.specs.Places.{plain_entries}
 use Rattle.golf_state.specs.Roominess.{IsReadyIn}
 use Rattle.golf_state.specs.declared.places.Place.{Place}
+use Rattle.golf_state.specs.Left.{leaves_in}
 use Rattle.golf_state.specs.Lined.{AreLined}
+use Rattle.golf_queues.proofs.Partings.{below-without}
+use Rattle.golf_state.proofs.Leaving.{others-stay}
 use Rattle.golf_state.proofs.LinedLaws.{lined-moved}
 use Rattle.golf_state.proofs.PlaceLaws.{within, stands-found, blocked-found, set-at, kept-set, runs-same}
 use Rattle.golf_state.proofs.Readiness.{ready-at}
@@ -35,7 +38,8 @@ index_mut-place-requires c =
     omega (arith, within gs g c.rank_of-at.result c.self.invariant.kept.rises at f.0 f.1, s.goroutines.ok.0)
 
 pub enter_for_mutex-self-inside-requires : goal.enter_for_mutex-self-inside-requires
-enter_for_mutex-self-inside-requires c = c.leave_lines.ensures.below (c.self.inside.next_ticket + 1) c.self.invariant.lined.below
+enter_for_mutex-self-inside-requires c =
+    below-without (leaves_in c.args.g.0 c.index_mut-place.result.now.goroutine.mode) c.self.inside.waiting c.leave_lines.new.queues c.leave_lines.ensures (c.self.inside.next_ticket + 1) c.self.invariant.lined.below
 
 pub invariant_of-self : goal.invariant_of-self
 invariant_of-self c =
@@ -56,7 +60,7 @@ invariant_of-self c =
       kept = kept-set gs _ _ _ _ _ s.next_goroutine g c.rank_of-at.result p q f.0 k stands refl ready (k.running ∙ runs-same (plain_entries gs) g f.0 w k.rises f.1 same) (omega arith);
       lined = subst (λ (es : List (ℕ × GoroutineView)). AreLined c.enter_for_mutex-self-inside.result es c.enter_for_mutex-self-inside.new.queues (s.next_ticket + 1)) (sym (set-at gs g c.rank_of-at.result p q f.0 k.rises stands refl))
           (lined-moved s.are_mutexes_lined (plain_entries gs) s.waiting c.enter_for_mutex-self-inside.new.queues s.next_ticket c.self.invariant.lined k.rises c.enter_for_mutex-self-inside.result g m f.0 w p.goroutine.mode c.enter_for_mutex-self-inside.ensures.still f.1 c.move_mode.ensures c.enter_for_mutex-self-inside.ensures.below
-          (λ j t h d l i. c.enter_for_mutex-self-inside.ensures.kept j t h l (c.leave_lines.ensures.kept j t h d i)) c.enter_for_mutex-self-inside.ensures.joins);
+          (λ j t h d l i. c.enter_for_mutex-self-inside.ensures.kept j t h l (others-stay g p.goroutine.mode s.waiting c.leave_lines.new.queues c.leave_lines.ensures j t h d i)) c.enter_for_mutex-self-inside.ensures.joins);
       finalisers = c.self.invariant.finalisers;
     }
 

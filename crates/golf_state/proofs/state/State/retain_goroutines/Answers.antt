@@ -1,4 +1,4 @@
-use Rattle.std.proofs.Common.{◌≡◌, ◌≤◌, ℕ, List, length, sym, ap, ◌∙◌, subst, arith}
+use Rattle.std.proofs.Common.{◌≡◌, ◌≤◌, ℕ, Bool, true, List, length, refl, sym, ap, ◌∙◌, subst, arith}
 use Rattle.golf_theory.specs.Maps.{keys, Rises, AllBelow}
 use Rattle.golf_heap.specs.Objects.{kept}
 use Rattle.golf_model.specs.Views.{GoroutineView}
@@ -8,11 +8,26 @@ use Rattle.golf_state.specs.Ready.{AllReady}
 use Rattle.golf_state.specs.Lined.{AreLined}
 use Rattle.golf_state.specs.declared.places.Place.{Place}
 use Rattle.golf_state.proofs.Retaining.{map-kept, kept-short, Rises-kept, AllBelow-kept, ready-kept}
-use Rattle.golf_state.proofs.Leaving.{lined-kept}
-use Rattle.golf_theory.specs.Membership.{In}
-use Rattle.golf_heap.specs.Objects.{left_out}
+use Rattle.golf_state.proofs.Leaving.{lined-kept, Rises-listed}
+use Rattle.golf_state.proofs.Rises.{Rises-keys}
+use Rattle.golf_base.specs.declared.ids.GoroutineId.{GoroutineId}
+use Rattle.golf_theory.specs.Membership.{is_in}
 use Rattle.golf_queues.specs.Lines.{Keeps}
+use Rattle.golf_state.specs.Rising.{RisesFrom}
 use Rattle.golf_state.proofs.state.State.retain_goroutines.Goals as goal
+
+-- who is there then
+there : (stays : List Bool) (ps : List Place) (gs left seen : List GoroutineId) → numbers gs ≡ keys (plain_entries ps) → left ≡ kept stays gs → seen ≡ left → numbers seen ≡ keys (kept stays (plain_entries ps))
+there stays ps gs left seen all is same =
+    ap numbers (same ∙ is) ∙ map-kept (λ (g : GoroutineId). g.0) stays gs ∙ ap (kept stays) all ∙ sym (map-kept (λ (x : ℕ × GoroutineView). x.0) stays (plain_entries ps))
+
+pub retain-requires : goal.retain-requires
+retain-requires c =
+    let s = c.self.inside in
+    let k = c.self.invariant.kept in
+    let stays = c.args.stays.now in
+    let is = there stays s.goroutines.items s.present.items c.close_up-2.new.items.items c.as_slice.result.now k.present c.close_up-2.ensures c.as_slice.ensures.value in
+    Rises-listed 0 c.as_slice.result.now (subst (RisesFrom 0) (sym is) (Rises-keys 0 (kept stays (plain_entries s.goroutines.items)) (Rises-kept 0 stays (plain_entries s.goroutines.items) k.rises)))
 
 pub invariant_of-self : goal.invariant_of-self
 invariant_of-self c =
@@ -27,7 +42,7 @@ invariant_of-self c =
       kept = record {
         rises = subst (Rises 0) (sym e) (Rises-kept 0 stays es k.rises);
         below = subst (AllBelow s.next_goroutine) (sym e) (AllBelow-kept s.next_goroutine stays es k.below);
-        present = ap numbers c.close_up-2.ensures ∙ map-kept (λ g. g.0) stays s.present.items ∙ ap (kept stays) k.present ∙ sym (map-kept (λ (x : ℕ × GoroutineView). x.0) stays es) ∙ ap keys (sym e);
+        present = there stays ps s.present.items c.close_up-2.new.items.items c.close_up-2.new.items.items k.present c.close_up-2.ensures refl ∙ ap keys (sym e);
         running = c.list_running.ensures.running ∙ ap (λ (qs : List Place). running_of (plain_entries qs)) c.as_slice-2.ensures.value;
         few = omega (arith, fewer, k.few);
         limit = k.limit;
@@ -35,9 +50,9 @@ invariant_of-self c =
         ready = subst AllReady (sym c.close_up.ensures) (ready-kept stays ps k.ready);
       };
       lined = subst (λ (xs : List (ℕ × GoroutineView)). AreLined s.are_mutexes_lined xs c.drop_empty.new.self s.next_ticket) (sym e)
-          (lined-kept s.are_mutexes_lined stays es s.waiting c.leave_unflagged.new.queues c.drop_empty.new.self s.next_ticket k.rises c.self.invariant.lined
-          (subst (λ (qs : List Place). Keeps (λ t h. In h (keys (left_out stays (plain_entries qs))) → ⊥) s.waiting c.leave_unflagged.new.queues) c.as_slice.ensures.value c.leave_unflagged.ensures.kept)
-          c.drop_empty.ensures.kept (λ n b. c.drop_empty.ensures.below n (c.leave_unflagged.ensures.below n b)));
+          (lined-kept s.are_mutexes_lined stays es s.waiting c.retain.new.self c.drop_empty.new.self s.next_ticket c.self.invariant.lined
+          (subst (λ (gs : List ℕ). Keeps (λ t h. is_in h gs ≡ true) s.waiting c.retain.new.self) (there stays ps s.present.items c.close_up-2.new.items.items c.as_slice.result.now k.present c.close_up-2.ensures c.as_slice.ensures.value) c.retain.ensures.kept)
+          c.drop_empty.ensures.kept (λ n b. c.drop_empty.ensures.below n (c.retain.ensures.below n b)));
       finalisers = c.self.invariant.finalisers;
     }
 

@@ -11,7 +11,10 @@ use Rattle.golf_state.specs.Looked.{on_goroutine, is_blocked}
 use Rattle.golf_state.specs.Wakening.{wakened}
 use Rattle.golf_state.specs.Places.{plain_entry, plain_entries}
 use Rattle.golf_state.specs.declared.places.Place.{Place}
+use Rattle.golf_state.specs.Left.{leaves_in}
 use Rattle.golf_state.specs.Lined.{AreLined}
+use Rattle.golf_queues.proofs.Partings.{below-without}
+use Rattle.golf_state.proofs.Leaving.{others-stay}
 use Rattle.golf_state.proofs.LinedLaws.{lined-woken}
 use Rattle.golf_state.proofs.PlaceLaws.{within, stands-found, blocked-found, set-at, kept-set, runs-woken}
 use Rattle.golf_state.proofs.Readiness.{ready-at, running-ready, blocked-room, wakened-runs, running-few}
@@ -65,7 +68,7 @@ invariant_of-self c =
     record {
       kept = kept-set gs _ _ _ _ _ s.next_goroutine g c.rank_of-at.result p q f.0 k stands refl (running-ready c.waken.new.goroutine.mode c.waken.new.goroutine.frames runs)
           (c.put_in.ensures.all ∙ ap (placed g) k.running ∙ runs-woken (plain_entries gs) g f.0 w k.rises f.1 f.2 runs) c.put_in.ensures.room;
-      lined = subst (λ (es : List (ℕ × GoroutineView)). AreLined s.are_mutexes_lined es c.leave_lines.new.queues s.next_ticket) (sym (set-at gs g c.rank_of-at.result p q f.0 k.rises stands refl)) (lined-woken s.are_mutexes_lined (plain_entries gs) s.waiting c.leave_lines.new.queues s.next_ticket c.self.invariant.lined k.rises g f.0 w f.1 c.leave_lines.ensures.below c.leave_lines.ensures.kept runs);
+      lined = subst (λ (es : List (ℕ × GoroutineView)). AreLined s.are_mutexes_lined es c.leave_lines.new.queues s.next_ticket) (sym (set-at gs g c.rank_of-at.result p q f.0 k.rises stands refl)) (lined-woken s.are_mutexes_lined (plain_entries gs) s.waiting c.leave_lines.new.queues s.next_ticket c.self.invariant.lined k.rises g f.0 w f.1 (below-without (leaves_in g p.goroutine.mode) s.waiting c.leave_lines.new.queues c.leave_lines.ensures) (others-stay g p.goroutine.mode s.waiting c.leave_lines.new.queues c.leave_lines.ensures) runs);
       finalisers = c.self.invariant.finalisers;
     }
 

@@ -3,9 +3,8 @@ use Rattle.std.specs.Prelude.{slice_get}
 use Rattle.std.proofs.Common.{ℕ, zero, suc, List, [], ◌∷◌, All, Option, Some, None}
 use Rattle.std.proofs.lemmas.List.Elements.{All-head, All-tail}
 use Rattle.golf_data.specs.declared.code.Code.{Code}
-use Rattle.golf_data.specs.declared.code.Function.{Function}
 use Rattle.golf_data.specs.Places.{IsShort, HasPlaces}
-use Rattle.golf_machine_tests.specs.Ready.{IsReady}
+use Rattle.golf_trials.specs.Ready.{IsReady}
 
 -- what is so of each item, and of none, is so of what stands at a place
 everywhere : {X : Type 0} (P : X → Type 0) (Q : Option X → Type 0) → Q None → ((x : X) → P x → Q (Some x)) → (xs : List X) → All P xs → (k : ℕ) → Q (slice_get xs k)

@@ -1,0 +1,45 @@
+//! Names left of `:=` and `=` beside a receive.
+
+ghost use Rattle.std.specs.Prelude.{◌≡◌, IfOk, OnOk};
+ghost use Rattle.golf_types.specs.Statements.{behind, is_new as is_new_of, one_new, assigned_name as assigned_name_of};
+
+use crate::operands::Operand;
+use crate::scopes::{Scope, declare, is_blank, is_here, meaning_at};
+use crate::types::GoType;
+use golf_base::Memory;
+use std::alloc::Global;
+
+/// Whether a name would be declared.
+pub fn is_new(scope: &Scope, name: &[u8]) -> bool
+    ensures { result ≡ is_new_of scope.now name.now }
+{
+    !is_blank(name) && !is_here(scope, name)
+}
+
+/// Declares a variable where it is new. On an `Err` nothing is said of the scope.
+#[tactic(auto, using(crate::proofs::WalkLaws::stays))]
+pub fn declare_new(
+    alloc: Global,
+    scope: &mut Scope,
+    new: bool,
+    name: &[u8],
+    t: Option<GoType>,
+) -> Result<(), Memory>
+    ensures { OnOk result (scope.new ≡ behind scope.old (one_new new name.now t scope.old)) }
+{
+    if new {
+        declare(alloc, scope, name, t)?;
+    }
+    Ok(())
+}
+
+/// What is assigned where a name stands left of `=`.
+#[tactic(auto, unfolding(crate::specs::Statements::assigned_name))]
+pub fn assigned_name(alloc: Global, scope: &Scope, name: &[u8]) -> Result<Option<Operand>, Memory>
+    ensures { IfOk result (λ m. m ≡ assigned_name_of scope.now name.now) }
+{
+    if is_blank(name) {
+        return Ok(Some(Operand::Blank));
+    }
+    meaning_at(alloc, scope, name)
+}
