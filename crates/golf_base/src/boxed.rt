@@ -7,7 +7,7 @@ use std::alloc::Global;
 use std::marker::Model;
 
 /// A `Box` that contracts see as its value: its place in memory occurs in no clause. Trees lead to
-/// their parts by it.
+/// their parts by it, and lists whose items would be large to move.
 #[derive(Debug, Drop)]
 pub struct Boxed<T> {
     inner: Box<T>,
@@ -22,10 +22,21 @@ impl<T> Model for Boxed<T> {
 }
 
 impl<T> Boxed<T> {
+    ghost use Rattle.std.specs.Borrow.{Lends, sem};
+    ghost use Rattle.golf_base.specs.contracts.boxed.Boxed.{the_row};
+
     pub fn get(&self) -> &T
         ensures { result.now ≡ self.now }
     {
         &self.inner
+    }
+
+    /// Lends the value.
+    pub fn get_mut(&mut self) -> &mut T
+        ensures* writes_back { sem 𝓛 (Lends (the_row T.row) T.row self.entry result (λ x. x)) }
+        ensures value { result.now ≡ self.old }
+    {
+        &mut self.inner
     }
 
     pub fn into_inner(self) -> T

@@ -56,8 +56,9 @@ fn a_cleared_room_keeps_its_room(rt: HostRuntime) -> Result<(), Fail> {
 
 #[test]
 fn a_box_gives_its_value_back(rt: HostRuntime) -> Result<(), Fail> {
-    let boxed = Boxed::new(rt.alloc(), 7u32)?;
+    let mut boxed = Boxed::new(rt.alloc(), 7u32)?;
     assert_eq!(rt; *boxed.get(), 7);
-    assert_eq!(rt; boxed.into_inner(), 7);
+    *boxed.get_mut() = 8;
+    assert_eq!(rt; boxed.into_inner(), 8);
     Ok(())
 }

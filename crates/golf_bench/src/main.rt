@@ -9,8 +9,8 @@
 mod measure;
 mod order;
 
-use golf_trials::{Shape, shaped};
-use measure::{BenchFault, count_marked, measure};
+use golf_trials::{BenchFault, Shape, shaped};
+use measure::{count_marked, measure};
 use order::{Order, read_order};
 use std::env;
 

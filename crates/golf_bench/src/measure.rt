@@ -2,48 +2,15 @@
 
 ghost use Rattle.std.specs.Prelude.{◌≤◌};
 
-use golf_base::{Memory, OpenGate};
+use golf_base::OpenGate;
 use golf_mark::{Markers, mark_alone};
 use golf_model::Graph;
-use golf_trials::GraphFault;
-use std::alloc::{AllocError, Global};
+use golf_trials::BenchFault;
+use std::alloc::Global;
 use std::fmt::{Display, Formatter, Write};
-use std::io;
 use std::rt::Clock;
 use std::thread::Threads;
 use std::time::Instant;
-
-/// Why a measurement came to nothing.
-#[derive(Debug, Drop)]
-pub(crate) enum BenchFault {
-    Memory,
-    Graph(GraphFault),
-    Io(io::Error),
-}
-
-impl From<Memory> for BenchFault {
-    fn from(_: Memory) -> Self {
-        BenchFault::Memory
-    }
-}
-
-impl From<AllocError> for BenchFault {
-    fn from(_: AllocError) -> Self {
-        BenchFault::Memory
-    }
-}
-
-impl From<GraphFault> for BenchFault {
-    fn from(fault: GraphFault) -> Self {
-        BenchFault::Graph(fault)
-    }
-}
-
-impl From<io::Error> for BenchFault {
-    fn from(fault: io::Error) -> Self {
-        BenchFault::Io(fault)
-    }
-}
 
 /// What a marking took.
 #[derive(Clone, Copy, Debug)]

@@ -1,2 +1,3 @@
 pub mod Buffers
+pub mod Passing
 pub mod Offering

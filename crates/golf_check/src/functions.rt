@@ -7,8 +7,8 @@ ghost use Rattle.golf_types.specs.Files.{parameter as parameter_of, parameter_wa
 ghost use Rattle.golf_check.specs.Heads.{receiver_name as receiver_name_of, optional_parameter as optional_parameter_of, body_walks, inner_walks, head_walks, Stays};
 
 use golf_base::{List, Memory};
-use golf_check_expressions::{plain_type, pointer_to};
 use golf_check_forms::{TypedName, result_type, typed_names};
+use golf_check_operands::{plain_type, pointer_to};
 use golf_check_statements::all;
 use golf_endings::all_ending;
 use golf_grammar::{Func, Receiver};

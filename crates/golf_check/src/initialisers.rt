@@ -8,8 +8,9 @@ ghost use Rattle.golf_check.specs.Heads.{Stays};
 ghost use Rattle.golf_grammar.specs.declared.statements.VarContent.TheVariants as content_as;
 
 use golf_base::List;
-use golf_check_expressions::{assignable, fits_int, given, written_type};
-use golf_check_statements::is_nil;
+use golf_check_expressions::given;
+use golf_check_operands::{assignable, fits_int, written_type};
+use golf_check_simple::is_nil;
 use golf_grammar::{Const, Expr, TypeExpr, Var, VarContent};
 use golf_types::{GoType, Scope, TypeFault, require};
 use std::alloc::Global;

@@ -9,14 +9,13 @@ ghost use Rattle.golf_types.specs.Expressions.{value as value_of_base, fits_int 
 ghost use Rattle.golf_types.specs.Calls.{plain_call, finaliser_call, called_with, call_judged};
 ghost use Rattle.golf_types.specs.Judging.{judge, judge_at, value_at, Judges, JudgesWhole, Finds, Gives, Takes, GivesAll};
 
-use crate::calls::{call, finalises, keeps_steady, rule_unless, sets_finaliser};
-use crate::literals::{
-    all_fit, elements_fit, fields_differ, fits_int, made, made_sized, made_struct, named,
-};
-use crate::operators::{binary, index, is_name, is_value, unary, value, without_package};
-use crate::selectors::select;
-use crate::written_types::{made_sync, plain_type, pointer_to, written};
 use golf_base::List;
+use golf_check_calls::{call, finalises, keeps_steady, rule_unless, sets_finaliser};
+use golf_check_operands::{
+    all_fit, binary, elements_fit, fields_differ, fits_int, index, is_name, is_value, made,
+    made_sized, made_struct, made_sync, named, plain_type, pointer_to, select, unary, value,
+    without_package, written,
+};
 use golf_grammar::{BinaryOperator, Element, Expr, TypeExpr, UnaryOperator};
 use golf_types::{
     Base, Given, GoType, Layer, Operand, Scope, TypeFault, meaning_at, require, type_of, value_of,

@@ -10,7 +10,7 @@ ghost use Rattle.golf_types.specs.Judging.{judge};
 ghost use Rattle.golf_check_forms.specs.Forms.{Forms, called_form};
 
 use golf_base::Memory;
-use golf_check_expressions::{
+use golf_check_operands::{
     element, made_base, plain_type, pointer_to, result_base, select, value, without_package,
     written_type,
 };

@@ -5,7 +5,7 @@ ghost use Rattle.golf_types.specs.Written.{write_at};
 ghost use Rattle.golf_types.specs.Files.{typed_names as typed_names_of, all_typed_names, types_alone as types_alone_of, struct_types as struct_types_of, content_type as content_type_of, global_types as global_types_of, result_type as result_type_of, signature_of as signature_of_of, function_types as function_types_of};
 
 use golf_base::{List, Memory};
-use golf_check_expressions::written_type;
+use golf_check_operands::written_type;
 use golf_grammar::{Decl, Field, Func, Name, OwnedType, VarContent};
 use golf_types::{GoType, Scope, Signature, copy_name, copy_optional};
 use std::alloc::Global;

@@ -8,7 +8,7 @@ ghost use Rattle.golf_types.specs.Files.{struct_number as struct_number_of, rece
 
 use crate::names::names_of;
 use golf_base::{List, Memory};
-use golf_check_expressions::type_is_there;
+use golf_check_operands::type_is_there;
 use golf_grammar::{Decl, Field, Func, Name, OwnedType, Receiver, VarContent};
 use golf_types::{
     FileScope, Meaning, Member, Members, Naming, Scope, Table, TypeFault, is_blank, is_reserved,

@@ -7,12 +7,14 @@ ghost use Rattle.golf_types.specs.Expressions.{given_by};
 ghost use Rattle.golf_types.specs.Judging.{judge};
 ghost use Rattle.golf_types.specs.Statements.{Adds, Moves, Walks, zero as zero_of, typed as typed_of, untyped as untyped_of, var_content, may_be_begun as may_be_begun_of, done_faults, begin_call as begin_call_of, result_faults, returned as returned_of, condition as condition_of, optional as optional_of, optional_test as optional_test_of, range_names_differ as range_names_differ_of, are_two as are_two_of, only_takes, is_outer, range_faults, hidden, hides, range_name as range_name_of, first_type as first_type_of, range_names as range_names_of, range_head as range_head_of, range_slots as range_slots_of, communication as communication_of, received as received_of, then};
 
-use crate::pairs::{assign_name, define_name};
-use crate::simple::{define_received, is_nil, received, send, simple};
 use golf_base::List;
-use golf_check_expressions::{
-    assignable, assignable_to, begins_channel, begins_slice, called, callee, element, given,
-    has_any, has_base, late, written,
+use golf_check_expressions::{called, callee, given};
+use golf_check_operands::{
+    assignable, assignable_to, begins_channel, begins_slice, element, has_any, has_base, late,
+    written,
+};
+use golf_check_simple::{
+    assign_name, define_name, define_received, is_nil, received, send, simple,
 };
 use golf_grammar::{Communication, Expr, OwnedExpr, OwnedSimple, RangeNames, TypeExpr, VarContent};
 use golf_types::{

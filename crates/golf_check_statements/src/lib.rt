@@ -2,9 +2,6 @@
 #![tactic(auto)]
 
 mod bodies;
-mod pairs;
-mod simple;
 mod statements;
 
-pub use simple::is_nil;
 pub use statements::all;

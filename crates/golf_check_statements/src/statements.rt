@@ -7,8 +7,8 @@ use crate::bodies::{
     begin_call, communication, condition, optional, optional_test, range_head, range_slots,
     returned, variable,
 };
-use crate::simple::simple;
 use golf_base::List;
+use golf_check_simple::simple;
 use golf_grammar::{Clause, Communication, Expr, Header, OwnedExpr, OwnedSimple, RangeNames, Stmt};
 use golf_types::{GoType, Scope, TypeFault, begin, end, require};
 use std::alloc::Global;

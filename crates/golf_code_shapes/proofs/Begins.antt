@@ -1,5 +1,6 @@
 -- The code of `go` and `defer` leads on, and the functions that are made for it take what they are given.
-use Rattle.std.proofs.Common.{◌≡◌, ℕ, suc, ◌+◌, true, List, [], ◌∷◌, ◌++◌, map, length, Option, Some, None, refl, sym, ap, ◌∙◌, subst, slice_get, arith}
+use Rattle.std.proofs.Common.{◌≡◌, ℕ, ◌+◌, true, List, [], ◌∷◌, ◌++◌, map, length, Option, Some, None, refl, sym, ap, ◌∙◌, subst, slice_get, arith}
+use Rattle.std.proofs.lemmas.List.{length-map}
 use Rattle.std.proofs.lemmas.Bool.{eqb-true}
 use Rattle.std.specs.Prelude.{flat_map}
 use Rattle.golf_theory.specs.Membership.{Every}
@@ -98,10 +99,6 @@ module _ (types : Types) (t : Tables) (ft : FunctionTypes) (A : List ℕ) (s : S
         (has-op types ft (begin f n) l (shape (pushed ts (below ++ ops)) A) to exits (λ full at g. rule full at (shape (pushed ts (below ++ ops)) A) f n (callee, ops, there, count, sym (stand ops), g)))
         (has-empty types ft to exits)))
 
-    length-known : (ts : List (Option GoType)) → length (known_types ts) ≡ length ts
-    length-known [] = refl
-    length-known (x ∷ xs) = ap (λ n. suc n) (length-known xs)
-
     -- a built-in operation: the function that is made has the types of receiver and arguments
     begins-made : (l next : ℕ) (b : BuiltIn) (receiver : Piece) (xs : List (Arg types t ft A s)) → flat_map (used l) (Js xs) ≡ [] → Receives types ft A (receiver_base b) receiver → MadeFit types next (makings l (operand.BuiltIn b) (arguments types t ft A s xs))
         → Silent types ft A (all (receiver ∷ pushes (arguments types t ft A s xs) ∷ op l (begin next (length (begun_parameters b (arguments types t ft A s xs)))) ∷ []))
@@ -109,9 +106,9 @@ module _ (types : Types) (t : Tables) (ft : FunctionTypes) (A : List ℕ) (s : S
       where
         by-receiver : (o : Option Base) → Receives types ft A o receiver → (callee : Signature) × (slice_get types.functions next ≡ Some callee) × (callee.params ≡ known_types (with_receiver o (typed_args xs)))
             → Silent types ft A (all (receiver ∷ pushes (arguments types t ft A s xs) ∷ op l (begin next (length (with_receiver o (typed_args xs)))) ∷ []))
-        by-receiver None h c = begins l next (length (typed_args xs)) [] (known_types (typed_args xs)) c.0 receiver (pushes (arguments types t ft A s xs)) c.1 (sym (length-known (typed_args xs)) ∙ ap length (sym c.2)) (λ ops. ap (λ ps. pushed ps ops) c.2) h (all-typed l xs u)
+        by-receiver None h c = begins l next (length (typed_args xs)) [] (known_types (typed_args xs)) c.0 receiver (pushes (arguments types t ft A s xs)) c.1 (sym (length-map (typed_args xs) known_type) ∙ ap length (sym c.2)) (λ ops. ap (λ ps. pushed ps ops) c.2) h (all-typed l xs u)
         by-receiver (Some r) h c =
-            begins l next (length (with_receiver (Some r) (typed_args xs))) (base_type r ∷ []) (known_types (typed_args xs)) c.0 receiver (pushes (arguments types t ft A s xs)) c.1 (sym (length-known (with_receiver (Some r) (typed_args xs))) ∙ ap length (sym c.2)) (λ ops. ap (λ ps. pushed ps ops) c.2) h (all-typed l xs u)
+            begins l next (length (with_receiver (Some r) (typed_args xs))) (base_type r ∷ []) (known_types (typed_args xs)) c.0 receiver (pushes (arguments types t ft A s xs)) c.1 (sym (length-map (with_receiver (Some r) (typed_args xs)) known_type) ∙ ap length (sym c.2)) (λ ops. ap (λ ps. pushed ps ops) c.2) h (all-typed l xs u)
 
     file-begins : (l k n : ℕ) (below : List ValueType) (c : Callee types t s.file k below) (receiver : Piece) (xs : List (Arg types t ft A s)) → ((ts ops : List ValueType) → pushed (below ++ ts) ops ≡ pushed ts (below ++ ops)) → n ≡ length (below ++ known_types c.0.parameters)
         → Passes types t ft A s (pushes (arguments types t ft A s xs)) (known_types c.0.parameters) → Turns types ft A receiver [] below → Silent types ft A (all (receiver ∷ pushes (arguments types t ft A s xs) ∷ op l (begin (k + 1) n) ∷ []))
@@ -130,12 +127,6 @@ module _ (types : Types) (t : Tables) (ft : FunctionTypes) (A : List ℕ) (s : S
         let p = passed types t ft A s l k (ValueType.Struct h.0 ∷ []) h.2 xs f.0 f.1 in
         let e = p.0 in
         file-begins l k (length (arguments types t ft A s xs) + 1) (ValueType.Struct h.0 ∷ []) h.2 x.piece xs (λ ts ops. refl) (omega (arith, e)) p.1 h.1
-    on-begin l next (operand.BuiltIn built_in.Length) x xs may none h made = cc
-    on-begin l next (operand.BuiltIn built_in.Panic) x xs may none h made = cc
-    on-begin l next (operand.BuiltIn built_in.Print) x xs may none h made = cc
-    on-begin l next (operand.BuiltIn built_in.Collect) x xs may none h made = cc
-    on-begin l next (operand.BuiltIn built_in.SetFinalizer) x xs may none h made = cc
-    on-begin l next (operand.BuiltIn built_in.NewCondition) x xs may none h made = cc
     on-begin l next (operand.BuiltIn built_in.Close) x xs may none h made = begins-made l next built_in.Close x.piece xs (parts types t ft A s l (operand.BuiltIn built_in.Close) xs none).0 h made
     on-begin l next (operand.BuiltIn built_in.Lock) x xs may none h made = begins-made l next built_in.Lock x.piece xs (parts types t ft A s l (operand.BuiltIn built_in.Lock) xs none).0 h made
     on-begin l next (operand.BuiltIn built_in.Unlock) x xs may none h made = begins-made l next built_in.Unlock x.piece xs (parts types t ft A s l (operand.BuiltIn built_in.Unlock) xs none).0 h made
@@ -149,20 +140,8 @@ module _ (types : Types) (t : Tables) (ft : FunctionTypes) (A : List ℕ) (s : S
     on-begin l next (operand.BuiltIn built_in.WaitCondition) x xs may none h made = begins-made l next built_in.WaitCondition x.piece xs (parts types t ft A s l (operand.BuiltIn built_in.WaitCondition) xs none).0 h made
     on-begin l next (operand.BuiltIn built_in.Signal) x xs may none h made = begins-made l next built_in.Signal x.piece xs (parts types t ft A s l (operand.BuiltIn built_in.Signal) xs none).0 h made
     on-begin l next (operand.BuiltIn built_in.Broadcast) x xs may none h made = begins-made l next built_in.Broadcast x.piece xs (parts types t ft A s l (operand.BuiltIn built_in.Broadcast) xs none).0 h made
-    on-begin l next (operand.Value e) x xs may none h made = cc
-    on-begin l next (operand.Outcome e) x xs may none h made = cc
-    on-begin l next (operand.Constant k b) x xs may none h made = cc
-    on-begin l next (operand.Truth b) x xs may none h made = cc
-    on-begin l next (operand.Variable w e) x xs may none h made = cc
-    on-begin l next (operand.Field i e) x xs may none h made = cc
-    on-begin l next (operand.Element e) x xs may none h made = cc
-    on-begin l next operand.Nil x xs may none h made = cc
-    on-begin l next operand.Blank x xs may none h made = cc
-    on-begin l next (operand.Nothing late) x xs may none h made = cc
-    on-begin l next (operand.Package q) x xs may none h made = cc
-    on-begin l next (operand.Struct k) x xs may none h made = cc
-    on-begin l next operand.TypeName x xs may none h made = cc
     on-begin l next operand.Unknown x xs may none h made = absurd h
+    on-begin l next _ x xs may none h made = cc
 
   -- what is begun takes what it is given
 
@@ -213,26 +192,8 @@ module _ (types : Types) (t : Tables) (ft : FunctionTypes) (A : List ℕ) (s : S
   makings-fit l (operand.BuiltIn built_in.WaitCondition) xs may none = let f = parts types t ft A s l (operand.BuiltIn built_in.WaitCondition) xs none in (ap (λ ts. ValueType.Cond ∷ known_types ts) (no-arguments l xs f.1), tt)
   makings-fit l (operand.BuiltIn built_in.Signal) xs may none = let f = parts types t ft A s l (operand.BuiltIn built_in.Signal) xs none in (ap (λ ts. ValueType.Cond ∷ known_types ts) (no-arguments l xs f.1), tt)
   makings-fit l (operand.BuiltIn built_in.Broadcast) xs may none = let f = parts types t ft A s l (operand.BuiltIn built_in.Broadcast) xs none in (ap (λ ts. ValueType.Cond ∷ known_types ts) (no-arguments l xs f.1), tt)
-  makings-fit l (operand.BuiltIn built_in.Length) xs may none = cc
-  makings-fit l (operand.BuiltIn built_in.Panic) xs may none = cc
-  makings-fit l (operand.BuiltIn built_in.Print) xs may none = cc
-  makings-fit l (operand.BuiltIn built_in.Collect) xs may none = cc
-  makings-fit l (operand.BuiltIn built_in.SetFinalizer) xs may none = cc
-  makings-fit l (operand.BuiltIn built_in.NewCondition) xs may none = cc
-  makings-fit l (operand.Value e) xs may none = cc
-  makings-fit l (operand.Outcome e) xs may none = cc
-  makings-fit l (operand.Constant k b) xs may none = cc
-  makings-fit l (operand.Truth b) xs may none = cc
-  makings-fit l (operand.Variable w e) xs may none = cc
-  makings-fit l (operand.Field i e) xs may none = cc
-  makings-fit l (operand.Element e) xs may none = cc
-  makings-fit l operand.Nil xs may none = cc
-  makings-fit l operand.Blank xs may none = cc
-  makings-fit l (operand.Nothing late) xs may none = cc
-  makings-fit l (operand.Package q) xs may none = cc
-  makings-fit l (operand.Struct k) xs may none = cc
-  makings-fit l operand.TypeName xs may none = cc
   makings-fit l operand.Unknown xs may none = tt
+  makings-fit l _ xs may none = cc
 
 module _ (types : Types) (t : Tables) (ft : FunctionTypes) where
   pub right-begin : (begin : ℕ → ℕ → Instr) → ((full : List Shape) (k : ℕ) (sh : Shape) (f n : ℕ) → TakesArguments types (filled ft full) k sh f n (λ callee. []) → InstructionFits types (filled ft full) k (begin f n) sh)

@@ -26,14 +26,14 @@ use Rattle.golf_code_shapes.specs.Sound.{LocalFits, ScopeFits, Pushes}
 use Rattle.golf_code_shapes.specs.Flowing.{IsMaking, Slotted, MadeFit, WaysFit, Moves, SimpleFits}
 use Rattle.golf_code_shapes.proofs.Typings.{none-left, none-right, kept}
 use Rattle.golf_code_shapes.proofs.Names.{based}
-use Rattle.golf_code_shapes.proofs.Flows.{Right, then-in, slotted-left, slotted-right, made-left, made-right, quiet, scope-quiet}
+use Rattle.golf_code_shapes.proofs.Flows.{Right, reaches-wider, slotted-left, slotted-right, made-left, made-right, quiet, scope-quiet}
 use Rattle.golf_code_shapes.proofs.Simples.{value-of}
 
 -- a simple statement as a part
 abbrev pub simply : Walk → (Scope → Piece) → Part
 simply w p = record { walk = w; lay = λ a s. laid (p s) }
 
-further : (A : List ℕ) (exits : List Shape) (x : Shape) (k : ℕ) → Reaches exits [] A k → Reaches (x ∷ exits) [] A (k + 1)
+pub further : (A : List ℕ) (exits : List Shape) (x : Shape) (k : ℕ) → Reaches exits [] A k → Reaches (x ∷ exits) [] A (k + 1)
 further A exits x k w = let e : suc k ≡ k + 1 = omega arith in (w.0, subst (λ n. slice_get (x ∷ exits) n ≡ Some (shape [] w.0)) e w.1, w.2)
 
 pub further-two : (A : List ℕ) (exits : List Shape) (x y : Shape) (k : ℕ) → Reaches exits [] A k → Reaches (x ∷ y ∷ exits) [] A (k + 2)
@@ -46,10 +46,7 @@ pub within-two : (A : List ℕ) (exits : List Shape) (x y : Shape) (s : Scope) (
 within-two A exits x y s a w = record { breaks = λ e. further-two A exits x y a.breaks (w.breaks e); continues = λ e. further-two A exits x y a.continues (w.continues e) }
 
 pub ways-wider : (A B : List ℕ) (exits : List Shape) (s r : Scope) (a : Around) → Every (λ i. In i B) A → r.breaks ≡ s.breaks → r.loops ≡ s.loops → WaysFit A exits s a → WaysFit B exits r a
-ways-wider A B exits s r a h e f w = record { breaks = λ k. reaches-wider' A B exits a.breaks h (w.breaks (sym e ∙ k)); continues = λ k. reaches-wider' A B exits a.continues h (w.continues (sym f ∙ k)) }
-  where
-    reaches-wider' : (A B : List ℕ) (exits : List Shape) (k : ℕ) → Every (λ i. In i B) A → Reaches exits [] A k → Reaches exits [] B k
-    reaches-wider' A B exits k h w = (w.0, w.1, then-in w.0 A B w.2 h)
+ways-wider A B exits s r a h e f w = record { breaks = λ k. reaches-wider A B exits a.breaks h (w.breaks (sym e ∙ k)); continues = λ k. reaches-wider A B exits a.continues h (w.continues (sym f ∙ k)) }
 
 module _ (types : Types) (t : Tables) (ft : FunctionTypes) where
   abbrev Fits : List ℕ → Scope → Type 0

@@ -1,6 +1,6 @@
 -- The code of calls has shapes.
 use Rattle.std.proofs.Common.{◌≡◌, inl, inr, ℕ, suc, ◌+◌, Bool, true, false, List, [], ◌∷◌, ◌++◌, map, length, Option, Some, None, refl, sym, ap, ◌∙◌, subst, slice_get, arith, negsuc}
-use Rattle.std.proofs.lemmas.Bool.{eqb-true, eq-eqb}
+use Rattle.std.proofs.lemmas.Bool.{eqb-true, eq-eqb, and_parts, or_cases}
 use Rattle.std.specs.Prelude.{flat_map, option_to_list}
 use Rattle.std.specs.List.{list_all}
 use Rattle.std.specs.Option.{option_map}
@@ -31,7 +31,7 @@ use Rattle.golf_code_of.specs.Expressions.{Made, only}
 use Rattle.golf_code_of.specs.Calls.{Argument, pushes, operation, finaliser, finalising, receiver_base, call}
 use Rattle.golf_code_shapes.specs.Types.{base_type, layers_type, value_type, known_type, known_types}
 use Rattle.golf_code_shapes.specs.Sound.{IsKnown, Callee, Turns, Pushes, Silent, Receives}
-use Rattle.golf_code_shapes.proofs.Typings.{both, one-of, none-left, none-right, kept, same-value}
+use Rattle.golf_code_shapes.proofs.Typings.{none-left, none-right, kept, same-value}
 use Rattle.golf_code_shapes.proofs.Turning.{turn-op, one-turn}
 use Rattle.golf_code_shapes.proofs.Names.{Shows, GivesBy, based, given-to, of-taking, of-measured}
 use Rattle.golf_code_shapes.proofs.Literals.{Arg, judgeds, arg-gives}
@@ -168,9 +168,9 @@ module _ (types : Types) (t : Tables) (ft : FunctionTypes) (A : List ℕ) (s : S
   -- what is printed
 
   printable : (g : Given) (p : Piece) → prints g ≡ true → GivesBy types t ft A s g p → (e : ValueType) × IsPrintable e × Pu p e
-  printable g p holds h = elim (one-of (has_base base.Int g) _ holds) [
+  printable g p holds h = elim (or_cases (has_base base.Int g) _ holds) [
     | inl i ↦ (ValueType.Int, tt, based types t ft A s base.Int g p i h)
-    | inr r ↦ (elim (one-of (has_base base.Bool g) _ r) [
+    | inr r ↦ (elim (or_cases (has_base base.Bool g) _ r) [
       | inl i ↦ (ValueType.Bool, tt, based types t ft A s base.Bool g p i h)
       | inr i ↦ (ValueType.Text, tt, based types t ft A s base.Text g p i h)
     ])
@@ -180,7 +180,7 @@ module _ (types : Types) (t : Tables) (ft : FunctionTypes) (A : List ℕ) (s : S
       → (ts : List ValueType) × (length (arguments xs) ≡ length ts) × Every IsPrintable ts × Passes (pushes (arguments xs)) ts
   printed l [] u holds = ([], refl, tt, λ ops exits. has-empty types ft (shape ops A) exits)
   printed l (x ∷ xs) u holds =
-      let h = both (prints (given_by x.judged)) (list_all prints (map given_by (js xs))) holds in
+      let h = and_parts (prints (given_by x.judged)) (list_all prints (map given_by (js xs))) holds in
       let one = printable (given_by x.judged) x.made.piece h.0 (arg-gives types t ft A s l x (none-left (used l x.judged) _ u)) in
       let rest = printed l xs (none-right (used l x.judged) _ u) h.1 in
       (one.0 ∷ rest.0, ap (λ k. suc k) rest.1, (one.1, rest.2), one-more x.made.piece _ one.0 rest.0 one.2 rest.3)
@@ -270,15 +270,7 @@ module _ (types : Types) (t : Tables) (ft : FunctionTypes) (A : List ℕ) (s : S
 
   struct-type : (xs : List Layer) (b : Base) → is_struct_type xs b ≡ true → (j : ℕ) × (layers_type xs b ≡ ValueType.Struct j)
   struct-type [] (base.Pointer j) e = (j, refl)
-  struct-type [] base.Int e = cc
-  struct-type [] base.Bool e = cc
-  struct-type [] base.Text e = cc
-  struct-type [] base.Unit e = cc
-  struct-type [] base.Mutex e = cc
-  struct-type [] base.Group e = cc
-  struct-type [] base.ReadWriteMutex e = cc
-  struct-type [] base.Condition e = cc
-  struct-type (x ∷ xs) b e = cc
+  struct-type _ _ e = cc
 
   struct-pointer : (g : Given) (p : Piece) → is_struct_pointer g ≡ true → GivesBy types t ft A s g p → (e : GoType) × (j : ℕ) × (type_given g ≡ Some e) × (value_type e ≡ ValueType.Struct j) × Pu p (value_type e)
   struct-pointer (given_as.Typed a) p holds h = let k = struct-type a.layers a.base holds in (a, k.0, refl, k.1, h)
@@ -300,25 +292,12 @@ module _ (types : Types) (t : Tables) (ft : FunctionTypes) (A : List ℕ) (s : S
       let c = h.1 in
       let fits = alone e c.0.parameters (subst (λ o. signature_takes (Some e) o ≡ true) c.2 holds) c.6 in
       turn-op types ft A (Instr.SetFinalizer (k + 1)) l (value_type e ∷ []) [] (λ full at ops g. (j, c.1, c.3, c.4 ∙ fits ∙ ap (λ v. v ∷ []) struct, (ops, ap (λ v. v ∷ ops) struct, g)))
-  takes-finaliser l j e (operand.Value o) y struct holds h = cc
-  takes-finaliser l j e (operand.Outcome o) y struct holds h = cc
-  takes-finaliser l j e (operand.Constant k b) y struct holds h = cc
-  takes-finaliser l j e (operand.Truth b) y struct holds h = cc
-  takes-finaliser l j e (operand.Variable w o) y struct holds h = cc
-  takes-finaliser l j e (operand.Field i o) y struct holds h = cc
-  takes-finaliser l j e (operand.Element o) y struct holds h = cc
-  takes-finaliser l j e operand.Blank y struct holds h = cc
-  takes-finaliser l j e (operand.Nothing late) y struct holds h = cc
-  takes-finaliser l j e (operand.Method k) y struct holds h = cc
-  takes-finaliser l j e (operand.BuiltIn b) y struct holds h = cc
-  takes-finaliser l j e (operand.Package q) y struct holds h = cc
-  takes-finaliser l j e (operand.Struct k) y struct holds h = cc
-  takes-finaliser l j e operand.TypeName y struct holds h = cc
   takes-finaliser l j e operand.Unknown y struct holds h = absurd h
+  takes-finaliser l j e _ y struct holds h = cc
 
   finalises-shown : (l : ℕ) (x y : Arg types t ft A s) → finalises s.file (given_by x.judged) y.judged.meaning ≡ true → used l x.judged ≡ [] → y.judged.faults ≡ [] → Tu (all (x.made.piece ∷ finaliser l y.judged.meaning ∷ [])) [] []
   finalises-shown l x y holds u v =
-      let h = both (is_struct_pointer (given_by x.judged)) (finalises_by s.file (type_given (given_by x.judged)) y.judged.meaning) holds in
+      let h = and_parts (is_struct_pointer (given_by x.judged)) (finalises_by s.file (type_given (given_by x.judged)) y.judged.meaning) holds in
       let c = struct-pointer (given_by x.judged) x.made.piece h.0 (arg-gives types t ft A s l x u) in
       one-turn types ft A x.made.piece _ [] (value_type c.0 ∷ []) [] c.4
       (takes-finaliser l c.1 c.0 y.judged.meaning y.made c.3 (subst (λ o. finalises_by s.file o y.judged.meaning ≡ true) c.2 h.1) (y.shows v))

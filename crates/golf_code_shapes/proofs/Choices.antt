@@ -32,6 +32,7 @@ use Rattle.golf_code_shapes.specs.Sound.{LocalFits, ScopeFits, Pushes}
 use Rattle.golf_code_shapes.specs.Flowing.{IsMaking, Slotted, MadeFit}
 use Rattle.golf_code_shapes.proofs.Typings.{none-left, none-right, kept}
 use Rattle.golf_code_shapes.proofs.Names.{of-taking, of-giving, given-to}
+use Rattle.golf_code_shapes.proofs.Branches.{further}
 use Rattle.golf_code_shapes.proofs.Flows.{Right, then-in, locals-wider, slotted-left, slotted-right, made-left, made-right, quiet, scope-quiet}
 use Rattle.golf_code_shapes.proofs.Simples.{value-of}
 use Rattle.golf_code_shapes.proofs.Receives.{pair-taken, stores-assigned}
@@ -356,7 +357,7 @@ module _ (types : Types) (t : Tables) (ft : FunctionTypes) where
       let long = entries-long l cs s1 r A g.1 in
       let out : Reaches E [] A (length cs) = subst (Reaches E [] A) (let q : 0 + length cs ≡ length cs = omega arith in q) (reaches-past (entries l cs s1 r A g.1) (sh ∷ exits) A (length cs) 0 (sym long) (A, refl, every-self A)) in
       let on : s.loops ≡ true → Reaches E [] A (a.continues + (length cs + 1)) = λ q. subst (Reaches E [] A) (let f : a.continues + 1 + length cs ≡ a.continues + (length cs + 1) = omega arith in f)
-      (reaches-past (entries l cs s1 r A g.1) (sh ∷ exits) A (length cs) (a.continues + 1) (sym long) (one-more A exits sh a.continues (rc q))) in
+      (reaches-past (entries l cs s1 r A g.1) (sh ∷ exits) A (length cs) (a.continues + 1) (sym long) (further A exits sh a.continues (rc q))) in
       let rest = (clauses_lay l (all (Piece.Block p ∷ x.piece ∷ Piece.Exit c.line (length cs) ∷ [])) cs (past a x) s1).made in
       let body = one.body b E out on (made-left types t ft a.functions x.made rest made) in
       let k = clauses-has l cs (all (Piece.Block p ∷ x.piece ∷ Piece.Exit c.line (length cs) ∷ [])) (past a x) s1 r A exits from g.1 rc (made-right types t ft a.functions (a.functions + length x.made) x.made rest refl made)
@@ -365,9 +366,6 @@ module _ (types : Types) (t : Tables) (ft : FunctionTypes) where
       (has-then types ft x.piece _ entry sh to E body.0
       (has-then types ft (Piece.Exit c.line (length cs)) Piece.Empty sh to to E (has-exit types ft c.line (length cs) [] A to E out) (has-empty types ft to E)))) in
       (k.0, Every-append IsMaking x.made rest body.1 k.1)
-    where
-      one-more : (A : List ℕ) (exits : List Shape) (x : Shape) (k : ℕ) → Reaches exits [] A k → Reaches (x ∷ exits) [] A (k + 1)
-      one-more A exits x k w = let e : suc k ≡ k + 1 = omega arith in (w.0, subst (λ n. slice_get (x ∷ exits) n ≡ Some (shape [] w.0)) e w.1, w.2)
 
   pub right-select : (l : ℕ) (cs : List ClausePart) → EachClause cs → Right types t ft (select_part l cs)
   unfolding entries stacked

@@ -37,22 +37,8 @@ use Rattle.golf_code_shapes.proofs.CallShapes.{arguments, on-call}
 -- a package in parentheses is no qualifier
 parenthesised : (types : Types) (t : Tables) (ft : FunctionTypes) (A : List ℕ) (s : Scope) (m : Operand) (x : Made) → Shown types t ft A s.file m x → Shown types t ft A s.file (without_package m) x
 parenthesised types t ft A s (operand.Package q) x h = tt
-parenthesised types t ft A s (operand.Value e) x h = h
-parenthesised types t ft A s (operand.Outcome e) x h = h
-parenthesised types t ft A s (operand.Constant k b) x h = h
-parenthesised types t ft A s (operand.Truth b) x h = h
-parenthesised types t ft A s (operand.Variable w e) x h = h
-parenthesised types t ft A s (operand.Field i e) x h = h
-parenthesised types t ft A s (operand.Element e) x h = h
-parenthesised types t ft A s operand.Nil x h = h
-parenthesised types t ft A s operand.Blank x h = h
-parenthesised types t ft A s (operand.Nothing late) x h = h
-parenthesised types t ft A s (operand.Function k) x h = h
-parenthesised types t ft A s (operand.Method k) x h = h
-parenthesised types t ft A s (operand.BuiltIn b) x h = h
-parenthesised types t ft A s (operand.Struct k) x h = h
-parenthesised types t ft A s operand.TypeName x h = h
 parenthesised types t ft A s operand.Unknown x h = absurd h
+parenthesised types t ft A s _ x h = h
 
 -- an element of a struct literal
 element-judge-is : (x : Element) → fold-Element Judge Put judge_step element_step x ≡ record { name = x.field; judge = judge x.value }

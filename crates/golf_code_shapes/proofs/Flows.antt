@@ -26,6 +26,9 @@ use Rattle.golf_code_shapes.proofs.Typings.{none-left, none-right}
 pub then-in : (A B C : List ℕ) → Every (λ i. In i B) A → Every (λ i. In i C) B → Every (λ i. In i C) A
 then-in A B C h k = Every-weaker (λ i. In i B) (λ i. In i C) (λ i m. Every-at (λ j. In j C) B i k m) A h
 
+pub reaches-wider : (A B : List ℕ) (exits : List Shape) (k : ℕ) → Every (λ i. In i B) A → Reaches exits [] A k → Reaches exits [] B k
+reaches-wider A B exits k h w = (w.0, w.1, then-in w.0 A B w.2 h)
+
 module _ (types : Types) (t : Tables) (ft : FunctionTypes) where
   abbrev Fits : List ℕ → Scope → Type 0
   Fits = ScopeFits types t ft
@@ -38,6 +41,9 @@ module _ (types : Types) (t : Tables) (ft : FunctionTypes) where
 
   pub locals-wider : (A B : List ℕ) → Every (λ i. In i B) A → (ds : List Local) → Every (LocalFits types t ft A) ds → Every (LocalFits types t ft B) ds
   locals-wider A B h ds k = Every-weaker (LocalFits types t ft A) (LocalFits types t ft B) (λ d m. local-wider A B h d m) ds k
+
+  pub scope-wider : (A B : List ℕ) (s : Scope) → Every (λ i. In i B) A → Fits A s → Fits B s
+  scope-wider A B s h ok = record { file = ok.file; locals = locals-wider A B h s.locals ok.locals; result = ok.result }
 
   pub slotted-left : (n : ℕ) (xs ys : List (Option GoType)) → Slotted ft n (xs ++ ys) → Slotted ft n xs
   slotted-left n [] ys h = tt
@@ -54,9 +60,6 @@ module _ (types : Types) (t : Tables) (ft : FunctionTypes) where
   pub made-right : (n m : ℕ) (xs ys : List Making) → m ≡ n + length xs → MadeFit types n (xs ++ ys) → MadeFit types m ys
   made-right n m [] ys e h = subst (λ k. MadeFit types k ys) (let f = e in omega (arith, f)) h
   made-right n m (x ∷ xs) ys e h = made-right (n + 1) m xs ys (omega (arith, e)) h.1
-
-  pub reaches-wider : (A B : List ℕ) (exits : List Shape) (k : ℕ) → Every (λ i. In i B) A → Reaches exits [] A k → Reaches exits [] B k
-  reaches-wider A B exits k h w = (w.0, w.1, then-in w.0 A B w.2 h)
 
   -- nothing is declared
   pub scope-quiet : (A : List ℕ) (s : Scope) (w : Walked) → w.declares ≡ [] → Fits A s → Fits A (behind s w)

@@ -1,5 +1,7 @@
 -- The functions of a file that break no rule fit their types, and so do those that are made for `go` and `defer`.
 use Rattle.std.proofs.Common.{◌≡◌, ◌⊎◌, inl, inr, ℕ, zero, suc, ◌+◌, ◌<◌, ◌≤◌, true, List, [], ◌∷◌, ◌++◌, length, map, Option, Some, None, refl, sym, ap, ◌∙◌, subst, slice_get, arith, append_assoc, append-nil, length-append, negsuc}
+use Rattle.std.proofs.lemmas.List.{length-map}
+use Rattle.std.proofs.lemmas.Bool.{and_parts}
 use Rattle.std.specs.Option.{option_map}
 use Rattle.golf_theory.specs.Membership.{In, Every}
 use Rattle.golf_theory.proofs.Lists.{Every-from, Every-append}
@@ -31,15 +33,11 @@ use Rattle.golf_code_shapes.specs.Types.{value_type, known_type, known_types}
 use Rattle.golf_code_shapes.specs.Sound.{IsKnown, LocalFits, ScopeFits}
 use Rattle.golf_code_shapes.specs.Flowing.{Slotted, BeginsWith}
 use Rattle.golf_code_shapes.specs.FunctionLaws.{result_scope, function_signature, made_signature, FunctionsFit, MadeFunctionsFit}
-use Rattle.golf_code_shapes.proofs.Typings.{both as both-true, none-left, none-right}
+use Rattle.golf_code_shapes.proofs.Typings.{none-left, none-right}
 use Rattle.golf_code_shapes.proofs.Names.{push-fits}
 use Rattle.golf_code_shapes.proofs.Literals.{zero-fits}
 use Rattle.golf_code_shapes.proofs.Flows.{EachRight, right-order, locals-wider, slotted-left, slotted-right}
 use Rattle.golf_code_shapes.proofs.Stmts.{right-stmt}
-
-length-known : (ts : List (Option GoType)) → length (known_types ts) ≡ length ts
-length-known [] = refl
-length-known (x ∷ xs) = ap (λ n. suc n) (length-known xs)
 
 known-append : (xs ys : List (Option GoType)) → known_types (xs ++ ys) ≡ known_types xs ++ known_types ys
 known-append [] ys = refl
@@ -121,7 +119,7 @@ module _ (types : Types) (t : Tables) (ft : FunctionTypes) where
 
   each-right : (xs : List Stmt) → stmts_good (map stmt_form xs) ≡ true → EachRight types t ft (map (stmt_part t) xs)
   each-right [] g = tt
-  each-right (x ∷ xs) g = let b = both-true (stmt_form x).good (stmts_good (map stmt_form xs)) g in (right-stmt types t ft x b.0, each-right xs b.1)
+  each-right (x ∷ xs) g = let b = and_parts (stmt_form x).good (stmts_good (map stmt_form xs)) g in (right-stmt types t ft x b.0, each-right xs b.1)
 
   walks-are : (xs : List Stmt) → map (λ (p : Part). p.walk) (map (stmt_part t) xs) ≡ map walk xs
   walks-are [] = refl
@@ -145,7 +143,7 @@ functions-fit types t gives names f n file ok made =
     let ft = with_shapes sig [] in
     let P = r.slots ++ p.slots in
     let N = length (known_types P) in
-    let long = length-known P in
+    let long = length-map P known_type in
     let parts = length-append r.slots p.slots in
     let count = parameters-long f.line ps s1 in
     let whole : Slotted ft 0 (P ++ b.slots) = slotted-behind ft [] (P ++ b.slots) 0 refl (sym (known-append P b.slots)) in
@@ -165,7 +163,7 @@ functions-fit types t gives names f n file ok made =
     let last = last_return f.line (result_type out f.result) in
     let ends = ends-then types ft piece _ (shape [] two.slots) (shape [] leads.0) leads.3 (ends-last types ft last (shape [] leads.0) (last-ends types t ft f.line (result_type out f.result) leads.0 sb few refl)) in
     let all-long = length-append (known_types P) (known_types b.slots) in
-    let rest-long = length-known b.slots in
+    let rest-long = length-map b.slots known_type in
     (bodies-fit types sig (all (piece ∷ last ∷ [])) two.slots (function_of t gives out f piece) ends two.below (omega (arith, all-long, rest-long, long, parts)) refl, h.1)
 
 -- Functions that are made.
@@ -228,12 +226,7 @@ module _ (types : Types) (ft : FunctionTypes) (A : List ℕ) where
   operation-has l n built_in.WaitCondition ts h = subst (λ us. Has types ft (op l Instr.CondWait) (shape (pushed us []) A) (shape [] A) []) (sym h) (takes l Instr.CondWait (ValueType.Cond ∷ []) (λ full k g. ([], refl, g)))
   operation-has l n built_in.Signal ts h = subst (λ us. Has types ft (op l Instr.CondSignal) (shape (pushed us []) A) (shape [] A) []) (sym h) (takes l Instr.CondSignal (ValueType.Cond ∷ []) (λ full k g. ([], refl, g)))
   operation-has l n built_in.Broadcast ts h = subst (λ us. Has types ft (op l Instr.CondBroadcast) (shape (pushed us []) A) (shape [] A) []) (sym h) (takes l Instr.CondBroadcast (ValueType.Cond ∷ []) (λ full k g. ([], refl, g)))
-  operation-has l n built_in.Length ts h = absurd h
-  operation-has l n built_in.Panic ts h = absurd h
-  operation-has l n built_in.Print ts h = absurd h
-  operation-has l n built_in.Collect ts h = absurd h
-  operation-has l n built_in.SetFinalizer ts h = absurd h
-  operation-has l n built_in.NewCondition ts h = absurd h
+  operation-has l n _ ts h = absurd h
 
 pub made-functions-fit : MadeFunctionsFit
 made-functions-fit types gives m h =
@@ -249,7 +242,7 @@ made-functions-fit types gives m h =
     let loaded = loads-has types ft A l 0 [] m.parameters refl is inside [] [] in
     let done = operation-has types ft A l (length m.parameters) m.operation ts h in
     let body = made_body m in
-    let count = length-known m.parameters in
+    let count = length-map m.parameters known_type in
     let ends = ends-then types ft (loads l 0 m.parameters) _ (shape [] A) (shape (pushed ts []) A) loaded
     (ends-then types ft (operation l m.operation (length m.parameters)) _ (shape (pushed ts []) A) (shape [] A) done
     (ends-last types ft (op l Instr.Return) (shape [] A) (ends-op types ft Instr.Return l (shape [] A) (λ full k. refl)))) in

@@ -1,5 +1,6 @@
 -- The code of literals, `make` and `new` has shapes.
 use Rattle.std.proofs.Common.{◌≡◌, ℕ, ◌+◌, ◌<◌, Bool, true, false, cond, ◌&&◌, not, List, [], ◌∷◌, ◌++◌, map, length, Option, Some, None, refl, sym, subst, slice_get, pos}
+use Rattle.std.proofs.lemmas.Bool.{and_parts}
 use Rattle.std.specs.Prelude.{flat_map, is_some}
 use Rattle.std.specs.List.{list_any}
 use Rattle.std.specs.Str.{bytes_eq}
@@ -34,7 +35,7 @@ use Rattle.golf_code_of.specs.Expressions as C
 use Rattle.golf_code_of.specs.Expressions.{Made, place_of, field_place, put, puts, elements, new_sync, new_struct}
 use Rattle.golf_code_shapes.specs.Types.{layers_type, value_type}
 use Rattle.golf_code_shapes.specs.Sound.{IsKnown, type_of_field, FileFits, ScopeFits, MemberFits, Turns, Pushes}
-use Rattle.golf_code_shapes.proofs.Typings.{both, none-left, none-right, kept}
+use Rattle.golf_code_shapes.proofs.Typings.{none-left, none-right, kept}
 use Rattle.golf_code_shapes.proofs.Turning.{turn-op, turn-none, turn-then, turn-last, one-turn, over}
 use Rattle.golf_code_shapes.proofs.Names.{Shows, GivesBy, of-used, based, given-to, name-means}
 
@@ -195,23 +196,7 @@ module _ (types : Types) (t : Tables) (ft : FunctionTypes) (A : List ℕ) (s : S
 
   struct-there : (o : Option Operand) → ((k : ℕ) → o ≡ Some (operand.Struct k) → (ts : List ValueType) × (slice_get types.structs k ≡ Some ts)) → is_some (pointer_to o) ≡ true → IsStruct (pointer_to o)
   struct-there (Some (operand.Struct k)) h e = let r = h k refl in record { k = k; is = refl; ts = r.0; there = r.1 }
-  struct-there None h e = cc
-  struct-there (Some (operand.Value m)) h e = cc
-  struct-there (Some (operand.Outcome m)) h e = cc
-  struct-there (Some (operand.Constant k b)) h e = cc
-  struct-there (Some (operand.Truth b)) h e = cc
-  struct-there (Some (operand.Variable w m)) h e = cc
-  struct-there (Some (operand.Field i m)) h e = cc
-  struct-there (Some (operand.Element m)) h e = cc
-  struct-there (Some operand.Nil) h e = cc
-  struct-there (Some operand.Blank) h e = cc
-  struct-there (Some (operand.Nothing late)) h e = cc
-  struct-there (Some (operand.Function k)) h e = cc
-  struct-there (Some (operand.Method k)) h e = cc
-  struct-there (Some (operand.BuiltIn b)) h e = cc
-  struct-there (Some (operand.Package q)) h e = cc
-  struct-there (Some operand.TypeName) h e = cc
-  struct-there (Some operand.Unknown) h e = cc
+  struct-there _ h e = cc
 
   named-struct : (n : List ℕ) → ScopeFits types t ft A s → is_some (pointer_to (meaning s n)) ≡ true → IsStruct (pointer_to (meaning s n))
   named-struct n ok e = struct-there (meaning s n) (λ k is. name-means types t ft A s n ok (operand.Struct k) is) e
@@ -266,8 +251,8 @@ module _ (types : Types) (t : Tables) (ft : FunctionTypes) (A : List ℕ) (s : S
   puts-turn l k seen [] xs file e u none = turn-none types ft A (ValueType.Struct k ∷ [])
   puts-turn l k seen (n ∷ ns) [] file e u none = turn-none types ft A (ValueType.Struct k ∷ [])
   puts-turn l k seen (n ∷ ns) (x ∷ xs) file e u none =
-      let each = both (is_some (field_type s.file (Some (base.Pointer k)) n) && not (list_any (bytes_eq n) seen)) (fields_differ s.file (Some (base.Pointer k)) (seen ++ n ∷ []) ns) e in
-      let first = both (is_some (field_type s.file (Some (base.Pointer k)) n)) (not (list_any (bytes_eq n) seen)) each.0 in
+      let each = and_parts (is_some (field_type s.file (Some (base.Pointer k)) n) && not (list_any (bytes_eq n) seen)) (fields_differ s.file (Some (base.Pointer k)) (seen ++ n ∷ []) ns) e in
+      let first = and_parts (is_some (field_type s.file (Some (base.Pointer k)) n)) (not (list_any (bytes_eq n) seen)) each.0 in
       turn-then types ft A _ _ (ValueType.Struct k ∷ []) (ValueType.Struct k ∷ []) (ValueType.Struct k ∷ [])
       (field-put-named l k n (given_by x.judged) x.made.piece file first.0 (none-left (put_faults l (field_type s.file (Some (base.Pointer k)) n) (given_by x.judged)) _ none) (arg-gives l x (none-left (used l x.judged) _ u)))
       (puts-turn l k (seen ++ n ∷ []) ns xs file each.1 (none-right (used l x.judged) _ u) (none-right (put_faults l (field_type s.file (Some (base.Pointer k)) n) (given_by x.judged)) _ none))
@@ -277,7 +262,7 @@ module _ (types : Types) (t : Tables) (ft : FunctionTypes) (A : List ℕ) (s : S
       let all_used = none-left (flat_map (used l) (judgeds xs)) _ none in
       let rest = none-right (flat_map (used l) (judgeds xs)) _ none in
       let puts-none = subst (λ o. all_put_faults l s.file o names (map given_by (judgeds xs)) ≡ []) h.is (none-left (all_put_faults l s.file b names (map given_by (judgeds xs))) _ rest) in
-      let differ = subst (λ o. fields_differ s.file o [] names ≡ true) h.is (both (is_some b) (fields_differ s.file b [] names) (kept l 20 _ (none-right (all_put_faults l s.file b names (map given_by (judgeds xs))) _ rest))).1 in
+      let differ = subst (λ o. fields_differ s.file o [] names ≡ true) h.is (and_parts (is_some b) (fields_differ s.file b [] names) (kept l 20 _ (none-right (all_put_faults l s.file b names (map given_by (judgeds xs))) _ rest))).1 in
       subst (λ o. Sh (pointer_value o) (C.struct_literal l s.file o names (args-pieces xs))) (sym h.is)
       (one-turn types ft A (op l (Instr.NewStruct h.k)) _ [] (ValueType.Struct h.k ∷ []) (ValueType.Struct h.k ∷ [])
       (turn-op types ft A (Instr.NewStruct h.k) l [] (ValueType.Struct h.k ∷ []) (λ full at ops g. (h.ts, h.there, (ops, refl, g))))
@@ -288,7 +273,7 @@ module _ (types : Types) (t : Tables) (ft : FunctionTypes) (A : List ℕ) (s : S
   on-struct-literal l n names xs ok none =
       let b = pointer_to (meaning s n) in
       let rest = none-right (flat_map (used l) (judgeds xs)) _ none in
-      let last = both (is_some b) (fields_differ s.file b [] names) (kept l 20 _ (none-right (all_put_faults l s.file b names (map given_by (judgeds xs))) _ rest)) in
+      let last = and_parts (is_some b) (fields_differ s.file b [] names) (kept l 20 _ (none-right (all_put_faults l s.file b names (map given_by (judgeds xs))) _ rest)) in
       literal-of l b names xs ok.file (named-struct n ok last.0) none
 
   -- slices

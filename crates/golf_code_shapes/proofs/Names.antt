@@ -63,15 +63,8 @@ module _ (types : Types) (t : Tables) (ft : FunctionTypes) (A : List ℕ) (s : S
   valued l (operand.Element (Some e)) x none h = h.0
   valued l (operand.Element None) x none h = absurd h
   valued l operand.Nil x none h = h
-  valued l operand.Blank x none h = cc
-  valued l (operand.Nothing late) x none h = cc
-  valued l (operand.Function k) x none h = cc
-  valued l (operand.Method k) x none h = cc
-  valued l (operand.BuiltIn b) x none h = cc
-  valued l (operand.Package p) x none h = cc
-  valued l (operand.Struct k) x none h = cc
-  valued l operand.TypeName x none h = cc
   valued l operand.Unknown x none h = absurd h
+  valued l _ x none h = cc
 
   pub of-used : (l : ℕ) (j : Judged) (x : Made) → used l j ≡ [] → Shows j.meaning x → GivesBy (given_by j) x.piece
   of-used l j x none h = valued l j.meaning x (none-right j.faults (value_faults l j.meaning) none) h
@@ -141,24 +134,10 @@ module _ (types : Types) (t : Tables) (ft : FunctionTypes) (A : List ℕ) (s : S
 
   from-file : (m : Operand) → NameFits types t s.file m → Named m
   from-file (operand.Variable (place.Global g) (Some e)) h = h
-  from-file (operand.Variable (place.Global g) None) h = absurd h
-  from-file (operand.Variable (place.Slot i) e) h = absurd h
   from-file (operand.Constant k b) h = h
   from-file (operand.Function k) h = h
   from-file (operand.Struct k) h = h
-  from-file (operand.Value e) h = absurd h
-  from-file (operand.Outcome e) h = absurd h
-  from-file (operand.Truth b) h = absurd h
-  from-file (operand.Field i e) h = absurd h
-  from-file (operand.Element e) h = absurd h
-  from-file operand.Nil h = absurd h
-  from-file operand.Blank h = absurd h
-  from-file (operand.Nothing late) h = absurd h
-  from-file (operand.Method k) h = absurd h
-  from-file (operand.BuiltIn b) h = absurd h
-  from-file (operand.Package p) h = absurd h
-  from-file operand.TypeName h = absurd h
-  from-file operand.Unknown h = absurd h
+  from-file _ h = absurd h
 
   from-local : (d : Local) → LocalFits types t ft A d → Named (local_operand d)
   from-local d h = subst (λ o. Named (operand.Variable (place.Slot d.slot) o)) (sym h.1) (h.2, h.3)
@@ -247,20 +226,8 @@ module _ (types : Types) (t : Tables) (ft : FunctionTypes) (A : List ℕ) (s : S
   name-stores l (operand.Variable (place.Global k) None) v h place fit = absurd h
   name-stores l (operand.Field i e) v h place fit = absurd h
   name-stores l (operand.Element e) v h place fit = absurd h
-  name-stores l (operand.Value e) v h place fit = cc
-  name-stores l (operand.Outcome e) v h place fit = cc
-  name-stores l (operand.Constant k b) v h place fit = cc
-  name-stores l (operand.Truth b) v h place fit = cc
-  name-stores l operand.Nil v h place fit = cc
-  name-stores l operand.Blank v h place fit = cc
-  name-stores l (operand.Nothing late) v h place fit = cc
-  name-stores l (operand.Function k) v h place fit = cc
-  name-stores l (operand.Method k) v h place fit = cc
-  name-stores l (operand.BuiltIn b) v h place fit = cc
-  name-stores l (operand.Package q) v h place fit = cc
-  name-stores l (operand.Struct k) v h place fit = cc
-  name-stores l operand.TypeName v h place fit = cc
   name-stores l operand.Unknown v h place fit = absurd h
+  name-stores l _ v h place fit = cc
 
   -- what is put into `_` is dropped
   pub blank-stores : (l : ℕ) (e : ValueType) → Turns types ft A (name l t operand.Blank).store (e ∷ []) []
@@ -268,9 +235,7 @@ module _ (types : Types) (t : Tables) (ft : FunctionTypes) (A : List ℕ) (s : S
 
   pub shown-name : (l : ℕ) (m : Operand) → Named m → Shows m (name l t m)
   shown-name l (operand.Variable (place.Slot i) (Some e)) h = slot-place l i (value_type e) h.0 h.1
-  shown-name l (operand.Variable (place.Slot i) None) h = absurd h
   shown-name l (operand.Variable (place.Global g) (Some e)) h = global-place l g (value_type e) h
-  shown-name l (operand.Variable (place.Global g) None) h = absurd h
   shown-name l (operand.Constant k b) h = push-fits l (constant t k) (base_type b) h
   shown-name l (operand.Truth b) h = turn-op types ft A (Instr.Bool b) l [] (ValueType.Bool ∷ []) (λ full k ops g. (ops, refl, g))
   shown-name l operand.Nil h = λ e nil. turn-op types ft A Instr.Nil l [] (e ∷ []) (λ full k ops g. (e, nil, (ops, refl, g)))
@@ -279,14 +244,7 @@ module _ (types : Types) (t : Tables) (ft : FunctionTypes) (A : List ℕ) (s : S
   shown-name l operand.TypeName h = tt
   shown-name l (operand.Package p) h = turn-none types ft A []
   shown-name l (operand.BuiltIn b) h = subst (λ o. Receives types ft A o Piece.Empty) (sym h) (turn-none types ft A [])
-  shown-name l (operand.Value e) h = absurd h
-  shown-name l (operand.Outcome e) h = absurd h
-  shown-name l (operand.Field i e) h = absurd h
-  shown-name l (operand.Element e) h = absurd h
-  shown-name l operand.Blank h = absurd h
-  shown-name l (operand.Nothing late) h = absurd h
-  shown-name l (operand.Method k) h = absurd h
-  shown-name l operand.Unknown h = absurd h
+  shown-name l _ h = absurd h
 
   shown-known : (l : ℕ) (g : Option ℕ) (o : Option Operand) → ((m : Operand) → o ≡ Some m → Named m) → (known_name l g o).faults ≡ [] → Shows (known_name l g o).meaning (name l t (known_name l g o).meaning)
   shown-known l g None h none = cc

@@ -44,14 +44,11 @@ module _ (d : ℕ) (o : Option GoType) (b k : Bool) (n : ℕ) where
 
   write-at : (y : TypePart) (l : ℕ) (s : Scope) → write_step (map-TypeExpr TypeExpr Write write (bare-type y)) l (there s) ≡ write_step (map-TypeExpr TypeExpr Write write (bare-type y)) l s
   unfolding meaning
-  write-at (TF.Named x) l s = refl
-  write-at (TF.Pointer x) l s = refl
-  write-at (TF.SyncPointer x) l s = refl
   write-at (TF.Slice x) l s = ap (behind_layer layer.Slice) (x.1 l s)
   write-at (TF.Chan x) l s = ap (behind_layer layer.Chan) (x.1 l s)
   write-at (TF.SendChan x) l s = ap (behind_layer layer.SendChan) (x.1 l s)
   write-at (TF.ReceiveChan x) l s = ap (behind_layer layer.ReceiveChan) (x.1 l s)
-  write-at TF.EmptyStruct l s = refl
+  write-at _ l s = refl
 
   write-rolled : (y : TypePart) → W (roll-TypeExpr (bare-type y))
   unfolding write

@@ -1,5 +1,6 @@
 -- The code of operators, indices and selectors has shapes.
 use Rattle.std.proofs.Common.{◌≡◌, inl, inr, ℕ, ◌+◌, true, false, ◌&&◌, ◌||◌, not, List, [], ◌∷◌, Some, refl, sym, subst}
+use Rattle.std.proofs.lemmas.Bool.{and_parts, or_cases}
 use Rattle.golf_data.specs.declared.code.Instr.{Instr}
 use Rattle.golf_grammar.specs.declared.expressions.UnaryOperator.{UnaryOperator}
 use Rattle.golf_grammar.specs.declared.expressions.UnaryOperator.TheVariants as unary
@@ -24,7 +25,7 @@ use Rattle.golf_code_of.specs.declared.tables.Tables.{Tables}
 use Rattle.golf_code_of.specs.Expressions.{Made, unary_operator, binary_operator, binary_piece, index}
 use Rattle.golf_code_shapes.specs.Types.{base_type, value_type}
 use Rattle.golf_code_shapes.specs.Sound.{Turns, Pushes}
-use Rattle.golf_code_shapes.proofs.Typings.{both, one-of, none-left, none-right, kept, assigned-value, nilable}
+use Rattle.golf_code_shapes.proofs.Typings.{none-left, none-right, kept, assigned-value, nilable}
 use Rattle.golf_code_shapes.proofs.Turning.{turn-op, one-turn, pair, two-turn, not-behind, either-turn}
 use Rattle.golf_code_shapes.proofs.Names.{Shows, GivesBy, of-used, based, of-giving, of-slice}
 
@@ -70,12 +71,12 @@ module _ (types : Types) (t : Tables) (ft : FunctionTypes) (A : List ℕ) (s : S
   -- binary operators
 
   alike : (b : Base) (g h : Given) (p q : Piece) → (has_base b g && has_base b h) ≡ true → Gv g p → Gv h q → Pu p (base_type b) × Pu q (base_type b)
-  alike b g h p q holds x y = let k = both (has_base b g) (has_base b h) holds in (based types t ft A s b g p k.0 x, based types t ft A s b h q k.1 y)
+  alike b g h p q holds x y = let k = and_parts (has_base b g) (has_base b h) holds in (based types t ft A s b g p k.0 x, based types t ft A s b h q k.1 y)
 
   -- two operands that may be compared are of one type
   compared : (g h : Given) (p q : Piece) → comparable g h ≡ true → Gv g p → Gv h q → (u : ValueType) × Pu p u × Pu q u
   compared (given_as.Typed a) (given_as.Typed b) p q holds x y =
-      let same = elim (one-of (assignable_type a b) (assignable_type b a) (both (assignable_type a b || assignable_type b a) (not (starts_with is_slice a.layers)) holds).0) as (λ z. value_type b ≡ value_type a) [
+      let same = elim (or_cases (assignable_type a b) (assignable_type b a) (and_parts (assignable_type a b || assignable_type b a) (not (starts_with is_slice a.layers)) holds).0) as (λ z. value_type b ≡ value_type a) [
         | inl e ↦ sym (assigned-value a b e)
         | inr e ↦ assigned-value b a e
       ] in
@@ -135,6 +136,6 @@ module _ (types : Types) (t : Tables) (ft : FunctionTypes) (A : List ℕ) (s : S
   pub on-index : (l : ℕ) (j k : Judged) (x y : Made) → (index_judged l j k).faults ≡ [] → Sh j.meaning x → Sh k.meaning y → Sh (index_judged l j k).meaning (index l x.piece y.piece)
   on-index l j k x y none h i =
       let rest = none-right (used l j) _ none in
-      let fits = both (has_layer is_slice (given_by j)) (has_base base.Int (given_by k)) (kept l 8 _ (none-right (used l k) _ rest)) in
+      let fits = and_parts (has_layer is_slice (given_by j)) (has_base base.Int (given_by k)) (kept l 8 _ (none-right (used l k) _ rest)) in
       indexes l (given_by j) x.piece y.piece (based types t ft A s base.Int (given_by k) y.piece fits.1 (of-used types t ft A s l k y (none-left (used l k) _ rest) i))
       (of-slice types t ft A s (given_by j) x.piece fits.0 (of-used types t ft A s l j x (none-left (used l j) _ none) h))

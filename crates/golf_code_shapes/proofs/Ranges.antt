@@ -48,9 +48,6 @@ module _ (types : Types) (t : Tables) (ft : FunctionTypes) where
   wide : (i : ℕ) (A : List ℕ) → Every (λ j. In j (i ∷ A)) A
   wide i A = Every-from (λ j. In j (i ∷ A)) A (λ j m. inr m)
 
-  scope-wider : (A B : List ℕ) (s : Scope) → Every (λ i. In i B) A → Fits A s → Fits B s
-  scope-wider A B s h ok = record { file = ok.file; locals = locals-wider types t ft A B h s.locals ok.locals; result = ok.result }
-
   -- A name that is stored, or left out: the slots that are assigned then, and what is declared.
   pub record NameTaken (n : List ℕ) (v : GoType) (at : Scope) (A : List ℕ) (ts : List ValueType) (left_out stored : Piece) : Type 0 where
     pub slots : List ℕ

@@ -33,7 +33,7 @@ use Rattle.golf_code_shapes.specs.Sound.{LocalFits, ScopeFits, Turns}
 use Rattle.golf_code_shapes.specs.Flowing.{Slotted}
 use Rattle.golf_code_shapes.proofs.Typings.{none-left, none-right, kept}
 use Rattle.golf_code_shapes.proofs.Names.{Named, name-means, name-stores, blank-stores, looked-up}
-use Rattle.golf_code_shapes.proofs.Flows.{then-in, locals-wider, slotted-left, slotted-right}
+use Rattle.golf_code_shapes.proofs.Flows.{then-in, locals-wider, slotted-left, slotted-right, scope-wider}
 
 module _ (types : Types) (t : Tables) (ft : FunctionTypes) where
   abbrev Fits : List ℕ → Scope → Type 0
@@ -152,9 +152,6 @@ module _ (types : Types) (t : Tables) (ft : FunctionTypes) where
     pub fits : Fits slots (behind s (pair l n m (Some v) s))
     pub has : (ops : List ValueType) (exits : List Shape) → Has types ft (stores_pair l t s n m (Some v)) (shape (ValueType.Bool ∷ value_type v ∷ ops) A) (shape ops slots) exits
 
-  scope-wider : (A B : List ℕ) (s : Scope) → Every (λ i. In i B) A → Fits A s → Fits B s
-  scope-wider A B s h ok = record { file = ok.file; locals = locals-wider types t ft A B h s.locals ok.locals; result = ok.result }
-
   -- one name that stands twice is not new
   same-known : (s : Scope) (n m : List ℕ) → pair_differs s n m ≡ true → bytes_eq n m ≡ true → is_new s n ≡ false
   unfolding pair_differs
@@ -196,7 +193,7 @@ module _ (types : Types) (t : Tables) (ft : FunctionTypes) where
       let kept-n = none-left (kept_faults l s n (Some v)) (kept_faults l s m bool_type) kept-both in
       let kept-m = none-right (kept_faults l s n (Some v)) (kept_faults l s m bool_type) kept-both in
       let x = one-taken l s s1 m (plain base.Bool) A (λ e. stores-old l s A m (plain base.Bool) ok e kept-m) (slotted-right types t ft s.next s1.next one.slots two.slots refl slots) in
-      let y = one-taken l s s n v x.slots (λ e. stores-old l s x.slots n v (scope-wider A x.slots s x.more ok) e kept-n) (slotted-left types t ft s.next one.slots two.slots slots) in
+      let y = one-taken l s s n v x.slots (λ e. stores-old l s x.slots n v (scope-wider types t ft A x.slots s x.more ok) e kept-n) (slotted-left types t ft s.next one.slots two.slots slots) in
       let more = then-in A x.slots y.slots x.more y.more in
       record {
         slots = y.slots;

@@ -106,10 +106,7 @@ module _ (types : Types) (t : Tables) (ft : FunctionTypes) (A : List ℕ) (s : S
   of-base l n base.Group p none h = named-method l p base.Group (group_method n) (of-group n) none h
   of-base l n base.ReadWriteMutex p none h = named-method l p base.ReadWriteMutex (read_method n) (of-readers n) none h
   of-base l n base.Condition p none h = of-condition-name l n p none h
-  of-base l n base.Int p none h = cc
-  of-base l n base.Bool p none h = cc
-  of-base l n base.Text p none h = cc
-  of-base l n base.Unit p none h = cc
+  of-base l n _ p none h = cc
 
   of-type : (l : ℕ) (n : List ℕ) (xs : List Layer) (b : Base) (p : Piece) → (type_member l s.file n xs b).faults ≡ [] → Pu p (value_type (record { layers = xs; base = b })) → Sh (type_member l s.file n xs b).meaning (selector l (type_member l s.file n xs b).meaning p)
   of-type l n [] b p none h = of-base l n b p none h

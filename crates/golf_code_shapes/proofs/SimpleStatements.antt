@@ -1,5 +1,6 @@
 -- The code of each kind of simple statement moves on.
 use Rattle.std.proofs.Common.{◌≡◌, ℕ, ◌&&◌, List, [], ◌∷◌, Option, Some, None, refl, sym, subst}
+use Rattle.std.proofs.lemmas.Bool.{and_parts}
 use Rattle.std.specs.Prelude.{is_some}
 use Rattle.golf_data.specs.declared.code.Instr.{Instr}
 use Rattle.golf_grammar.specs.declared.expressions.Expr.{Expr}
@@ -27,7 +28,7 @@ use Rattle.golf_code_of.specs.Statements.{stores_name, stores_pair}
 use Rattle.golf_code_shapes.specs.Types.{value_type}
 use Rattle.golf_code_shapes.specs.Sound.{ScopeFits, Pushes, Silent, Turns}
 use Rattle.golf_code_shapes.specs.Flowing.{Moves, SimpleFits, Slotted}
-use Rattle.golf_code_shapes.proofs.Typings.{both as both-true, none-left, none-right, kept}
+use Rattle.golf_code_shapes.proofs.Typings.{none-left, none-right, kept}
 use Rattle.golf_code_shapes.proofs.Turning.{turn-op, turn-then}
 use Rattle.golf_code_shapes.proofs.Names.{of-giving}
 use Rattle.golf_code_shapes.proofs.Flows.{still}
@@ -80,10 +81,10 @@ module _ (types : Types) (t : Tables) (ft : FunctionTypes) where
           let p = assigned_name s n in
           let q = assigned_name s m in
           let clean = subst (λ o. assigned_pair_faults l p q o ≡ []) is faults in
-          let there = both-true (is_some p) (is_some q) (kept l 3 _ (none-left (broken l 3 (is_some p && is_some q)) _ clean)) in
+          let there = and_parts (is_some p) (is_some q) (kept l 3 _ (none-left (broken l 3 (is_some p && is_some q)) _ clean)) in
           let one = none-right (broken l 3 (is_some p && is_some q)) _ clean in
           let two = none-right (put_in_faults l p (Some v)) _ one in
-          let takes = both-true (takes_value p) (takes_value q) (kept l 10 _ (none-right (put_in_faults l q bool_type) _ two)) in
+          let takes = and_parts (takes_value p) (takes_value q) (kept l 10 _ (none-right (put_in_faults l q bool_type) _ two)) in
           turn-then types ft A (piece_at t l s e) _ [] (ValueType.Chan (value_type v) ∷ []) [] h
           (turn-then types ft A (op l Instr.ReceiveOk) _ (ValueType.Chan (value_type v) ∷ []) (ValueType.Bool ∷ value_type v ∷ []) [] (receives-both l e s A v h)
           (λ ops exits.

@@ -1,5 +1,6 @@
 -- The code of simple statements, variables, `go`, `defer` and `return` leads on.
 use Rattle.std.proofs.Common.{◌≡◌, ℕ, ◌<◌, Bool, true, not, ◌&&◌, List, [], ◌∷◌, ◌++◌, Option, Some, None, refl, sym, ◌∙◌, subst, arith, pos}
+use Rattle.std.proofs.lemmas.Bool.{and_parts}
 use Rattle.std.specs.Prelude.{is_none}
 use Rattle.std.specs.Option.{option_map}
 use Rattle.golf_data.specs.declared.code.Instr.{Instr}
@@ -37,7 +38,7 @@ use Rattle.golf_code_of.specs.Statements.{drops, updates, assigns, update_instr}
 use Rattle.golf_code_shapes.specs.Types.{value_type}
 use Rattle.golf_code_shapes.specs.Sound.{ScopeFits, Shown, Gives, Turns, Pushes, Silent, Places}
 use Rattle.golf_code_shapes.specs.Flowing.{SimpleFits}
-use Rattle.golf_code_shapes.proofs.Typings.{both, none-left, none-right, kept, same-value}
+use Rattle.golf_code_shapes.proofs.Typings.{none-left, none-right, kept, same-value}
 use Rattle.golf_code_shapes.proofs.Turning.{turn-op, turn-none, turn-then, turn-last, one-turn, over}
 use Rattle.golf_code_shapes.proofs.Names.{of-used, based, given-to, of-taking, some-type, push-fits}
 use Rattle.golf_code_shapes.proofs.Literals.{written-known, zero-fits}
@@ -136,11 +137,8 @@ module _ (types : Types) (t : Tables) (ft : FunctionTypes) where
   stored : (A : List ℕ) (l : ℕ) (s : Scope) (m : Operand) (x : Made) (g : Given) (p : Piece) → assign_faults l m g ≡ [] → left_faults l m ≡ [] → Shown types t ft A s.file m x → Gives types t ft A s.file g p → Silent types ft A (assigns x p)
   stored A l s operand.Blank x g p none left h k = let e = some-type types t ft A s g p k in drops-in A x e.0 p h.0 (h.1 e.0) e.1
   stored A l s (operand.Variable w (Some e)) x g p none left h k = stores-in A x (value_type e) p h.1 (given-to types t ft A s g e p (kept l 9 (assignable g (Some e)) (none-left (broken l 9 (assignable g (Some e))) _ none)) k)
-  stored A l s (operand.Variable w None) x g p none left h k = absurd h
   stored A l s (operand.Field i (Some e)) x g p none left h k = stores-in A x (value_type e) p h.1 (given-to types t ft A s g e p (kept l 9 (assignable g (Some e)) (none-left (broken l 9 (assignable g (Some e))) _ none)) k)
-  stored A l s (operand.Field i None) x g p none left h k = absurd h
   stored A l s (operand.Element (Some e)) x g p none left h k = stores-in A x (value_type e) p h.1 (given-to types t ft A s g e p (kept l 9 (assignable g (Some e)) (none-left (broken l 9 (assignable g (Some e))) _ none)) k)
-  stored A l s (operand.Element None) x g p none left h k = absurd h
   stored A l s (operand.Value e) x g p none left h k = let e = none-right (broken l 9 (assignable g (type_of (operand.Value e)))) _ none in cc
   stored A l s (operand.Outcome e) x g p none left h k = let e = none-right (broken l 9 (assignable g (type_of (operand.Outcome e)))) _ none in cc
   stored A l s (operand.Constant k b) x g p none left h v = let e = none-right (broken l 9 (assignable g (type_of (operand.Constant k b)))) _ none in cc
@@ -153,7 +151,7 @@ module _ (types : Types) (t : Tables) (ft : FunctionTypes) where
   stored A l s (operand.Struct k) x g p none left h v = let e = none-right (broken l 9 (assignable g (type_of (operand.Struct k)))) _ none in cc
   stored A l s operand.TypeName x g p none left h k = let e = none-right (broken l 9 (assignable g (type_of operand.TypeName))) _ none in cc
   stored A l s (operand.Nothing late) x g p none left h k = cc
-  stored A l s operand.Unknown x g p none left h k = absurd h
+  stored A l s _ x g p none left h k = absurd h
 
   pub right-assign : (l : ℕ) (p e : Expr) → Is (W.assignment l p e) (C.simple_piece t l (simple.Assign p e))
   right-assign l p e = calmly (W.assignment l p e) (C.simple_piece t l (simple.Assign p e)) (λ s. refl) (λ s A ok none. assigned s A ok none)
@@ -175,20 +173,8 @@ module _ (types : Types) (t : Tables) (ft : FunctionTypes) where
   place-of-int A l s (operand.Field i None) x int place h = absurd h
   place-of-int A l s (operand.Element (Some e)) x int place h = subst (Places types ft A x) (same-value e.layers [] e.base base.Int int) h.1
   place-of-int A l s (operand.Element None) x int place h = absurd h
-  place-of-int A l s (operand.Value e) x int place h = cc
-  place-of-int A l s (operand.Outcome e) x int place h = cc
-  place-of-int A l s (operand.Constant k b) x int place h = cc
-  place-of-int A l s (operand.Truth b) x int place h = cc
-  place-of-int A l s operand.Nil x int place h = cc
-  place-of-int A l s (operand.Function k) x int place h = cc
-  place-of-int A l s (operand.Method k) x int place h = cc
-  place-of-int A l s (operand.BuiltIn b) x int place h = cc
-  place-of-int A l s (operand.Package q) x int place h = cc
-  place-of-int A l s (operand.Struct k) x int place h = cc
-  place-of-int A l s operand.TypeName x int place h = cc
-  place-of-int A l s operand.Blank x int place h = cc
-  place-of-int A l s (operand.Nothing late) x int place h = cc
   place-of-int A l s operand.Unknown x int place h = absurd h
+  place-of-int A l s _ x int place h = cc
 
   arithmetic : (l : ℕ) (A : List ℕ) (o : UpdateOperator) → Turns types ft A (op l (update_instr o)) (ValueType.Int ∷ ValueType.Int ∷ []) (ValueType.Int ∷ [])
   arithmetic l A update.Add = turn-op types ft A Instr.Add l (ValueType.Int ∷ ValueType.Int ∷ []) (ValueType.Int ∷ []) (λ full k ops g. (ops, refl, g))
@@ -207,7 +193,7 @@ module _ (types : Types) (t : Tables) (ft : FunctionTypes) where
           let one = none-right (named_or_used l j) _ none in
           let two = none-right (used l k) _ one in
           let sound : Bool = has_base base.Int (given j.meaning) && has_base base.Int (given_by k) in
-          let ints = both (has_base base.Int (given j.meaning)) (has_base base.Int (given_by k)) (kept l 8 sound (none-left (broken l 8 sound) (broken l 10 (is_place j.meaning)) two)) in
+          let ints = and_parts (has_base base.Int (given j.meaning)) (has_base base.Int (given_by k)) (kept l 8 sound (none-left (broken l 8 sound) (broken l 10 (is_place j.meaning)) two)) in
           updates-in l A (Code l s p) (piece_at t l s e) (update_instr o) (arithmetic l A o)
           (place-of-int A l s j.meaning (Code l s p) ints.0 (kept l 10 (is_place j.meaning) (none-right (broken l 8 sound) (broken l 10 (is_place j.meaning)) two)) (shown l p s A ok (none-left j.faults _ (none-left (named_or_used l j) _ none))))
           (based types t ft A s base.Int (given_by k) (piece_at t l s e) ints.1 (value-of l e s A ok (none-left (used l k) _ one)))

@@ -1,5 +1,6 @@
 -- The code of every well-formed statement that breaks no rule leads on: one step for each kind of statement, and an induction.
 use Rattle.std.proofs.Common.{◌≡◌, ℕ, true, not, List, [], ◌∷◌, map, Option, Some, None, refl, sym, subst}
+use Rattle.std.proofs.lemmas.Bool.{and_parts}
 use Rattle.std.specs.List.{list_all}
 use Rattle.golf_data.specs.declared.code.Instr.{Instr}
 use Rattle.golf_grammar.specs.declared.statements.Simple.{Simple}
@@ -27,7 +28,6 @@ use Rattle.golf_code_of.specs.Laying.{stmt_part, clause_part, stmt_part_step, cl
 use Rattle.golf_code_of.proofs.Walks.{statement}
 use Rattle.golf_code_shapes.specs.Flowing.{StatementFits}
 use Rattle.golf_code_shapes.specs.Laws.{StatementsFit}
-use Rattle.golf_code_shapes.proofs.Typings.{both}
 use Rattle.golf_code_shapes.proofs.Flows.{Right, EachRight, right-order, right-block, right-then, right-simple}
 use Rattle.golf_code_shapes.proofs.Simples.{right-var, right-return}
 use Rattle.golf_code_shapes.proofs.SimpleStatements.{right-kind, optional-piece, right-optional}
@@ -38,19 +38,13 @@ use Rattle.golf_code_shapes.proofs.Choices.{ClauseFits, EachClause, right-case, 
 
 -- a post statement declares nothing
 quiet-kind : (l : ℕ) (x : SimpleKind) (s : Scope) → not (simple_form x).defines ≡ true → (W.simple_kind l x s).declares ≡ []
-quiet-kind l (simple.Expression e) s h = refl
-quiet-kind l (simple.Send c e) s h = refl
-quiet-kind l (simple.Increment p) s h = refl
-quiet-kind l (simple.Decrement p) s h = refl
-quiet-kind l (simple.Assign p e) s h = refl
-quiet-kind l (simple.Update p o e) s h = refl
 quiet-kind l (simple.Define n e) s h = cc
 quiet-kind l (simple.DefineReceived n m e) s h = cc
-quiet-kind l (simple.AssignReceived n m e) s h = refl
+quiet-kind l _ s h = refl
 
 quiet-post : (o : Option Simple) (s : Scope) → all_of post_simple o ≡ true → (W.optional o s).declares ≡ []
 quiet-post None s h = refl
-quiet-post (Some x) s h = quiet-kind x.line x.kind s (both (header_simple x) (not (simple_form x.kind).defines) h).1
+quiet-post (Some x) s h = quiet-kind x.line x.kind s (and_parts (header_simple x) (not (simple_form x.kind).defines) h).1
 
 module _ (types : Types) (t : Tables) (ft : FunctionTypes) where
   abbrev R : Part → Type 0
@@ -76,7 +70,7 @@ module _ (types : Types) (t : Tables) (ft : FunctionTypes) where
 
   each : (xs : List S) → stmts_good (forms xs) ≡ true → EachRight types t ft (parts xs)
   each [] h = tt
-  each (x ∷ xs) h = let b = both (stmt_form x.0).good (stmts_good (forms xs)) h in (x.1 b.0, each xs b.1)
+  each (x ∷ xs) h = let b = and_parts (stmt_form x.0).good (stmts_good (forms xs)) h in (x.1 b.0, each xs b.1)
 
   order : (xs : List S) → stmts_good (forms xs) ≡ true → R (in_order (parts xs))
   order xs h = right-order types t ft (parts xs) (each xs h)
@@ -86,7 +80,7 @@ module _ (types : Types) (t : Tables) (ft : FunctionTypes) where
 
   clauses : (cs : List K) → list_all (λ (c : ClauseForm). c.good) (map clause_form (map (λ (p : K). p.0) cs)) ≡ true → EachClause types t ft (map (clause_part t) (map (λ (p : K). p.0) cs))
   clauses [] h = tt
-  clauses (c ∷ cs) h = let b = both (clause_form c.0).good (list_all (λ (d : ClauseForm). d.good) (map clause_form (map (λ (p : K). p.0) cs))) h in (c.1 b.0, clauses cs b.1)
+  clauses (c ∷ cs) h = let b = and_parts (clause_form c.0).good (list_all (λ (d : ClauseForm). d.good) (map clause_form (map (λ (p : K). p.0) cs))) h in (c.1 b.0, clauses cs b.1)
 
   optional-is : (o : Option Simple) → optional t o ≡ simply (W.optional o) (optional-piece types t ft o)
   optional-is None = refl
@@ -97,7 +91,7 @@ module _ (types : Types) (t : Tables) (ft : FunctionTypes) where
   loop l (header.While e) xs g b = right-block types t ft (header_part t l (header.While e) (parts xs)) (right-while types t ft l e (block (parts xs)) (λ s. refl) (body xs b))
   loop l (header.Range names e) xs g b = right-range types t ft l names e (parts xs) (body xs b)
   loop l (header.Steps first test post) xs g b =
-      let posts = (both (all_of header_expr test) (all_of post_simple post) (both (all_of header_simple first) _ g).1).1 in
+      let posts = (and_parts (all_of header_expr test) (all_of post_simple post) (and_parts (all_of header_simple first) _ g).1).1 in
       let w = W.optional post in
       let p = optional-piece types t ft post in
       let inner = right-stepping types t ft l test w p (right-optional types t ft post) (λ s. quiet-post post s posts) (block (parts xs)) (λ s. refl) (body xs b) in
@@ -122,20 +116,20 @@ module _ (types : Types) (t : Tables) (ft : FunctionTypes) where
   at (F.Continue l) g = right-continue types t ft l
   at (F.Block l xs) g = body xs g
   at (F.If l first test xs) g =
-      let b = (both (header_expr test) (stmts_good (forms xs)) (both (all_of header_simple first) _ g).1).1 in
+      let b = (and_parts (header_expr test) (stmts_good (forms xs)) (and_parts (all_of header_simple first) _ g).1).1 in
       subst (λ q. R (in_block (C.ends_here (C.then q (C.behind_test t l test (block (parts xs))))))) (sym (optional-is first))
       (right-ends types t ft (W.optional first) (optional-piece types t ft first) (right-optional types t ft first) l test (block (parts xs)) (λ s. refl) (body xs b))
   at (F.IfElse l first test xs o) g =
-      let rest = both (header_expr test) _ (both (all_of header_simple first) _ g).1 in
-      let b = both (stmts_good (forms xs)) _ rest.1 in
-      let other = (both (stmt_form o.0).good _ b.1).0 in
+      let rest = and_parts (header_expr test) _ (and_parts (all_of header_simple first) _ g).1 in
+      let b = and_parts (stmts_good (forms xs)) _ rest.1 in
+      let other = (and_parts (stmt_form o.0).good _ b.1).0 in
       subst (λ q. R (in_block (C.or_else l (C.then q (C.behind_test t l test (block (parts xs)))) (stmt_part t o.0)))) (sym (optional-is first))
       (right-or-else types t ft (W.optional first) (optional-piece types t ft first) (right-optional types t ft first) l test (block (parts xs)) (λ s. refl) (body xs b.0) (stmt_part t o.0) (o.1 other))
-  at (F.For l h xs) g = let b = both (header_good h) (stmts_good (forms xs)) g in loop l h xs b.0 b.1
-  at (F.Select l cs) g = right-select types t ft l (map (clause_part t) (map (λ (p : K). p.0) cs)) (clauses cs (both (list_all (λ (c : ClauseForm). c.good) (map clause_form (map (λ (p : K). p.0) cs))) _ g).0)
+  at (F.For l h xs) g = let b = and_parts (header_good h) (stmts_good (forms xs)) g in loop l h xs b.0 b.1
+  at (F.Select l cs) g = right-select types t ft l (map (clause_part t) (map (λ (p : K). p.0) cs)) (clauses cs (and_parts (list_all (λ (c : ClauseForm). c.good) (map clause_form (map (λ (p : K). p.0) cs))) _ g).0)
 
   clause-at : (y : Clause-F K S) → (clause_form_step (map-Clause Clause Stmt ClauseForm StmtForm clause_form stmt_form (bare-clause y))).good ≡ true → ClauseFits types t ft (clause_part_step t (map-Clause Clause Stmt ClausePart Part (clause_part t) (stmt_part t) (bare-clause y)))
-  clause-at (F.Case k c xs) g = right-case types t ft k c (parts xs) (order xs (both (comm_good c) (stmts_good (forms xs)) g).1)
+  clause-at (F.Case k c xs) g = right-case types t ft k c (parts xs) (order xs (and_parts (comm_good c) (stmts_good (forms xs)) g).1)
   clause-at (F.Default k xs) g = right-default types t ft k (parts xs) (order xs g)
 
   rolled : (y : Stmt-F K S) → P (roll-Stmt (bare y))

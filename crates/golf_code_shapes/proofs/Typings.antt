@@ -1,5 +1,6 @@
 -- What the tests of the checker say of the types of shapes.
-use Rattle.std.proofs.Common.{◌≡◌, ◌⊎◌, inl, inr, ℕ, Bool, true, false, ◌&&◌, ◌||◌, ◌==◌, List, [], ◌∷◌, ◌++◌, Some, refl, ap, ◌∙◌, arith}
+use Rattle.std.proofs.Common.{◌≡◌, ◌⊎◌, inl, inr, ℕ, Bool, true, false, ◌&&◌, ◌==◌, List, [], ◌∷◌, ◌++◌, Some, refl, ap, ◌∙◌, arith}
+use Rattle.std.proofs.lemmas.Bool.{and_parts, or_cases}
 use Rattle.golf_types.specs.declared.types.Layer.{Layer}
 use Rattle.golf_types.specs.declared.types.Layer.TheVariants as layer
 use Rattle.golf_types.specs.declared.types.Base.{Base}
@@ -9,14 +10,6 @@ use Rattle.golf_types.specs.Types.{same_layers, same_base, same_type, narrows, a
 use Rattle.golf_types.specs.Faults.{broken}
 use Rattle.golf_shapes.specs.Types.{ValueType, IsNilable}
 use Rattle.golf_code_shapes.specs.Types.{base_type, layers_type, value_type}
-
-pub both : (a b : Bool) → (a && b) ≡ true → (a ≡ true) × (b ≡ true)
-both true b e = (refl, e)
-both false b e = cc
-
-pub one-of : (x y : Bool) → (x || y) ≡ true → (x ≡ true) ⊎ (y ≡ true)
-one-of true y e = inl refl
-one-of false y e = inr e
 
 -- faults that are none
 
@@ -34,24 +27,11 @@ kept l r false e = cc
 
 same-layers : (xs ys : List Layer) (b : Base) → same_layers xs ys ≡ true → layers_type xs b ≡ layers_type ys b
 same-layers [] [] b e = refl
-same-layers [] (y ∷ ys) b e = cc
-same-layers (x ∷ xs) [] b e = cc
 same-layers (layer.Slice ∷ xs) (layer.Slice ∷ ys) b e = ap ValueType.Slice (same-layers xs ys b e)
-same-layers (layer.Slice ∷ xs) (layer.Chan ∷ ys) b e = cc
-same-layers (layer.Slice ∷ xs) (layer.SendChan ∷ ys) b e = cc
-same-layers (layer.Slice ∷ xs) (layer.ReceiveChan ∷ ys) b e = cc
 same-layers (layer.Chan ∷ xs) (layer.Chan ∷ ys) b e = ap ValueType.Chan (same-layers xs ys b e)
-same-layers (layer.Chan ∷ xs) (layer.Slice ∷ ys) b e = cc
-same-layers (layer.Chan ∷ xs) (layer.SendChan ∷ ys) b e = cc
-same-layers (layer.Chan ∷ xs) (layer.ReceiveChan ∷ ys) b e = cc
 same-layers (layer.SendChan ∷ xs) (layer.SendChan ∷ ys) b e = ap ValueType.Chan (same-layers xs ys b e)
-same-layers (layer.SendChan ∷ xs) (layer.Slice ∷ ys) b e = cc
-same-layers (layer.SendChan ∷ xs) (layer.Chan ∷ ys) b e = cc
-same-layers (layer.SendChan ∷ xs) (layer.ReceiveChan ∷ ys) b e = cc
 same-layers (layer.ReceiveChan ∷ xs) (layer.ReceiveChan ∷ ys) b e = ap ValueType.Chan (same-layers xs ys b e)
-same-layers (layer.ReceiveChan ∷ xs) (layer.Slice ∷ ys) b e = cc
-same-layers (layer.ReceiveChan ∷ xs) (layer.Chan ∷ ys) b e = cc
-same-layers (layer.ReceiveChan ∷ xs) (layer.SendChan ∷ ys) b e = cc
+same-layers _ _ b e = cc
 
 same-number : (i j : ℕ) → (i == j) ≡ true → i ≡ j
 same-number i j e = grind (arith, e)
@@ -76,7 +56,7 @@ on-base (layer.SendChan ∷ xs) a b e = ap ValueType.Chan (on-base xs a b e)
 on-base (layer.ReceiveChan ∷ xs) a b e = ap ValueType.Chan (on-base xs a b e)
 
 pub same-value : (xs ys : List Layer) (a b : Base) → (same_layers xs ys && same_base a b) ≡ true → layers_type xs a ≡ layers_type ys b
-same-value xs ys a b e = let p = both (same_layers xs ys) (same_base a b) e in same-layers xs ys a p.0 ∙ on-base ys a b (same-base a b p.1)
+same-value xs ys a b e = let p = and_parts (same_layers xs ys) (same_base a b) e in same-layers xs ys a p.0 ∙ on-base ys a b (same-base a b p.1)
 
 narrow-value : (xs ys : List Layer) (b : Base) → narrows xs ys ≡ true → layers_type xs b ≡ layers_type ys b
 narrow-value (layer.Chan ∷ xs) (layer.SendChan ∷ ys) b e = ap ValueType.Chan (same-layers xs ys b e)
@@ -85,9 +65,9 @@ narrow-value xs ys b e = cc
 
 -- what is assignable has the same type, where directions are forgotten
 pub assigned-value : (a b : GoType) → assignable_type a b ≡ true → value_type a ≡ value_type b
-assigned-value a b e = elim (one-of (same_type a b) (narrows a.layers b.layers && same_base a.base b.base) e) [
+assigned-value a b e = elim (or_cases (same_type a b) (narrows a.layers b.layers && same_base a.base b.base) e) [
   | inl p ↦ same-value a.layers b.layers a.base b.base p
-  | inr p ↦ (let q = both (narrows a.layers b.layers) (same_base a.base b.base) p in narrow-value a.layers b.layers a.base q.0 ∙ on-base b.layers a.base b.base (same-base a.base b.base q.1))
+  | inr p ↦ (let q = and_parts (narrows a.layers b.layers) (same_base a.base b.base) p in narrow-value a.layers b.layers a.base q.0 ∙ on-base b.layers a.base b.base (same-base a.base b.base q.1))
 ]
 
 pub nilable : (xs : List Layer) (b : Base) → takes_nil xs b ≡ true → IsNilable (layers_type xs b)
@@ -128,11 +108,8 @@ channel-of (layer.SendChan ∷ xs) b e = (record { layers = xs; base = b }, refl
 channel-of (layer.ReceiveChan ∷ xs) b e = (record { layers = xs; base = b }, refl, refl)
 
 pub slice-of : (xs : List Layer) (b : Base) → starts_with is_slice xs ≡ true → (e : GoType) × (inside xs b ≡ Some e) × (layers_type xs b ≡ ValueType.Slice (value_type e))
-slice-of [] b e = cc
 slice-of (layer.Slice ∷ xs) b e = (record { layers = xs; base = b }, refl, refl)
-slice-of (layer.Chan ∷ xs) b e = cc
-slice-of (layer.SendChan ∷ xs) b e = cc
-slice-of (layer.ReceiveChan ∷ xs) b e = cc
+slice-of _ b e = cc
 
 pub measured : (xs : List Layer) (b : Base) → starts_with is_any xs ≡ true → (e : ValueType) × ((layers_type xs b ≡ ValueType.Slice e) ⊎ (layers_type xs b ≡ ValueType.Chan e))
 measured [] b e = cc

@@ -1,5 +1,6 @@
 -- The code of a file whose names fit has shapes.
 use Rattle.std.proofs.Common.{◌≡◌, ℕ, zero, suc, ◌+◌, ◌<◌, ◌≤◌, Bool, true, false, cond, fold, flat_map, List, [], ◌∷◌, ◌++◌, length, map, Option, Some, None, refl, sym, ap, ◌∙◌, subst, slice_get, arith, append_assoc, length-append, option_to_list}
+use Rattle.std.proofs.lemmas.Bool.{and_parts}
 use Rattle.std.specs.List.{list_all, list_any}
 use Rattle.std.specs.Str.{bytes_eq}
 use Rattle.golf_theory.specs.Membership.{Every}
@@ -41,7 +42,7 @@ use Rattle.golf_code_shapes.specs.Sound.{FileFits, ScopeFits, Pushes}
 use Rattle.golf_code_shapes.specs.Flowing.{IsMaking, MadeFit}
 use Rattle.golf_code_shapes.specs.FunctionLaws.{made_signature, FunctionIsFit}
 use Rattle.golf_code_shapes.specs.FileLaws.{entry_signature, own_signatures, types_of_code, scope_of, initial_scope, GlobalIsKnown, DeclarationIsKnown, DeclarationsAreKnown, NamesFit, FilesFit}
-use Rattle.golf_code_shapes.proofs.Typings.{both as both-true, none-left, none-right, kept}
+use Rattle.golf_code_shapes.proofs.Typings.{none-left, none-right, kept}
 use Rattle.golf_code_shapes.proofs.Names.{given-to}
 use Rattle.golf_code_shapes.proofs.Literals.{zero-fits, zero-same}
 use Rattle.golf_code_shapes.proofs.Flows.{made-left, made-right}
@@ -72,14 +73,14 @@ decl-fits f g (d.Const l n c) none good h = tt
 decl-fits f g (d.Struct l n fields) none good h = tt
 decl-fits f g (d.Var v) none good h = record { is_known = h; none = none }
 decl-fits f g (d.Func x) none good h =
-    let a = both-true (list_all field_good x.parameters) _ good in
-    let b = both-true (all_of (λ t. (type_form t).good) x.result) (stmts_good (map stmt_form x.body)) a.1 in
+    let a = and_parts (list_all field_good x.parameters) _ good in
+    let b = and_parts (all_of (λ t. (type_form t).good) x.result) (stmts_good (map stmt_form x.body)) a.1 in
     record { receiver = h.receiver; parameters = h.parameters; good = b.1; none = none }
 
 decls-fit : (f : FileScope) (g : ℕ) (xs : List Decl) → walk_faults f g xs ≡ [] → list_all decl_good xs ≡ true → DeclarationsAreKnown f g xs → DeclsFit f g xs
 decls-fit f g [] none good h = tt
 decls-fit f g (x ∷ xs) none good h =
-    let b = both-true (decl_good x) (list_all decl_good xs) good in
+    let b = and_parts (decl_good x) (list_all decl_good xs) good in
     (decl-fits f g x (none-left (decl_walked f g x).faults _ none) b.0 h.0, decls-fit f (globals_above g x) xs (none-right (decl_walked f g x).faults _ none) b.1 h.1)
 
 -- Functions one by one.

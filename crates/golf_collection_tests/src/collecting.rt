@@ -1,49 +1,18 @@
 //! Collections of states that a code leads to.
 
-ghost use Rattle.std.specs.Prelude.{◌≡◌, ◌<◌, ◌-◌, ◌||◌, IsTrue};
-ghost use Rattle.golf_model.specs.Collecting.{is_setting, sets_finalisers};
+ghost use Rattle.std.specs.Prelude.{◌<◌, ◌-◌, ◌||◌, IsTrue};
 ghost use Rattle.golf_model.specs.Futures.{Leads};
 ghost use Rattle.golf_reclaim.specs.Noting.{AreGone};
-ghost use Rattle.golf_collection_tests.specs.Setting.{sets_in};
 
 use golf_base::{Memory, OpenGate};
-use golf_data::{Code, Instr, Line, Report};
-use golf_reclaim::{Ledger, Options, collect};
+use golf_data::{Code, Report};
+use golf_reclaim::{Ledger, Options, collect, sets_finalisers};
 use golf_state::State;
 use std::alloc::Global;
 use std::thread::Threads;
 
 /// How many collections a book of the tests has at most.
 const MOST: u32 = 100;
-
-// Whether an instruction sets a finaliser.
-fn is_setting(instr: &Instr) -> bool
-    ensures { result ≡ is_setting instr.now }
-{
-    matches!(instr, Instr::SetFinalizer(_))
-}
-
-// Whether one of these instructions sets a finaliser.
-fn sets_in(body: &[Line]) -> bool
-    ensures { result ≡ sets_in body.now }
-{
-    let mut sets = false;
-    for line in body {
-        sets |= is_setting(&line.instr);
-    }
-    sets
-}
-
-/// Whether a code can give an object a finaliser.
-fn sets_finalisers(code: &Code) -> bool
-    ensures { result ≡ sets_finalisers code.now }
-{
-    let mut sets = false;
-    for function in code.functions.as_slice() {
-        sets |= sets_in(function.body.as_slice());
-    }
-    sets
-}
 
 // Whether none of those that were removed is there.
 fn are_gone(state: &State, book: &Ledger) -> bool

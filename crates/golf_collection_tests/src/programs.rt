@@ -7,7 +7,7 @@ use golf_base::{List, Memory};
 use golf_data::{Code, Instr, Value};
 use golf_machine::{start, turn};
 use golf_state::State;
-use golf_trials::{can_run, function, lines};
+use golf_trials::{can_run, code, function, lines};
 use std::alloc::Global;
 
 /// How many turns lead to the states.
@@ -19,22 +19,9 @@ pub fn program(alloc: Global, main: Vec<Instr>, other: Vec<Instr>) -> Result<Cod
     let mut functions = List::new(alloc);
     functions.push(function(0, lines(alloc, main)?))?;
     functions.push(function(2, lines(alloc, other)?))?;
-    let mut last = Vec::new(alloc);
-    last.push(Instr::Return)?;
+    let last = vec![in alloc; Instr::Return]?;
     functions.push(function(1, lines(alloc, last)?))?;
-    let mut globals = List::new(alloc);
-    globals.push(Value::Nil)?;
-    let mut fields = List::new(alloc);
-    fields.push(Value::Nil)?;
-    let mut structs = List::new(alloc);
-    structs.push(fields)?;
-    Ok(Code {
-        functions,
-        globals,
-        structs,
-        texts: List::new(alloc),
-        main_line: 1,
-    })
+    code(alloc, functions, &[Value::Nil], &[Value::Nil])
 }
 
 /// `main` runs on after these instructions.
@@ -51,10 +38,7 @@ pub fn forever(alloc: Global, instrs: Vec<Instr>) -> Result<Vec<Instr>, Memory> 
 
 /// Receives from the first argument.
 pub fn receiver(alloc: Global) -> Result<Vec<Instr>, Memory> {
-    let mut other = Vec::new(alloc);
-    other.push(Instr::Load(0))?;
-    other.push(Instr::Receive)?;
-    other.push(Instr::Return)?;
+    let other = vec![in alloc; Instr::Load(0), Instr::Receive, Instr::Return]?;
     Ok(other)
 }
 

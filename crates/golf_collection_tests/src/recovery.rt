@@ -7,6 +7,7 @@ use golf_data::{Code, Instr, Object, Report, Value};
 use golf_reclaim::Ledger;
 use golf_state::State;
 use std::alloc::Global;
+use std::process::Abort;
 use std::test::Fail;
 use std::thread::Threads;
 
@@ -29,18 +30,11 @@ struct After {
     first: Option<ObjectId>,
 }
 
-// Two collections, with turns between them, of two states that the code leads to: one without
-// recovery and one with it.
+// Two collections, with turns between them, of a state that the code leads to.
 #[derive(Clone, Copy, Debug, PartialEq, Eq)]
 struct Story {
     first: After,
     second: After,
-}
-
-#[derive(Clone, Copy, Debug, PartialEq, Eq)]
-struct Stories {
-    without: Story,
-    with: Story,
 }
 
 fn is_locked(object: Option<&Object>) -> bool {
@@ -82,10 +76,16 @@ fn story_of<R: Threads + Sync>(
     Ok(Story { first, second })
 }
 
-fn both_stories<R: Threads + Sync>(rt: &R, alloc: Global, code: &Code) -> Result<Stories, Memory> {
-    let without = story_of(rt, alloc, code, false)?;
-    let with = story_of(rt, alloc, code, true)?;
-    Ok(Stories { without, with })
+// A code leads to these stories, without recovery and with it.
+fn tells<R: AllocGlobal + Abort + Threads + Sync>(
+    rt: &R,
+    code: &Code,
+    without: Story,
+    with: Story,
+) -> Result<(), Fail> {
+    assert_eq!(rt; story_of(rt, rt.alloc(), code, false)?, without);
+    assert_eq!(rt; story_of(rt, rt.alloc(), code, true)?, with);
+    Ok(())
 }
 
 // Nothing is found, and goroutines 0 and 1 alone are there.
@@ -102,6 +102,18 @@ const NOTHING: After = After {
     queued: 0,
     first: None,
 };
+
+// The first collection reports so many and removes so many of them; what it leaves stays as it is.
+fn at_once(reported: usize, reclaimed: u32, left: After) -> Story {
+    Story {
+        first: After {
+            reported,
+            reclaimed,
+            ..left
+        },
+        second: left,
+    }
+}
 
 // A goroutine receives from a channel that nobody else knows, and holds a struct that has a finaliser.
 fn holder_of_a_finalised_object(alloc: Global) -> Result<Code, Memory> {
@@ -127,7 +139,7 @@ fn holder_of_a_finalised_object(alloc: Global) -> Result<Code, Memory> {
 #[test]
 fn a_dead_holder_of_a_finalised_object_is_kept(rt: HostRuntime) -> Result<(), Fail> {
     let code = holder_of_a_finalised_object(rt.alloc())?;
-    let second = After {
+    let left = After {
         kept: 1,
         objects: 2,
         there: 2,
@@ -135,21 +147,8 @@ fn a_dead_holder_of_a_finalised_object_is_kept(rt: HostRuntime) -> Result<(), Fa
         finalisers: 1,
         ..NOTHING
     };
-    let kept = Story {
-        first: After {
-            reported: 1,
-            ..second
-        },
-        second,
-    };
-    assert_eq!(rt;
-        both_stories(&rt, rt.alloc(), &code)?,
-        Stories {
-            without: kept,
-            with: kept
-        }
-    );
-    Ok(())
+    let kept = at_once(1, 0, left);
+    tells(&rt, &code, kept, kept)
 }
 
 // A goroutine receives from a channel that nobody else knows, and holds a struct that `main` has too;
@@ -178,7 +177,7 @@ fn a_dead_goroutine_with_a_live_object_is_kept_where_finalisers_are_set(
     rt: HostRuntime,
 ) -> Result<(), Fail> {
     let code = sharer_of_a_live_object(rt.alloc(), Instr::SetFinalizer(2))?;
-    let second = After {
+    let left = After {
         marked: 1,
         kept: 1,
         objects: 2,
@@ -186,21 +185,8 @@ fn a_dead_goroutine_with_a_live_object_is_kept_where_finalisers_are_set(
         goroutines: 3,
         ..NOTHING
     };
-    let kept = Story {
-        first: After {
-            reported: 1,
-            ..second
-        },
-        second,
-    };
-    assert_eq!(rt;
-        both_stories(&rt, rt.alloc(), &code)?,
-        Stories {
-            without: kept,
-            with: kept
-        }
-    );
-    Ok(())
+    let kept = at_once(1, 0, left);
+    tells(&rt, &code, kept, kept)
 }
 
 #[test]
@@ -220,26 +206,7 @@ fn it_is_removed_where_none_is_set(rt: HostRuntime) -> Result<(), Fail> {
         there: 1,
         ..NOTHING
     };
-    let without = Story {
-        first: After {
-            reported: 1,
-            ..kept
-        },
-        second: kept,
-    };
-    let with = Story {
-        first: After {
-            reported: 1,
-            reclaimed: 1,
-            ..gone
-        },
-        second: gone,
-    };
-    assert_eq!(rt;
-        both_stories(&rt, rt.alloc(), &code)?,
-        Stories { without, with }
-    );
-    Ok(())
+    tells(&rt, &code, at_once(1, 0, kept), at_once(1, 1, gone))
 }
 
 // A struct with a finaliser, which nothing refers to, has the channel on which a goroutine waits.
@@ -291,7 +258,6 @@ fn an_unreachable_finalised_object_keeps_a_waiter_alive(rt: HostRuntime) -> Resu
         reclaimed: 1,
         ..NOTHING
     };
-    let stories = both_stories(&rt, rt.alloc(), &code)?;
     let without = Story {
         first,
         second: left,
@@ -300,8 +266,7 @@ fn an_unreachable_finalised_object_keeps_a_waiter_alive(rt: HostRuntime) -> Resu
         first,
         second: gone,
     };
-    assert_eq!(rt; stories, Stories { without, with });
-    Ok(())
+    tells(&rt, &code, without, with)
 }
 
 // Two goroutines each receive from a channel of which the other alone knows.
@@ -337,26 +302,7 @@ fn a_cycle_is_collected_twice(rt: HostRuntime) -> Result<(), Fail> {
         goroutines: 4,
         ..NOTHING
     };
-    let without = Story {
-        first: After {
-            reported: 2,
-            ..kept
-        },
-        second: kept,
-    };
-    let with = Story {
-        first: After {
-            reported: 2,
-            reclaimed: 2,
-            ..NOTHING
-        },
-        second: NOTHING,
-    };
-    assert_eq!(rt;
-        both_stories(&rt, rt.alloc(), &code)?,
-        Stories { without, with }
-    );
-    Ok(())
+    tells(&rt, &code, at_once(2, 0, kept), at_once(2, 2, NOTHING))
 }
 
 // A goroutine locks a mutex that a global holds, and then receives from a channel that nobody else knows.
@@ -400,26 +346,7 @@ fn a_removed_goroutines_mutex_stays_locked(rt: HostRuntime) -> Result<(), Fail> 
         locked: true,
         ..NOTHING
     };
-    let without = Story {
-        first: After {
-            reported: 1,
-            ..kept
-        },
-        second: kept,
-    };
-    let with = Story {
-        first: After {
-            reported: 1,
-            reclaimed: 1,
-            ..gone
-        },
-        second: gone,
-    };
-    assert_eq!(rt;
-        both_stories(&rt, rt.alloc(), &code)?,
-        Stories { without, with }
-    );
-    Ok(())
+    tells(&rt, &code, at_once(1, 0, kept), at_once(1, 1, gone))
 }
 
 // Two structs get finalisers, the later one first, and nothing refers to them; a third has none.
@@ -457,14 +384,7 @@ fn finalisers_are_queued_by_rising_number(rt: HostRuntime) -> Result<(), Fail> {
         first,
         second: NOTHING,
     };
-    assert_eq!(rt;
-        both_stories(&rt, rt.alloc(), &code)?,
-        Stories {
-            without: told,
-            with: told
-        }
-    );
-    Ok(())
+    tells(&rt, &code, told, told)
 }
 
 // Whether a collection that may get no memory frees and queues all, or changes nothing.

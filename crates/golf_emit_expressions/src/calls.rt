@@ -7,7 +7,7 @@ ghost use Rattle.golf_emission.specs.Marks.{Adds};
 
 use crate::values::count;
 use golf_base::{List, Memory};
-use golf_check_expressions::call;
+use golf_check_calls::call;
 use golf_data::Instr;
 use golf_emission::{Mark, op};
 use golf_types::{BuiltIn, FileScope, Given, Operand};

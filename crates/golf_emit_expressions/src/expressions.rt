@@ -19,9 +19,9 @@ use crate::names::{field_place, name_at, new_sync, select_at, selected, struct_n
 use crate::operators::{combining, unary_instr, unary_meaning};
 use crate::values::{integer, makes, whole};
 use golf_base::{List, Memory};
-use golf_check_expressions::{
-    element, finalises, made_base, plain_type, result_base, rule_unless, sets_finaliser, value,
-    without_package, written_type,
+use golf_check_calls::{finalises, rule_unless, sets_finaliser};
+use golf_check_operands::{
+    element, made_base, plain_type, result_base, value, without_package, written_type,
 };
 use golf_code_of::Tables;
 use golf_data::Instr;

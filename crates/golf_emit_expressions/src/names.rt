@@ -10,7 +10,7 @@ ghost use Rattle.golf_emission.specs.Marks.{Adds, Makes};
 
 use crate::values::{constant, push};
 use golf_base::{List, Memory};
-use golf_check_expressions::{pointer_to, select};
+use golf_check_operands::{pointer_to, select};
 use golf_code_of::Tables;
 use golf_data::Instr;
 use golf_emission::{Mark, op};

@@ -8,7 +8,7 @@ ghost use Rattle.golf_code_of.specs.Expressions.{unary_instr as unary_instr_of, 
 ghost use Rattle.golf_emission.specs.Marks.{Adds};
 
 use golf_base::{List, Memory};
-use golf_check_expressions::{element, value};
+use golf_check_operands::{element, value};
 use golf_data::Instr;
 use golf_emission::{Mark, op};
 use golf_grammar::{BinaryOperator, UnaryOperator};

@@ -7,7 +7,7 @@ ghost use Rattle.golf_emit_simple.specs.Writes.{Writes};
 
 use crate::names::{define_pair, store_name};
 use golf_base::{List, Memory};
-use golf_check_expressions::element;
+use golf_check_operands::element;
 use golf_code_of::Tables;
 use golf_data::Instr;
 use golf_emission::{Mark, op};

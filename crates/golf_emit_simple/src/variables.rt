@@ -9,7 +9,7 @@ ghost use Rattle.golf_emit_simple.specs.Writes.{Writes};
 
 use crate::values::{push_zero, type_of_value};
 use golf_base::{List, Memory};
-use golf_check_expressions::written_type;
+use golf_check_operands::written_type;
 use golf_code_of::Tables;
 use golf_data::Instr;
 use golf_emission::{Mark, op};

@@ -1,7 +1,7 @@
 //! What stands around the bodies of loops.
 
 ghost use Rattle.std.specs.Prelude.{◌≡◌, ◌+◌, [], ◌∷◌, ◌++◌, pos, reverse, OnOk, IfOk};
-ghost use Rattle.golf_types.specs.Types.{is_slice as is_slice_layer, starts_with};
+ghost use Rattle.golf_types.specs.Types.{is_slice as is_slice_layer};
 ghost use Rattle.golf_types.specs.Statements.{is_outer};
 ghost use Rattle.golf_layout.specs.Piece.{Piece, all, op as op_of};
 ghost use Rattle.golf_code_of.specs.Coding.{piece_at};
@@ -10,12 +10,13 @@ ghost use Rattle.golf_emission.specs.Marks.{Adds, onto};
 ghost use Rattle.golf_emission.specs.declared.mark.Mark.TheVariants as mark;
 
 use golf_base::{List, Memory};
+use golf_check_operands::begins_slice;
 use golf_code_of::Tables;
 use golf_data::Instr;
 use golf_emission::{Mark, again, block, end, exit, op, unless};
 use golf_emit_expressions::expression;
 use golf_grammar::{Expr, OwnedExpr};
-use golf_types::{Given, Layer, Scope};
+use golf_types::{Given, Scope};
 use std::alloc::Global;
 
 /// The end and the beginning of a loop become targets.
@@ -101,15 +102,6 @@ pub fn append(alloc: Global, marks: &mut List<Mark>, more: List<Mark>) -> Result
     let last_first = reversed(alloc, more)?;
     append_reversed(marks, last_first)?;
     Ok(())
-}
-
-fn begins_slice(layers: &[Layer]) -> bool
-    ensures { result ≡ starts_with is_slice_layer layers.now }
-{
-    match layers {
-        [Layer::Slice, ..] => true,
-        _ => false,
-    }
 }
 
 /// Whether a value is a slice.

@@ -21,7 +21,7 @@ use crate::rounds::{
 };
 use crate::singles::{begin_at, break_at, continue_at, return_at, simple_at, variable_at};
 use golf_base::{List, Memory};
-use golf_check_expressions::element;
+use golf_check_operands::element;
 use golf_code_of::{Around, Tables};
 use golf_data::Instr;
 use golf_emission::{block as begin_block, end as end_block, exit, op};

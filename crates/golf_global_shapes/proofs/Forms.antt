@@ -57,16 +57,8 @@ module _ (f : FileScope) (globals : List (Option GoType)) where
 
   field-same : (b : Option Base) (n : List ℕ) → field_type other b n ≡ field_type f b n
   unfolding field_type member
-  field-same None n = refl
   field-same (Some (base.Pointer k)) n = fields-of-same k (member f k n)
-  field-same (Some base.Int) n = refl
-  field-same (Some base.Bool) n = refl
-  field-same (Some base.Text) n = refl
-  field-same (Some base.Unit) n = refl
-  field-same (Some base.Mutex) n = refl
-  field-same (Some base.Group) n = refl
-  field-same (Some base.ReadWriteMutex) n = refl
-  field-same (Some base.Condition) n = refl
+  field-same _ n = refl
 
   put-same : (l : ℕ) (b : Option Base) (ns : List (List ℕ)) (vs : List Given) → all_put_faults l other b ns vs ≡ all_put_faults l f b ns vs
   put-same l b [] vs = refl
@@ -96,14 +88,7 @@ module _ (f : FileScope) (globals : List (Option GoType)) where
   base-same : (l : ℕ) (n : List ℕ) (b : Base) → base_member l other n b ≡ base_member l f n b
   unfolding member
   base-same l n (base.Pointer k) = member-same l k (member f k n)
-  base-same l n base.Int = refl
-  base-same l n base.Bool = refl
-  base-same l n base.Text = refl
-  base-same l n base.Unit = refl
-  base-same l n base.Mutex = refl
-  base-same l n base.Group = refl
-  base-same l n base.ReadWriteMutex = refl
-  base-same l n base.Condition = refl
+  base-same l n _ = refl
 
   type-same : (l : ℕ) (n : List ℕ) (xs : List Layer) (b : Base) → type_member l other n xs b ≡ type_member l f n xs b
   type-same l n [] b = base-same l n b

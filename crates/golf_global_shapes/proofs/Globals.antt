@@ -23,6 +23,7 @@ use Rattle.golf_types.specs.Expressions.{used, given_by}
 use Rattle.golf_types.specs.Judging.{judge}
 use Rattle.golf_types.specs.Files.{Above, next_above, none_above, function_faults, name_faults, names_faults, method_is, struct_number, content_faults, field_fault, type_faults, main_faults, import_faults, content_type, global_types, bare_file, with_types, with_imports, no_imports, outside, formed_content, with_forms, file_scope, initial_walk, decl_walked, walk_faults, Broken}
 use Rattle.golf_shapes.specs.Types.{FunctionTypes, with_shapes}
+use Rattle.golf_shapes.proofs.Gets.{slice_set-same}
 use Rattle.golf_code_of.specs.Coding.{piece_at}
 use Rattle.golf_code_of.specs.Files.{tables_of}
 use Rattle.golf_code_shapes.specs.Sound.{IsKnown, FileFits, ScopeFits}
@@ -53,12 +54,6 @@ set-past (x ∷ xs) zero v zero l = absurd (omega (arith, l))
 set-past (x ∷ xs) zero v (suc k) l = refl
 set-past (x ∷ xs) (suc i) v zero l = absurd (omega (arith, l))
 set-past (x ∷ xs) (suc i) v (suc k) l = set-past xs i v k (omega (arith, l))
-
-set-here : {X : Type 0} (xs : List X) (i : ℕ) (v x : X) → slice_get xs i ≡ Some x → slice_get (slice_set xs i v) i ≡ Some v
-set-here [] zero v x e = cc
-set-here [] (suc i) v x e = cc
-set-here (y ∷ xs) zero v x e = refl
-set-here (y ∷ xs) (suc i) v x e = set-here xs i v x e
 
 -- so many types, those of the list where it has them
 padded : ℕ → List (Option GoType) → List (Option GoType)
@@ -183,7 +178,7 @@ module _ (i : Imports) (xs : List Decl) (w : WellNamed i xs) where
     one-global gs g l (content.Typed x e) known below is written none = written-global gs g l x is written
     one-global gs g l (content.Untyped e) known below is written none =
         let t = formed-global gs g l e known below none in
-        (t.0, t.1, set-here gs g (type_given (given_by (judge e l (outside (at gs))))) None is ∙ ap Some t.2)
+        (t.0, t.1, slice_set-same gs g (type_given (given_by (judge e l (outside (at gs))))) None is ∙ ap Some t.2)
 
     parameters-are : (f : Func) (a : Above) → name_faults (bare_file i xs) a (d.Func f) ≡ [] → type_faults begin (d.Func f) ≡ [] → ParametersAreKnown (outside final) f
     parameters-are f a names types = record {

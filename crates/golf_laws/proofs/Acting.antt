@@ -201,9 +201,6 @@ module _ (O G : ℕ → Type 0) (a : Actor) (i : ActorIn O G a) where
   good-blocks f kind waits h k = ((i.number, frames-cons O f a.callers h i.callers, k), tt)
 
   pub good-at_reference : (act : ℕ → List Change) (v : Value) → Val O v → ((o : ℕ) → O o → AllGood O G (act o)) → AllGood O G (at_reference a act v)
-  good-at_reference act (Value.Int n) h k = tt
-  good-at_reference act (Value.Bool b) h k = tt
-  good-at_reference act (Value.Text n) h k = tt
-  good-at_reference act Value.Unit h k = tt
   good-at_reference act Value.Nil h k = good-panics PanicKind.NilPointer
   good-at_reference act (Value.Ref o) h k = k o.0 h.0
+  good-at_reference act _ h k = tt

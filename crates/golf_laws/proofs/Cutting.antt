@@ -33,13 +33,8 @@ module _ (stays kept : ℕ → Bool) where
       parts (record s { next_ticket = s.next_ticket + 1 }) _ _ _ _ refl (sym (only-put stays g q s.goroutines))
 
   cut-pass_on_at : (s : State) (g m : ℕ) (x : Object) (r : GoroutineView) → pass_on_at x g m r (cut stays kept s) ≡ cut stays kept (pass_on_at x g m r s)
-  cut-pass_on_at s g m (Object.Struct fields) r = refl
-  cut-pass_on_at s g m (Object.Slice elements) r = refl
-  cut-pass_on_at s g m (Object.Chan d) r = refl
   cut-pass_on_at s g m (Object.Mutex locked) r = cut-pass_on_by s g m locked r
-  cut-pass_on_at s g m (Object.Group n) r = refl
-  cut-pass_on_at s g m (Object.Rw n) r = refl
-  cut-pass_on_at s g m (Object.Cond v) r = refl
+  cut-pass_on_at s g m _ r = refl
 
   cut-pass_on : (s : State) (g m : ℕ) (r : Option GoroutineView) (x : Option Object) → pass_on g m r x (cut stays kept s) ≡ cut stays kept (pass_on g m r x s)
   cut-pass_on s g m None x = refl
@@ -50,23 +45,18 @@ module _ (stays kept : ℕ → Bool) where
   pub cut_change : (F : ℕ → Type 0) (s : State) (c : Change) → KeepsFresh stays kept s → Good Kept Stays F c → apply c (cut stays kept s) ≡ cut stays kept (apply c s)
   cut_change F s (Change.Make x) f a = parts (make x s) _ _ _ _ (sym (only-add kept (s.last_object + 1) x s.objects (f.objects (s.last_object + 1) (omega arith)))) refl
   cut_change F s (Change.Replace p x) f a = parts s _ _ _ _ (sym (only-put kept p x s.objects)) refl
-  cut_change F s (Change.SetGlobal i v) f a = refl
   cut_change F s (Change.Become g r) f a = parts s _ _ _ _ refl (sym (only-put stays g r s.goroutines))
   cut_change F s (Change.Block g kind line waits r) f a =
       let q : GoroutineView = record r { mode = Mode.Blocked kind line waits s.next_ticket } in
       parts (record s { next_ticket = s.next_ticket + 1 }) _ _ _ _ refl (sym (only-put stays g q s.goroutines))
   cut_change F s (Change.Spawn r) f a = parts (spawn r s) _ _ _ _ refl (sym (only-add stays s.next_goroutine r s.goroutines (f.goroutines s.next_goroutine (omega arith))))
   cut_change F s (Change.Leave g) f a = parts s _ _ _ _ refl (only-swap (λ h. not (h == g)) stays s.goroutines)
-  cut_change F s (Change.Finish e) f a = refl
-  cut_change F s (Change.SetFinaliser p k) f a = refl
-  cut_change F s (Change.ClearFinaliser p) f a = refl
-  cut_change F s Change.TakeQueued f a = refl
-  cut_change F s (Change.Output bytes) f a = refl
   cut_change F s (Change.WakeAll o how) f a = parts s _ _ _ _ refl (sym (only-map_values (λ g. woken_by how o) stays s.goroutines))
   cut_change F s (Change.PassOn g m) f a =
       ap (λ (r : Option GoroutineView). pass_on g m r (find m (only kept s.objects)) (cut stays kept s)) (find-only stays s.goroutines g a.0)
       ∙ ap (λ (x : Option Object). pass_on g m (find g s.goroutines) x (cut stays kept s)) (find-only kept s.objects m a.1)
       ∙ cut-pass_on s g m (find g s.goroutines) (find m s.objects)
+  cut_change F s _ f a = refl
 
 -- numbers are given in rising order
 grows-by : (s : State) (g m : ℕ) (locked : Bool) (r : GoroutineView) → (s.last_object ≤ (pass_on_by locked g m r s).last_object) × (s.next_goroutine ≤ (pass_on_by locked g m r s).next_goroutine)

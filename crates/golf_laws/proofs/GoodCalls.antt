@@ -131,12 +131,9 @@ module _ (O G : ℕ → Type 0) (s : State) (c : Ground s O G) (a : Actor) (i : 
     sound-finalises_by rest f o (Some old) e r m = good-sound O G F s.last_object (dies a PanicKind.FinalizerSet) (good-dies O G a i PanicKind.FinalizerSet)
 
     sound-at_reference : (act : ℕ → List Change) (v : Value) → Val O v → ((o : ℕ) → O o → Sound O G F s.last_object (act o)) → Sound O G F s.last_object (at_reference a act v)
-    sound-at_reference act (Value.Int n) h k = tt
-    sound-at_reference act (Value.Bool b) h k = tt
-    sound-at_reference act (Value.Text n) h k = tt
-    sound-at_reference act Value.Unit h k = tt
     sound-at_reference act Value.Nil h k = good-sound O G F s.last_object (panics a PanicKind.NilPointer) (good-panics O G a i PanicKind.NilPointer)
     sound-at_reference act (Value.Ref o) h k = k o.0 h.0
+    sound-at_reference act _ h k = tt
 
     pub sound-finalises : (f : ℕ) → Sound O G F s.last_object (finalises a f s)
     sound-finalises f = all-taking_one (Sound O G F s.last_object) tt O _ a.frame.operands ops

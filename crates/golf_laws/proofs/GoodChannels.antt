@@ -165,12 +165,8 @@ module _ (O G : ℕ → Type 0) (s : State) (c : Ground s O G) (a : Actor) (i : 
   wait_of-in x CaseKind.TakeOk o m h = (m, tt)
 
   case_waits-in : (x : Offer) (v : Value) → Val O v → Val O x.value → Every O (wait_refs (case_waits x v))
-  case_waits-in x (Value.Int n) h k = tt
-  case_waits-in x (Value.Bool b) h k = tt
-  case_waits-in x (Value.Text n) h k = tt
-  case_waits-in x Value.Unit h k = tt
-  case_waits-in x Value.Nil h k = tt
   case_waits-in x (Value.Ref o) h k = wait_of-in x x.kind o.0 h.0 k
+  case_waits-in x _ h k = tt
 
   offered_waits-in : (xs : List Offer) → Every OfferIn xs → Every O (wait_refs (offered_waits xs))
   offered_waits-in [] h = tt

@@ -52,20 +52,8 @@ module _ (s : State) (g m : ℕ) where
   same-pass_on (Some r) (Some x) = same-at x r
 
 pub last-apply : (s : State) (c : Change) → last_after c s.last_object ≡ (apply c s).last_object
-last-apply s (Change.Make x) = refl
-last-apply s (Change.Replace p y) = refl
-last-apply s (Change.SetGlobal k v) = refl
-last-apply s (Change.Become h r) = refl
-last-apply s (Change.Block h kind line waits r) = refl
-last-apply s (Change.Spawn r) = refl
-last-apply s (Change.Leave h) = refl
-last-apply s (Change.Finish e) = refl
-last-apply s (Change.SetFinaliser p k) = refl
-last-apply s (Change.ClearFinaliser p) = refl
-last-apply s Change.TakeQueued = refl
-last-apply s (Change.Output bytes) = refl
-last-apply s (Change.WakeAll p how) = refl
 last-apply s (Change.PassOn g m) = sym (same-pass_on s g m (find g s.goroutines) (find m s.objects)).0
+last-apply s _ = refl
 
 given-after : (s : State) (c : Change) (o : ℕ) → objects_after c (Given s) s.last_object o → Given (apply c s) o
 given-after s (Change.Make x) o a = elim a [ inl b ↦ omega arith | inr b ↦ omega arith ]

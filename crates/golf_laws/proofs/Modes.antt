@@ -58,20 +58,10 @@ allows-none O G code s c h f at l is t o u = both_ways (is_setting l.instr) (no_
 
 -- where none is set, there is none
 none_after : (O G : ℕ → Type 0) (s : State) (c : Change) → s.finalisers ≡ [] → Good O G Nothing c → (apply c s).finalisers ≡ []
-none_after O G s (Change.Make x) h a = h
-none_after O G s (Change.Replace p x) h a = h
-none_after O G s (Change.SetGlobal i v) h a = h
-none_after O G s (Change.Become g r) h a = h
-none_after O G s (Change.Block g kind line waits r) h a = h
-none_after O G s (Change.Spawn r) h a = h
-none_after O G s (Change.Leave g) h a = h
-none_after O G s (Change.Finish e) h a = h
 none_after O G s (Change.SetFinaliser p k) h a = absurd a.1
 none_after O G s (Change.ClearFinaliser p) h a = ap (only (λ q. not (q == p))) h
-none_after O G s Change.TakeQueued h a = h
-none_after O G s (Change.Output bytes) h a = h
-none_after O G s (Change.WakeAll o how) h a = h
 none_after O G s (Change.PassOn g m) h a = (same-pass_on s g m (find g s.goroutines) (find m s.objects)).2 ∙ h
+none_after O G s _ h a = h
 
 still_none : (c : Change) (o : ℕ) → finalisable_after c Nothing o → Nothing o
 still_none (Change.Make x) o a = a

@@ -55,12 +55,8 @@ module _ (w : List ℕ) (s : State) where
   same-proceeds_by a after CaseKind.TakeOk v o = refl
 
   same-proceeds_at : (a : Actor) (after : FrameView) (kind : CaseKind) (v c : Value) → at_reference_or [] (proceeds_by a after kind v (prefixed w s)) c ≡ at_reference_or [] (proceeds_by a after kind v s) c
-  same-proceeds_at a after kind v (Value.Int n) = refl
-  same-proceeds_at a after kind v (Value.Bool b) = refl
-  same-proceeds_at a after kind v (Value.Text k) = refl
-  same-proceeds_at a after kind v Value.Unit = refl
-  same-proceeds_at a after kind v Value.Nil = refl
   same-proceeds_at a after kind v (Value.Ref o) = same-proceeds_by a after kind v o.0
+  same-proceeds_at a after kind v _ = refl
 
   same-one : (a : Actor) (rest : List Value) (xs : List Offer) (otherwise : Option ℕ) (m : Option Offer) → selects_one a rest (prefixed w s) xs otherwise m ≡ selects_one a rest s xs otherwise m
   same-one a rest xs otherwise None = refl
@@ -75,69 +71,8 @@ module _ (w : List ℕ) (s : State) where
 
 module _ (w : List ℕ) (code : Code) where
   same-changes : (i : Instr) (a : Actor) (choice : ℕ) (s : State) → changes code i a choice (prefixed w s) ≡ changes code i a choice s
-  same-changes (Instr.Int n) a choice s = refl
-  same-changes (Instr.Bool b) a choice s = refl
-  same-changes (Instr.Text k) a choice s = refl
-  same-changes Instr.Unit a choice s = refl
-  same-changes Instr.Nil a choice s = refl
-  same-changes (Instr.Load i) a choice s = refl
-  same-changes (Instr.Store i) a choice s = refl
-  same-changes (Instr.LoadGlobal i) a choice s = refl
-  same-changes (Instr.StoreGlobal i) a choice s = refl
-  same-changes Instr.Drop a choice s = refl
-  same-changes Instr.Dup a choice s = refl
-  same-changes Instr.Dup2 a choice s = refl
-  same-changes Instr.Neg a choice s = refl
-  same-changes Instr.Not a choice s = refl
-  same-changes Instr.Add a choice s = refl
-  same-changes Instr.Sub a choice s = refl
-  same-changes Instr.Mul a choice s = refl
-  same-changes Instr.Div a choice s = refl
-  same-changes Instr.Rem a choice s = refl
-  same-changes Instr.Eq a choice s = refl
-  same-changes Instr.Less a choice s = refl
-  same-changes Instr.AtMost a choice s = refl
-  same-changes (Instr.Jump target) a choice s = refl
-  same-changes (Instr.JumpIfNot target) a choice s = refl
-  same-changes (Instr.NewStruct t) a choice s = refl
-  same-changes Instr.NewMutex a choice s = refl
-  same-changes Instr.NewGroup a choice s = refl
-  same-changes Instr.NewRw a choice s = refl
-  same-changes Instr.NewCond a choice s = refl
-  same-changes (Instr.Field i) a choice s = refl
-  same-changes (Instr.SetField i) a choice s = refl
-  same-changes (Instr.NewSlice zero) a choice s = refl
-  same-changes (Instr.NewChan zero) a choice s = refl
-  same-changes Instr.Index a choice s = refl
-  same-changes Instr.SetIndex a choice s = refl
-  same-changes Instr.Len a choice s = refl
-  same-changes Instr.Send a choice s = refl
-  same-changes Instr.Receive a choice s = refl
-  same-changes Instr.ReceiveOk a choice s = refl
-  same-changes Instr.Close a choice s = refl
   same-changes (Instr.Select cases otherwise) a choice s = same-selects w s a choice otherwise (offers_of cases a.frame.operands)
-  same-changes Instr.Lock a choice s = refl
-  same-changes Instr.Unlock a choice s = refl
-  same-changes Instr.GroupAdd a choice s = refl
-  same-changes Instr.GroupWait a choice s = refl
-  same-changes Instr.RwLock a choice s = refl
-  same-changes Instr.RwUnlock a choice s = refl
-  same-changes Instr.ReadLock a choice s = refl
-  same-changes Instr.ReadUnlock a choice s = refl
-  same-changes Instr.CondMutex a choice s = refl
-  same-changes Instr.CondWait a choice s = refl
-  same-changes Instr.CondSignal a choice s = refl
-  same-changes Instr.CondBroadcast a choice s = refl
-  same-changes (Instr.Call f n) a choice s = refl
-  same-changes (Instr.Go f n) a choice s = refl
-  same-changes (Instr.Defer f n) a choice s = refl
-  same-changes Instr.Return a choice s = refl
-  same-changes Instr.ReturnValue a choice s = refl
-  same-changes (Instr.Print n) a choice s = refl
-  same-changes Instr.Collect a choice s = refl
-  same-changes (Instr.SetFinalizer f) a choice s = refl
-  same-changes Instr.ClearFinalizer a choice s = refl
-  same-changes Instr.Panic a choice s = refl
+  same-changes _ a choice s = refl
 
   same-performs : (g : ℕ) (r : GoroutineView) (f : FrameView) (callers : List FrameView) (choice : ℕ) (s : State) (m : Option Line) → performs code g r f callers choice (prefixed w s) m ≡ performs code g r f callers choice s m
   same-performs g r f callers choice s None = refl
@@ -166,13 +101,8 @@ module _ (w : List ℕ) (code : Code) where
   passed-by false g m r s = refl
 
   passed-at : (x : Object) (g m : ℕ) (r : GoroutineView) (s : State) → pass_on_at x g m r (prefixed w s) ≡ prefixed w (pass_on_at x g m r s)
-  passed-at (Object.Struct fields) g m r s = refl
-  passed-at (Object.Slice elements) g m r s = refl
-  passed-at (Object.Chan d) g m r s = refl
   passed-at (Object.Mutex locked) g m r s = passed-by locked g m r s
-  passed-at (Object.Group k) g m r s = refl
-  passed-at (Object.Rw k) g m r s = refl
-  passed-at (Object.Cond v) g m r s = refl
+  passed-at _ g m r s = refl
 
   passed : (g m : ℕ) (r : Option GoroutineView) (x : Option Object) (s : State) → pass_on g m r x (prefixed w s) ≡ prefixed w (pass_on g m r x s)
   passed g m None x s = refl
@@ -180,20 +110,9 @@ module _ (w : List ℕ) (code : Code) where
   passed g m (Some r) (Some x) s = passed-at x g m r s
 
   same-apply : (c : Change) (s : State) → apply c (prefixed w s) ≡ prefixed w (apply c s)
-  same-apply (Change.Make x) s = refl
-  same-apply (Change.Replace o x) s = refl
-  same-apply (Change.SetGlobal i v) s = refl
-  same-apply (Change.Become g r) s = refl
-  same-apply (Change.Block g kind line waits r) s = refl
-  same-apply (Change.Spawn r) s = refl
-  same-apply (Change.Leave g) s = refl
-  same-apply (Change.Finish e) s = refl
-  same-apply (Change.SetFinaliser o f) s = refl
-  same-apply (Change.ClearFinaliser o) s = refl
-  same-apply Change.TakeQueued s = refl
   same-apply (Change.Output bytes) s = ap (λ (o : List ℕ). record s { output = o }) (append_assoc w s.output bytes)
-  same-apply (Change.WakeAll o how) s = refl
   same-apply (Change.PassOn g m) s = passed g m (find g s.goroutines) (find m s.objects) s
+  same-apply _ s = refl
 
   same-apply_all : (cs : List Change) (s : State) → apply_all cs (prefixed w s) ≡ prefixed w (apply_all cs s)
   same-apply_all [] s = refl

@@ -94,12 +94,8 @@ module _ (stays kept : ℕ → Bool) (O G : ℕ → Type 0) (s : State) (c : Gro
 
   -- the cases of a `select`
   same-is_nil_or_channel : (v : Value) → Val O v → is_nil_or_channel (cut stays kept s) v ≡ is_nil_or_channel s v
-  same-is_nil_or_channel (Value.Int n) h = refl
-  same-is_nil_or_channel (Value.Bool b) h = refl
-  same-is_nil_or_channel (Value.Text k) h = refl
-  same-is_nil_or_channel Value.Unit h = refl
-  same-is_nil_or_channel Value.Nil h = refl
   same-is_nil_or_channel (Value.Ref o) h = ap is_channel (same-find stays kept O G s c sub_o sub_g o.0 h.0)
+  same-is_nil_or_channel _ h = refl
 
   same-all_on_channels : (xs : List Offer) → Every (OfferIn O G s c a i) xs → all_on_channels (cut stays kept s) xs ≡ all_on_channels s xs
   same-all_on_channels [] h = refl
@@ -113,14 +109,8 @@ module _ (stays kept : ℕ → Bool) (O G : ℕ → Type 0) (s : State) (c : Gro
   same-can_proceed CaseKind.TakeOk o d m = ap (λ (w : Option Waiter). not_empty d.buffer || (is_some w || d.closed)) (same-first stays kept O G s c sub_o sub_g o Side.Send m)
 
   same-is_ready_at : (kind : CaseKind) (o : ℕ) → O o → (x : Option Object) → is_ready_at kind o (only stays s.goroutines) x ≡ is_ready_at kind o s.goroutines x
-  same-is_ready_at kind o m None = refl
-  same-is_ready_at kind o m (Some (Object.Struct fields)) = refl
-  same-is_ready_at kind o m (Some (Object.Slice elements)) = refl
   same-is_ready_at kind o m (Some (Object.Chan d)) = same-can_proceed kind o d m
-  same-is_ready_at kind o m (Some (Object.Mutex locked)) = refl
-  same-is_ready_at kind o m (Some (Object.Group n)) = refl
-  same-is_ready_at kind o m (Some (Object.Rw n)) = refl
-  same-is_ready_at kind o m (Some (Object.Cond v)) = refl
+  same-is_ready_at kind o m _ = refl
 
   same-is_ready_on : (kind : CaseKind) (v : Value) → Val O v → is_ready_on kind (cut stays kept s) v ≡ is_ready_on kind s v
   same-is_ready_on kind (Value.Int n) h = refl
@@ -169,24 +159,12 @@ module _ (stays kept : ℕ → Bool) (O G : ℕ → Type 0) (s : State) (c : Gro
   same-unlocks_by rest o m true = at_first o Side.Lock m (λ w. goes a rest ++ hands_over o w)
 
   same-at_mutex : (act other : Bool → List Change) (x : Option Object) → ((b : Bool) → act b ≡ other b) → at_mutex act x ≡ at_mutex other x
-  same-at_mutex act other None h = refl
-  same-at_mutex act other (Some (Object.Struct fields)) h = refl
-  same-at_mutex act other (Some (Object.Slice elements)) h = refl
-  same-at_mutex act other (Some (Object.Chan d)) h = refl
   same-at_mutex act other (Some (Object.Mutex locked)) h = h locked
-  same-at_mutex act other (Some (Object.Group n)) h = refl
-  same-at_mutex act other (Some (Object.Rw n)) h = refl
-  same-at_mutex act other (Some (Object.Cond v)) h = refl
+  same-at_mutex act other _ h = refl
 
   same-at_rw : (act other : ℤ → List Change) (x : Option Object) → ((n : ℤ) → act n ≡ other n) → at_rw act x ≡ at_rw other x
-  same-at_rw act other None h = refl
-  same-at_rw act other (Some (Object.Struct fields)) h = refl
-  same-at_rw act other (Some (Object.Slice elements)) h = refl
-  same-at_rw act other (Some (Object.Chan d)) h = refl
-  same-at_rw act other (Some (Object.Mutex locked)) h = refl
-  same-at_rw act other (Some (Object.Group n)) h = refl
   same-at_rw act other (Some (Object.Rw n)) h = h n
-  same-at_rw act other (Some (Object.Cond v)) h = refl
+  same-at_rw act other _ h = refl
 
   same-unlocks : unlocks a (cut stays kept s) ≡ unlocks a s
   same-unlocks = same-taking_one O _ _ a.frame.operands ops
@@ -291,41 +269,11 @@ module _ (stays kept : ℕ → Bool) (O G : ℕ → Type 0) (s : State) (c : Gro
   same-unfinalises = same-taking_one O _ _ a.frame.operands ops
       (λ p rest h r. same-at_reference_or O _ _ _ p h (λ o m. at_object o m (at_struct (λ fields. Change.ClearFinaliser o ∷ goes a rest))))
 
-  -- one line for each instruction
+  -- one line for each instruction that looks at the state
   pub same_changes : (code : Code) (k : Instr) (choice : ℕ) → changes code k a choice (cut stays kept s) ≡ changes code k a choice s
-  same_changes code (Instr.Int n) choice = refl
-  same_changes code (Instr.Bool b) choice = refl
-  same_changes code (Instr.Text k) choice = refl
-  same_changes code Instr.Unit choice = refl
-  same_changes code Instr.Nil choice = refl
-  same_changes code (Instr.Load k) choice = refl
-  same_changes code (Instr.Store k) choice = refl
-  same_changes code (Instr.LoadGlobal k) choice = refl
-  same_changes code (Instr.StoreGlobal k) choice = refl
-  same_changes code Instr.Drop choice = refl
-  same_changes code Instr.Dup choice = refl
-  same_changes code Instr.Dup2 choice = refl
-  same_changes code Instr.Neg choice = refl
-  same_changes code Instr.Not choice = refl
-  same_changes code Instr.Add choice = refl
-  same_changes code Instr.Sub choice = refl
-  same_changes code Instr.Mul choice = refl
-  same_changes code Instr.Div choice = refl
-  same_changes code Instr.Rem choice = refl
-  same_changes code Instr.Eq choice = refl
-  same_changes code Instr.Less choice = refl
-  same_changes code Instr.AtMost choice = refl
-  same_changes code (Instr.Jump target) choice = refl
-  same_changes code (Instr.JumpIfNot target) choice = refl
-  same_changes code (Instr.NewStruct t) choice = refl
-  same_changes code Instr.NewMutex choice = refl
-  same_changes code Instr.NewGroup choice = refl
-  same_changes code Instr.NewRw choice = refl
   same_changes code Instr.NewCond choice = same-makes_condition
   same_changes code (Instr.Field k) choice = same-gets_field k
   same_changes code (Instr.SetField k) choice = same-sets_field k
-  same_changes code (Instr.NewSlice zero) choice = refl
-  same_changes code (Instr.NewChan zero) choice = refl
   same_changes code Instr.Index choice = same-gets_element
   same_changes code Instr.SetIndex choice = same-sets_element
   same_changes code Instr.Len choice = same-measures
@@ -346,13 +294,6 @@ module _ (stays kept : ℕ → Bool) (O G : ℕ → Type 0) (s : State) (c : Gro
   same_changes code Instr.CondWait choice = same-awaits
   same_changes code Instr.CondSignal choice = same-signals
   same_changes code Instr.CondBroadcast choice = same-broadcasts
-  same_changes code (Instr.Call f n) choice = refl
-  same_changes code (Instr.Go f n) choice = refl
-  same_changes code (Instr.Defer f n) choice = refl
-  same_changes code Instr.Return choice = refl
-  same_changes code Instr.ReturnValue choice = refl
-  same_changes code (Instr.Print k) choice = refl
-  same_changes code Instr.Collect choice = refl
   same_changes code (Instr.SetFinalizer f) choice = same-finalises f
   same_changes code Instr.ClearFinalizer choice = same-unfinalises
-  same_changes code Instr.Panic choice = refl
+  same_changes code _ choice = refl

@@ -114,28 +114,14 @@ module _ (O : ℕ → Type 0) where
       h x y z rest (vals-head O x rest d) (vals-head O y (x ∷ rest) b) (vals-head O z (y ∷ x ∷ rest) a) (vals-tail O x rest d)
 
   pub same-at_reference : (a : Actor) (act other : ℕ → List Change) (v : Value) → Val O v → ((o : ℕ) → O o → act o ≡ other o) → at_reference a act v ≡ at_reference a other v
-  same-at_reference a act other (Value.Int n) h k = refl
-  same-at_reference a act other (Value.Bool b) h k = refl
-  same-at_reference a act other (Value.Text n) h k = refl
-  same-at_reference a act other Value.Unit h k = refl
-  same-at_reference a act other Value.Nil h k = refl
   same-at_reference a act other (Value.Ref o) h k = k o.0 h.0
+  same-at_reference a act other _ h k = refl
 
   pub same-at_reference_or : (nil : List Change) (act other : ℕ → List Change) (v : Value) → Val O v → ((o : ℕ) → O o → act o ≡ other o) → at_reference_or nil act v ≡ at_reference_or nil other v
-  same-at_reference_or nil act other (Value.Int n) h k = refl
-  same-at_reference_or nil act other (Value.Bool b) h k = refl
-  same-at_reference_or nil act other (Value.Text n) h k = refl
-  same-at_reference_or nil act other Value.Unit h k = refl
-  same-at_reference_or nil act other Value.Nil h k = refl
   same-at_reference_or nil act other (Value.Ref o) h k = k o.0 h.0
+  same-at_reference_or nil act other _ h k = refl
 
   -- the mutex of a condition is a member
   pub same-at_condition : (act other : Value → List Change) (m : Option Object) → ((x : Object) → m ≡ Some x → Every O (object_refs x)) → ((v : Value) → Val O v → act v ≡ other v) → at_condition act m ≡ at_condition other m
-  same-at_condition act other None k h = refl
-  same-at_condition act other (Some (Object.Struct fields)) k h = refl
-  same-at_condition act other (Some (Object.Slice elements)) k h = refl
-  same-at_condition act other (Some (Object.Chan d)) k h = refl
-  same-at_condition act other (Some (Object.Mutex locked)) k h = refl
-  same-at_condition act other (Some (Object.Group n)) k h = refl
-  same-at_condition act other (Some (Object.Rw n)) k h = refl
   same-at_condition act other (Some (Object.Cond v)) k h = h v (k (Object.Cond v) refl)
+  same-at_condition act other _ k h = refl

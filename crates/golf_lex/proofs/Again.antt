@@ -1,6 +1,6 @@
 -- What is a lexeme is read as one.
 use Rattle.std.proofs.Common.{◌≡◌, ℕ, Bool, true, false, cond, not, ◌&&◌, ◌||◌, List, [], ◌∷◌, ◌++◌, refl, sym, ap, ◌∙◌, append-nil, arith}
-use Rattle.std.proofs.lemmas.Bool.{eqb-true}
+use Rattle.std.proofs.lemmas.Bool.{and_parts, eqb-true}
 use Rattle.std.proofs.lemmas.Bool.Decides.{nat_tests}
 use Rattle.std.specs.Prelude.{Option, Some, None, option_and_then, nat_eq, nat_le}
 use Rattle.std.specs.Option.{option_map}
@@ -20,7 +20,7 @@ use Rattle.golf_lex.proofs.Growing.{to_only, grown, reached}
 use Rattle.golf_lex.proofs.Comments.{comments-again}
 use Rattle.golf_lex.proofs.Marks.{marks-again}
 use Rattle.golf_lex.proofs.Told.{keyword_of-again, keyword_of-no, keywords-again}
-use Rattle.golf_lex.proofs.Whole.{class_at, both, ordinary-other, content_from-parts}
+use Rattle.golf_lex.proofs.Whole.{class_at, ordinary-other, content_from-parts}
 
 -- the automaton reads the bytes as a lexeme of this class
 pub record IsRead (class : Class) (bytes : List ℕ) : Type 0 where
@@ -35,13 +35,13 @@ pub record IsRead (class : Class) (bytes : List ℕ) : Type 0 where
 words-again : (bs : List ℕ) → list_all is_word_byte bs ≡ true → grown states.Word bs ≡ Some states.Word
 words-again [] v = refl
 words-again (b ∷ bs) v =
-    let w = both (is_word_byte b) (list_all is_word_byte bs) v in
+    let w = and_parts (is_word_byte b) (list_all is_word_byte bs) v in
     ap (λ t. to_only (cond t (To states.Word) Over) (λ n. grown n bs)) w.0 ∙ words-again bs w.1
 
 digits-again : (bs : List ℕ) → list_all is_digit bs ≡ true → grown states.Digits bs ≡ Some states.Digits
 digits-again [] v = refl
 digits-again (b ∷ bs) v =
-    let w = both (is_digit b) (list_all is_digit bs) v in
+    let w = and_parts (is_digit b) (list_all is_digit bs) v in
     ap (λ t. to_only (cond t (To states.Digits) (cond (is_letter b) Fault Over)) (λ n. grown n bs)) w.0 ∙ digits-again bs w.1
 
 line-again : (bs : List ℕ) → list_all (λ b. is_nonzero b && not (nat_eq b 10)) bs ≡ true → grown states.LineComment bs ≡ Some states.LineComment
@@ -56,7 +56,7 @@ line-again (b ∷ bs) v = at (nat_eq b 0) (nat_eq b 10) v (λ w. line-again bs w
 parts-again : (ps : List Part) → list_all is_part ps ≡ true → grown states.Quoted (parts_text ps ++ 34 ∷ []) ≡ Some states.Text
 parts-again [] v = refl
 parts-again (Itself b ∷ ps) v =
-    let w = both (is_ordinary b) (list_all is_part ps) v in
+    let w = and_parts (is_ordinary b) (list_all is_part ps) v in
     let o = ordinary-other b w.0 in
     let rest = parts_text ps ++ 34 ∷ [] in
     ap (λ t. to_only (cond t (To states.Text) (cond (nat_eq b 92) (To states.Escaped) (cond (is_ordinary b) (To states.Quoted) Fault))) (λ n. grown n rest)) o.0
@@ -88,7 +88,7 @@ behind_letter b = cond (nat_eq b 48) (Some states.Zero) (cond (is_digit b) (Some
 name-again : (name bytes : List ℕ) → Names name bytes → IsRead (Of (Name name)) bytes
 name-again [] bytes h = absurd (let w = h.word in cc)
 name-again (b ∷ bs) bytes h =
-    let w = both (is_letter b) (list_all is_word_byte bs) h.word in
+    let w = and_parts (is_letter b) (list_all is_word_byte bs) h.word in
     record {
       first = b;
       rest = bs;
@@ -128,7 +128,7 @@ integer-again (b ∷ []) bytes e h = at (nat_eq b 48) refl
     at true et = let same = eqb-true b 48 et in record { first = b; rest = []; are = e; last = states.Zero; reaches = ap (λ x. reached (x ∷ [])) same; complete = refl; as_class = refl }
     at false et = digits-read b [] bytes e et h refl
 integer-again (b ∷ c ∷ bs) bytes e h =
-    let w = both (nat_le 49 b && nat_le b 57) (list_all is_digit (c ∷ bs)) h in
+    let w = and_parts (nat_le 49 b && nat_le b 57) (list_all is_digit (c ∷ bs)) h in
     let d = later-digit b w.0 in
     digits-read b (c ∷ bs) bytes e d.1 d.0 w.1
 

@@ -1,6 +1,6 @@
 -- What a general comment goes on with.
 use Rattle.std.proofs.Common.{◌≡◌, ℕ, Bool, true, false, cond, not, ◌&&◌, ◌||◌, List, [], ◌∷◌, ◌++◌, refl, sym, ap, ◌∙◌}
-use Rattle.std.proofs.lemmas.Bool.{eqb-true}
+use Rattle.std.proofs.lemmas.Bool.{eqb-true, or_parts}
 use Rattle.std.specs.Prelude.{Some, nat_eq}
 use Rattle.std.specs.List.{list_all}
 use Rattle.golf_tokens.specs.Lexemes.{is_nonzero, has_end}
@@ -89,10 +89,6 @@ comments true (b ∷ bs) last e whole = at (nat_eq b 47) (nat_eq b 0) (nat_eq b 
 abbrev pub NoEnd : Bool → List ℕ → Type 0
 NoEnd starred body = has_end (star starred ++ (body ++ 42 ∷ [])) ≡ false
 
-either-false : (a b : Bool) → (a || b) ≡ false → (a ≡ false) × (b ≡ false)
-either-false true b e = absurd (cc)
-either-false false b e = (refl, e)
-
 -- such a body is read, and the `*/` behind it
 pub comments-again : (starred : Bool) (body : List ℕ) → list_all is_nonzero body ≡ true → NoEnd starred body → grown (inside starred) (body ++ 42 ∷ 47 ∷ []) ≡ Some states.Closed
 comments-again true [] v h = refl
@@ -104,7 +100,7 @@ comments-again false (b ∷ body) v h = at (nat_eq b 0) (nat_eq b 42) refl v (λ
     at false true et w starred other = starred w (ap (λ x. has_end (x ∷ (body ++ 42 ∷ []))) (sym (eqb-true b 42 et)) ∙ h)
     at false false et w starred other = other w (sym (has_end-other b (body ++ 42 ∷ []) et) ∙ h)
 comments-again true (b ∷ body) v h =
-    let split = either-false (nat_eq b 47) (has_end (b ∷ (body ++ 42 ∷ []))) h in
+    let split = or_parts (nat_eq b 47) (has_end (b ∷ (body ++ 42 ∷ []))) h in
     at (nat_eq b 47) (nat_eq b 0) (nat_eq b 42) split.0 refl v split.1 (λ w k. comments-again true body w k) (λ w k. comments-again false body w k)
   where
     at : (k z t : Bool) → k ≡ false → nat_eq b 42 ≡ t → (not z && list_all is_nonzero body) ≡ true → has_end (b ∷ (body ++ 42 ∷ [])) ≡ false → (list_all is_nonzero body ≡ true → NoEnd true body → grown states.Star (body ++ 42 ∷ 47 ∷ []) ≡ Some states.Closed) → (list_all is_nonzero body ≡ true → NoEnd false body → grown states.GeneralComment (body ++ 42 ∷ 47 ∷ []) ≡ Some states.Closed) → to_only (cond k (To states.Closed) (cond z Fault (cond t (To states.Star) (To states.GeneralComment)))) (λ n. grown n (body ++ 42 ∷ 47 ∷ [])) ≡ Some states.Closed

@@ -92,19 +92,13 @@ line-clear c = at (nat_eq c 0) (nat_eq c 10) refl
 
 -- where a byte ends a lexeme, the lexeme may stand before it
 pub follows : (b : ℕ) (bs : List ℕ) (last : State) (c : ℕ) (rest : List ℕ) → reached (b ∷ bs) ≡ Some last → growth last c ≡ Over → MayPrecede (class_at last (b ∷ bs)) (b ∷ bs) (c ∷ rest)
-follows b bs states.Blank c rest r g = tt
 follows b bs states.Word c rest r g = (longest b bs states.Word c rest r g, word-clear (b ∷ bs) (keyword_of (b ∷ bs)) (c ∷ rest))
 follows b bs states.Zero c rest r g = (longest b bs states.Zero c rest r g, zero-clear (is_word_byte c) g)
 follows b bs states.Digits c rest r g = (longest b bs states.Digits c rest r g, digits-clear (is_digit c) (is_letter c) g)
 follows b bs states.Text c rest r g = (longest b bs states.Text c rest r g, refl)
 follows b bs (states.Mark m) c rest r g = (longest b bs (states.Mark m) c rest r g, mark-clear m c rest g)
 follows b bs states.LineComment c rest r g = line-clear c g
-follows b bs states.Closed c rest r g = tt
-follows b bs states.Quoted c rest r g = tt
-follows b bs states.Escaped c rest r g = tt
-follows b bs states.Bar c rest r g = tt
-follows b bs states.GeneralComment c rest r g = tt
-follows b bs states.Star c rest r g = tt
+follows b bs _ c rest r g = tt
 
 -- a longer token refutes that one is the longest
 not-longest : (b : ℕ) (bs : List ℕ) (c : ℕ) (rest : List ℕ) (kind : TokenKind) → IsLongest (b ∷ bs) (c ∷ rest) → Spells kind (b ∷ (bs ++ c ∷ [])) → ⊥
@@ -150,11 +144,7 @@ ends-there b bs states.Text c rest r whole m = refl
 ends-there b bs (states.Mark k) c rest r whole m = mark-over k b bs c rest r m.0 m.1
 ends-there b bs states.LineComment c rest r whole m = ap (growth states.LineComment) m
 ends-there b bs states.Closed c rest r whole m = refl
-ends-there b bs states.Quoted c rest r whole m = absurd (cc)
-ends-there b bs states.Escaped c rest r whole m = absurd (cc)
-ends-there b bs states.Bar c rest r whole m = absurd (cc)
-ends-there b bs states.GeneralComment c rest r whole m = absurd (cc)
-ends-there b bs states.Star c rest r whole m = absurd (cc)
+ends-there b bs _ c rest r whole m = absurd (cc)
 
 -- only a whole lexeme ends
 pub over-complete : (state : State) (c : ℕ) → growth state c ≡ Over → is_complete state ≡ true

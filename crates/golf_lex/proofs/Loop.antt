@@ -54,11 +54,7 @@ ended-line o (states.Mark m) bytes whole = ap (λ n. n + newlines bytes) (with_c
 ended-line o states.LineComment bytes whole = ap (λ n. n + newlines bytes) (with_class-line o (class_at states.LineComment bytes) bytes)
 ended-line o states.Closed bytes whole = ap (λ n. n + newlines bytes) (with_class-line o (class_at states.Closed bytes) bytes)
 ended-line o states.Blank (b ∷ bytes) whole = ap (λ n. n + newlines (b ∷ bytes)) (with_class-line o Blank (b ∷ bytes))
-ended-line o states.Quoted bytes whole = absurd (cc)
-ended-line o states.Escaped bytes whole = absurd (cc)
-ended-line o states.Bar bytes whole = absurd (cc)
-ended-line o states.GeneralComment bytes whole = absurd (cc)
-ended-line o states.Star bytes whole = absurd (cc)
+ended-line o _ bytes whole = absurd (cc)
 
 -- one more byte of a lexeme
 pub slice-more : (bytes : List ℕ) (start i : ℕ) → start ≤ i → i < length bytes → take (i + 1 - start) (drop start bytes) ≡ take (i - start) (drop start bytes) ++ get_or bytes i 0 ∷ []

@@ -56,13 +56,7 @@ over states.Zero bytes c w e = not-over (is_word_byte c) Fault e
 over states.Digits bytes c w e = digits-over (is_letter c) (is_digit c) e
 over states.Text bytes c w e = refl
 over (states.Mark m) bytes c w e = mark-over (after_mark m c) e
-over states.LineComment bytes c w e = absurd (cc)
-over states.Closed bytes c w e = absurd (cc)
-over states.Quoted bytes c w e = absurd (cc)
-over states.Escaped bytes c w e = absurd (cc)
-over states.Bar bytes c w e = absurd (cc)
-over states.GeneralComment bytes c w e = absurd (cc)
-over states.Star bytes c w e = absurd (cc)
+over _ bytes c w e = absurd (cc)
 
 -- a lexeme may stand before what begins with a byte that ends it
 pub precedes : (class : Class) (bytes rest : List ℕ) → Forms class bytes → begins (ends_at class) rest ≡ true → MayPrecede class bytes rest

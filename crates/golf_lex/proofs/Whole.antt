@@ -1,6 +1,6 @@
 -- What the bytes of a whole lexeme are, by the state that they end in.
 use Rattle.std.proofs.Common.{◌≡◌, ℕ, Bool, true, false, cond, not, ◌&&◌, ◌||◌, List, [], ◌∷◌, ◌++◌, refl, sym, ap, ◌∙◌, subst, append-nil, arith}
-use Rattle.std.proofs.lemmas.Bool.{eqb-true}
+use Rattle.std.proofs.lemmas.Bool.{and_parts, eqb-true}
 use Rattle.std.proofs.lemmas.Bool.Decides.{nat_tests}
 use Rattle.std.specs.Prelude.{Option, Some, None, option_and_then, nat_eq, nat_le}
 use Rattle.std.specs.Option.{option_map}
@@ -38,19 +38,12 @@ class_at states.Closed bytes = GeneralComment
 class_at _ bytes = Blank
 
 pub ended-class : (state : State) (b : ℕ) (bs : List ℕ) → is_complete state ≡ true → ended state (b ∷ bs) ≡ record { class = class_at state (b ∷ bs); bytes = b ∷ bs } ∷ []
-ended-class states.Word b bs whole = refl
-ended-class states.Zero b bs whole = refl
-ended-class states.Digits b bs whole = refl
-ended-class states.Text b bs whole = refl
-ended-class (states.Mark m) b bs whole = refl
-ended-class states.LineComment b bs whole = refl
-ended-class states.Closed b bs whole = refl
-ended-class states.Blank b bs whole = refl
 ended-class states.Quoted b bs whole = absurd (cc)
 ended-class states.Escaped b bs whole = absurd (cc)
 ended-class states.Bar b bs whole = absurd (cc)
 ended-class states.GeneralComment b bs whole = absurd (cc)
 ended-class states.Star b bs whole = absurd (cc)
+ended-class _ b bs whole = refl
 
 -- how a byte begins a lexeme
 data Begins (b : ℕ) (s : State) : Type 0 where
@@ -89,15 +82,11 @@ ordinary-other b = at (nat_eq b 0) (nat_eq b 10) (nat_eq b 34) (nat_eq b 92)
     at false false false true e = absurd (cc)
     at false false false false e = (refl, refl)
 
-pub both : (a b : Bool) → (a && b) ≡ true → (a ≡ true) × (b ≡ true)
-both true b e = (refl, e)
-both false b e = absurd (cc)
-
 -- parts stand for their bytes
 pub content_from-parts : (ps : List Part) (rest : List ℕ) → list_all is_part ps ≡ true → content_from false (parts_text ps ++ rest) ≡ parts_bytes ps ++ content_from false rest
 content_from-parts [] rest v = refl
 content_from-parts (Itself b ∷ ps) rest v =
-    let w = both (is_ordinary b) (list_all is_part ps) v in
+    let w = and_parts (is_ordinary b) (list_all is_part ps) v in
     let o = ordinary-other b w.0 in
     ap (λ t. cond t (content_from true (parts_text ps ++ rest)) (cond (nat_eq b 34) (content_from false (parts_text ps ++ rest)) (b ∷ content_from false (parts_text ps ++ rest)))) o.1
     ∙ ap (λ t. cond t (content_from false (parts_text ps ++ rest)) (b ∷ content_from false (parts_text ps ++ rest))) o.0

@@ -1,5 +1,5 @@
 -- Frames that are entered and left, and goroutines that end, as the definitions have them.
-use Rattle.std.proofs.Common.{◌≡◌, ℕ, ◌+◌, ◌<◌, ◌≤◌, Bool, true, false, List, [], ◌∷◌, ◌++◌, length, drop, Option, Some, None, ◌==◌, refl, sym, ap, ◌∙◌, arith}
+use Rattle.std.proofs.Common.{◌≡◌, ℕ, ◌+◌, ◌<◌, ◌≤◌, Bool, true, false, List, [], ◌∷◌, length, drop, Option, Some, None, ◌==◌, refl, sym, ap, ◌∙◌, arith}
 use Rattle.std.specs.Prelude.{slice_get, slice_set}
 use Rattle.std.proofs.lemmas.Bool.{eq-eqb, le-leb, lt-leb}
 use Rattle.golf_data.specs.declared.value.Value.{Value}
@@ -16,14 +16,14 @@ use Rattle.golf_model.specs.Views.{FrameView, GoroutineView}
 use Rattle.golf_model.specs.State.{State, call_frame, not_empty}
 use Rattle.golf_model.specs.Changes.{Change, apply_all, become, finish, make, spawn, behind_first}
 use Rattle.golf_model.specs.Waking.{on_top}
-use Rattle.golf_model.specs.Acting.{Actor, next, stands, goes, on_some, choose, taking_one, with_frames}
+use Rattle.golf_model.specs.Acting.{next, stands, goes, on_some, choose, taking_one, with_frames}
 use Rattle.golf_model.specs.Calculating.{stores}
 use Rattle.golf_model.specs.Calls.{enters, calls, spawns, defers, begins_deferred, ends, returns_to, unwinds_to}
 use Rattle.golf_state.specs.Looked.{frames_of, reframed}
 use Rattle.golf_state.specs.Going.{went, has_deferred, stored, stored_in, undeferred}
-use Rattle.golf_state.specs.Operands.{operands_of, top_operands}
+use Rattle.golf_state.specs.Operands.{operands_of}
 use Rattle.golf_state.specs.Doing.{does, Stands}
-use Rattle.golf_state.proofs.Doings.{actor_of, does-is, went-next, frames-is, reframed-is, stands-is}
+use Rattle.golf_state.proofs.Doings.{actor_of, apply_all-append, does-is, went-next, frames-is, operands-is, reframed-is, stands-is}
 use Rattle.golf_machine.specs.Acts.{last_of, begins_latest, deferred_of, top_deferred}
 use Rattle.golf_machine.proofs.Takings.{taking-is}
 
@@ -31,19 +31,9 @@ use Rattle.golf_machine.proofs.Takings.{taking-is}
 pub kept : (g : ℕ) (s : State) (fs ps : List FrameView) → fs ≡ ps → ps ≡ frames_of g s → reframed g (frames_of g s) s ≡ s → reframed g fs s ≡ s
 kept g s fs ps a b same = ap (λ (xs : List FrameView). reframed g xs s) (a ∙ b) ∙ same
 
-pub apply_all-append : (xs ys : List Change) (s : State) → apply_all (xs ++ ys) s ≡ apply_all ys (apply_all xs s)
-apply_all-append [] ys s = refl
-apply_all-append (c ∷ xs) ys s = apply_all-append xs ys _
-
 module _ (g after : ℕ) (s : State) (st : Stands g after s) (line : ℕ) where
-  pub operands-is : operands_of g s ≡ st.frame.operands
-  operands-is = ap top_operands (frames-is g after s st)
-
   pub deferred-is : deferred_of g s ≡ st.frame.deferred
   deferred-is = ap top_deferred (frames-is g after s st)
-
-  pub does-same : (act other : Actor → List Change) → act (actor_of st line) ≡ other (actor_of st line) → does act g line s ≡ does other g line s
-  does-same act other e = does-is g after s st act line ∙ ap (λ (cs : List Change). apply_all cs s) e ∙ sym (does-is g after s st other line)
 
   -- it stays as it is
   stay : reframed g (frames_of g s) s ≡ s → apply_all (stands (actor_of st line) st.frame) s ≡ s
@@ -83,7 +73,7 @@ module _ (g after : ℕ) (s : State) (st : Stands g after s) (line : ℕ) where
         does-is g after s st (λ a. calls code a f n) line
         ∙ ap (λ (cs : List Change). apply_all cs s)
         (taking-is n st.frame.operands (λ arguments rest. on_some (enters (actor_of st line) (next st.frame rest ∷ st.callers)) (call_frame code f arguments false))
-        ∙ ap (on_some (λ vs. on_some (enters (actor_of st line) (next st.frame (drop n st.frame.operands) ∷ st.callers)) (call_frame code f vs false))) (ap (last_of n) (sym operands-is) ∙ e))
+        ∙ ap (on_some (λ vs. on_some (enters (actor_of st line) (next st.frame (drop n st.frame.operands) ∷ st.callers)) (call_frame code f vs false))) (ap (last_of n) (sym (operands-is g after s st)) ∙ e))
 
     pub calls-none : None ≡ last_of n (operands_of g s) → s ≡ does (λ a. calls code a f n) g line s
     calls-none e = sym (calls-at None (sym e))
@@ -117,7 +107,7 @@ module _ (g after : ℕ) (s : State) (st : Stands g after s) (line : ℕ) where
         does-is g after s st (λ a. spawns code a f n) line
         ∙ ap (λ (cs : List Change). apply_all cs s)
         (taking-is n st.frame.operands (λ arguments rest. on_some (λ x. Change.Spawn (record { frames = x ∷ []; mode = Mode.Running; started = line }) ∷ goes (actor_of st line) rest) (call_frame code f arguments true))
-        ∙ ap (on_some (λ vs. on_some (λ x. Change.Spawn (record { frames = x ∷ []; mode = Mode.Running; started = line }) ∷ goes (actor_of st line) (drop n st.frame.operands)) (call_frame code f vs true))) (ap (last_of n) (sym operands-is) ∙ e))
+        ∙ ap (on_some (λ vs. on_some (λ x. Change.Spawn (record { frames = x ∷ []; mode = Mode.Running; started = line }) ∷ goes (actor_of st line) (drop n st.frame.operands)) (call_frame code f vs true))) (ap (last_of n) (sym (operands-is g after s st)) ∙ e))
 
     pub spawns-none : None ≡ last_of n (operands_of g s) → s ≡ does (λ a. spawns code a f n) g line s
     spawns-none e = sym (spawns-at None (sym e))
@@ -148,7 +138,7 @@ module _ (g after : ℕ) (s : State) (st : Stands g after s) (line : ℕ) where
         does-is g after s st (λ a. defers a f n) line
         ∙ ap (λ (cs : List Change). apply_all cs s)
         (taking-is n st.frame.operands (λ arguments rest. stands (actor_of st line) (record st.frame { at = st.frame.at + 1; operands = rest; deferred = record { function = f; arguments = arguments } ∷ st.frame.deferred }))
-        ∙ ap (on_some (λ vs. stands (actor_of st line) (record st.frame { at = st.frame.at + 1; operands = drop n st.frame.operands; deferred = record { function = f; arguments = vs } ∷ st.frame.deferred }))) (ap (last_of n) (sym operands-is) ∙ e))
+        ∙ ap (on_some (λ vs. stands (actor_of st line) (record st.frame { at = st.frame.at + 1; operands = drop n st.frame.operands; deferred = record { function = f; arguments = vs } ∷ st.frame.deferred }))) (ap (last_of n) (sym (operands-is g after s st)) ∙ e))
 
     pub defers-none : None ≡ last_of n (operands_of g s) → s ≡ does (λ a. defers a f n) g line s
     defers-none e = sym (defers-at None (sym e))

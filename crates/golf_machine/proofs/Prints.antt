@@ -12,10 +12,9 @@ use Rattle.golf_model.specs.Turn.{prints}
 use Rattle.golf_state.specs.Going.{went}
 use Rattle.golf_state.specs.Operands.{operands_of}
 use Rattle.golf_state.specs.Doing.{does, Stands}
-use Rattle.golf_state.proofs.Doings.{actor_of, does-is, went-next}
+use Rattle.golf_state.proofs.Doings.{actor_of, does-is, operands-is, went-next}
 use Rattle.golf_machine.specs.Acts.{last_of}
 use Rattle.golf_machine.proofs.Takings.{taking-is}
-use Rattle.golf_machine.proofs.Frames.{operands-is}
 
 -- the goroutine in its turn stands where it stood
 abbrev pub stands-printed : (g after : ℕ) (s : State) → Stands g after s → (s1 : State) (bytes : List ℕ) → s1 ≡ output bytes s → Stands g after s1
@@ -29,7 +28,7 @@ module _ (g after : ℕ) (s : State) (st : Stands g after s) (line : ℕ) where
         does-is g after s st (λ a. prints code a n) line
         ∙ ap (λ (cs : List Change). apply_all cs s)
         (taking-is n st.frame.operands (λ vs rest. on_some (λ bytes. Change.Output bytes ∷ goes (actor_of st line) rest) (line_bytes code.texts vs))
-        ∙ ap (on_some (λ vs. on_some (λ bytes. Change.Output bytes ∷ goes (actor_of st line) (drop n st.frame.operands)) (line_bytes code.texts vs))) (ap (last_of n) (sym (operands-is g after s st line)) ∙ e))
+        ∙ ap (on_some (λ vs. on_some (λ bytes. Change.Output bytes ∷ goes (actor_of st line) (drop n st.frame.operands)) (line_bytes code.texts vs))) (ap (last_of n) (sym (operands-is g after s st)) ∙ e))
 
     pub prints-none : None ≡ last_of n (operands_of g s) → s ≡ does (λ a. prints code a n) g line s
     prints-none e = sym (prints-at None (sym e))

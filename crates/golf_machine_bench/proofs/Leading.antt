@@ -1,26 +1,14 @@
--- Moves lead on from states that moves lead to, and what such states are.
-use Rattle.std.proofs.Common.{◌≡◌, ℕ, Bool, true, false, List, [], Option, Some, None, length, map, refl, sym, ap, subst, ◌∙◌}
+-- What a collection of a state needs.
+use Rattle.std.proofs.Common.{◌≡◌, ℕ, Bool, List, [], length, map, sym, ap, subst, ◌∙◌}
 use Rattle.std.proofs.lemmas.List.{length-map}
 use Rattle.golf_theory.specs.Maps.{keys}
 use Rattle.golf_base.specs.declared.ids.GoroutineId.{GoroutineId}
 use Rattle.golf_model.specs.Views.{GoroutineView}
-use Rattle.std.specs.Prelude.{is_some}
-use Rattle.golf_data.specs.declared.code.Code.{Code}
-use Rattle.golf_data.specs.declared.goroutine.Ending.{Ending}
 use Rattle.golf_data.specs.declared.report.Book.{Book}
-use Rattle.golf_model.specs.State.{State, ending}
-use Rattle.golf_model.specs.Turn.{step}
-use Rattle.golf_model.specs.Futures.{Leads}
+use Rattle.golf_model.specs.State.{State}
 use Rattle.golf_model.specs.Reporting.{numbers}
 use Rattle.golf_theory.specs.Membership.{In}
 use Rattle.golf_reclaim.specs.Noting.{AreGone}
-
-pub none-by : (o : Option Ending) (b : Bool) → b ≡ is_some o → b ≡ false → o ≡ None
-none-by None b e f = refl
-none-by (Some x) b e f = absurd (let t : true ≡ false = sym e ∙ f in cc)
-
-pub turned : (code : Code) (s t : State) (k : ℕ) → Leads code s → ending s ≡ None → t ≡ step code s k → Leads code t
-turned code s t k l goes h = subst (Leads code) (sym h) (Leads.Turn s k l goes)
 
 -- where nobody was removed, those who were are gone
 pub none-removed : (book : Book) (s : State) → book.reclaimed ≡ [] → AreGone book s

@@ -1,7 +1,8 @@
 //! The codes that are measured.
 
 use golf_base::{List, Memory};
-use golf_data::{Code, Function, Instr, Line, Value};
+use golf_data::{Code, Instr, Value};
+use golf_trials::{code, function, lines};
 use std::alloc::Global;
 
 /// What a code does over and over.
@@ -15,41 +16,12 @@ pub(crate) enum Kind {
     Mutex,
 }
 
-// Instructions at line 1.
-fn lines(alloc: Global, instrs: Vec<Instr>) -> Result<List<Line>, Memory> {
-    let mut body = List::new(alloc);
-    for instr in instrs {
-        body.push(Line { instr, line: 1 })?;
-    }
-    Ok(body)
-}
-
-// A function without an argument, with two variables.
-fn function(body: List<Line>) -> Function {
-    Function {
-        params: 0,
-        slots: 2,
-        depth: 4,
-        line: 1,
-        body,
-    }
-}
-
-// The code of two functions, and of two globals.
-fn code(alloc: Global, main: Vec<Instr>, other: Vec<Instr>) -> Result<Code, Memory> {
+// The code of two functions without an argument, and of two globals.
+fn program(alloc: Global, main: Vec<Instr>, other: Vec<Instr>) -> Result<Code, Memory> {
     let mut functions = List::new(alloc);
-    functions.push(function(lines(alloc, main)?))?;
-    functions.push(function(lines(alloc, other)?))?;
-    let mut globals = List::new(alloc);
-    globals.push(Value::Nil)?;
-    globals.push(Value::Nil)?;
-    Ok(Code {
-        functions,
-        globals,
-        structs: List::new(alloc),
-        texts: List::new(alloc),
-        main_line: 1,
-    })
+    functions.push(function(0, lines(alloc, main)?))?;
+    functions.push(function(0, lines(alloc, other)?))?;
+    code(alloc, functions, &[Value::Nil, Value::Nil], &[])
 }
 
 // for { for i := 0; i < 1000000; i++ { sum += i } }
@@ -71,7 +43,7 @@ fn looping(alloc: Global) -> Result<Code, Memory> {
         Instr::Store(0),
         Instr::Jump(2),
     ]?;
-    code(alloc, main, Vec::new(alloc))
+    program(alloc, main, Vec::new(alloc))
 }
 
 // One sends on the first channel and receives from the second, the other one the other way round.
@@ -101,7 +73,7 @@ fn talking(alloc: Global) -> Result<Code, Memory> {
         Instr::Send,
         Instr::Jump(0),
     ]?;
-    code(alloc, main, other)
+    program(alloc, main, other)
 }
 
 // Both lock and unlock it.
@@ -123,7 +95,7 @@ fn locking(alloc: Global) -> Result<Code, Memory> {
         Instr::Unlock,
         Instr::Jump(0),
     ]?;
-    code(alloc, main, other)
+    program(alloc, main, other)
 }
 
 /// The code of a kind.

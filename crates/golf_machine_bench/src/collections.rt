@@ -5,16 +5,15 @@ ghost use Rattle.golf_model.specs.Futures.{Numbered};
 ghost use Rattle.golf_model.specs.Presence.{IsWhole};
 ghost use Rattle.golf_mark.specs.Marking.{MarksLeast};
 
-use crate::fault::BenchFault;
 use crate::pairs::blocked_state;
-use golf_base::{GoroutineId, List, Memory, OpenGate};
+use golf_base::{GoroutineId, Memory, OpenGate};
 use golf_data::Report;
-use golf_final::keeps;
 use golf_mark::Markers;
 use golf_model::{Graph, Marked};
-use golf_reclaim::{Ledger, Options, collect};
+use golf_reclaim::{Ledger, Options, collect, find_gone};
 use golf_snapshot::{live_graph, outside, retained_graph};
 use golf_state::State;
+use golf_trials::BenchFault;
 use std::alloc::Global;
 use std::rt::Clock;
 use std::thread::Threads;
@@ -43,40 +42,6 @@ fn mark<R: Threads + Sync>(
 {
     let ready = Markers::new(alloc, graph, markers)?;
     Ok(ready.mark(rt, graph, &OpenGate))
-}
-
-// The goroutines of those sleepers that have neither flag.
-fn unflagged(
-    alloc: Global,
-    graph: &Graph,
-    awake: &[bool],
-    kept: &[bool],
-) -> Result<List<GoroutineId>, Memory> {
-    let mut gone = List::new(alloc);
-    for sleeper in 0..graph.sleepers() {
-        let at = sleeper as usize;
-        let stays = awake.get(at) == Some(&true) || kept.get(at) == Some(&true);
-        if !stays {
-            gone.push(graph.goroutine_of(sleeper))?;
-        }
-    }
-    Ok(gone)
-}
-
-// Who is removed: nobody without recovery.
-fn removed(
-    alloc: Global,
-    graph: &Graph,
-    marked: &Marked,
-    options: Options,
-) -> Result<List<GoroutineId>, Memory>
-    requires { MarksLeast graph.now marked.now }
-{
-    if !options.recover {
-        return Ok(List::new(alloc));
-    }
-    let kept = keeps(alloc, graph, marked, options.sets_finalisers)?;
-    unflagged(alloc, graph, marked.awake.as_slice(), kept.as_slice())
 }
 
 // Frees what is not flagged.
@@ -111,7 +76,7 @@ pub(crate) fn time_parts<R: Clock + Threads + Sync>(
     let graph = begin.elapsed(rt)?.as_micros();
     let found = mark(rt, alloc, &live, options.markers)?;
     let marked = begin.elapsed(rt)?.as_micros();
-    let gone = removed(alloc, &live, &found, options)?;
+    let gone = find_gone(alloc, &live, &found, options)?;
     let kept = begin.elapsed(rt)?.as_micros();
     let all = retained_graph(alloc, state, gone.as_slice())?;
     let left = mark(rt, alloc, &all, options.markers)?;

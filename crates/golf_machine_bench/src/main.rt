@@ -10,7 +10,6 @@
 
 mod codes;
 mod collections;
-mod fault;
 mod order;
 mod pairs;
 mod turns;
@@ -19,8 +18,8 @@ ghost use Rattle.std.specs.Prelude.{◌<◌, ◌≤◌};
 
 use codes::Kind;
 use collections::{time_parts, time_whole};
-use fault::BenchFault;
 use golf_reclaim::Options;
+use golf_trials::BenchFault;
 use order::{Order, read_order};
 use pairs::blocked_state;
 use std::alloc::Global;

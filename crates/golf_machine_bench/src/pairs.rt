@@ -8,7 +8,7 @@ use golf_base::{List, Memory};
 use golf_data::{Code, Instr, Value};
 use golf_machine::{start, turn};
 use golf_state::State;
-use golf_trials::{can_run, function, lines};
+use golf_trials::{can_run, code, function, lines};
 use std::alloc::Global;
 
 // `main` starts two goroutines a pair, each of which receives from a channel of its own. The channel of
@@ -60,20 +60,7 @@ fn pairs_code(alloc: Global, pairs: u32) -> Result<Code, Memory> {
     let mut functions = List::new(alloc);
     functions.push(function(0, lines(alloc, starts(alloc, pairs)?)?))?;
     functions.push(function(1, lines(alloc, receives(alloc)?)?))?;
-    let mut globals = List::new(alloc);
-    globals.push(Value::Nil)?;
-    let mut fields = List::new(alloc);
-    fields.push(Value::Nil)?;
-    fields.push(Value::Nil)?;
-    let mut structs = List::new(alloc);
-    structs.push(fields)?;
-    Ok(Code {
-        functions,
-        globals,
-        structs,
-        texts: List::new(alloc),
-        main_line: 1,
-    })
+    code(alloc, functions, &[Value::Nil], &[Value::Nil, Value::Nil])
 }
 
 // A turn, where the program goes on. It answers whether it did.

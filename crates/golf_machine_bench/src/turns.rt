@@ -1,12 +1,11 @@
 //! A run of turns and the time that it takes.
 
 use crate::codes::{Kind, code_of};
-use crate::fault::BenchFault;
 use golf_base::{List, Memory};
 use golf_data::{Channel, Code, Object, Side, Value, Wait, WaitKind};
 use golf_machine::{start, turn};
 use golf_state::State;
-use golf_trials::can_run;
+use golf_trials::{BenchFault, can_run};
 use std::alloc::Global;
 use std::rt::Clock;
 use std::time::Instant;

@@ -1,10 +1,11 @@
 //! Codes of two functions with a global, a struct type and texts, and what their runs come to.
 
+use crate::stepping::step;
 use golf_base::{List, Memory};
 use golf_data::{Code, Ending, Instr, Value};
-use golf_machine::{start, turn};
+use golf_machine::start;
 use golf_state::State;
-use golf_trials::{can_run, function, lines};
+use golf_trials::{code, function, lines};
 use std::alloc::Global;
 use std::process::Abort;
 use std::test::Fail;
@@ -29,29 +30,20 @@ pub fn program(alloc: Global, main: Vec<Instr>, other: Vec<Instr>) -> Result<Cod
     let mut functions = List::new(alloc);
     functions.push(function(0, lines(alloc, main)?))?;
     functions.push(function(1, lines(alloc, other)?))?;
-    let mut globals = List::new(alloc);
-    globals.push(Value::Int(0))?;
-    let mut fields = List::new(alloc);
-    fields.push(Value::Int(0))?;
-    fields.push(Value::Nil)?;
-    let mut structs = List::new(alloc);
-    structs.push(fields)?;
-    Ok(Code {
+    let mut program = code(
+        alloc,
         functions,
-        globals,
-        structs,
-        texts: texts(alloc)?,
-        main_line: 1,
-    })
+        &[Value::Int(0)],
+        &[Value::Int(0), Value::Nil],
+    )?;
+    program.texts = texts(alloc)?;
+    Ok(program)
 }
 
 // Takes turns, each of the next number, until the program has ended.
 fn go_on(alloc: Global, code: &Code, state: &mut State) -> Result<(), Memory> {
     for number in 0..TURNS {
-        if state.ending().is_some() || !can_run(code) {
-            return Ok(());
-        }
-        turn(alloc, code, state, number)?;
+        step(alloc, code, state, number)?;
     }
     Ok(())
 }

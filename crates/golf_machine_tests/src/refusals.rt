@@ -45,7 +45,7 @@ fn see(state: &State) -> Seen {
 fn persist(alloc: Global, code: &Code, state: &mut State) -> Result<bool, Memory> {
     let before = see(state);
     match step(alloc, code, state, 0) {
-        Ok(()) => Ok(true),
+        Ok(_) => Ok(true),
         Err(_) => {
             let same = see(state) == before;
             step(alloc, code, state, 0)?;

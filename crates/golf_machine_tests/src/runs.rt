@@ -1,50 +1,19 @@
 //! Runs of codes, and what they come to.
 
+use crate::stepping::{after, step};
 use golf_base::{GoroutineId, List, Memory, ObjectId};
 use golf_data::{Code, Ending, Goroutine, Mode, Side, Value, WaitKind};
-use golf_machine::{Turned, start, turn};
+use golf_machine::Turned;
 use golf_state::State;
-use golf_trials::can_run;
 use std::alloc::Global;
 
 /// How many turns the first goroutine that can run takes, then the second, and the first again.
 #[derive(Clone, Copy, Debug, PartialEq, Eq)]
 pub struct Turns(pub u32, pub u32, pub u32);
 
-// One turn, where the program goes on and the machine can step its code.
-fn step(
-    alloc: Global,
-    code: &Code,
-    state: &mut State,
-    number: u64,
-) -> Result<Option<Turned>, Memory> {
-    if state.ending().is_some() || !can_run(code) {
-        return Ok(None);
-    }
-    Ok(Some(turn(alloc, code, state, number)?))
-}
-
-// So many turns with this number.
-fn take_turns(
-    alloc: Global,
-    code: &Code,
-    state: &mut State,
-    number: u64,
-    count: u32,
-) -> Result<(), Memory> {
-    for _ in 0..count {
-        step(alloc, code, state, number)?;
-    }
-    Ok(())
-}
-
 // The state after these turns.
 fn run(alloc: Global, code: &Code, turns: Turns) -> Result<State, Memory> {
-    let mut state = start(alloc, code)?;
-    take_turns(alloc, code, &mut state, 0, turns.0)?;
-    take_turns(alloc, code, &mut state, 1, turns.1)?;
-    take_turns(alloc, code, &mut state, 0, turns.2)?;
-    Ok(state)
+    after(alloc, code, &[(0, turns.0), (1, turns.1), (0, turns.2)])
 }
 
 /// What the last of so many turns comes to.

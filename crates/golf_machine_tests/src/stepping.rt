@@ -2,7 +2,7 @@
 
 use golf_base::{GoroutineId, Memory};
 use golf_data::{Code, Ending, Mode, PanicKind, WaitKind};
-use golf_machine::{start, turn};
+use golf_machine::{Turned, start, turn};
 use golf_state::State;
 use golf_trials::can_run;
 use std::alloc::Global;
@@ -18,13 +18,18 @@ pub const MAIN: GoroutineId = GoroutineId(1);
 /// The goroutine that `main` starts.
 pub const OTHER: GoroutineId = GoroutineId(2);
 
-/// One turn of the goroutine at this place among those that can run, where the program goes on.
-pub fn step(alloc: Global, code: &Code, state: &mut State, place: u64) -> Result<(), Memory> {
+/// One turn of the goroutine at this place among those that can run, where the program goes on and the
+/// machine can step its code.
+pub fn step(
+    alloc: Global,
+    code: &Code,
+    state: &mut State,
+    place: u64,
+) -> Result<Option<Turned>, Memory> {
     if state.ending().is_some() || !can_run(code) {
-        return Ok(());
+        return Ok(None);
     }
-    turn(alloc, code, state, place)?;
-    Ok(())
+    Ok(Some(turn(alloc, code, state, place)?))
 }
 
 /// So many turns of the goroutine at this place among those that can run.

@@ -1,23 +1,11 @@
 -- One more flag is set.
-use Rattle.std.proofs.Common.{◌≡◌, ℕ, ◌+◌, ◌<◌, inl, inr, List, [], ◌∷◌, ◌++◌, length, get_or, set, Bool, true, false, cond, not, sym, ap, subst, arith}
-use Rattle.std.specs.Prelude.{count_by}
+use Rattle.std.proofs.Common.{◌≡◌, ℕ, ◌+◌, ◌<◌, inl, inr, List, [], ◌∷◌, ◌++◌, length, get_or, set, Bool, true, false, sym, ap, subst, arith}
 use Rattle.std.proofs.lemmas.List.{length_push, length-set}
-use Rattle.std.proofs.lemmas.List.Sums.{sum_by-set}
 use Rattle.golf_theory.specs.Membership.{In}
 use Rattle.golf_theory.proofs.Lists.{In-left, In-cases, In-push}
 use Rattle.golf_base.specs.Roomy.{Roomy}
-use Rattle.golf_marks.proofs.Flags.{IsSet-set, set-IsSet}
+use Rattle.golf_marks.proofs.Flags.{IsSet-set, set-IsSet, unset_one}
 use Rattle.golf_mark.specs.Working.{IsWorking}
-
--- a flag that is not set is one of those that are not set
-unset_one : (flags : List Bool) (p : ℕ) → p < length flags → get_or flags p false ≡ false → count_by not (set flags p true) + 1 ≡ count_by not flags
-unset_one flags p low off =
-    let e = sum_by-set (λ (x : Bool). cond (not x) 1 0) flags p true false low in
-    let f = ap (λ (b : Bool). let n : ℕ = cond (not b) 1 0 in n) off in
-    omega (arith, e, f)
-
-pub unset_some : (flags : List Bool) (p : ℕ) → p < length flags → get_or flags p false ≡ false → 0 < count_by not flags
-unset_some flags p low off = omega (arith, unset_one flags p low off)
 
 -- one more place is marked
 pub IsWorking-more : (bits : List Bool) (old new : Roomy ℕ) (p : ℕ) → p < length bits → get_or bits p false ≡ false → new.items ≡ old.items ++ p ∷ [] → new.spare + 1 ≡ old.spare → IsWorking bits old → IsWorking (set bits p true) new

@@ -22,7 +22,7 @@ set-IsSet flags p q low h = elim (cases_eq q p) [
 ]
 
 -- a flag that is not set is one of those that are not set
-unset_one : (flags : List Bool) (p : ℕ) → p < length flags → get_or flags p false ≡ false → count_by not (set flags p true) + 1 ≡ count_by not flags
+pub unset_one : (flags : List Bool) (p : ℕ) → p < length flags → get_or flags p false ≡ false → count_by not (set flags p true) + 1 ≡ count_by not flags
 unset_one flags p low off =
     let e = sum_by-set (λ (x : Bool). cond (not x) 1 0) flags p true false low in
     let f = ap (λ (b : Bool). let n : ℕ = cond (not b) 1 0 in n) off in

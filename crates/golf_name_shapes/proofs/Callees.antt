@@ -47,7 +47,8 @@ use Rattle.golf_code_shapes.proofs.Literals.{written-known}
 use Rattle.golf_code_shapes.proofs.WholeFiles.{text-below}
 use Rattle.golf_name_shapes.specs.Parts.{contents_of, structs_of, functions_of}
 use Rattle.golf_name_shapes.specs.Laws.{named_with, GlobalsAreKnown, WellNamed, NamesMean}
-use Rattle.golf_name_shapes.proofs.Gets.{get-left, get-next, get-mapped, some-same}
+use Rattle.golf_shapes.proofs.Gets.{slice_get-left}
+use Rattle.golf_name_shapes.proofs.Gets.{get-next, get-mapped, some-same}
 use Rattle.golf_name_shapes.proofs.Alike.{fields-alike, result-alike, written-alike, pointers-alike}
 use Rattle.golf_name_shapes.proofs.Meanings.{Means, counted}
 use Rattle.golf_name_shapes.proofs.Methods.{IsMethod, Belongs, members-belong}
@@ -132,11 +133,8 @@ slots-are l (p ∷ ps) s = ap (λ ts. p.1 ∷ ts) (slots-are l ps (behind s (par
 
 -- a name that stands for a struct
 pub struct-pointer : (f : FileScope) (o : Option Meaning) (rest : Option Operand) (k : ℕ) → struct_number o ≡ Some k → pointer_to (or_else (option_map (entry_operand f) o) rest) ≡ Some (base.Pointer k)
-struct-pointer f None rest k e = cc
-struct-pointer f (Some (meant.Constant c b)) rest k e = cc
-struct-pointer f (Some (meant.Global c)) rest k e = cc
 struct-pointer f (Some (meant.Struct c)) rest k e = let is : c ≡ k = cc in ap (λ j. Some (base.Pointer j)) is
-struct-pointer f (Some (meant.Function c)) rest k e = cc
+struct-pointer f _ rest k e = cc
 
 pub receiver-known : (f : FileScope) (n : List ℕ) (k : ℕ) → struct_number (meaning_in f n) ≡ Some k → receiver_type (outside f) n ≡ Some (plain (base.Pointer k))
 unfolding meaning
@@ -165,7 +163,7 @@ module _ (i : Imports) (xs : List Decl) (globals : List (Option GoType)) (w : We
   function-there t q f there =
       let types = types_of_code t file xs in
       let one = subst (λ sigs. slice_get sigs q ≡ Some (function_signature t out f)) (sym (own-are t out xs)) (get-mapped (function_signature t out) (flat_map functions_of xs) q f there) in
-      get-next _ _ q ∙ get-left (own_signatures t out xs) _ q (function_signature t out f) one
+      get-next _ _ q ∙ slice_get-left (own_signatures t out xs) _ q (function_signature t out f) one
 
   callee : (t : Tables) (q : ℕ) (f : Func) (receiver : List ValueType) → slice_get (flat_map functions_of xs) q ≡ Some f
       → known_types (receiver_walk f.line out f.receiver (result_scope out f)).slots ≡ receiver → Callee (types_of_code t file xs) t file q receiver
@@ -200,11 +198,8 @@ module _ (i : Imports) (xs : List Decl) (globals : List (Option GoType)) (w : We
   struct-there t k fields there = get-mapped known_types file.fields k (row_of begin fields) (row-there k fields there)
 
   const-fits : (c : Const) → ValueFits (types_of_code (tables_of xs) file xs) [] (const_value (texts_of xs) c) (base_type (const_base c))
-  const-fits (const.Integer n) = refl
-  const-fits (const.Negative n) = refl
   const-fits (const.Text bytes) = (refl, text-below xs bytes)
-  const-fits const.True = refl
-  const-fits const.False = refl
+  const-fits _ = refl
 
   module _ (known : GlobalsAreKnown globals (length (flat_map contents_of xs))) where
     abbrev t : Tables

@@ -4,11 +4,6 @@ use Rattle.std.specs.Option.{option_map}
 use Rattle.std.proofs.lemmas.Grind.{flat_map-append}
 use Rattle.std.proofs.lemmas.Option.{slice_get-map}
 
-pub get-left : {X : Type 0} (xs ys : List X) (k : ℕ) (x : X) → slice_get xs k ≡ Some x → slice_get (xs ++ ys) k ≡ Some x
-get-left [] ys k x e = cc
-get-left (y ∷ xs) ys zero x e = e
-get-left (y ∷ xs) ys (suc k) x e = get-left xs ys k x e
-
 -- the first element behind others
 pub get-behind : {X : Type 0} (xs : List X) (x : X) (ys : List X) (n : ℕ) → n ≡ length xs → slice_get (xs ++ (x ∷ ys)) n ≡ Some x
 get-behind [] x ys n e = subst (λ k. slice_get (x ∷ ys) k ≡ Some x) (sym e) refl

@@ -1,5 +1,6 @@
 -- `main` takes nothing and gives nothing.
 use Rattle.std.proofs.Common.{◌≡◌, ℕ, ◌+◌, Bool, true, false, not, cond, fold, List, [], ◌∷◌, ◌++◌, length, map, flat_map, Option, Some, None, refl, sym, ap, ◌∙◌, subst, slice_get, arith, append_assoc, length-append}
+use Rattle.std.proofs.lemmas.Bool.{and_parts}
 use Rattle.std.specs.Prelude.{codes}
 use Rattle.std.specs.Option.{option_map, option_and_then}
 use Rattle.std.proofs.lemmas.Grind.{flat_map-append}
@@ -26,22 +27,23 @@ use Rattle.golf_code_of.specs.Files.{number_of_function, main_number}
 use Rattle.golf_code_shapes.specs.Types.{value_type, known_types}
 use Rattle.golf_code_shapes.specs.FunctionLaws.{result_scope, function_signature}
 use Rattle.golf_code_shapes.specs.FileLaws.{types_of_code}
-use Rattle.golf_code_shapes.proofs.Typings.{both, none-left, none-right, kept}
+use Rattle.golf_code_shapes.proofs.Typings.{none-left, none-right, kept}
 use Rattle.golf_name_shapes.specs.Parts.{functions_of}
 use Rattle.golf_name_shapes.specs.Laws.{named_with, MainFits}
-use Rattle.golf_name_shapes.proofs.Gets.{get-left, get-behind}
+use Rattle.golf_shapes.proofs.Gets.{slice_get-left}
+use Rattle.golf_name_shapes.proofs.Gets.{get-behind}
 use Rattle.golf_name_shapes.proofs.Meanings.{Counted, counted-decl}
 use Rattle.golf_name_shapes.proofs.Callees.{function-there}
 
 -- what a name means stays
 function-keeps : (k : Naming) (r : Option Receiver) (n : List ℕ) (j : ℕ) (m : Meaning) → slice_get k.meanings j ≡ Some m → slice_get (function_added k r n).meanings j ≡ Some m
-function-keeps k None n j m e = get-left k.meanings _ j m e
+function-keeps k None n j m e = slice_get-left k.meanings _ j m e
 function-keeps k (Some r) n j m e = e
 
 decl-keeps : (k : Naming) (x : Decl) (j : ℕ) (m : Meaning) → slice_get k.meanings j ≡ Some m → slice_get (decl_added k x).meanings j ≡ Some m
-decl-keeps k (d.Const l n c) j m e = get-left k.meanings _ j m e
-decl-keeps k (d.Var v) j m e = get-left k.meanings _ j m e
-decl-keeps k (d.Struct l n fs) j m e = get-left k.meanings _ j m e
+decl-keeps k (d.Const l n c) j m e = slice_get-left k.meanings _ j m e
+decl-keeps k (d.Var v) j m e = slice_get-left k.meanings _ j m e
+decl-keeps k (d.Struct l n fs) j m e = slice_get-left k.meanings _ j m e
 decl-keeps k (d.Func f) j m e = function-keeps k f.receiver f.name j m e
 
 naming-keeps : (k : Naming) (xs : List Decl) (j : ℕ) (m : Meaning) → slice_get k.meanings j ≡ Some m → slice_get (fold decl_added k xs).meanings j ≡ Some m
@@ -100,8 +102,8 @@ numbered (Some j) k e = let is : j ≡ k = grind (arith, e) in ap Some is
 named-main : (f : FileScope) (at : ℕ) (n : List ℕ) → is_main n ≡ true → may_be_named f at n ≡ true → number_of f.names (codes "main") ≡ Some at
 unfolding is_main may_be_named
 named-main f at n is may =
-    let one = both (not (is_blank n)) _ may in
-    let two = both (not (is_reserved n)) _ one.1 in
+    let one = and_parts (not (is_blank n)) _ may in
+    let two = and_parts (not (is_reserved n)) _ one.1 in
     subst (λ m. number_of f.names m ≡ Some at) ((bytes_eq-Decides n (codes "main")).0 is) (numbered (number_of f.names n) at two.1)
 
 module _ (names : FileScope) (pre rest : List Decl) (k : Naming) (a : Above) (c : Counted pre k) (above : Above-is a k) where
@@ -110,7 +112,7 @@ module _ (names : FileScope) (pre rest : List Decl) (k : Naming) (a : Above) (c 
       let b = bare-parts f f.receiver f.parameters f.result bare in
       let clean = subst (λ r. function_faults names a f r ≡ []) b.0 none in
       let main = subst (λ r. is_main_function r f.name ≡ true) b.0 is in
-      let may = both (may_be_named names a.names f.name) _ (kept f.line 2 _ clean) in
+      let may = and_parts (may_be_named names a.names f.name) _ (kept f.line 2 _ clean) in
       let new = subst (λ r. slice_get (function_added k r f.name).meanings a.names ≡ Some (meant.Function k.functions)) (sym b.0) (get-behind k.meanings (meant.Function k.functions) [] a.names above.names) in
       record {
         main = f;

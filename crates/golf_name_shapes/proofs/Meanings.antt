@@ -19,7 +19,8 @@ use Rattle.golf_types.specs.declared.scopes.Naming.{Naming}
 use Rattle.golf_types.specs.Files.{const_base, field_names, with_field, no_members, members_of, function_added, decl_added, no_names, naming_of}
 use Rattle.golf_code_of.specs.Files.{constants_in}
 use Rattle.golf_name_shapes.specs.Parts.{contents_of, structs_of, functions_of}
-use Rattle.golf_name_shapes.proofs.Gets.{get-left, get-behind, flat-push, count-push}
+use Rattle.golf_shapes.proofs.Gets.{slice_get-left}
+use Rattle.golf_name_shapes.proofs.Gets.{get-behind, flat-push, count-push}
 
 -- what a name of these declarations stands for
 abbrev pub Means : List Decl → Meaning → Type 0
@@ -29,7 +30,7 @@ Means xs (meant.Struct k) = (fields : List Field) × (slice_get (flat_map struct
 Means xs (meant.Function k) = (f : Func) × (slice_get (flat_map functions_of xs) k ≡ Some f) × (f.receiver ≡ None)
 
 get-more : {A : Type 0} (f : Decl → List A) (xs ys : List Decl) (k : ℕ) (a : A) → slice_get (flat_map f xs) k ≡ Some a → slice_get (flat_map f (xs ++ ys)) k ≡ Some a
-get-more f xs ys k a e = subst (λ zs. slice_get zs k ≡ Some a) (sym (flat_map-append f xs ys)) (get-left (flat_map f xs) (flat_map f ys) k a e)
+get-more f xs ys k a e = subst (λ zs. slice_get zs k ≡ Some a) (sym (flat_map-append f xs ys)) (slice_get-left (flat_map f xs) (flat_map f ys) k a e)
 
 get-new : {A : Type 0} (f : Decl → List A) (xs : List Decl) (x : Decl) (k : ℕ) (a : A) → flat_map f (x ∷ []) ≡ a ∷ [] → k ≡ length (flat_map f xs) → slice_get (flat_map f (xs ++ x ∷ [])) k ≡ Some a
 get-new f xs x k a is e = subst (λ zs. slice_get zs k ≡ Some a) (sym (flat-push f xs x (a ∷ []) is)) (get-behind (flat_map f xs) a [] k e)

@@ -15,13 +15,9 @@ use Rattle.golf_shapes.specs.Types.{ValueType, IsNilable, Shape, FunctionTypes, 
 use Rattle.golf_shapes.specs.Shapes.{Takes, InstructionFits, HasShapes, slot_types}
 use Rattle.golf_shapes.specs.WellTyped.{WellTyped, SlotFits}
 use Rattle.golf_shapes.proofs.Changing.{values-get}
+use Rattle.golf_shapes.proofs.Gets.{slice_set-same}
 use Rattle.golf_progress.proofs.Acting.{Proceeds, of-choose, of-some, of-taking_one, of-taking_two, of-int, of-bool, ActorFits, proceeds-panics, proceeds-goes, taken, on_no, lands, proceeds-stands, proceeds-jumps, takes-one, takes-two}
 use Rattle.std.proofs.lemmas.Bool.{eqb-true, eqb-false}
-
-slice_set-same : {X : Type 0} (xs : List X) (i : ℕ) (v w : X) → slice_get xs i ≡ Some w → slice_get (slice_set xs i v) i ≡ Some v
-slice_set-same [] i v w h = cc
-slice_set-same (x ∷ xs) zero v w h = refl
-slice_set-same (x ∷ xs) (suc i) v w h = slice_set-same xs i v w h
 
 slice_set-other : {X : Type 0} (xs : List X) (i j : ℕ) (v : X) → (j ≡ i → ⊥) → slice_get (slice_set xs i v) j ≡ slice_get xs j
 slice_set-other [] i j v n = refl

@@ -24,13 +24,8 @@ use Rattle.golf_shapes.specs.Types.{ValueType, Shape, Signature, FunctionTypes, 
 use Rattle.golf_shapes.specs.Shapes.{slot_types, pushed, InstructionFits, HasShapes}
 use Rattle.golf_shapes.specs.WellTyped.{gives, SlotFits, ResultFits, LeavingFits, DeferredFits, FrameBase, FrameFits, FramesFit, FinaliserFits, ModeFits}
 use Rattle.golf_shapes.proofs.Changing.{values-get, given-fits, or_true}
+use Rattle.golf_shapes.proofs.Gets.{slice_get-left}
 use Rattle.golf_progress.proofs.Acting.{Proceeds, of-choose, of-some, of-taking_one, Holds, ActorFits, proceeds-stands, proceeds-dies, proceeds-goes, taken, on_no, lands}
-
--- what lies behind the front of a list
-slice_get-left : {X : Type 0} (xs ys : List X) (i : ℕ) (x : X) → slice_get xs i ≡ Some x → slice_get (xs ++ ys) i ≡ Some x
-slice_get-left [] ys i x h = cc
-slice_get-left (y ∷ xs) ys zero x h = h
-slice_get-left (y ∷ xs) ys (suc i) x h = slice_get-left xs ys i x h
 
 pub slice_get-at : {X : Type 0} (xs : List X) (i : ℕ) → i < length xs → (x : X) × (slice_get xs i ≡ Some x)
 slice_get-at [] i l = absurd (omega (arith, l))

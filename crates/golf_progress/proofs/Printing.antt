@@ -19,10 +19,6 @@ use Rattle.golf_progress.proofs.Calls.{of-taking, slice_get-at}
 
 -- what is printed is never nil
 not-both : (t : ValueType) → IsPrintable t → IsNilable t → ⊥
-not-both ValueType.Int p h = h
-not-both ValueType.Bool p h = h
-not-both ValueType.Text p h = h
-not-both ValueType.EmptyStruct p h = h
 not-both (ValueType.Struct k) p h = p
 not-both ValueType.Mutex p h = p
 not-both ValueType.Group p h = p
@@ -30,6 +26,7 @@ not-both ValueType.Rw p h = p
 not-both ValueType.Cond p h = p
 not-both (ValueType.Slice e) p h = p
 not-both (ValueType.Chan e) p h = p
+not-both _ p h = h
 
 module _ (code : Code) (types : Typing) (shapes : HasShapes code types) (known : List (ℕ × ValueType)) (s : State) (w : WellTyped types known s) (a : Actor) (ft : FunctionTypes) (sh : Shape) (i : ActorFits types known s a ft sh) where
   abbrev Goes : List Change → Type 0

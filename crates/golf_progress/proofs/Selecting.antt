@@ -95,12 +95,8 @@ module _ (types : Typing) (known : List (ℕ × ValueType)) (s : State) (w : Wel
 
   -- a ready case has a channel
   on-channel : (kind : CaseKind) (act : ℕ → List Change) (v : Value) (e : ValueType) → ValueFits types.of known v (ValueType.Chan e) → Val (Present s) v → is_ready_on kind s v ≡ true → ((o : ℕ) → HasType known o (ValueType.Chan e) → Present s o → Goes (act o)) → Goes (at_reference_or [] act v)
-  on-channel kind act (Value.Int n) e h p r f = cc
-  on-channel kind act (Value.Bool b) e h p r f = cc
-  on-channel kind act (Value.Text k) e h p r f = cc
-  on-channel kind act Value.Unit e h p r f = cc
-  on-channel kind act Value.Nil e h p r f = cc
   on-channel kind act (Value.Ref o) e h p r f = f o.0 h.0 p.0
+  on-channel kind act _ e h p r f = cc
 
   -- a chosen case leads to its target
   at_target : (rest : List Value) (kind : CaseKind) (e : ValueType) (target : ℕ) → ValuesFit types.of known rest below → GoesOn ft (case_leaves kind e ++ below) sh.assigned target → After types known s w a ft i.holds (case_leaves kind e) (record a.frame { at = target; operands = rest })
@@ -118,12 +114,8 @@ module _ (types : Typing) (known : List (ℕ × ValueType)) (s : State) (w : Wel
   wait-fits rest x CaseKind.TakeOk e o hs hv l k = (e, k, (at_target rest CaseKind.TakeOk e x.target hs l).stands)
 
   case-fits : (rest : List Value) (x : Offer) (v : Value) (e : ValueType) → ValuesFit types.of known rest below → SentFits x.kind x.value e → GoesOn ft (case_leaves x.kind e ++ below) sh.assigned x.target → ValueFits types.of known v (ValueType.Chan e) → Every (WaitFits types known ft (next a.frame rest)) (case_waits x v)
-  case-fits rest x (Value.Int n) e hs hv l h = tt
-  case-fits rest x (Value.Bool b) e hs hv l h = tt
-  case-fits rest x (Value.Text k) e hs hv l h = tt
-  case-fits rest x Value.Unit e hs hv l h = tt
-  case-fits rest x Value.Nil e hs hv l h = tt
   case-fits rest x (Value.Ref o) e hs hv l h = (wait-fits rest x x.kind e o.0 hs hv l h.0, tt)
+  case-fits rest x _ e hs hv l h = tt
 
   waits-fits : (rest : List Value) (xs : List Offer) → ValuesFit types.of known rest below → Every OfferFits xs → Every (WaitFits types known ft (next a.frame rest)) (offered_waits xs)
   waits-fits rest [] hs h = tt
@@ -136,12 +128,8 @@ module _ (types : Typing) (known : List (ℕ × ValueType)) (s : State) (w : Wel
   no-condition all x CaseKind.TakeOk o e = cc
 
   case-alone : (all : List Wait) (x : Offer) (v : Value) → Every (λ (u : Wait). u.side ≡ Side.Cond → all ≡ u ∷ []) (case_waits x v)
-  case-alone all x (Value.Int n) = tt
-  case-alone all x (Value.Bool b) = tt
-  case-alone all x (Value.Text k) = tt
-  case-alone all x Value.Unit = tt
-  case-alone all x Value.Nil = tt
   case-alone all x (Value.Ref o) = ((λ e. no-condition all x x.kind o.0 e), tt)
+  case-alone all x _ = tt
 
   alone : (all : List Wait) (xs : List Offer) → Every (λ (u : Wait). u.side ≡ Side.Cond → all ≡ u ∷ []) (offered_waits xs)
   alone all [] = tt

@@ -22,6 +22,11 @@ module _ {X : Type 0} where
     ])
   ] refl
 
+  pub Entry-take : (n : ℕ) (es : List (ℕ × X)) (u : ℕ) (x : X) → Entry (take n es) u x → Entry es u x
+  Entry-take zero es u x i = absurd i
+  Entry-take (suc n) [] u x i = absurd i
+  Entry-take (suc n) (e ∷ es) u x i = elim i [ inl h ↦ inl h | inr h ↦ inr (Entry-take n es u x h) ]
+
   pub AllBelow-front : (k : ℕ) (es : List (ℕ × X)) → AllBelow k (take (rank k es) es)
   AllBelow-front k [] = tt
   AllBelow-front k (e ∷ es) = elim (nat_lt e.0 k) as (λ b. nat_lt e.0 k ≡ b → AllBelow k (take (cond b (suc (rank k es)) 0) (e ∷ es))) [

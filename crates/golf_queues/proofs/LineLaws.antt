@@ -192,6 +192,10 @@ pub line-was : (qs : List Queue) (k at : ℕ) (p : Queue) → QueueAt qs k at �
 line-was qs k at p q h =
     ap (λ (x : Queue). held x.line.items) (h ∙ get_or_from_slice_get qs at q.queue p q.here) ∙ sym (ap line_in q.found)
 
+-- and its tickets rise
+pub rises-there : (qs : List Queue) (k at : ℕ) (p : Queue) → QueueAt qs k at → p ≡ get_or qs at p → IsInOrder (lines_of qs) → Rises 0 (held p.line.items)
+rises-there qs k at p q h o = subst (Rises 0) (sym (line-was qs k at p q h)) (rise-at k (lines_of qs) o.lines)
+
 pub inserted : (qs new : List Queue) (k at : ℕ) (r : Queue) → find k (lines_of qs) ≡ None → at ≡ rank k (lines_of qs) → new ≡ insert_item qs at r → key r.object.0 r.side ≡ k → IsInOrder (lines_of qs) → Rises 0 (held r.line.items) → Rewritten qs new k (held r.line.items)
 inserted qs new k at r none place is same o rises =
     let es = held r.line.items in

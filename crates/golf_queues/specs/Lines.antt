@@ -97,6 +97,14 @@ leaves t g ks k h = is_in k ks && is_holder t g h
 abbrev pub keys_of : List Wait → List ℕ
 keys_of ws = map (λ w. key w.object.0 w.side) ws
 
+-- whoever stands in the line, but this goroutine with this ticket, stood in it before
+abbrev pub AddsOnlyIn : ℕ → ℕ → List (ℕ × ℕ) → List (ℕ × ℕ) → Type 0
+AddsOnlyIn t g old new = (u h : ℕ) → is_holder t g (u, h) ≡ false → Entry new u h → Entry old u h
+
+-- whoever stands in a line, but this goroutine with this ticket in the lines of these keys, stood in it before
+abbrev pub AddsOnly : ℕ → ℕ → List ℕ → Lines → Lines → Type 0
+AddsOnly t g ks old new = (k u h : ℕ) → leaves t g ks k (u, h) ≡ false → Entry (line_at k new) u h → Entry (line_at k old) u h
+
 -- the goroutine stands in the line of the wait
 abbrev pub StandsIn : ℕ → ℕ → Wait → Lines → Type 0
 StandsIn t g w ls = Entry (line_at (key w.object.0 w.side) ls) t g

@@ -4,7 +4,7 @@ ghost use Rattle.std.specs.Prelude.{◌≡◌, ◌<◌, ◌≤◌, ◌+◌, leng
 ghost use Rattle.golf_theory.specs.Maps.{Entry, Rises, AllBelow};
 ghost use Rattle.golf_theory.specs.Membership.{is_in};
 ghost use Rattle.golf_heap.specs.Objects.{rank};
-ghost use Rattle.golf_queues.specs.Lines.{held, has_anyone, has_key, is_holder_in, listed, among, parted, KeepsIn, IsLastBefore};
+ghost use Rattle.golf_queues.specs.Lines.{held, has_anyone, has_key, is_holder_in, listed, among, parted, AddsOnlyIn, KeepsIn, IsLastBefore};
 
 use golf_base::{GoroutineId, Memory};
 
@@ -30,6 +30,7 @@ pub fn join(line: &mut Vec<TicketHolder>, ticket: u64, goroutine: GoroutineId) -
     ensures rises { Rises 0 (held line.new.items) }
     ensures joins { OnOk result (Entry (held line.new.items) ticket goroutine.0) }
     ensures kept { KeepsIn (λ t g. t < ticket) (held line.old.items) (held line.new.items) }
+    ensures only { AddsOnlyIn ticket goroutine.0 (held line.old.items) (held line.new.items) }
     ensures below { AllBelow (ticket + 1) (held line.new.items) }
 {
     let at = rank_of(line.as_slice(), ticket);

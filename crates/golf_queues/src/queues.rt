@@ -5,7 +5,7 @@ ghost use Rattle.golf_theory.specs.Maps.{Entry, Rises};
 ghost use Rattle.golf_theory.specs.Membership.{is_in};
 ghost use Rattle.golf_heap.specs.Objects.{rank};
 ghost use Rattle.golf_model.specs.Waiting.{side_number};
-ghost use Rattle.golf_queues.specs.Lines.{Lines, IsInOrder, key, held, lines_of, line_at, has_key, keys_of, leaves, listed, standing, narrowed, AreBelow, IsWithout, Keeps, StandsInAll};
+ghost use Rattle.golf_queues.specs.Lines.{Lines, IsInOrder, key, held, lines_of, line_at, has_key, keys_of, leaves, listed, standing, narrowed, AddsOnly, AreBelow, IsWithout, Keeps, StandsInAll};
 
 use crate::line::{TicketHolder, has_anyone, join, narrow, part};
 use golf_base::{GoroutineId, Memory, ObjectId};
@@ -115,7 +115,7 @@ impl Queues {
     }
 
     /// The goroutine stands last in line for the object with that side, with a ticket that nobody
-    /// who waits there has.
+    /// who waits there has, and nobody else is added.
     pub fn enter(
         &mut self,
         object: ObjectId,
@@ -127,6 +127,7 @@ impl Queues {
         ensures joins { OnOk result (Entry (line_at (key object.0 side) self.new) ticket goroutine.0) }
         ensures again { OnOk result (Keeps (λ t g. (t ≡ ticket) × (g ≡ goroutine.0)) self.old self.new) }
         ensures kept { Keeps (λ t g. t < ticket) self.old self.new }
+        ensures only { AddsOnly ticket goroutine.0 (key object.0 side ∷ []) self.old self.new }
         ensures below { AreBelow (ticket + 1) self.new }
     {
         let key = key_of(object, side);
@@ -140,7 +141,7 @@ impl Queues {
         Ok(())
     }
 
-    /// The goroutine stands last in the line of each of these waits.
+    /// The goroutine stands last in the line of each of these waits, and nobody else is added.
     pub fn enter_all(
         &mut self,
         waits: &[Wait],
@@ -150,6 +151,7 @@ impl Queues {
         requires below { AreBelow (ticket + 1) self.old }
         ensures joins { OnOk result (StandsInAll ticket goroutine.0 waits.now self.new) }
         ensures kept { Keeps (λ t g. t < ticket) self.old self.new }
+        ensures only { AddsOnly ticket goroutine.0 (keys_of waits.now) self.old self.new }
         ensures below { AreBelow (ticket + 1) self.new }
     {
         for wait in waits {

@@ -6,6 +6,9 @@ mod collection;
 mod ledger;
 mod marking;
 mod reported;
+mod setting;
 
 pub use collection::{Options, collect};
 pub use ledger::Ledger;
+pub use marking::find_gone;
+pub use setting::sets_finalisers;

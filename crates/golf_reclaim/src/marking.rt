@@ -89,8 +89,9 @@ pub(crate) fn find_dead<R: Threads + Sync, G: Gate + Sync>(
     })
 }
 
-// The goroutines that are removed: with recovery, those that are not awake and not kept.
-fn find_gone(
+/// The goroutines that are removed, by what the marking of the live graph tells: with recovery, those
+/// that are neither awake nor kept.
+pub fn find_gone(
     alloc: Global,
     graph: &Graph,
     marked: &Marked,

@@ -3,7 +3,6 @@
 
 mod fault;
 mod running;
-mod setting;
 mod surveying;
 mod turns;
 

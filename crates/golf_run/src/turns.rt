@@ -14,11 +14,10 @@ ghost use Rattle.golf_run.specs.HasRun.{sinks};
 ghost use Rattle.golf_run.specs.HasGone.{HasGone};
 
 use crate::fault::RunFault;
-use crate::setting::sets_finalisers;
 use golf_base::{Gate, Sink, write_all};
 use golf_data::{Code, Ending, Report};
 use golf_machine::{Turned, start, turn};
-use golf_reclaim::{Ledger, Options as Collecting, collect};
+use golf_reclaim::{Ledger, Options as Collecting, collect, sets_finalisers};
 use golf_schedules::{Event, Events, Options};
 use golf_state::State;
 use golf_texts::{Totals, report_text};

@@ -108,12 +108,7 @@ module _ (types : Typing) (known : List (ℕ × ValueType)) where
 
   sends_at : (ft : FunctionTypes) (f : FrameView) (w : Wait) (side : Side) → side ≡ Side.Send → WaitFitsAt types known ft f w side → LeavingFits types known ft [] (unwrap_or w.target f.at) f.operands f.slots f.leaving
   sends_at ft f w Side.Send i h = h.3
-  sends_at ft f w Side.Receive i h = cc
-  sends_at ft f w Side.Lock i h = cc
-  sends_at ft f w Side.Group i h = cc
-  sends_at ft f w Side.Read i h = cc
-  sends_at ft f w Side.Write i h = cc
-  sends_at ft f w Side.Cond i h = cc
+  sends_at ft f w _ i h = cc
 
   sent_at : (o : ℕ) (e : ValueType) (ft : FunctionTypes) (f : FrameView) (w : Wait) (side : Side) → side ≡ Side.Send → w.object.0 ≡ o → HasType known o (ValueType.Chan e) → WaitFitsAt types known ft f w side → ValueFits types.of known w.value e
   sent_at o e ft f w Side.Send i q k h =

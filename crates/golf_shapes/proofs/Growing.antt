@@ -17,12 +17,8 @@ use Rattle.golf_shapes.specs.WellTyped.{gives, received_types, SlotFits, Stands,
 
 module _ (types : Typing) (known later : List (ℕ × ValueType)) (grows : (o : ℕ) (t : ValueType) → HasType known o t → HasType later o t) where
   pub value-more : (v : Value) (t : ValueType) → ValueFits types.of known v t → ValueFits types.of later v t
-  value-more (Value.Int n) t h = h
-  value-more (Value.Bool b) t h = h
-  value-more (Value.Text k) t h = h
-  value-more Value.Unit t h = h
-  value-more Value.Nil t h = h
   value-more (Value.Ref o) t h = (grows o.0 t h.0, h.1)
+  value-more _ t h = h
 
   pub values-more : (vs : List Value) (ts : List ValueType) → ValuesFit types.of known vs ts → ValuesFit types.of later vs ts
   values-more [] [] h = tt

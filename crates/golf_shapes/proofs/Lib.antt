@@ -1,3 +1,4 @@
+pub mod Gets
 pub mod Growing
 pub mod Changing
 pub mod Waits

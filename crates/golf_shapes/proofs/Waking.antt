@@ -25,11 +25,7 @@ module _ (types : Typing) (known : List (ℕ × ValueType)) where
     closed_for-fits : (zero : Value) (e : ValueType) (w : Wait) (side : Side) → HasType known o (ValueType.Chan e) → ValueFits types.of known zero e → w.side ≡ side → w.object.0 ≡ o → In w (waits_of r.mode) → GoroutineFits types known g (closed_for zero w side r)
     closed_for-fits zero e w Side.Receive k a q j i = receiver-served types known g o e w (waits_of r.mode) r zero false q j k a i (blocked-of r.frames r.mode w i h.0)
     closed_for-fits zero e w Side.Send k a q j i = unwound-fits types known (fault PanicKind.SendClosed (blocked_line r.mode)) g (waits_of r.mode) r (blocked-of r.frames r.mode w i h.0)
-    closed_for-fits zero e w Side.Lock k a q j i = h
-    closed_for-fits zero e w Side.Group k a q j i = h
-    closed_for-fits zero e w Side.Read k a q j i = h
-    closed_for-fits zero e w Side.Write k a q j i = h
-    closed_for-fits zero e w Side.Cond k a q j i = h
+    closed_for-fits zero e w _ k a q j i = h
 
     closed_on-fits : (zero : Value) (e : ValueType) (m : Option Wait) → HasType known o (ValueType.Chan e) → ValueFits types.of known zero e → wait_on o (waits_of r.mode) ≡ m → GoroutineFits types known g (closed_on zero m r)
     closed_on-fits zero e None k a q = h

@@ -32,14 +32,13 @@ Entry-kept {X} (b ∷ bs) (e ∷ es) k x h =
     ] h
 
 -- those who are kept stand in line where the others are gone from it
-pub lined-kept : (listed : Bool) (flags : List Bool) (es : List (ℕ × GoroutineView)) (old narrow new : Lines) (next : ℕ) → AreLined listed es old next
-    → Keeps (λ t h. is_in h (keys (kept flags es)) ≡ true) old narrow → Keeps (λ t h. Unit {0}) narrow new → ((n : ℕ) → AreBelow n old → AreBelow n new) → AreLined listed (kept flags es) new next
-lined-kept listed flags es old narrow new next a others all below = record {
+pub lined-kept : (listed : Bool) (flags : List Bool) (es : List (ℕ × GoroutineView)) (old new : Lines) (next : ℕ) → AreLined listed es old next
+    → Keeps (λ t h. is_in h (keys (kept flags es)) ≡ true) old new → ((n : ℕ) → AreBelow n old → AreBelow n new) → AreLined listed (kept flags es) new next
+lined-kept listed flags es old new next a others below = record {
   below = below (next + 1) a.below;
   early = λ g v h. a.early g v (Entry-kept flags es g v h);
   all = λ o side q g v w h e.
-      all (key o side) (ticket_of v.mode) g tt
-      (others (key o side) (ticket_of v.mode) g (is_in-from g (keys (kept flags es)) (In-keys (kept flags es) g v h)) (a.all o side q g v w (Entry-kept flags es g v h) e));
+      others (key o side) (ticket_of v.mode) g (is_in-from g (keys (kept flags es)) (In-keys (kept flags es) g v h)) (a.all o side q g v w (Entry-kept flags es g v h) e);
 }
 
 -- ---- who leaves

@@ -10,6 +10,7 @@
 mod acting;
 mod calls;
 mod collecting;
+mod finaliser_queue;
 mod finalisers;
 mod frames;
 mod operands;

@@ -1,6 +1,6 @@
 //! Goroutines by number.
 
-ghost use Rattle.std.specs.Prelude.{◌≡◌, ◌≤◌, ◌==◌, ◌&&◌, not, map, length, vec_capacity, IfSome, option_map};
+ghost use Rattle.std.specs.Prelude.{◌≡◌, ◌≤◌, ◌==◌, ◌&&◌, not, map, length, vec_capacity, IfOk, IfSome, option_map};
 ghost use Rattle.golf_theory.specs.Maps.{find, only, Rises};
 ghost use Rattle.golf_heap.specs.Objects.{rank};
 ghost use Rattle.golf_data.specs.declared.goroutine.Mode.{Mode};
@@ -10,28 +10,35 @@ ghost use Rattle.golf_state.specs.Places.{is_idle, starts_idle, plain_entry, pla
 ghost use Rattle.golf_state.specs.Ready.{AllReady};
 
 use crate::rising::add_last;
-use golf_base::{GoroutineId, List};
+use golf_base::{Boxed, GoroutineId, List, Memory};
 use golf_data::{Frame, Goroutine, Mode, Queued};
+use std::alloc::Global;
 
-/// A goroutine and its number.
+/// A goroutine and its number. It is small, so that little is moved where one before it ends.
 #[derive(Debug, Drop)]
 pub struct Place {
     pub number: u32,
-    pub goroutine: Goroutine,
+    pub goroutine: Boxed<Goroutine>,
 }
 
 /// The place of a goroutine of this number that runs with these frames, started at this line.
-pub fn place_of(number: u32, frames: List<Frame>, started: u32) -> Place
-    ensures { plain_entry result ≡ (number, record { frames = frame_views frames; mode = Mode.Running; started = started }) }
+pub fn place_of(
+    alloc: Global,
+    number: u32,
+    frames: List<Frame>,
+    started: u32,
+) -> Result<Place, Memory>
+    ensures { IfOk result (λ place. plain_entry place ≡ (number, record { frames = frame_views frames; mode = Mode.Running; started = started })) }
 {
-    Place {
+    let goroutine = Goroutine {
+        frames,
+        mode: Mode::Running,
+        started,
+    };
+    Ok(Place {
         number,
-        goroutine: Goroutine {
-            frames,
-            mode: Mode::Running,
-            started,
-        },
-    }
+        goroutine: Boxed::new(alloc, goroutine)?,
+    })
 }
 
 // The number as an index, where its goroutine stands there, as it does where no goroutine before it
@@ -66,7 +73,7 @@ pub fn goroutine_at(places: &[Place], number: u32) -> Option<&Goroutine>
 {
     let place = places.get(rank_of(places, number))?;
     if place.number == number {
-        Some(&place.goroutine)
+        Some(place.goroutine.get())
     } else {
         None
     }
@@ -108,7 +115,7 @@ pub fn starts_idle(places: &[Place]) -> bool
     ensures { result ≡ starts_idle (plain_entries places.now) }
 {
     match places.first() {
-        Some(place) => place.number == 0 && is_idle(&place.goroutine),
+        Some(place) => place.number == 0 && is_idle(place.goroutine.get()),
         None => false,
     }
 }
@@ -131,7 +138,7 @@ pub fn list_running(places: &[Place], running: &mut Vec<GoroutineId>)
 {
     running.clear();
     for place in places {
-        if is_running(&place.goroutine.mode) {
+        if is_running(&place.goroutine.get().mode) {
             add_last(running, GoroutineId(place.number));
         }
     }

@@ -21,6 +21,7 @@ ghost use Rattle.golf_state.specs.Seen.{waiter_by};
 ghost use Rattle.golf_state.specs.Lending.{LendsFrames, LendsObject};
 
 use crate::collecting::unflagged_finalisers;
+use crate::finaliser_queue::FinaliserQueue;
 use crate::finalisers::{function_of, put_finaliser, take_finaliser};
 use crate::frames::{Wakening, settle, waken};
 use crate::places::{
@@ -29,7 +30,7 @@ use crate::places::{
 use crate::rising::{add_last, behind_first, leave_out, put_in};
 use crate::waiters::{
     Waiting, enter_for_mutex, first_in_line, first_waiter, forget, has_line, leave_lines,
-    move_mode, waiter_by,
+    move_mode, narrow_lines, waiter_by,
 };
 use crate::wake_all::{readers_next, wake_all};
 use crate::waking::{Waking, wakening_of};
@@ -55,7 +56,7 @@ pub struct State {
     running: Vec<GoroutineId>,
     waiting: Queues,
     are_mutexes_lined: bool,
-    queue: List<Queued>,
+    queue: FinaliserQueue,
     output: List<u8>,
     next_ticket: u64,
     recorded: Option<Ending>,
@@ -106,8 +107,8 @@ impl State {
         ensures { IfOk result (λ state. state ≡ opening globals (frame_views frames) line) }
     {
         let mut goroutines = Vec::new(alloc);
-        goroutines.push(place_of(0, List::new(alloc), 0))?;
-        goroutines.push(place_of(1, frames, line))?;
+        goroutines.push(place_of(alloc, 0, List::new(alloc), 0)?)?;
+        goroutines.push(place_of(alloc, 1, frames, line)?)?;
         let present = first_two(alloc)?;
         let running = first_two(alloc)?;
         Ok(State {
@@ -120,7 +121,7 @@ impl State {
             running,
             waiting: Queues::new(alloc),
             are_mutexes_lined: true,
-            queue: List::new(alloc),
+            queue: FinaliserQueue::new(alloc),
             output: List::new(alloc),
             next_ticket: 0,
             recorded: None,
@@ -275,7 +276,7 @@ impl State {
     {
         let at = rank_of(self.goroutines.as_slice(), g.0);
         let place = &mut self.goroutines[at];
-        let goroutine = &mut place.goroutine;
+        let goroutine = place.goroutine.get_mut();
         &mut goroutine.frames
     }
 
@@ -288,10 +289,11 @@ impl State {
         let number = self.next_goroutine;
         let next = number.checked_add(1).ok_or(Memory)?;
         let g = GoroutineId(number);
+        let place = place_of(*self.goroutines.allocator(), number, frames, line)?;
         let more = (self.goroutines.len() + 2).saturating_sub(self.running.len());
         self.present.reserve(1)?;
         self.running.reserve(more)?;
-        self.goroutines.push(place_of(number, frames, line))?;
+        self.goroutines.push(place)?;
         add_last(&mut self.present, g);
         add_last(&mut self.running, g);
         self.next_goroutine = next;
@@ -323,8 +325,9 @@ impl State {
         }
         self.waiting.enter_all(waits.as_slice(), ticket, g)?;
         let place = &mut self.goroutines[at];
-        settle(&mut place.goroutine, after, taken)?;
-        place.goroutine.mode = Mode::Blocked {
+        let goroutine = place.goroutine.get_mut();
+        settle(goroutine, after, taken)?;
+        goroutine.mode = Mode::Blocked {
             kind,
             line,
             waits,
@@ -342,8 +345,9 @@ impl State {
     {
         let at = rank_of(self.goroutines.as_slice(), g.0);
         let place = &mut self.goroutines[at];
-        leave_lines(&mut self.waiting, g, &place.goroutine.mode);
-        waken(&mut place.goroutine, how);
+        let goroutine = place.goroutine.get_mut();
+        leave_lines(&mut self.waiting, g, &goroutine.mode);
+        waken(goroutine, how);
         put_in(&mut self.running, g);
     }
 
@@ -413,8 +417,9 @@ impl State {
     {
         let at = rank_of(self.goroutines.as_slice(), g.0);
         let place = &mut self.goroutines[at];
-        leave_lines(&mut self.waiting, g, &place.goroutine.mode);
-        move_mode(&mut place.goroutine.mode, mutex, self.next_ticket);
+        let goroutine = place.goroutine.get_mut();
+        leave_lines(&mut self.waiting, g, &goroutine.mode);
+        move_mode(&mut goroutine.mode, mutex, self.next_ticket);
         let is_lined = self.are_mutexes_lined;
         self.are_mutexes_lined = enter_for_mutex(
             &mut self.waiting,
@@ -507,7 +512,7 @@ impl State {
         ensures ok { OnOk result (self.new ≡ record self.old { queue = self.old.queue ++ entries.now }) }
         ensures err { OnErr result (self.new ≡ self.old) }
     {
-        self.queue.extend_from_slice(entries)
+        self.queue.add(entries)
     }
 
     /// The goroutine is taken away by a collection.
@@ -535,7 +540,7 @@ impl State {
     {
         let alloc = *self.finalisers.allocator();
         let entries = unflagged_finalisers(alloc, self.finalisers.as_slice(), stays)?;
-        self.queue.extend_from_slice(entries.as_slice())?;
+        self.queue.add(entries.as_slice())?;
         close_up(&mut self.finalisers, stays);
         Ok(())
     }
@@ -549,29 +554,28 @@ impl State {
     }
 
     /// Takes away the goroutines whose flag, in rising order of number, is false, and the lines in
-    /// which nobody stands then. It takes no memory.
+    /// which nobody stands then. It takes no memory, and looks at those who stand in line only where
+    /// a goroutine is taken away.
     pub fn retain_goroutines(&mut self, stays: &[bool])
         requires { length stays.now ≡ length self.old.goroutines }
         ensures { self.new ≡ record self.old { goroutines = kept stays.now self.old.goroutines } }
     {
+        let were = self.present.len();
         close_up(&mut self.goroutines, stays);
         close_up(&mut self.present, stays);
-        self.waiting.retain(self.present.as_slice());
-        self.waiting.drop_empty();
+        narrow_lines(&mut self.waiting, self.present.as_slice(), were);
         list_running(self.goroutines.as_slice(), &mut self.running);
     }
 
     // ---- the queue and the output
 
-    /// Takes the next finaliser that is to be called.
+    /// Takes the next finaliser that is to be called. It takes no memory, and costs the same however
+    /// many there are.
     pub fn take_queued(&mut self) -> Option<Queued>
         ensures first { result ≡ slice_get self.old.queue 0 }
         ensures rest { self.new ≡ take_queued self.old }
     {
-        if self.queue.is_empty() {
-            return None;
-        }
-        Some(self.queue.remove(0))
+        self.queue.take()
     }
 
     /// Adds to what was printed.

@@ -1,12 +1,13 @@
 //! Who waits on an object.
 
-ghost use Rattle.std.specs.Prelude.{◌≡◌, ◌<◌, ◌+◌, ◌==◌, ◌&&◌, false, true, Some, None, option_map};
+ghost use Rattle.std.specs.Prelude.{◌≡◌, ◌<◌, ◌≤◌, ◌+◌, ◌==◌, ◌&&◌, ℕ, false, true, Some, None, length, map, option_map};
 ghost use Rattle.golf_data.specs.declared.goroutine.Side.{Side};
 ghost use Rattle.golf_theory.specs.Maps.{Entry, Rises, find};
+ghost use Rattle.golf_theory.specs.Membership.{is_in};
 ghost use Rattle.golf_model.specs.Waiting.{same_side, wait_for, waiter_of, first};
 ghost use Rattle.golf_model.specs.Changes.{moved, moved_waits};
 ghost use Rattle.golf_state.specs.Places.{plain_entry, plain_entries};
-ghost use Rattle.golf_queues.specs.Lines.{held, key, line_at, IsWithout, Keeps, AreBelow};
+ghost use Rattle.golf_queues.specs.Lines.{held, key, line_at, listed, narrowed, standing, IsWithout, Keeps, AreBelow};
 ghost use Rattle.golf_state.specs.Seen.{sooner, waiter_by};
 ghost use Rattle.golf_state.specs.Left.{leaves_in, leaves_where};
 ghost use Rattle.golf_state.specs.Lined.{HasWaiters, has_line};
@@ -60,7 +61,7 @@ pub fn wait_for(waits: &[Wait], object: ObjectId, side: Side) -> Option<Wait>
 fn waiter_in(place: &Place, object: ObjectId, side: Side) -> Option<Waiting>
     ensures { result ≡ option_map waiting_of (waiter_of object.0 side (plain_entry place.now)) }
 {
-    match &place.goroutine.mode {
+    match &place.goroutine.get().mode {
         Mode::Running => None,
         Mode::Blocked { waits, ticket, .. } => {
             let wait = wait_for(waits.as_slice(), object, side)?;
@@ -151,6 +152,21 @@ pub fn forget(queues: &mut Queues, places: &[Place], g: GoroutineId)
     if let Some(goroutine) = goroutine_at(places, g.0) {
         leave_lines(queues, g, &goroutine.mode);
     }
+}
+
+/// Where fewer goroutines are there than there were, those alone stand in line still, and nobody else;
+/// lines in which nobody stands then are gone. It takes no memory.
+pub fn narrow_lines(queues: &mut Queues, goroutines: &[GoroutineId], were: usize)
+    requires { Rises 0 (listed goroutines.now) }
+    ensures fewer { length goroutines.now < were → queues.new ≡ standing (narrowed (map (λ h. h.0) goroutines.now) queues.old) }
+    ensures as_many { were ≤ length goroutines.now → queues.new ≡ standing queues.old }
+    ensures kept { Keeps (λ t g. is_in g (map (λ h. h.0) goroutines.now) ≡ true) queues.old queues.new }
+    ensures below { (n : ℕ) → AreBelow n queues.old → AreBelow n queues.new }
+{
+    if goroutines.len() < were {
+        queues.retain(goroutines);
+    }
+    queues.drop_empty();
 }
 
 /// The goroutine of least ticket among those that wait on the object with that side. It looks at all.

@@ -145,12 +145,8 @@ module _ (code : Code) (a : Actor) (s : State) where
   no-condition x CaseKind.TakeOk o = λ e. cc
 
   no-condition_at : (x : Offer) (v : Value) → Every (HasMutex s.objects) (case_waits x v)
-  no-condition_at x (Value.Int n) = tt
-  no-condition_at x (Value.Bool b) = tt
-  no-condition_at x (Value.Text k) = tt
-  no-condition_at x Value.Unit = tt
-  no-condition_at x Value.Nil = tt
   no-condition_at x (Value.Ref o) = (no-condition x x.kind o.0, tt)
+  no-condition_at x _ = tt
 
   no-conditions : (xs : List Offer) → Every (HasMutex s.objects) (offered_waits xs)
   no-conditions [] = tt
@@ -247,12 +243,9 @@ module _ (code : Code) (a : Actor) (s : State) where
 
   -- the mutex of a condition, or nil
   keep-awaits_on : (rest : List Value) (o : ℕ) (v : Value) → find o s.objects ≡ Some (Object.Cond v) → AllKeepOrder s.objects (at_reference a (λ p. at_mutex (awaits_by a rest s o p) (find p s.objects)) v)
-  keep-awaits_on rest o (Value.Int n) c = tt
-  keep-awaits_on rest o (Value.Bool b) c = tt
-  keep-awaits_on rest o (Value.Text k) c = tt
-  keep-awaits_on rest o Value.Unit c = tt
   keep-awaits_on rest o Value.Nil c = (refl, tt)
   keep-awaits_on rest o (Value.Ref p) c = on-mutex s.objects _ (find p.0 s.objects) (λ locked e. keep-awaits_by rest o p.0 locked c e)
+  keep-awaits_on rest o _ c = tt
 
   keep-awaits : AllKeepOrder s.objects (awaits a s)
   keep-awaits = on-one s.objects _ ops (λ c rest. on-reference s.objects a _ c (λ o. on-condition s.objects _ (find o s.objects) (λ m e. keep-awaits_on rest o m e)))

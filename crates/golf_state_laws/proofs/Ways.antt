@@ -51,82 +51,37 @@ module _ (xs : List (ℕ × Object)) where
   on-ints act vs h = on-two _ vs (λ x y rest. on-some _ (int_of x) (λ m. on-some _ (int_of y) (λ n. h m n rest)))
 
   pub on-reference_or : (nil : List Change) (act : ℕ → List Change) (v : Value) → AllKeepOrder xs nil → ((o : ℕ) → AllKeepOrder xs (act o)) → AllKeepOrder xs (at_reference_or nil act v)
-  on-reference_or nil act (Value.Int n) p h = tt
-  on-reference_or nil act (Value.Bool b) p h = tt
-  on-reference_or nil act (Value.Text k) p h = tt
-  on-reference_or nil act Value.Unit p h = tt
   on-reference_or nil act Value.Nil p h = p
   on-reference_or nil act (Value.Ref o) p h = h o.0
+  on-reference_or nil act _ p h = tt
 
   pub on-struct : (act : List Value → List Change) (m : Option Object) → ((fields : List Value) → m ≡ Some (Object.Struct fields) → AllKeepOrder xs (act fields)) → AllKeepOrder xs (at_struct act m)
-  on-struct act None h = tt
   on-struct act (Some (Object.Struct fields)) h = h fields refl
-  on-struct act (Some (Object.Slice elements)) h = tt
-  on-struct act (Some (Object.Chan c)) h = tt
-  on-struct act (Some (Object.Mutex locked)) h = tt
-  on-struct act (Some (Object.Group n)) h = tt
-  on-struct act (Some (Object.Rw n)) h = tt
-  on-struct act (Some (Object.Cond v)) h = tt
+  on-struct act _ h = tt
 
   pub on-slice : (act : List Value → List Change) (m : Option Object) → ((elements : List Value) → m ≡ Some (Object.Slice elements) → AllKeepOrder xs (act elements)) → AllKeepOrder xs (at_slice act m)
-  on-slice act None h = tt
-  on-slice act (Some (Object.Struct fields)) h = tt
   on-slice act (Some (Object.Slice elements)) h = h elements refl
-  on-slice act (Some (Object.Chan c)) h = tt
-  on-slice act (Some (Object.Mutex locked)) h = tt
-  on-slice act (Some (Object.Group n)) h = tt
-  on-slice act (Some (Object.Rw n)) h = tt
-  on-slice act (Some (Object.Cond v)) h = tt
+  on-slice act _ h = tt
 
   pub on-channel : (act : Channel → List Change) (m : Option Object) → ((c : Channel) → m ≡ Some (Object.Chan c) → AllKeepOrder xs (act c)) → AllKeepOrder xs (at_channel act m)
-  on-channel act None h = tt
-  on-channel act (Some (Object.Struct fields)) h = tt
-  on-channel act (Some (Object.Slice elements)) h = tt
   on-channel act (Some (Object.Chan c)) h = h c refl
-  on-channel act (Some (Object.Mutex locked)) h = tt
-  on-channel act (Some (Object.Group n)) h = tt
-  on-channel act (Some (Object.Rw n)) h = tt
-  on-channel act (Some (Object.Cond v)) h = tt
+  on-channel act _ h = tt
 
   pub on-mutex : (act : Bool → List Change) (m : Option Object) → ((locked : Bool) → m ≡ Some (Object.Mutex locked) → AllKeepOrder xs (act locked)) → AllKeepOrder xs (at_mutex act m)
-  on-mutex act None h = tt
-  on-mutex act (Some (Object.Struct fields)) h = tt
-  on-mutex act (Some (Object.Slice elements)) h = tt
-  on-mutex act (Some (Object.Chan c)) h = tt
   on-mutex act (Some (Object.Mutex locked)) h = h locked refl
-  on-mutex act (Some (Object.Group n)) h = tt
-  on-mutex act (Some (Object.Rw n)) h = tt
-  on-mutex act (Some (Object.Cond v)) h = tt
+  on-mutex act _ h = tt
 
   pub on-group : (act : ℤ → List Change) (m : Option Object) → ((n : ℤ) → m ≡ Some (Object.Group n) → AllKeepOrder xs (act n)) → AllKeepOrder xs (at_group act m)
-  on-group act None h = tt
-  on-group act (Some (Object.Struct fields)) h = tt
-  on-group act (Some (Object.Slice elements)) h = tt
-  on-group act (Some (Object.Chan c)) h = tt
-  on-group act (Some (Object.Mutex locked)) h = tt
   on-group act (Some (Object.Group n)) h = h n refl
-  on-group act (Some (Object.Rw n)) h = tt
-  on-group act (Some (Object.Cond v)) h = tt
+  on-group act _ h = tt
 
   pub on-rw : (act : ℤ → List Change) (m : Option Object) → ((n : ℤ) → m ≡ Some (Object.Rw n) → AllKeepOrder xs (act n)) → AllKeepOrder xs (at_rw act m)
-  on-rw act None h = tt
-  on-rw act (Some (Object.Struct fields)) h = tt
-  on-rw act (Some (Object.Slice elements)) h = tt
-  on-rw act (Some (Object.Chan c)) h = tt
-  on-rw act (Some (Object.Mutex locked)) h = tt
-  on-rw act (Some (Object.Group n)) h = tt
   on-rw act (Some (Object.Rw n)) h = h n refl
-  on-rw act (Some (Object.Cond v)) h = tt
+  on-rw act _ h = tt
 
   pub on-condition : (act : Value → List Change) (m : Option Object) → ((v : Value) → m ≡ Some (Object.Cond v) → AllKeepOrder xs (act v)) → AllKeepOrder xs (at_condition act m)
-  on-condition act None h = tt
-  on-condition act (Some (Object.Struct fields)) h = tt
-  on-condition act (Some (Object.Slice elements)) h = tt
-  on-condition act (Some (Object.Chan c)) h = tt
-  on-condition act (Some (Object.Mutex locked)) h = tt
-  on-condition act (Some (Object.Group n)) h = tt
-  on-condition act (Some (Object.Rw n)) h = tt
   on-condition act (Some (Object.Cond v)) h = h v refl
+  on-condition act _ h = tt
 
   -- the acting goroutine goes on, panics or blocks with a frame
   module _ (a : Actor) where
@@ -150,9 +105,6 @@ module _ (xs : List (ℕ × Object)) where
     keep-blocks f kind waits h = ((refl, h), tt)
 
     pub on-reference : (act : ℕ → List Change) (v : Value) → ((o : ℕ) → AllKeepOrder xs (act o)) → AllKeepOrder xs (at_reference a act v)
-    on-reference act (Value.Int n) h = tt
-    on-reference act (Value.Bool b) h = tt
-    on-reference act (Value.Text k) h = tt
-    on-reference act Value.Unit h = tt
     on-reference act Value.Nil h = (refl, tt)
     on-reference act (Value.Ref o) h = h o.0
+    on-reference act _ h = tt

@@ -14,12 +14,16 @@ use Rattle.golf_model.specs.State.{State, is_running}
 use Rattle.golf_model.specs.Waiting.{Waiter, waiter_ticket, waiter_of, waits_of, wait_for, first, by_ticket, enter, waiters}
 use Rattle.golf_model.specs.Waking.{released}
 use Rattle.golf_model.specs.Changes.{apply_all, pass_on, moved, behind_first}
+use Rattle.golf_model.specs.Acting.{stands, standing}
 use Rattle.golf_model.specs.Conditions.{first_only, passes_on}
 use Rattle.golf_model.specs.Laws.{head}
 use Rattle.golf_model.proofs.Firsts.{first-head, waiters-sound}
 use Rattle.golf_state.specs.declared.waiters.Waiting.{Waiting}
 use Rattle.golf_state.specs.Waited.{waiting_of}
+use Rattle.golf_state.specs.Doing.{does, Stands}
+use Rattle.golf_state.specs.Going.{went}
 use Rattle.golf_state.specs.Looked.{runs}
+use Rattle.golf_state.proofs.Doings.{does-is, actor_of}
 use Rattle.golf_state.proofs.Runnings.{runs-passed}
 use Rattle.golf_sync.specs.Objects.{mutex_of}
 use Rattle.golf_sync.specs.Notified.{notified}
@@ -137,11 +141,6 @@ pub record Passed (o m : ℕ) (s t : State) (ws : List Waiter) : Type 0 where
 
 pub passed : (o m : ℕ) (s : State) (w : Waiter) (ws : List Waiter) (r : Option GoroutineView) (x : Option Object) → IsRising s.goroutines → r ≡ Some w.goroutine → find m s.objects ≡ x → IsSome (mutex_of x) → waiters o Side.Cond s.goroutines ≡ w ∷ ws
     → Passed o m s (pass_on w.number m r x s) ws
-passed o m s w ws None x rising f q h i = cc
-passed o m s w ws (Some r) None rising f q h i = cc
-passed o m s w ws (Some r) (Some (Object.Struct fields)) rising f q h i = cc
-passed o m s w ws (Some r) (Some (Object.Slice elements)) rising f q h i = cc
-passed o m s w ws (Some r) (Some (Object.Chan c)) rising f q h i = cc
 passed o m s w ws (Some r) (Some (Object.Mutex false)) rising f q h i = record {
   waiters = waiters-less o Side.Cond w.number (released r) refl 0 s.goroutines w ws rising refl i;
   tickets = omega arith;
@@ -152,9 +151,7 @@ passed o m s w ws (Some r) (Some (Object.Mutex true)) rising f q h i = record {
   tickets = omega arith;
   mutex = rw q refl;
 }
-passed o m s w ws (Some r) (Some (Object.Group n)) rising f q h i = cc
-passed o m s w ws (Some r) (Some (Object.Rw n)) rising f q h i = cc
-passed o m s w ws (Some r) (Some (Object.Cond v)) rising f q h i = cc
+passed o m s w ws _ _ rising f q h i = cc
 
 by_ticket-count : (w : Waiter) (ws : List Waiter) → length (by_ticket w ws) ≡ suc (length ws)
 by_ticket-count w [] = refl
@@ -175,7 +172,7 @@ pub none-of : (m : Option Waiter) (r : Option Waiting) → r ≡ option_map wait
 none-of None r e h = refl
 none-of (Some w) r e h = cc
 
-pub some-of : (m : Option Waiter) (r : Option Waiting) → r ≡ option_map waiting_of m → is_some r ≡ true → (w : Waiter) × (m ≡ Some w)
+some-of : (m : Option Waiter) (r : Option Waiting) → r ≡ option_map waiting_of m → is_some r ≡ true → (w : Waiter) × (m ≡ Some w)
 some-of None r e h = cc
 some-of (Some w) r e h = (w, refl)
 
@@ -187,7 +184,32 @@ pub notified-some : (all : Bool) (o : ℕ) (gs : List (ℕ × GoroutineView)) (w
 notified-some true o gs w h = (behind_first (waiters o Side.Cond gs), head-cons (waiters o Side.Cond gs) w (sym (first-head o Side.Cond gs) ∙ h))
 notified-some false o gs w h = ([], ap first_only h)
 
+-- who was told of is the first of those who are
+pub notified-from : (all : Bool) (o : ℕ) (gs : List (ℕ × GoroutineView)) (r : Option Waiting) → r ≡ option_map waiting_of (first o Side.Cond gs) → is_some r ≡ true → (w : Waiter) × (ws : List Waiter) × (notified all o gs ≡ w ∷ ws)
+notified-from all o gs r e h =
+    let w = some-of (first o Side.Cond gs) r e h in
+    let rest = notified-some all o gs w.0 w.1 in
+    (w.0, rest.0, rest.1)
+
 -- who runs still does once they are passed on
 pub passes-run : (g m : ℕ) (ws : List Waiter) (s : State) → runs g s ≡ true → runs g (apply_all (passes_on m ws) s) ≡ true
 passes-run g m [] s h = h
 passes-run g m (w ∷ ws) s h = passes-run g m ws (pass_on w.number m (find w.number s.goroutines) (find m s.objects) s) (runs-passed g w.number m s h)
+
+-- the goroutine in its turn has gone on, and then they are passed on
+module _ (g after line : ℕ) (s t : State) (st : Stands g after s) (is : t ≡ does (λ a. stands a (went after 1 [] a.frame)) g line s) where
+  pub gone-on : t ≡ apply_all (stands (actor_of st line) (went after 1 [] st.frame)) s
+  gone-on = is ∙ does-is g after s st (λ a. stands a (went after 1 [] a.frame)) line
+
+  pub ticket-same : t.next_ticket ≡ s.next_ticket
+  ticket-same = ap (λ (u : State). u.next_ticket) gone-on
+
+  pub count-same : length t.goroutines ≡ length s.goroutines
+  count-same = ap (λ (u : State). length u.goroutines) gone-on ∙ length-put g (standing (actor_of st line) (went after 1 [] st.frame)) s.goroutines
+
+  pub passed-on : (all : Bool) (o m : ℕ) (u : State) → IsRising s.goroutines → runs g t ≡ true → u ≡ apply_all (passes_on m (notified all o t.goroutines)) t
+      → (u ≡ apply_all (passes_on m (notified all o s.goroutines)) t) × (runs g u ≡ true)
+  passed-on all o m u rising ran e =
+      let same = notified-same all o g s t _ _ rising st.found refl refl (ap (λ (v : State). v.goroutines) gone-on) in
+      let then = e ∙ ap (λ (ws : List Waiter). apply_all (passes_on m ws) t) same in
+      (then, ap (runs g) then ∙ passes-run g m (notified all o s.goroutines) t ran)

@@ -1,21 +1,25 @@
 -- Who gets a reader and writer mutex, once the goroutine in its turn has gone on.
-use Rattle.std.proofs.Common.{◌≡◌, ℕ, true, false, cond, Option, Some, None, refl}
+use Rattle.std.proofs.Common.{◌≡◌, ℕ, true, false, cond, [], Option, Some, None, refl, ap, ◌∙◌}
 use Rattle.std.specs.Prelude.{nat_lt, negsuc}
+use Rattle.golf_data.specs.declared.goroutine.Side.{Side}
 use Rattle.golf_data.specs.declared.value.Object.{Object}
 use Rattle.golf_model.specs.State.{State}
-use Rattle.golf_model.specs.Waiting.{Waiter, waiter_ticket}
+use Rattle.golf_model.specs.Waiting.{Waiter, waiter_ticket, first}
 use Rattle.golf_model.specs.Changes.{apply_all, replace}
 use Rattle.golf_model.specs.Waking.{Waking}
-use Rattle.golf_model.specs.Acting.{choose}
+use Rattle.golf_model.specs.Acting.{choose, stands}
 use Rattle.golf_model.specs.ReadersWriters.{to_readers, to_writer, serves_first}
 use Rattle.golf_state.specs.Handing.{IsBlockedIn}
 use Rattle.golf_state.specs.Waited.{waiting_of}
 use Rattle.golf_state.specs.declared.frames.Wakening.TheVariants as k
+use Rattle.golf_state.specs.Doing.{does, Stands}
+use Rattle.golf_state.specs.Going.{went}
 use Rattle.golf_state.specs.Looked.{runs}
 use Rattle.golf_state.proofs.Runnings.{runs-woken, runs-all}
-use Rattle.golf_state.proofs.Serving.{Beside, IsServed, served-blocked, served-woken}
+use Rattle.golf_state.proofs.Serving.{Beside, IsServed, beside-put, served-blocked, served-woken}
 use Rattle.golf_sync.specs.Served.{next_in, served_by, is_ready_for, readers_of}
 use Rattle.golf_sync.specs.declared.readers_writers.Served.{Served}
+use Rattle.golf_sync.proofs.Notices.{gone-on}
 
 module _ (o : ℕ) (s t : State) (b : Beside s t) where
   abbrev as-served : (w : Waiter) → IsBlockedIn s (Some w) → IsServed s (Some w) (waiting_of w)
@@ -44,6 +48,18 @@ module _ (o : ℕ) (s t : State) (b : Beside s t) where
         | true ↦ refl
         | false ↦ writer-ready w i
       ]
+
+-- the goroutine in its turn has gone on, and then whoever waits first is served
+module _ (g after o line : ℕ) (s t : State) (x : Served) (st : Stands g after s) (is : t ≡ does (λ a. stands a (went after 1 [] a.frame)) g line s)
+    (next : x ≡ next_in o s.goroutines (first o Side.Write s.goroutines) (first o Side.Read s.goroutines)) (blocked : IsBlockedIn s (first o Side.Write s.goroutines)) where
+  beside : Beside s t
+  beside = beside-put g after s st t _ (ap (λ (u : State). u.goroutines) (gone-on g after line s t st is))
+
+  pub next-ready : is_ready_for x t ≡ true
+  next-ready = ap (λ (y : Served). is_ready_for y t) next ∙ serves-ready o s t beside (first o Side.Write s.goroutines) (first o Side.Read s.goroutines) blocked
+
+  pub next-is : served_by o x t ≡ apply_all (serves_first o s.goroutines (first o Side.Write s.goroutines) (first o Side.Read s.goroutines)) t
+  next-is = ap (λ (y : Served). served_by o y t) next ∙ serves-is o s t beside (first o Side.Write s.goroutines) (first o Side.Read s.goroutines) blocked
 
 -- who runs still does once they have it
 pub served-runs : (g o : ℕ) (x : Served) (s : State) → runs g s ≡ true → runs g (served_by o x s) ≡ true

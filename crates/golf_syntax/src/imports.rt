@@ -1,7 +1,6 @@
 //! Imports.
 
 ghost use Rattle.std.specs.Prelude.{◌≡◌, ◌<◌, length, IfOk, IfSome};
-ghost use Rattle.golf_expressions.specs.Front as front_spec;
 ghost use Rattle.golf_expressions.specs.Front.{seen};
 ghost use Rattle.golf_syntax.specs.Many.{list_at};
 ghost use Rattle.golf_syntax.specs.DeclReading as decl_spec;

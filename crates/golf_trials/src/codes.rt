@@ -5,7 +5,7 @@ ghost use Rattle.golf_data.specs.Places.{HasPlaces};
 ghost use Rattle.golf_trials.specs.Ready.{IsReady};
 
 use golf_base::{List, Memory};
-use golf_data::{Code, Function, Instr, Line};
+use golf_data::{Code, Function, Instr, Line, Value};
 use std::alloc::Global;
 
 /// Instructions at the lines 1, 2 and so on.
@@ -29,6 +29,29 @@ pub fn function(params: u32, body: List<Line>) -> Function {
         line: 1,
         body,
     }
+}
+
+/// A code without texts of these functions, with these globals, and with a struct type of these fields.
+/// The first function is `main`, at line 1.
+pub fn code(
+    alloc: Global,
+    functions: List<Function>,
+    globals: &[Value],
+    fields: &[Value],
+) -> Result<Code, Memory> {
+    let mut own_globals = List::new(alloc);
+    own_globals.extend_from_slice(globals)?;
+    let mut own_fields = List::new(alloc);
+    own_fields.extend_from_slice(fields)?;
+    let mut structs = List::new(alloc);
+    structs.push(own_fields)?;
+    Ok(Code {
+        functions,
+        globals: own_globals,
+        structs,
+        texts: List::new(alloc),
+        main_line: 1,
+    })
 }
 
 // Whether each instruction of a function has a place.

@@ -1,15 +1,17 @@
-//! Graphs, gates and parts of codes for tests and measurements. Graphs are made a place at a time, of a
-//! shape, or such that they look random; gates see how markers run.
+//! Graphs, gates and codes for tests and measurements, and why a measurement comes to nothing. Graphs are
+//! made a place at a time, of a shape, or such that they look random; gates see how markers run.
 #![tactic(auto)]
 
 mod codes;
+mod fault;
 mod gates;
 mod making;
 mod numbers;
 mod random;
 mod shapes;
 
-pub use codes::{can_run, function, lines};
+pub use codes::{can_run, code, function, lines};
+pub use fault::BenchFault;
 pub use gates::{CountingGate, MeetingGate, StealingGate};
 pub use making::{GraphFault, GraphMaker};
 pub use numbers::Numbers;

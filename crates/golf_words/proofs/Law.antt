@@ -1,5 +1,5 @@
 -- The line that the words stand for is what `clap` finds in them.
-use Rattle.std.proofs.Common.{◌≡◌, ◌∙◌, ◌++◌, Bool, cond, true, false, refl, sym, ap, ap₂, subst, List, [], ◌∷◌, map, Option, Some, None, Result, Ok, Err, IfOk, option_and_then, is_some, bytes_eq, codes, IsUtf8, String, string_bytes, true≢false}
+use Rattle.std.proofs.Common.{◌≡◌, ◌∙◌, ◌++◌, Bool, cond, true, false, refl, sym, ap, ap₂, subst, List, [], ◌∷◌, map, Option, Some, None, Result, Ok, Err, IfOk, option_and_then, is_some, bytes_eq, codes, IsUtf8, String, string_bytes}
 use Rattle.std.specs.List.{AllByRecursion}
 use Rattle.std.specs.Option.{option_map_or}
 use Rattle.std.proofs.lemmas.Str.{IsUtf8-string_bytes}
@@ -15,7 +15,7 @@ use Rattle.golf_words.specs.Splitting.{generate_by, golf_app, line_by, run_by, s
 use Rattle.golf_words.specs.declared.line.Line.{Line}
 use Rattle.golf_words.proofs.Outcomes.{bundle_fails, fails, level_is, short_text, unless_fails, unless_none}
 use Rattle.golf_words.proofs.Runs.{run_shape, same_text}
-use Rattle.golf_words.proofs.RunLines.{run_line_is}
+use Rattle.golf_words.proofs.RunLines.{run_line_is, settle_first}
 use Rattle.golf_words.proofs.Generates.{generate_line_is, generate_shape}
 
 abbrev app : App
@@ -113,10 +113,6 @@ first_turn word b l s none e is =
     ∙ ap (λ t. turn_at (cond t [] (flag_word_fault top.rules false (long_of word) word nothing_held)) (cond t (nothing_held, trailing 1) (long_or_other top.rules idle word (long_of word) nothing_held))) e
     ∙ ap (λ o. turn_at (cond b [] (flag_word_fault top.rules false o word nothing_held)) (cond b (nothing_held, trailing 1) (long_or_other top.rules idle word o nothing_held))) is
 
-first_fails : (a b : Kinds) → fails a ≡ true → fails (or_else a b) ≡ true
-first_fails [] b e = absurd (true≢false (sym e))
-first_fails (k ∷ ks) b e = refl
-
 -- it is at fault, unless it is `--`
 turn_fails : (word : Text) → IsUtf8 word → subcommand_met names idle word ≡ None → bytes_eq word (45 ∷ 45 ∷ []) ≡ false
     → fails (turn_fault top names (walk_from nothing_held) word) ≡ true
@@ -127,7 +123,7 @@ turn_fails word utf8 none e = go (long_of word) (short_of word) refl refl
     go None (Some flags) is short =
         ap fails (first_turn word false None (Some flags) none e is
         ∙ ap (λ o. turn_at (option_map_or (λ t. bundle_fault top.rules false t nothing_held) o []) (short_or_plain top.rules idle word o nothing_held)) short)
-        ∙ first_fails (bundle_fault top.rules false flags nothing_held) _ (bundle_fails top.rules false flags nothing_held (short_text word flags short utf8) refl (λ x. refl))
+        ∙ settle_first (bundle_fault top.rules false flags nothing_held) _ (bundle_fails top.rules false flags nothing_held (short_text word flags short utf8) refl (λ x. refl))
     go None None is short =
         ap fails (first_turn word false None None none e is
         ∙ ap (λ o. turn_at (option_map_or (λ t. bundle_fault top.rules false t nothing_held) o []) (short_or_plain top.rules idle word o nothing_held)) short)
@@ -135,12 +131,12 @@ turn_fails word utf8 none e = go (long_of word) (short_of word) refl refl
 fault_first : (word : Text) (rest : List Text) → fails (turn_fault top names (walk_from nothing_held) word) ≡ true
     → fails (walk_fault top names (walk_from nothing_held) (word ∷ rest)) ≡ true
 unfolding walk_fault
-fault_first word rest e = first_fails (turn_fault top names (walk_from nothing_held) word) (walk_fault top names (walked top.rules names (walk_from nothing_held) word) rest) e
+fault_first word rest e = settle_first (turn_fault top names (walk_from nothing_held) word) (walk_fault top names (walked top.rules names (walk_from nothing_held) word) rest) e
 
 none_found : (words : List Text) → fails (walk_fault top names (walk_from nothing_held) words) ≡ true → split_of words ≡ None
 none_found words e =
     split_is words
-    ∙ unless_fails (or_else (walk_fault top names (walk_from nothing_held) words) _) _ (first_fails (walk_fault top names (walk_from nothing_held) words) _ e)
+    ∙ unless_fails (or_else (walk_fault top names (walk_from nothing_held) words) _) _ (settle_first (walk_fault top names (walk_from nothing_held) words) _ e)
 
 abbrev trailed : Walk
 trailed = record { held = nothing_held; waiting = idle; position = 1; is_trailing = true; stopped = None }

@@ -45,7 +45,7 @@ rest_word word rest utf8 at_rest at_value = go (bytes_eq word (45 ∷ 45 ∷ [])
 
 -- ---- a word where a value is wanted
 
-settle_first : (a b : Kinds) → fails a ≡ true → fails (or_else a b) ≡ true
+pub settle_first : (a b : Kinds) → fails a ≡ true → fails (or_else a b) ≡ true
 settle_first [] b e = absurd (true≢false (sym e))
 settle_first (k ∷ ks) b e = refl
 

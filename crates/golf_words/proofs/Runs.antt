@@ -1,5 +1,6 @@
 -- What the walk of `clap` over the words of a run line comes to.
-use Rattle.std.proofs.Common.{◌≡◌, ◌∙◌, ◌||◌, ◌&&◌, ◌==◌, ◌++◌, ◌⊎◌, inl, inr, Bool, cond, true, false, refl, sym, ap, subst, List, [], ◌∷◌, map, Option, Some, None, option_map, option_and_then, is_some, bytes_eq, codes, true≢false, append-nil}
+use Rattle.std.proofs.Common.{◌≡◌, ◌∙◌, ◌&&◌, ◌==◌, ◌++◌, inl, inr, Bool, cond, true, false, refl, sym, ap, subst, List, [], ◌∷◌, map, Option, Some, None, option_map, option_and_then, is_some, bytes_eq, codes, true≢false, append-nil}
+use Rattle.std.proofs.lemmas.Bool.{or_cases, or_parts}
 use Rattle.std.proofs.lemmas.List.{map-append}
 use Rattle.std.proofs.lemmas.Slice.Eq.{bytes_eq-Decides}
 use Rattle.clap.proofs.WalkLemmas.{list_any-map}
@@ -28,14 +29,6 @@ or_else-nil (k ∷ ks) = refl
 pub same_text : (a b : Text) → bytes_eq a b ≡ true → a ≡ b
 same_text a b e = (bytes_eq-Decides a b).0 e
 
-pub both_false : (a b : Bool) → (a || b) ≡ false → (a ≡ false) × (b ≡ false)
-both_false true b e = absurd (true≢false e)
-both_false false b e = (refl, e)
-
-one_true : (a b : Bool) → (a || b) ≡ true → (a ≡ true) ⊎ (b ≡ true)
-one_true true b e = inl refl
-one_true false b e = inr e
-
 -- ---- uses and rows
 
 abbrev pub value_of : Option Text → Text
@@ -51,7 +44,7 @@ has_row-used us name = sym (list_any-map (λ (r : Row). bytes_eq r.id name) row 
 pub at_no_row : (id : Text) (change : Row → List Row) (missing rows : List Row) → has_row id rows ≡ false → at_row id change missing rows ≡ rows ++ missing
 at_no_row id change missing [] e = refl
 at_no_row id change missing (r ∷ rs) e =
-    let parts = both_false (bytes_eq r.id id) (has_row id rs) e in
+    let parts = or_parts (bytes_eq r.id id) (has_row id rs) e in
     ap (λ b. cond b (change r ++ rs) (r ∷ at_row id change missing rs)) parts.0 ∙ ap (λ rows. r ∷ rows) (at_no_row id change missing rs parts.1)
 
 -- the rows with one use more
@@ -104,11 +97,11 @@ valued_markers : IsValued (codes "markers")
 valued_markers = record { rule = _; found = refl; kept = refl; id = refl; takes = refl; most = refl; fault = λ v rows. or_else-nil (repeat_fault false (codes "markers") rows); gives = λ v rows. refl; none = λ rows. refl; told = refl }
 
 pub valued : (name : Text) → takes_value name ≡ true → IsValued name
-valued name e = elim (one_true (bytes_eq (codes "schedule") name) _ e) [
+valued name e = elim (or_cases (bytes_eq (codes "schedule") name) _ e) [
   | inl is ↦ subst IsValued (same_text (codes "schedule") name is) valued_schedule
-  | inr more ↦ elim (one_true (bytes_eq (codes "turns") name) _ more) [
+  | inr more ↦ elim (or_cases (bytes_eq (codes "turns") name) _ more) [
     | inl is ↦ subst IsValued (same_text (codes "turns") name is) valued_turns
-    | inr rest ↦ elim (one_true (bytes_eq (codes "every") name) _ rest) [
+    | inr rest ↦ elim (or_cases (bytes_eq (codes "every") name) _ rest) [
       | inl is ↦ subst IsValued (same_text (codes "every") name is) valued_every
       | inr last ↦ subst IsValued (same_text (codes "markers") name last) valued_markers
     ]
@@ -117,9 +110,9 @@ valued name e = elim (one_true (bytes_eq (codes "schedule") name) _ e) [
 
 pub unknown : (name : Text) → takes_value name ≡ false → bytes_eq (codes "recover") name ≡ false → arg_by_long rules name ≡ None
 unknown name e other =
-    let first = both_false (bytes_eq (codes "schedule") name) _ e in
-    let second = both_false (bytes_eq (codes "turns") name) _ first.1 in
-    let third = both_false (bytes_eq (codes "every") name) _ second.1 in
+    let first = or_parts (bytes_eq (codes "schedule") name) _ e in
+    let second = or_parts (bytes_eq (codes "turns") name) _ first.1 in
+    let third = or_parts (bytes_eq (codes "every") name) _ second.1 in
     rw (first.0, second.0, third.0, third.1, other) refl
 
 -- ---- words

@@ -2,6 +2,7 @@
 use Rattle.std.proofs.Common.{◌≡◌, ◌∙◌, ◌||◌, ◌++◌, ℕ, Bool, cond, true, false, refl, sym, ap, List, [], ◌∷◌, map, drop, Option, Some, None, option_map, option_and_then, fold, is_some, find, bytes_eq, slice_get, codes, true≢false}
 use Rattle.std.specs.List.{AllByRecursion}
 use Rattle.std.specs.Option.{option_or}
+use Rattle.std.proofs.lemmas.Bool.{or_parts}
 use Rattle.std.proofs.lemmas.List.Folds.{find-append}
 use Rattle.clap.specs.Walk.{Row, first_of, has_row, more_values, with_default, with_values}
 use Rattle.clap.specs.declared.parser.matches.ValueSource.TheVariants.{DefaultValue}
@@ -11,7 +12,7 @@ use Rattle.golf_words.specs.Values.{Text, number_within, schedule_of}
 use Rattle.golf_words.specs.Words.{Use, every_in, is_used, markers_in, run_of, schedule_in, setting, takes_value, turns_in, value_in}
 use Rattle.golf_words.specs.Splitting.{every_or_none, is_true, run_by}
 use Rattle.golf_words.specs.declared.line.Line.{Line}
-use Rattle.golf_words.proofs.Runs.{at_no_row, both_false, has_row-used, row, rules, same_text, value_of}
+use Rattle.golf_words.proofs.Runs.{at_no_row, has_row-used, row, rules, same_text, value_of}
 
 -- a use has a value where its option takes one
 abbrev pub IsTold : Use → Type 0
@@ -68,7 +69,7 @@ found_recover (u ∷ us) told = go (bytes_eq u.0 (codes "recover")) refl (found_
 none_found : (id : Text) (rows : List Row) → has_row id rows ≡ false → find (λ (r : Row). bytes_eq r.id id) rows ≡ None
 none_found id [] e = refl
 none_found id (r ∷ rs) e =
-    let parts = both_false (bytes_eq r.id id) (has_row id rs) e in
+    let parts = or_parts (bytes_eq r.id id) (has_row id rs) e in
     ap (λ b. cond b (Some r) (find (λ (x : Row). bytes_eq x.id id) rs)) parts.0 ∙ none_found id rs parts.1
 
 or_none : (o : Option Row) → option_or o None ≡ o

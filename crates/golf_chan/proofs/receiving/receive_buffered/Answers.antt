@@ -1,34 +1,30 @@
-use Rattle.std.proofs.Common.{◌≡◌, ap, ◌∙◌, sym, arith, [], ◌∷◌, ◌++◌, List, Some}
+use Rattle.std.proofs.Common.{refl, ◌≡◌, ap, ◌∙◌, sym, arith, [], ◌∷◌, ◌++◌, List, Some}
 use Rattle.std.proofs.lemmas.Grind.{common_steps}
 use Rattle.golf_data.specs.declared.goroutine.Side.{Side}
 use Rattle.golf_data.specs.declared.value.Object.{Object}
 use Rattle.golf_data.specs.declared.value.Value.{Value}
 use Rattle.golf_theory.specs.Maps.{find}
 use Rattle.golf_model.specs.State.{State}
-use Rattle.golf_model.specs.Changes.{Change, replace}
-use Rattle.golf_model.specs.Acting.{Actor, stands}
+use Rattle.golf_model.specs.Changes.{replace}
 use Rattle.golf_model.specs.Waiting.{first}
-use Rattle.golf_state.specs.Going.{went}
 use Rattle.golf_state.specs.Looked.{values_of, runs}
 use Rattle.golf_state.specs.declared.waiters.Waiting.{Waiting}
 use Rattle.golf_state.specs.declared.frames.Wakening.TheVariants as k
 use Rattle.golf_state.specs.declared.frames.Given.TheVariants as v
-use Rattle.golf_state.proofs.Doings.{does-is}
 use Rattle.golf_state.proofs.Runnings.{runs-woken}
-use Rattle.golf_state.proofs.Serving.{beside-put, served-from, served-blocked, served-woken}
+use Rattle.golf_state.proofs.Serving.{served-from, served-blocked, served-woken}
 use Rattle.golf_chan.specs.Channels.{shifted, unbuffered}
 use Rattle.golf_chan.proofs.Buffers.{full-channel}
+use Rattle.golf_chan.proofs.Passing.{gone-beside, gone-on}
 use Rattle.golf_chan.proofs.receiving.receive_buffered.Goals as goal
 
 pub wake-requires : goal.wake-requires
 wake-requires c =
     let s = c.args.state.now in
-    let g = c.args.acting.goroutine.0 in
     let x = c.in-Some.waiting in
     let t = replace c.args.object.0 c.take_first.new.object c.proceed_with.new.state in
     let m = first c.args.object.0 Side.Send s.goroutines in
-    let act : Actor → List Change = λ a. stands a (went c.args.receiving.target c.args.receiving.taken (values_of c.received-given.result) a.frame) in
-    let b = beside-put g c.args.acting.after s c.requires.stands t _ (ap (λ (t : State). t.goroutines) (c.in_ok-proceed_with.ensures.ok ∙ does-is g c.args.acting.after s c.requires.stands act c.args.acting.line)) in
+    let b = gone-beside c.requires.stands c.args.acting.line c.args.receiving.target c.args.receiving.taken (values_of c.received-given.result) c.in_ok-proceed_with.ensures.ok t refl in
     served-blocked s m x (served-from s m x c.in-Some.ensures.first c.in-Some.ensures.blocked) t b
 
 pub returns-in-Some-clause-ok : goal.returns-in-Some-clause-ok
@@ -39,9 +35,8 @@ returns-in-Some-clause-ok c =
     let x = c.in-Some.waiting in
     let t = replace o c.take_first.new.object c.proceed_with.new.state in
     let m = first o Side.Send s.goroutines in
-    let act : Actor → List Change = λ a. stands a (went c.args.receiving.target c.args.receiving.taken (values_of c.received-given.result) a.frame) in
-    let now = c.in_ok-proceed_with.ensures.ok ∙ does-is g c.args.acting.after s c.requires.stands act c.args.acting.line in
-    let b = beside-put g c.args.acting.after s c.requires.stands t _ (ap (λ (t : State). t.goroutines) now) in
+    let now = gone-on c.requires.stands c.args.acting.line c.args.receiving.target c.args.receiving.taken (values_of c.received-given.result) c.in_ok-proceed_with.ensures.ok in
+    let b = gone-beside c.requires.stands c.args.acting.line c.args.receiving.target c.args.receiving.taken (values_of c.received-given.result) c.in_ok-proceed_with.ensures.ok t refl in
     let w = served-from s m x c.in-Some.ensures.first c.in-Some.ensures.blocked in
     let e = c.wake.ensures ∙ served-woken s m x w t b (k.Served x.wait v.Nothing) in
     let ch = full-channel c.args.value (find o s.objects) c.requires.buffered in

@@ -1,30 +1,24 @@
-use Rattle.std.proofs.Common.{ap, ◌∙◌, arith, List}
+use Rattle.std.proofs.Common.{refl, ap, ◌∙◌, arith}
 use Rattle.std.proofs.lemmas.Grind.{common_steps}
 use Rattle.golf_data.specs.declared.goroutine.Side.{Side}
 use Rattle.golf_theory.specs.Maps.{find}
-use Rattle.golf_model.specs.State.{State}
-use Rattle.golf_model.specs.Changes.{Change}
-use Rattle.golf_model.specs.Acting.{Actor, stands}
 use Rattle.golf_model.specs.Waiting.{first}
-use Rattle.golf_state.specs.Going.{went}
 use Rattle.golf_state.specs.Looked.{values_of, runs}
 use Rattle.golf_state.specs.declared.frames.Wakening.TheVariants as k
 use Rattle.golf_state.specs.declared.frames.Given.TheVariants as v
-use Rattle.golf_state.proofs.Doings.{does-is}
 use Rattle.golf_state.proofs.Runnings.{runs-woken}
-use Rattle.golf_state.proofs.Serving.{beside-put, served-from, served-blocked, served-woken}
+use Rattle.golf_state.proofs.Serving.{served-from, served-blocked, served-woken}
 use Rattle.golf_chan.proofs.Buffers.{empty-channel}
+use Rattle.golf_chan.proofs.Passing.{gone-beside}
 use Rattle.golf_chan.proofs.receiving.receive_unbuffered.Goals as goal
 
 pub wake-requires : goal.wake-requires
 wake-requires c =
     let s = c.args.state.now in
-    let g = c.args.acting.goroutine.0 in
     let x = c.in-Some.waiting in
     let t = c.proceed_with.new.state in
     let m = first c.args.object.0 Side.Send s.goroutines in
-    let act : Actor → List Change = λ a. stands a (went c.args.receiving.target c.args.receiving.taken (values_of c.received-given.result) a.frame) in
-    let b = beside-put g c.args.acting.after s c.requires.stands t _ (ap (λ (t : State). t.goroutines) (c.in_ok-proceed_with.ensures.ok ∙ does-is g c.args.acting.after s c.requires.stands act c.args.acting.line)) in
+    let b = gone-beside c.requires.stands c.args.acting.line c.args.receiving.target c.args.receiving.taken (values_of c.received-given.result) c.in_ok-proceed_with.ensures.ok t refl in
     served-blocked s m x (served-from s m x c.in-Some.ensures.first c.in-Some.ensures.blocked) t b
 
 pub returns-in-Some-clause-ok : goal.returns-in-Some-clause-ok
@@ -35,9 +29,7 @@ returns-in-Some-clause-ok c =
     let x = c.in-Some.waiting in
     let t = c.proceed_with.new.state in
     let m = first o Side.Send s.goroutines in
-    let act : Actor → List Change = λ a. stands a (went c.args.receiving.target c.args.receiving.taken (values_of c.received-given.result) a.frame) in
-    let now = c.in_ok-proceed_with.ensures.ok ∙ does-is g c.args.acting.after s c.requires.stands act c.args.acting.line in
-    let b = beside-put g c.args.acting.after s c.requires.stands t _ (ap (λ (t : State). t.goroutines) now) in
+    let b = gone-beside c.requires.stands c.args.acting.line c.args.receiving.target c.args.receiving.taken (values_of c.received-given.result) c.in_ok-proceed_with.ensures.ok t refl in
     let w = served-from s m x c.in-Some.ensures.first c.in-Some.ensures.blocked in
     let e = c.wake.ensures ∙ served-woken s m x w t b (k.Served x.wait v.Nothing) in
     let ch = empty-channel c.args.zero (find o s.objects) c.requires.empty in

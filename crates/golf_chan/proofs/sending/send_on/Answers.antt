@@ -1,31 +1,25 @@
-use Rattle.std.proofs.Common.{ap, ◌∙◌, arith, [], List}
+use Rattle.std.proofs.Common.{refl, ap, ◌∙◌, arith, []}
 use Rattle.std.proofs.lemmas.Grind.{common_steps}
 use Rattle.golf_data.specs.declared.goroutine.Side.{Side}
 use Rattle.golf_data.specs.declared.value.Object.{Object}
 use Rattle.golf_theory.specs.Maps.{put}
-use Rattle.golf_model.specs.State.{State}
-use Rattle.golf_model.specs.Changes.{Change}
-use Rattle.golf_model.specs.Acting.{Actor, stands}
 use Rattle.golf_model.specs.Waiting.{first}
-use Rattle.golf_state.specs.Going.{went}
 use Rattle.golf_state.specs.Looked.{runs}
 use Rattle.golf_state.specs.declared.frames.Wakening.TheVariants as k
-use Rattle.golf_state.proofs.Doings.{does-is}
-use Rattle.golf_state.proofs.Serving.{beside-put, served-from, served-blocked, served-woken}
+use Rattle.golf_state.proofs.Serving.{served-from, served-blocked, served-woken}
 use Rattle.golf_state.proofs.Runnings.{runs-woken}
 use Rattle.std.proofs.lemmas.Result.{err_from_is_err_and}
 use Rattle.golf_state.proofs.PlaceLaws.{put-same}
+use Rattle.golf_chan.proofs.Passing.{gone-beside}
 use Rattle.golf_chan.proofs.sending.send_on.Goals as goal
 
 pub wake-requires : goal.wake-requires
 wake-requires c =
     let s = c.args.state.now in
-    let g = c.args.acting.goroutine.0 in
     let x = c.in-Some-first_waiter.waiting in
     let t = c.proceed.new.state in
     let m = first c.args.object.0 Side.Receive s.goroutines in
-    let act : Actor → List Change = λ a. stands a (went c.args.target c.args.taken [] a.frame) in
-    let b = beside-put g c.args.acting.after s c.requires t _ (ap (λ (t : State). t.goroutines) (c.proceed.ensures.state ∙ does-is g c.args.acting.after s c.requires act c.args.acting.line)) in
+    let b = gone-beside c.requires c.args.acting.line c.args.target c.args.taken [] c.proceed.ensures.state t refl in
     served-blocked s m x (served-from s m x c.in-Some-first_waiter.ensures.first c.in-Some-first_waiter.ensures.blocked) t b
 
 pub returns-in-Some-first_waiter-clause-ok : goal.returns-in-Some-first_waiter-clause-ok
@@ -35,8 +29,7 @@ returns-in-Some-first_waiter-clause-ok c =
     let x = c.in-Some-first_waiter.waiting in
     let t = c.proceed.new.state in
     let m = first c.args.object.0 Side.Receive s.goroutines in
-    let act : Actor → List Change = λ a. stands a (went c.args.target c.args.taken [] a.frame) in
-    let b = beside-put g c.args.acting.after s c.requires t _ (ap (λ (t : State). t.goroutines) (c.proceed.ensures.state ∙ does-is g c.args.acting.after s c.requires act c.args.acting.line)) in
+    let b = gone-beside c.requires c.args.acting.line c.args.target c.args.taken [] c.proceed.ensures.state t refl in
     let w = served-from s m x c.in-Some-first_waiter.ensures.first c.in-Some-first_waiter.ensures.blocked in
     let e = c.wake.ensures ∙ served-woken s m x w t b (k.Served x.wait c.received-given.result) in
     (grind (arith, common_steps, e, w.is, w.told), ap (runs g) c.wake.ensures ∙ runs-woken g x.goroutine.0 (k.Served x.wait c.received-given.result) t c.proceed.ensures.runs)

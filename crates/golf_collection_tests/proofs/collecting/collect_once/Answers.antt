@@ -1,16 +1,19 @@
-use Rattle.std.proofs.Common.{◌∙◌, ap}
+use Rattle.std.proofs.Common.{◌∙◌, ap, sym}
 use Rattle.std.specs.Prelude.{is_some}
-use Rattle.golf_collection_tests.proofs.Leading.{collected-or, none-by, numbered-there, whole-there}
+use Rattle.std.proofs.option.Match.{None-if_not_some}
+use Rattle.golf_laws.proofs.Leading.{leads-numbered}
+use Rattle.golf_state_laws.proofs.Leading.{leads-whole}
+use Rattle.golf_collection_tests.proofs.Leading.{collected-or}
 use Rattle.golf_collection_tests.proofs.collecting.collect_once.Goals as goal
 
 pub collect-requires-clause-numbered : goal.collect-requires-clause-numbered
-collect-requires-clause-numbered g c = λ κs within. numbered-there c.args.code.now c.args.state.now c.requires
+collect-requires-clause-numbered g c = λ κs within. leads-numbered c.args.code.now c.args.state.now c.requires
 
 pub collect-requires-clause-whole : goal.collect-requires-clause-whole
-collect-requires-clause-whole g c = λ κs within. whole-there c.args.code.now c.args.state.now c.requires
+collect-requires-clause-whole g c = λ κs within. leads-whole c.args.code.now c.args.state.now c.requires
 
 pub returns : goal.returns
 returns g c =
     collected-or c.collect.result c.args.code.now c.args.state.now c.collect.new.state c.args.recover c.sets_finalisers.result c.requires
-    (none-by _ c.is_some-over.result (c.is_some-over.ensures ∙ ap is_some c.ending.ensures) c.if-over.false)
+    (None-if_not_some _ (sym (c.is_some-over.ensures ∙ ap is_some c.ending.ensures) ∙ c.if-over.false))
     c.sets_finalisers.ensures c.collect.ensures.state c.collect.ensures.err_state

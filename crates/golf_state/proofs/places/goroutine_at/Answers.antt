@@ -1,5 +1,7 @@
-use Rattle.std.proofs.Common.{sym}
+use Rattle.std.proofs.Common.{Some, sym, ap, ◌∙◌}
+use Rattle.golf_data.specs.declared.goroutine.Goroutine.{Goroutine}
 use Rattle.golf_heap.proofs.Finding.{item-at, no_item-at}
+use Rattle.golf_model.specs.Views.{goroutine_view}
 use Rattle.golf_state.proofs.PlaceLaws.{found-there, absent-there, absent-past}
 use Rattle.golf_state.proofs.places.goroutine_at.Goals as goal
 
@@ -11,7 +13,7 @@ returns-in_err-place c =
 pub returns-then-place-number : goal.returns-then-place-number
 returns-then-place-number c =
     let ps = c.args.places.now in
-    sym (found-there ps c.args.number c.rank_of.result c.requires c.rank_of.ensures c.in_ok-place.place.now (item-at ps c.rank_of.result c.in_ok-place.place c.in_ok-place.ensures.lookup) c.if-place-number.true)
+    ap (λ (r : Goroutine). Some (goroutine_view r)) c.get-then-place-number.ensures ∙ sym (found-there ps c.args.number c.rank_of.result c.requires c.rank_of.ensures c.in_ok-place.place.now (item-at ps c.rank_of.result c.in_ok-place.place c.in_ok-place.ensures.lookup) c.if-place-number.true)
 
 pub returns-else-place-number : goal.returns-else-place-number
 returns-else-place-number c =

@@ -10,7 +10,7 @@ use Rattle.golf_model.specs.Conditions.{passes_on, notifies}
 use Rattle.golf_state.proofs.Doings.{does-same, actor_of}
 use Rattle.golf_state.proofs.Outcomings.{comes-same}
 use Rattle.golf_sync.specs.Notified.{notified}
-use Rattle.golf_sync.proofs.Notices.{none-of, some-of, notified-none, notified-some}
+use Rattle.golf_sync.proofs.Notices.{none-of, notified-none, notified-from}
 use Rattle.golf_sync.proofs.conditions.notify_by.Goals as goal
 
 pub returns-then-is_none : goal.returns-then-is_none
@@ -22,46 +22,35 @@ returns-then-is_none c =
 pub returns-in-Ref : goal.returns-in-Ref
 returns-in-Ref c =
     let s = c.args.state.now in
-    let w = some-of (first c.args.condition.0 Side.Cond s.goroutines) c.first_waiter.result c.first_waiter.ensures.first c.if-is_none.ensures in
-    let rest = notified-some c.args.all c.args.condition.0 s.goroutines w.0 w.1 in
+    let n = notified-from c.args.all c.args.condition.0 s.goroutines c.first_waiter.result c.first_waiter.ensures.first c.if-is_none.ensures in
     let f : Value → List Waiter → Actor → List Change = λ v ws a. notifies a (drop 1 a.frame.operands) s ws v in
     let g : List Waiter → Actor → List Change = λ ws a. at_mutex (λ locked. goes a (drop 1 a.frame.operands) ++ passes_on c.in-Ref.mutex.0 ws) (find c.in-Ref.mutex.0 s.objects) in
     let A = actor_of c.requires.stands c.args.acting.line in
     comes-same c.notify_with.result (g (notified c.args.all c.args.condition.0 s.goroutines)) (f c.args.mutex (notified c.args.all c.args.condition.0 s.goroutines)) c.args.acting.goroutine.0 c.args.acting.line s c.notify_with.new.state
-    (does-same c.args.acting.goroutine.0 c.args.acting.after s c.requires.stands (g (notified c.args.all c.args.condition.0 s.goroutines)) (f c.args.mutex (notified c.args.all c.args.condition.0 s.goroutines)) c.args.acting.line (ap (λ (ws : List Waiter). g ws A) rest.1 ∙ sym (ap (λ (v : Value). f v (w.0 ∷ rest.0) A) c.in-Ref.is) ∙ sym (ap (λ (ws : List Waiter). f c.args.mutex ws A) rest.1)))
+    (does-same c.args.acting.goroutine.0 c.args.acting.after s c.requires.stands (g (notified c.args.all c.args.condition.0 s.goroutines)) (f c.args.mutex (notified c.args.all c.args.condition.0 s.goroutines)) c.args.acting.line (ap (λ (ws : List Waiter). g ws A) n.2 ∙ sym (ap (λ (v : Value). f v (n.0 ∷ n.1) A) c.in-Ref.is) ∙ sym (ap (λ (ws : List Waiter). f c.args.mutex ws A) n.2)))
     c.notify_with.ensures
 
 pub returns-in-Nil : goal.returns-in-Nil
 returns-in-Nil c =
-    let s = c.args.state.now in
-    let w = some-of (first c.args.condition.0 Side.Cond s.goroutines) c.first_waiter.result c.first_waiter.ensures.first c.if-is_none.ensures in
-    let rest = notified-some c.args.all c.args.condition.0 s.goroutines w.0 w.1 in
-    grind (arith, common_steps, rest.1)
+    let n = notified-from c.args.all c.args.condition.0 c.args.state.now.goroutines c.first_waiter.result c.first_waiter.ensures.first c.if-is_none.ensures in
+    grind (arith, common_steps, n.2)
 
 pub returns-in-Int : goal.returns-in-Int
 returns-in-Int c =
-    let s = c.args.state.now in
-    let w = some-of (first c.args.condition.0 Side.Cond s.goroutines) c.first_waiter.result c.first_waiter.ensures.first c.if-is_none.ensures in
-    let rest = notified-some c.args.all c.args.condition.0 s.goroutines w.0 w.1 in
-    grind (arith, common_steps, rest.1)
+    let n = notified-from c.args.all c.args.condition.0 c.args.state.now.goroutines c.first_waiter.result c.first_waiter.ensures.first c.if-is_none.ensures in
+    grind (arith, common_steps, n.2)
 
 pub returns-in-Bool : goal.returns-in-Bool
 returns-in-Bool c =
-    let s = c.args.state.now in
-    let w = some-of (first c.args.condition.0 Side.Cond s.goroutines) c.first_waiter.result c.first_waiter.ensures.first c.if-is_none.ensures in
-    let rest = notified-some c.args.all c.args.condition.0 s.goroutines w.0 w.1 in
-    grind (arith, common_steps, rest.1)
+    let n = notified-from c.args.all c.args.condition.0 c.args.state.now.goroutines c.first_waiter.result c.first_waiter.ensures.first c.if-is_none.ensures in
+    grind (arith, common_steps, n.2)
 
 pub returns-in-Text : goal.returns-in-Text
 returns-in-Text c =
-    let s = c.args.state.now in
-    let w = some-of (first c.args.condition.0 Side.Cond s.goroutines) c.first_waiter.result c.first_waiter.ensures.first c.if-is_none.ensures in
-    let rest = notified-some c.args.all c.args.condition.0 s.goroutines w.0 w.1 in
-    grind (arith, common_steps, rest.1)
+    let n = notified-from c.args.all c.args.condition.0 c.args.state.now.goroutines c.first_waiter.result c.first_waiter.ensures.first c.if-is_none.ensures in
+    grind (arith, common_steps, n.2)
 
 pub returns-in-Unit : goal.returns-in-Unit
 returns-in-Unit c =
-    let s = c.args.state.now in
-    let w = some-of (first c.args.condition.0 Side.Cond s.goroutines) c.first_waiter.result c.first_waiter.ensures.first c.if-is_none.ensures in
-    let rest = notified-some c.args.all c.args.condition.0 s.goroutines w.0 w.1 in
-    grind (arith, common_steps, rest.1)
+    let n = notified-from c.args.all c.args.condition.0 c.args.state.now.goroutines c.first_waiter.result c.first_waiter.ensures.first c.if-is_none.ensures in
+    grind (arith, common_steps, n.2)

@@ -1,5 +1,5 @@
 use Rattle.std.proofs.Common.{◌+◌, ◌<◌, take}
-use Rattle.golf_queues.specs.Lines.{AreBelow, Keeps, StandsInAll}
+use Rattle.golf_queues.specs.Lines.{keys_of, AddsOnly, AreBelow, Keeps, StandsInAll}
 use Rattle.golf_queues.proofs.queues.Queues.enter_all.Given as goal
 
 -- the goroutine stands in the lines of the waits so far
@@ -7,5 +7,6 @@ abbrev pub invariant-loop-wait : goal.invariant-loop-wait
 invariant-loop-wait l = record {
   joins : StandsInAll l.ticket l.goroutine.0 (take l.wait-index l.waits) l.self;
   kept : Keeps (λ t g. t < l.ticket) l.initial.self l.self;
+  only : AddsOnly l.ticket l.goroutine.0 (keys_of l.waits) l.initial.self l.self;
   below : AreBelow (l.ticket + 1) l.self;
 }

@@ -2,6 +2,7 @@ use Rattle.std.proofs.Common.{◌≡◌, ℕ, ◌+◌, ◌<◌, List, length, ge
 use Rattle.std.proofs.lemmas.Result.{err_from_is_err_and}
 use Rattle.std.proofs.lemmas.Option.{slice_get_read, slice_get_past, get_or_from_slice_get}
 use Rattle.golf_data.specs.declared.goroutine.Frame.{Frame}
+use Rattle.golf_data.specs.declared.goroutine.Goroutine.{Goroutine}
 use Rattle.golf_data.specs.declared.goroutine.Mode.{Mode}
 use Rattle.golf_data.specs.declared.goroutine.Wait.{Wait}
 use Rattle.golf_heap.specs.Objects.{rank}
@@ -72,8 +73,10 @@ invariant_of-self-in_err-settle c =
     let l : c.rank_of-at.result < length gs = omega (arith, c.if-at-len.false, c.len.ensures, s.goroutines.ok.0) in
     let h = c.index_mut-place.ensures.value in
     let q : Place = record { number = p.number; goroutine = c.settle.new.goroutine } in
-    let mode : IsReadyIn c.settle.new.goroutine.mode c.settle.new.goroutine.frames = subst (λ (m : Mode). IsReadyIn m c.settle.new.goroutine.frames) (sym c.in_err-settle.ensures.mode) (still p.goroutine.mode p.goroutine.frames c.settle.new.goroutine.frames c.in_err-settle.ensures.kept (ready-read gs c.rank_of-at.result p k.ready l h)) in
-    let seen = ap (λ (r : GoroutineView). (p.number, r)) c.in_err-settle.ensures.err in
+    let lent = c.get_mut-goroutine.result.now in
+    let was : IsReadyIn lent.mode lent.frames = subst (λ (r : Goroutine). IsReadyIn r.mode r.frames) (sym c.get_mut-goroutine.ensures.value) (ready-read gs c.rank_of-at.result p k.ready l h) in
+    let mode : IsReadyIn c.settle.new.goroutine.mode c.settle.new.goroutine.frames = subst (λ (m : Mode). IsReadyIn m c.settle.new.goroutine.frames) (sym c.in_err-settle.ensures.mode) (still lent.mode lent.frames c.settle.new.goroutine.frames c.in_err-settle.ensures.kept was) in
+    let seen = ap (λ (r : GoroutineView). (p.number, r)) (c.in_err-settle.ensures.err ∙ ap goroutine_view c.get_mut-goroutine.ensures.value) in
     record {
       kept = kept-same gs _ _ _ s.next_goroutine c.rank_of-at.result p q k h seen mode;
       lined = subst (λ (es : List (ℕ × GoroutineView)). AreLined s.are_mutexes_lined es c.enter_all.new.self s.next_ticket) (sym (same-at gs c.rank_of-at.result p q h seen))
@@ -89,7 +92,7 @@ returns-in_err-settle-clause-err c =
     let e = err_from_is_err_and c.from_residual-in_err-settle.result c.from_residual-in_err-settle.ensures.1 in
     rw (e.1, ← c.self.view_is)
     (ap (λ (es : List (ℕ × GoroutineView)). record (plain_state s) { goroutines = es })
-    (same-at s.goroutines.items c.rank_of-at.result p q c.index_mut-place.ensures.value (ap (λ (r : GoroutineView). (p.number, r)) c.in_err-settle.ensures.err)))
+    (same-at s.goroutines.items c.rank_of-at.result p q c.index_mut-place.ensures.value (ap (λ (r : GoroutineView). (p.number, r)) (c.in_err-settle.ensures.err ∙ ap goroutine_view c.get_mut-goroutine.ensures.value))))
 
 -- the place that was read, lent
 numbered : (gs : List Place) (at g : ℕ) (x p : Place) → at < length gs → x ≡ get_or gs at x → x.number ≡ g → p ≡ get_or gs at p → p.number ≡ g
@@ -138,7 +141,8 @@ returns-clause-ok c =
     let act : GoroutineView → State → State = λ r. block g c.args.kind c.args.line c.args.waits (advanced c.args.after c.args.taken r) in
     let next : c.in_ok-next_ticket.next_ticket ≡ s.next_ticket + 1 = search rules in
     let set = set-at gs g c.rank_of-at.result p q (goroutine_view p.goroutine) k.rises stands refl
-    ∙ ap (λ (r : GoroutineView). put g (record r { mode = mode }) (plain_entries gs)) c.in_ok-settle.ensures.ok in
+    ∙ ap (λ (r : GoroutineView). put g (record r { mode = mode }) (plain_entries gs)) c.in_ok-settle.ensures.ok
+    ∙ ap (λ (r : Goroutine). put g (record (advanced c.args.after c.args.taken (goroutine_view r)) { mode = mode }) (plain_entries gs)) c.get_mut-goroutine.ensures.value in
     rw (← c.self.view_is)
     ((λ i. record (plain_state s) { goroutines = set i; next_ticket = next i })
     ∙ sym (ap (λ (o : Option GoroutineView). on_goroutine act o (plain_state s)) (found-there gs g c.rank_of-at.result k.rises at p stands.here n)))

@@ -1,6 +1,6 @@
 use Rattle.std.proofs.Common.{◌≡◌, ℕ, List, Option, refl, sym, ap, ◌∙◌, subst, arith}
 use Rattle.golf_heap.specs.Objects.{rank}
-use Rattle.golf_model.specs.Views.{GoroutineView, frame_views}
+use Rattle.golf_model.specs.Views.{GoroutineView, frame_views, goroutine_view}
 use Rattle.golf_model.specs.State.{State, is_running}
 use Rattle.golf_model.specs.Changes.{become}
 use Rattle.golf_state.specs.Inside.{plain_state}
@@ -32,12 +32,14 @@ invariant_of-self-lent c = λ w.
     let f = running-found gs g (ap (runs g) c.self.view_is ∙ c.requires) in
     let p = c.index_mut-place.result.now in
     let stands = stands-found gs g c.rank_of-at.result k.rises at p f.0 f.1 c.index_mut-place.ensures.value in
-    let runs = ap (λ (r : GoroutineView). is_running r.mode) stands.seen in
-    let q : Place = record { number = p.number; goroutine = record { frames = w; mode = p.goroutine.mode; started = p.goroutine.started } } in
-    let v : GoroutineView = record { frames = frame_views w; mode = p.goroutine.mode; started = p.goroutine.started } in
+    let lent = c.get_mut-goroutine.result.now in
+    let seen = ap goroutine_view c.get_mut-goroutine.ensures.value ∙ stands.seen in
+    let runs = ap (λ (r : GoroutineView). is_running r.mode) seen in
+    let q : Place = record { number = p.number; goroutine = record { frames = w; mode = lent.mode; started = lent.started } } in
+    let v : GoroutineView = record { frames = frame_views w; mode = lent.mode; started = lent.started } in
     record {
-      kept = kept-set gs _ _ _ _ _ s.next_goroutine g c.rank_of-at.result p q f.0 k stands refl (running-ready p.goroutine.mode w (runs ∙ f.2)) (k.running ∙ runs-same (plain_entries gs) g f.0 v k.rises f.1 (sym runs)) (omega arith);
-      lined = subst (λ (es : List (ℕ × GoroutineView)). AreLined s.are_mutexes_lined es s.waiting s.next_ticket) (sym (set-at gs g c.rank_of-at.result p q f.0 k.rises stands refl)) (lined-same s.are_mutexes_lined (plain_entries gs) s.waiting s.next_ticket g f.0 v c.self.invariant.lined k.rises f.1 (sym (ap (λ (r : GoroutineView). r.mode) stands.seen)));
+      kept = kept-set gs _ _ _ _ _ s.next_goroutine g c.rank_of-at.result p q f.0 k stands refl (running-ready lent.mode w (runs ∙ f.2)) (k.running ∙ runs-same (plain_entries gs) g f.0 v k.rises f.1 (sym runs)) (omega arith);
+      lined = subst (λ (es : List (ℕ × GoroutineView)). AreLined s.are_mutexes_lined es s.waiting s.next_ticket) (sym (set-at gs g c.rank_of-at.result p q f.0 k.rises stands refl)) (lined-same s.are_mutexes_lined (plain_entries gs) s.waiting s.next_ticket g f.0 v c.self.invariant.lined k.rises f.1 (sym (ap (λ (r : GoroutineView). r.mode) seen)));
       finalisers = c.self.invariant.finalisers;
     }
 
@@ -50,20 +52,22 @@ returns c =
     let at : c.rank_of-at.result ≡ rank g (plain_entries gs) = c.rank_of-at.ensures ∙ ap (λ (ps : List Place). rank g (plain_entries ps)) c.as_slice.ensures.value in
     let f = running-found gs g (ap (runs g) c.self.view_is ∙ c.requires) in
     let p = c.index_mut-place.result.now in
-    let stands = stands-found gs g c.rank_of-at.result k.rises at p f.0 f.1 c.index_mut-place.ensures.value in (
+    let stands = stands-found gs g c.rank_of-at.result k.rises at p f.0 f.1 c.index_mut-place.ensures.value in
+    let lent = c.get_mut-goroutine.result.now in
+    let seen = ap goroutine_view c.get_mut-goroutine.ensures.value ∙ stands.seen in (
       (
         refl,
         λ w.
-            let q : Place = record { number = p.number; goroutine = record { frames = w; mode = p.goroutine.mode; started = p.goroutine.started } } in
+            let q : Place = record { number = p.number; goroutine = record { frames = w; mode = lent.mode; started = lent.started } } in
             let act : GoroutineView → State → State = λ r. become g (record r { frames = frame_views w }) in
             rw (← c.self.view_is)
             (ap (λ (es : List (ℕ × GoroutineView)). record (plain_state s) { goroutines = es }) (set-at gs g c.rank_of-at.result p q f.0 k.rises stands refl)
-            ∙ ap (λ (r : GoroutineView). act r (plain_state s)) stands.seen
+            ∙ ap (λ (r : GoroutineView). act r (plain_state s)) seen
             ∙ sym (ap (λ (o : Option GoroutineView). on_goroutine act o (plain_state s)) f.1)),
       ),
       record {
         writes_back = tt;
-        value = rw (← c.self.view_is) (ap (λ (r : GoroutineView). r.frames) stands.seen ∙ sym (ap frames_in f.1));
+        value = rw (← c.self.view_is) (ap (λ (r : GoroutineView). r.frames) seen ∙ sym (ap frames_in f.1));
         same = rw (← c.self.view_is)
             (ap (λ (o : Option GoroutineView). on_goroutine (λ r. become g (record r { frames = frames_in o })) o (plain_state s)) f.1
             ∙ ap (λ (es : List (ℕ × GoroutineView)). record (plain_state s) { goroutines = es }) (put-same g 0 f.0 (plain_entries gs) k.rises f.1));

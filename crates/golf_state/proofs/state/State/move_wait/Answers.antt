@@ -1,5 +1,6 @@
 use Rattle.std.proofs.Common.{◌≡◌, ℕ, ◌+◌, List, Option, subst, refl, sym, ap, ◌∙◌, arith}
 use Rattle.golf_data.specs.declared.goroutine.Frame.{Frame}
+use Rattle.golf_data.specs.declared.goroutine.Goroutine.{Goroutine}
 use Rattle.golf_data.specs.declared.goroutine.Mode.{Mode}
 use Rattle.golf_heap.specs.Objects.{rank}
 use Rattle.golf_theory.specs.Maps.{put}
@@ -39,7 +40,7 @@ index_mut-place-requires c =
 
 pub enter_for_mutex-self-inside-requires : goal.enter_for_mutex-self-inside-requires
 enter_for_mutex-self-inside-requires c =
-    below-without (leaves_in c.args.g.0 c.index_mut-place.result.now.goroutine.mode) c.self.inside.waiting c.leave_lines.new.queues c.leave_lines.ensures (c.self.inside.next_ticket + 1) c.self.invariant.lined.below
+    below-without (leaves_in c.args.g.0 c.get_mut-goroutine.result.now.mode) c.self.inside.waiting c.leave_lines.new.queues c.leave_lines.ensures (c.self.inside.next_ticket + 1) c.self.invariant.lined.below
 
 pub invariant_of-self : goal.invariant_of-self
 invariant_of-self c =
@@ -52,15 +53,18 @@ invariant_of-self c =
     let f = blocked-found gs g (ap (is_blocked g) c.self.view_is ∙ c.requires.blocked) in
     let p = c.index_mut-place.result.now in
     let stands = stands-found gs g c.rank_of-at.result k.rises at p f.0 f.1 c.index_mut-place.ensures.value in
-    let q : Place = record { number = p.number; goroutine = record { frames = p.goroutine.frames; mode = c.move_mode.new.mode; started = p.goroutine.started } } in
+    let lent = c.get_mut-goroutine.result.now in
+    let q : Place = record { number = p.number; goroutine = record { frames = lent.frames; mode = c.move_mode.new.mode; started = lent.started } } in
     let w = goroutine_view q.goroutine in
-    let same : is_running f.0.mode ≡ is_running w.mode = ap (λ (r : GoroutineView). is_running r.mode) (sym stands.seen) ∙ moved-same m s.next_ticket p.goroutine.mode ∙ ap is_running (sym c.move_mode.ensures) in
-    let ready : IsReadyIn c.move_mode.new.mode p.goroutine.frames = subst (λ (k : Mode). IsReadyIn k p.goroutine.frames) (sym c.move_mode.ensures) (moved-ready m s.next_ticket p.goroutine.mode p.goroutine.frames (ready-at gs c.rank_of-at.result p k.ready stands.here)) in
+    let seen = ap goroutine_view c.get_mut-goroutine.ensures.value ∙ stands.seen in
+    let same : is_running f.0.mode ≡ is_running w.mode = ap (λ (r : GoroutineView). is_running r.mode) (sym seen) ∙ moved-same m s.next_ticket lent.mode ∙ ap is_running (sym c.move_mode.ensures) in
+    let was : IsReadyIn lent.mode lent.frames = subst (λ (r : Goroutine). IsReadyIn r.mode r.frames) (sym c.get_mut-goroutine.ensures.value) (ready-at gs c.rank_of-at.result p k.ready stands.here) in
+    let ready : IsReadyIn c.move_mode.new.mode lent.frames = subst (λ (k : Mode). IsReadyIn k lent.frames) (sym c.move_mode.ensures) (moved-ready m s.next_ticket lent.mode lent.frames was) in
     record {
       kept = kept-set gs _ _ _ _ _ s.next_goroutine g c.rank_of-at.result p q f.0 k stands refl ready (k.running ∙ runs-same (plain_entries gs) g f.0 w k.rises f.1 same) (omega arith);
       lined = subst (λ (es : List (ℕ × GoroutineView)). AreLined c.enter_for_mutex-self-inside.result es c.enter_for_mutex-self-inside.new.queues (s.next_ticket + 1)) (sym (set-at gs g c.rank_of-at.result p q f.0 k.rises stands refl))
-          (lined-moved s.are_mutexes_lined (plain_entries gs) s.waiting c.enter_for_mutex-self-inside.new.queues s.next_ticket c.self.invariant.lined k.rises c.enter_for_mutex-self-inside.result g m f.0 w p.goroutine.mode c.enter_for_mutex-self-inside.ensures.still f.1 c.move_mode.ensures c.enter_for_mutex-self-inside.ensures.below
-          (λ j t h d l i. c.enter_for_mutex-self-inside.ensures.kept j t h l (others-stay g p.goroutine.mode s.waiting c.leave_lines.new.queues c.leave_lines.ensures j t h d i)) c.enter_for_mutex-self-inside.ensures.joins);
+          (lined-moved s.are_mutexes_lined (plain_entries gs) s.waiting c.enter_for_mutex-self-inside.new.queues s.next_ticket c.self.invariant.lined k.rises c.enter_for_mutex-self-inside.result g m f.0 w lent.mode c.enter_for_mutex-self-inside.ensures.still f.1 c.move_mode.ensures c.enter_for_mutex-self-inside.ensures.below
+          (λ j t h d l i. c.enter_for_mutex-self-inside.ensures.kept j t h l (others-stay g lent.mode s.waiting c.leave_lines.new.queues c.leave_lines.ensures j t h d i)) c.enter_for_mutex-self-inside.ensures.joins);
       finalisers = c.self.invariant.finalisers;
     }
 
@@ -75,11 +79,12 @@ returns c =
     let f = blocked-found gs g (ap (is_blocked g) c.self.view_is ∙ c.requires.blocked) in
     let p = c.index_mut-place.result.now in
     let stands = stands-found gs g c.rank_of-at.result k.rises at p f.0 f.1 c.index_mut-place.ensures.value in
-    let q : Place = record { number = p.number; goroutine = record { frames = p.goroutine.frames; mode = c.move_mode.new.mode; started = p.goroutine.started } } in
+    let lent = c.get_mut-goroutine.result.now in
+    let q : Place = record { number = p.number; goroutine = record { frames = lent.frames; mode = c.move_mode.new.mode; started = lent.started } } in
     let act : GoroutineView → State → State = move_wait g m in
     let base : State = record (plain_state s) { next_ticket = s.next_ticket + 1 } in
     rw (← c.self.view_is)
     (ap (λ (es : List (ℕ × GoroutineView)). record base { goroutines = es }) (set-at gs g c.rank_of-at.result p q f.0 k.rises stands refl)
-    ∙ ap (λ (k : Mode). record base { goroutines = put g (record (goroutine_view p.goroutine) { mode = k }) (plain_entries gs) }) c.move_mode.ensures
-    ∙ ap (λ (r : GoroutineView). act r (plain_state s)) stands.seen
+    ∙ ap (λ (k : Mode). record base { goroutines = put g (record (goroutine_view lent) { mode = k }) (plain_entries gs) }) c.move_mode.ensures
+    ∙ ap (λ (r : GoroutineView). act r (plain_state s)) (ap goroutine_view c.get_mut-goroutine.ensures.value ∙ stands.seen)
     ∙ sym (ap (λ (o : Option GoroutineView). on_goroutine act o (plain_state s)) f.1))

@@ -21,8 +21,8 @@ there : (stays : List Bool) (ps : List Place) (gs left seen : List GoroutineId) 
 there stays ps gs left seen all is same =
     ap numbers (same ∙ is) ∙ map-kept (λ (g : GoroutineId). g.0) stays gs ∙ ap (kept stays) all ∙ sym (map-kept (λ (x : ℕ × GoroutineView). x.0) stays (plain_entries ps))
 
-pub retain-requires : goal.retain-requires
-retain-requires c =
+pub narrow_lines-requires : goal.narrow_lines-requires
+narrow_lines-requires c =
     let s = c.self.inside in
     let k = c.self.invariant.kept in
     let stays = c.args.stays.now in
@@ -49,10 +49,10 @@ invariant_of-self c =
         room = omega (arith, fewer, c.list_running.ensures.room, k.room);
         ready = subst AllReady (sym c.close_up.ensures) (ready-kept stays ps k.ready);
       };
-      lined = subst (λ (xs : List (ℕ × GoroutineView)). AreLined s.are_mutexes_lined xs c.drop_empty.new.self s.next_ticket) (sym e)
-          (lined-kept s.are_mutexes_lined stays es s.waiting c.retain.new.self c.drop_empty.new.self s.next_ticket c.self.invariant.lined
-          (subst (λ (gs : List ℕ). Keeps (λ t h. is_in h gs ≡ true) s.waiting c.retain.new.self) (there stays ps s.present.items c.close_up-2.new.items.items c.as_slice.result.now k.present c.close_up-2.ensures c.as_slice.ensures.value) c.retain.ensures.kept)
-          c.drop_empty.ensures.kept (λ n b. c.drop_empty.ensures.below n (c.retain.ensures.below n b)));
+      lined = subst (λ (xs : List (ℕ × GoroutineView)). AreLined s.are_mutexes_lined xs c.narrow_lines.new.queues s.next_ticket) (sym e)
+          (lined-kept s.are_mutexes_lined stays es s.waiting c.narrow_lines.new.queues s.next_ticket c.self.invariant.lined
+          (subst (λ (gs : List ℕ). Keeps (λ t h. is_in h gs ≡ true) s.waiting c.narrow_lines.new.queues) (there stays ps s.present.items c.close_up-2.new.items.items c.as_slice.result.now k.present c.close_up-2.ensures c.as_slice.ensures.value) c.narrow_lines.ensures.kept)
+          c.narrow_lines.ensures.below);
       finalisers = c.self.invariant.finalisers;
     }
 

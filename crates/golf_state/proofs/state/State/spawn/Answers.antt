@@ -23,10 +23,10 @@ invariant_of-self-2 c =
     let es = plain_entries gs in
     let n = s.next_goroutine in
     let k = c.self.invariant.kept in
-    let q = c.place_of.result in
+    let q = c.in_ok-place.place in
     let v : GoroutineView = record { frames = frame_views c.args.frames; mode = Mode.Running; started = c.args.line } in
     let next : c.in_ok-next.next ≡ n + 1 = search rules in
-    let e : plain_entries c.push.new.self.items ≡ add n v es = ap plain_entries c.in_ok-push.ensures.items ∙ push-at gs q n v c.place_of.ensures in
+    let e : plain_entries c.push.new.self.items ≡ add n v es = ap plain_entries c.in_ok-push.ensures.items ∙ push-at gs q n v c.in_ok-place.ensures in
     record {
       kept = record {
         rises = subst (Rises 0) (sym e) (Rises-add 0 n v es (omega arith) k.below k.rises);
@@ -46,7 +46,7 @@ invariant_of-self-2 c =
         few = omega (arith, ap length c.in_ok-push.ensures.items, length-append gs (q ∷ []), next, k.few);
         limit = search rules;
         room = omega (arith, ap length c.in_ok-push.ensures.items, length-append gs (q ∷ []), c.add_last-2.ensures.room, c.in_ok-reserve-2.ensures.ok, c.saturating_sub-more.ensures, s.goroutines.ok.0);
-        ready = subst AllReady (sym c.in_ok-push.ensures.items) (ready-push gs q k.ready (running-ready q.goroutine.mode q.goroutine.frames (ap (λ (d : ℕ × GoroutineView). is_running d.1.mode) c.place_of.ensures)));
+        ready = subst AllReady (sym c.in_ok-push.ensures.items) (ready-push gs q k.ready (running-ready q.goroutine.mode q.goroutine.frames (ap (λ (d : ℕ × GoroutineView). is_running d.1.mode) c.in_ok-place.ensures)));
       };
       lined = subst (λ (fs : List (ℕ × GoroutineView)). AreLined s.are_mutexes_lined fs s.waiting s.next_ticket) (sym e) (lined-spawned s.are_mutexes_lined es s.waiting s.next_ticket n v c.self.invariant.lined refl);
       finalisers = c.self.invariant.finalisers;
@@ -58,7 +58,7 @@ returns-clause-ok c =
     let n = s.next_goroutine in
     let v : GoroutineView = record { frames = frame_views c.args.frames; mode = Mode.Running; started = c.args.line } in
     let next : c.in_ok-next.next ≡ n + 1 = search rules in
-    let e : plain_entries c.push.new.self.items ≡ add n v (plain_entries s.goroutines.items) = ap plain_entries c.in_ok-push.ensures.items ∙ push-at s.goroutines.items c.place_of.result n v c.place_of.ensures in
+    let e : plain_entries c.push.new.self.items ≡ add n v (plain_entries s.goroutines.items) = ap plain_entries c.in_ok-push.ensures.items ∙ push-at s.goroutines.items c.in_ok-place.place n v c.in_ok-place.ensures in
     rw (← c.self.view_is) (λ i. record (plain_state s) { goroutines = e i; next_goroutine = next i })
 
 pub add_last-requires-2 : goal.add_last-requires-2

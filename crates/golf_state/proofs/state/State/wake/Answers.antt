@@ -1,6 +1,7 @@
 use Rattle.std.proofs.Common.{◌≡◌, ℕ, true, List, length, Option, refl, sym, ap, ◌∙◌, subst, arith}
 use Rattle.std.proofs.lemmas.List.{length-map}
 use Rattle.golf_base.specs.declared.ids.GoroutineId.{GoroutineId}
+use Rattle.golf_data.specs.declared.goroutine.Goroutine.{Goroutine}
 use Rattle.golf_heap.specs.Objects.{rank}
 use Rattle.golf_theory.specs.Stored.{placed}
 use Rattle.golf_model.specs.Views.{GoroutineView, goroutine_view}
@@ -8,6 +9,7 @@ use Rattle.golf_model.specs.State.{State, is_running}
 use Rattle.golf_model.specs.Changes.{become}
 use Rattle.golf_state.specs.Inside.{plain_state}
 use Rattle.golf_state.specs.Looked.{on_goroutine, is_blocked}
+use Rattle.golf_state.specs.Roominess.{HasRoom}
 use Rattle.golf_state.specs.Wakening.{wakened}
 use Rattle.golf_state.specs.Places.{plain_entry, plain_entries}
 use Rattle.golf_state.specs.declared.places.Place.{Place}
@@ -40,7 +42,8 @@ waken-requires c =
     let f = blocked-found gs g (ap (is_blocked g) c.self.view_is ∙ c.requires) in
     let p = c.index_mut-place.result.now in
     let stands = stands-found gs g c.rank_of-at.result k.rises at p f.0 f.1 c.index_mut-place.ensures.value in
-    blocked-room p.goroutine.mode p.goroutine.frames (ap (λ (r : GoroutineView). is_running r.mode) stands.seen ∙ f.2) (ready-at gs c.rank_of-at.result p k.ready stands.here)
+    subst (λ (r : Goroutine). HasRoom r.frames) (sym c.get_mut-goroutine.ensures.value)
+    (blocked-room p.goroutine.mode p.goroutine.frames (ap (λ (r : GoroutineView). is_running r.mode) stands.seen ∙ f.2) (ready-at gs c.rank_of-at.result p k.ready stands.here))
 
 pub put_in-requires-clause-room : goal.put_in-requires-clause-room
 put_in-requires-clause-room c =
@@ -63,12 +66,13 @@ invariant_of-self c =
     let p = c.index_mut-place.result.now in
     let stands = stands-found gs g c.rank_of-at.result k.rises at p f.0 f.1 c.index_mut-place.ensures.value in
     let q : Place = record { number = p.number; goroutine = c.waken.new.goroutine } in
+    let lent = c.get_mut-goroutine.result.now in
     let w = goroutine_view c.waken.new.goroutine in
-    let runs : is_running w.mode ≡ true = ap (λ (r : GoroutineView). is_running r.mode) c.waken.ensures ∙ wakened-runs c.args.how (goroutine_view p.goroutine) in
+    let runs : is_running w.mode ≡ true = ap (λ (r : GoroutineView). is_running r.mode) c.waken.ensures ∙ wakened-runs c.args.how (goroutine_view lent) in
     record {
       kept = kept-set gs _ _ _ _ _ s.next_goroutine g c.rank_of-at.result p q f.0 k stands refl (running-ready c.waken.new.goroutine.mode c.waken.new.goroutine.frames runs)
           (c.put_in.ensures.all ∙ ap (placed g) k.running ∙ runs-woken (plain_entries gs) g f.0 w k.rises f.1 f.2 runs) c.put_in.ensures.room;
-      lined = subst (λ (es : List (ℕ × GoroutineView)). AreLined s.are_mutexes_lined es c.leave_lines.new.queues s.next_ticket) (sym (set-at gs g c.rank_of-at.result p q f.0 k.rises stands refl)) (lined-woken s.are_mutexes_lined (plain_entries gs) s.waiting c.leave_lines.new.queues s.next_ticket c.self.invariant.lined k.rises g f.0 w f.1 (below-without (leaves_in g p.goroutine.mode) s.waiting c.leave_lines.new.queues c.leave_lines.ensures) (others-stay g p.goroutine.mode s.waiting c.leave_lines.new.queues c.leave_lines.ensures) runs);
+      lined = subst (λ (es : List (ℕ × GoroutineView)). AreLined s.are_mutexes_lined es c.leave_lines.new.queues s.next_ticket) (sym (set-at gs g c.rank_of-at.result p q f.0 k.rises stands refl)) (lined-woken s.are_mutexes_lined (plain_entries gs) s.waiting c.leave_lines.new.queues s.next_ticket c.self.invariant.lined k.rises g f.0 w f.1 (below-without (leaves_in g lent.mode) s.waiting c.leave_lines.new.queues c.leave_lines.ensures) (others-stay g lent.mode s.waiting c.leave_lines.new.queues c.leave_lines.ensures) runs);
       finalisers = c.self.invariant.finalisers;
     }
 
@@ -87,5 +91,5 @@ returns c =
     rw (← c.self.view_is)
     (ap (λ (es : List (ℕ × GoroutineView)). record (plain_state s) { goroutines = es }) (set-at gs g c.rank_of-at.result p q f.0 k.rises stands refl)
     ∙ ap (λ (r : GoroutineView). become g r (plain_state s)) c.waken.ensures
-    ∙ ap (λ (r : GoroutineView). act r (plain_state s)) stands.seen
+    ∙ ap (λ (r : GoroutineView). act r (plain_state s)) (ap goroutine_view c.get_mut-goroutine.ensures.value ∙ stands.seen)
     ∙ sym (ap (λ (o : Option GoroutineView). on_goroutine act o (plain_state s)) f.1))

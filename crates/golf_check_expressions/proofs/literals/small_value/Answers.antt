@@ -1,6 +1,0 @@
-use Rattle.std.proofs.Common.{arith}
-use Rattle.golf_check_expressions.proofs.Digits.{value_from-at}
-use Rattle.golf_check_expressions.proofs.literals.small_value.Goals as goal
-
-pub returns-then-value-digit : goal.returns-then-value-digit
-returns-then-value-digit c = λ le. omega (arith, value_from-at c.loop-d.value c.args.digits.now c.loop-d.d-index c.loop-d-test.true, c.loop-d.invariant.value)

@@ -1,0 +1,24 @@
+//! What operands, operators, names, literals and selectors are, and which rules they break: all of an expression that looks at
+//! no other one.
+#![tactic(auto)]
+
+mod literals;
+mod operators;
+mod selectors;
+mod values;
+mod written_types;
+
+pub use literals::{
+    all_fit, elements_fit, fields_differ, fits_int, made, made_sized, made_struct, named,
+};
+pub use operators::{
+    as_value, binary, index, is_name, is_value, late, result_base, unary, value, without_package,
+};
+pub use selectors::select;
+pub use values::{
+    assignable, assignable_to, begins_channel, begins_slice, can_give, can_take, element, has_any,
+    has_base, has_channel, has_slice,
+};
+pub use written_types::{
+    made_base, made_sync, plain_type, pointer_to, type_is_there, written, written_type,
+};

@@ -1,0 +1,39 @@
+//! Whether code can give an object a finaliser.
+
+ghost use Rattle.std.specs.Prelude.{◌≡◌};
+ghost use Rattle.golf_theory.specs.Membership.{any_of};
+ghost use Rattle.golf_model.specs.Collecting.{is_setting as is_setting_instr, sets_finalisers as sets_by};
+
+use golf_data::{Code, Function, Instr, Line};
+
+fn is_setting(line: &Line) -> bool
+    ensures { result ≡ is_setting_instr line.now.instr }
+{
+    match line.instr {
+        Instr::SetFinalizer(_) => true,
+        _ => false,
+    }
+}
+
+fn sets_one(function: &Function) -> bool
+    ensures { result ≡ any_of (λ l. is_setting_instr l.instr) function.now.body }
+{
+    for line in function.body.as_slice() {
+        if is_setting(line) {
+            return true;
+        }
+    }
+    false
+}
+
+/// Whether an instruction of the code sets a finaliser, so that the code can give an object one.
+pub fn sets_finalisers(code: &Code) -> bool
+    ensures { result ≡ sets_by code.now }
+{
+    for function in code.functions.as_slice() {
+        if sets_one(function) {
+            return true;
+        }
+    }
+    false
+}

@@ -1,0 +1,41 @@
+//! Why a measurement comes to nothing.
+
+use crate::making::GraphFault;
+use golf_base::Memory;
+use std::alloc::AllocError;
+use std::io;
+
+/// Why a measurement came to nothing.
+#[derive(Debug, Drop)]
+pub enum BenchFault {
+    /// Memory was wanting.
+    Memory,
+    /// The graph that was to be measured cannot be made.
+    Graph(GraphFault),
+    /// The clock or the output failed.
+    Io(io::Error),
+}
+
+impl From<Memory> for BenchFault {
+    fn from(_: Memory) -> Self {
+        BenchFault::Memory
+    }
+}
+
+impl From<AllocError> for BenchFault {
+    fn from(_: AllocError) -> Self {
+        BenchFault::Memory
+    }
+}
+
+impl From<GraphFault> for BenchFault {
+    fn from(fault: GraphFault) -> Self {
+        BenchFault::Graph(fault)
+    }
+}
+
+impl From<io::Error> for BenchFault {
+    fn from(fault: io::Error) -> Self {
+        BenchFault::Io(fault)
+    }
+}
