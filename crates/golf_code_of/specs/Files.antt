@@ -23,6 +23,7 @@ use Rattle.golf_types.specs.Statements.{behind}
 use Rattle.golf_types.specs.Files.{result_type, outside, receiver_walk, parameter_walk, all_typed_names, file_scope, with_imports, no_imports, declares_main, line_of}
 use Rattle.golf_layout.specs.Piece.{Piece, all, op, placed}
 use Rattle.golf_layout.specs.Depth.{depth}
+use Rattle.golf_live.specs.Live.{live}
 use Rattle.golf_code_of.specs.Texts.{texts_of}
 use Rattle.golf_code_of.specs.declared.tables.Tables.{Tables}
 use Rattle.golf_code_of.specs.Values.{push, zero_value, const_value}
@@ -32,9 +33,9 @@ use Rattle.golf_code_of.specs.Coding.{piece_at}
 use Rattle.golf_code_of.specs.Statements.{Laid, Part, in_order}
 use Rattle.golf_code_of.specs.Laying.{stmt_part}
 
--- a function with this body, where these functions give a value
+-- a function with this body and its masks, where these functions give a value
 abbrev pub function : List Bool → ℕ → ℕ → ℕ → Piece → Function
-function gives params slots line body = record { params = params; slots = slots; depth = depth gives body; line = line; body = placed body 0 [] }
+function gives params slots line body = record { params = params; slots = slots; depth = depth gives body; line = line; body = placed body 0 []; live = live slots (placed body 0 []) }
 
 -- Functions and methods of the file.
 

@@ -25,7 +25,9 @@ use Rattle.golf_types.specs.Expressions.{used, given_by}
 use Rattle.golf_types.specs.Judging.{judge}
 use Rattle.golf_types.specs.Files.{outside, globals_above, initial_walk, decl_walked, walk_faults, formed_content, with_forms, with_types, bare_file, function_types, import_faults, names_faults, none_above, type_faults, main_faults, with_imports, no_imports, Broken}
 use Rattle.golf_shapes.specs.Types.{ValueType, Shape, Signature, FunctionTypes, Types, with_shapes, ValueFits, ValuesFit}
-use Rattle.golf_shapes.specs.Shapes.{FunctionFits, HasShapes, pushed, GoesOn}
+use Rattle.golf_live.specs.Live.{live}
+use Rattle.golf_shapes.proofs.NeededSlots.{masked-fit}
+use Rattle.golf_shapes.specs.Shapes.{FunctionFits, MasksCover, HasShapes, pushed, GoesOn}
 use Rattle.golf_layout.specs.Piece.{Piece, all, op}
 use Rattle.golf_layout_shapes.specs.Has.{shape, filled, Has}
 use Rattle.golf_layout_shapes.proofs.Pieces.{has-empty, has-op, has-then}
@@ -36,11 +38,11 @@ use Rattle.golf_code_of.specs.declared.tables.Tables.{Tables}
 use Rattle.golf_code_of.specs.Values.{zero_value}
 use Rattle.golf_code_of.specs.declared.making.Making.{Making}
 use Rattle.golf_code_of.specs.Coding.{piece_at}
-use Rattle.golf_code_of.specs.Files.{function, body_laid, functions_from, made_function, initial, initials, entry_body, main_number, main_line, tables_of, giving, code_in, CodeOf}
+use Rattle.golf_code_of.specs.Files.{function, function_of, body_laid, functions_from, made_function, initial, initials, entry_body, main_number, main_line, tables_of, giving, code_in, CodeOf}
 use Rattle.golf_code_shapes.specs.Types.{value_type, known_types}
 use Rattle.golf_code_shapes.specs.Sound.{FileFits, ScopeFits, Pushes}
 use Rattle.golf_code_shapes.specs.Flowing.{IsMaking, MadeFit}
-use Rattle.golf_code_shapes.specs.FunctionLaws.{made_signature, FunctionIsFit}
+use Rattle.golf_code_shapes.specs.FunctionLaws.{function_signature, made_signature, FunctionIsFit}
 use Rattle.golf_code_shapes.specs.FileLaws.{entry_signature, own_signatures, types_of_code, scope_of, initial_scope, GlobalIsKnown, DeclarationIsKnown, DeclarationsAreKnown, NamesFit, FilesFit}
 use Rattle.golf_code_shapes.proofs.Typings.{none-left, none-right, kept}
 use Rattle.golf_code_shapes.proofs.Names.{given-to}
@@ -89,7 +91,11 @@ abbrev Fitted : Types → List Signature → List Function → Type 0
 Fitted types [] [] = Unit {0}
 Fitted types [] (fn ∷ fns) = ⊥
 Fitted types (sig ∷ sigs) [] = ⊥
-Fitted types (sig ∷ sigs) (fn ∷ fns) = ((shapes : List Shape) × FunctionFits types fn (with_shapes sig shapes)) × Fitted types sigs fns
+Fitted types (sig ∷ sigs) (fn ∷ fns) = ((shapes : List Shape) × FunctionFits types fn (with_shapes sig shapes) × MasksCover fn shapes) × Fitted types sigs fns
+
+-- with its masks, a function fits shapes that ask for no slot that is cleared
+masked : (types : Types) (fn : Function) (sig : Signature) → fn.live ≡ live fn.slots fn.body → ((shapes : List Shape) × FunctionFits types fn (with_shapes sig shapes)) → (shapes : List Shape) × FunctionFits types fn (with_shapes sig shapes) × MasksCover fn shapes
+masked types fn sig e h = masked-fit types fn (with_shapes sig h.0) h.1 e
 
 shapes_in : (types : Types) (sigs : List Signature) (fns : List Function) → Fitted types sigs fns → List (List Shape)
 shapes_in types [] fns h = []
@@ -97,12 +103,12 @@ shapes_in types (sig ∷ sigs) [] h = []
 shapes_in types (sig ∷ sigs) (fn ∷ fns) h = h.0.0 ∷ shapes_in types sigs fns h.1
 
 fitted-at : (types : Types) (sigs : List Signature) (fns : List Function) (h : Fitted types sigs fns) (f : ℕ) (sig : Signature) → slice_get sigs f ≡ Some sig
-    → (own : List Shape) × (fn : Function) × (slice_get (shapes_in types sigs fns h) f ≡ Some own) × (slice_get fns f ≡ Some fn) × FunctionFits types fn (with_shapes sig own)
+    → (own : List Shape) × (fn : Function) × (slice_get (shapes_in types sigs fns h) f ≡ Some own) × (slice_get fns f ≡ Some fn) × FunctionFits types fn (with_shapes sig own) × MasksCover fn own
 unfolding shapes_in
 fitted-at types [] fns h zero sig e = cc
 fitted-at types [] fns h (suc f) sig e = cc
 fitted-at types (x ∷ sigs) [] h f sig e = absurd h
-fitted-at types (x ∷ sigs) (fn ∷ fns) h zero sig e = let q : x ≡ sig = cc in (h.0.0, fn, refl, refl, subst (λ (z : Signature). FunctionFits types fn (with_shapes z h.0.0)) q h.0.1)
+fitted-at types (x ∷ sigs) (fn ∷ fns) h zero sig e = let q : x ≡ sig = cc in (h.0.0, fn, refl, refl, subst (λ (z : Signature). FunctionFits types fn (with_shapes z h.0.0)) q h.0.1, h.0.2)
 fitted-at types (x ∷ sigs) (fn ∷ fns) h (suc f) sig e = fitted-at types sigs fns h.1 f sig e
 
 fitted-append : (types : Types) (xs : List Signature) (fs : List Function) (ys : List Signature) (gs : List Function) → Fitted types xs fs → Fitted types ys gs → Fitted types (xs ++ ys) (fs ++ gs)
@@ -113,7 +119,7 @@ fitted-append types (x ∷ xs) (f ∷ fs) ys gs h k = (h.0, fitted-append types 
 
 made-fitted : (types : Types) (gives : List Bool) (ms : List Making) → Every IsMaking ms → Fitted types (map made_signature ms) (map (made_function gives) ms)
 made-fitted types gives [] h = tt
-made-fitted types gives (m ∷ ms) h = (made-functions-fit types gives m h.0, made-fitted types gives ms h.1)
+made-fitted types gives (m ∷ ms) h = (masked types (made_function gives m) (made_signature m) refl (made-functions-fit types gives m h.0), made-fitted types gives ms h.1)
 
 -- functions that are made, behind others
 made-behind : (types : Types) (pre : List Signature) (ms : List Making) (n : ℕ) → n ≡ length pre → types.functions ≡ pre ++ map made_signature ms → MadeFit types n ms
@@ -139,7 +145,7 @@ own-fitted types t gives names g n (d.Func f ∷ xs) file h made =
     let rest = functions_from t gives (outside names) (n + length x.made) xs in
     let one = functions-fit types t gives names f n file h.0 (made-left types t first_types n x.made rest.made made) in
     let more = own-fitted types t gives names g (n + length x.made) xs file h.1 (made-right types t first_types n (n + length x.made) x.made rest.made refl made) in
-    ((one.0, more.0), Every-append IsMaking x.made rest.made one.1 more.1)
+    ((masked types (function_of t gives (outside names) f x.piece) (function_signature t (outside names) f) refl one.0, more.0), Every-append IsMaking x.made rest.made one.1 more.1)
 
 -- Tables.
 
@@ -277,7 +283,7 @@ code-fits t f xs texts count declarations h =
     let made : MadeFit types n fs.made = made-behind types (entry_signature ∷ own) fs.made n (omega (arith, count)) refl in
     let mine = own-fitted types t gives f 0 n xs file declarations made in
     let main = h.main in
-    let first = first-fits types t f file refl gives xs main.0 declarations main.1 main.2 main.3 in
+    let first = masked types (function gives 0 0 (main_line xs) (entry_body t f (main_number f) (main_line xs) xs)) entry_signature refl (first-fits types t f file refl gives xs main.0 declarations main.1 main.2 main.3) in
     let fns = (code_in t f xs).functions in
     let fitted : Fitted types types.functions fns = (first, fitted-append types own fs.own (map made_signature fs.made) (map (made_function gives) fs.made) mine.0 (made-fitted types gives fs.made mine.1)) in (
       shapes_in types types.functions fns fitted,

@@ -17,10 +17,10 @@ const TURNS: u64 = 200;
 /// returns; there is a global, and a struct type with a pointer.
 pub fn program(alloc: Global, main: Vec<Instr>, other: Vec<Instr>) -> Result<Code, Memory> {
     let mut functions = List::new(alloc);
-    functions.push(function(0, lines(alloc, main)?))?;
-    functions.push(function(2, lines(alloc, other)?))?;
+    functions.push(function(alloc, 0, lines(alloc, main)?)?)?;
+    functions.push(function(alloc, 2, lines(alloc, other)?)?)?;
     let last = vec![in alloc; Instr::Return]?;
-    functions.push(function(1, lines(alloc, last)?))?;
+    functions.push(function(alloc, 1, lines(alloc, last)?)?)?;
     code(alloc, functions, &[Value::Nil], &[Value::Nil])
 }
 
@@ -39,6 +39,19 @@ pub fn forever(alloc: Global, instrs: Vec<Instr>) -> Result<Vec<Instr>, Memory> 
 /// Receives from the first argument.
 pub fn receiver(alloc: Global) -> Result<Vec<Instr>, Memory> {
     let other = vec![in alloc; Instr::Load(0), Instr::Receive, Instr::Return]?;
+    Ok(other)
+}
+
+/// Receives from the first argument, and reads the second one after it.
+pub fn holder(alloc: Global) -> Result<Vec<Instr>, Memory> {
+    let other = vec![in alloc;
+        Instr::Load(0),
+        Instr::Receive,
+        Instr::Drop,
+        Instr::Load(1),
+        Instr::Drop,
+        Instr::Return,
+    ]?;
     Ok(other)
 }
 

@@ -1,7 +1,7 @@
 //! What collections remove, queue and free, with recovery and without.
 
 use crate::collecting::collect_once;
-use crate::programs::{forever, go_on, program, receiver, state_of};
+use crate::programs::{forever, go_on, holder, program, receiver, state_of};
 use golf_base::{Memory, ObjectId};
 use golf_data::{Code, Instr, Object, Report, Value};
 use golf_reclaim::Ledger;
@@ -133,7 +133,7 @@ fn holder_of_a_finalised_object(alloc: Global) -> Result<Code, Memory> {
         Instr::Nil,
         Instr::Store(1),
     ]?;
-    program(alloc, forever(alloc, main)?, receiver(alloc)?)
+    program(alloc, forever(alloc, main)?, holder(alloc)?)
 }
 
 #[test]
@@ -165,11 +165,13 @@ fn sharer_of_a_live_object(alloc: Global, last: Instr) -> Result<Code, Memory> {
         Instr::Go(1, 2),
         Instr::Nil,
         Instr::Store(0),
+        Instr::Load(1),
+        Instr::Drop,
         Instr::Jump(10),
         Instr::Load(1),
         last,
     ]?;
-    program(alloc, main, receiver(alloc)?)
+    program(alloc, main, holder(alloc)?)
 }
 
 #[test]

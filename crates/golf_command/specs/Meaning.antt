@@ -7,7 +7,7 @@ use Rattle.golf_model.specs.Living.{dead}
 use Rattle.golf_model.specs.Running.{stops}
 use Rattle.golf_model.specs.Futures.{Leads, Still}
 use Rattle.golf_laws.specs.Telling.{TellsOfEach}
-use Rattle.golf_progress.specs.Laws.{MovesOn}
+use Rattle.golf_model.specs.Turn.{MovesOn}
 use Rattle.golf_grammar.specs.declared.declarations.File.{File}
 use Rattle.golf_code_of.specs.Files.{CodeOf}
 use Rattle.golf_reader.specs.Refusals.{HasTypedTree, IsUnlexed, IsUnparsed, IsUntyped}

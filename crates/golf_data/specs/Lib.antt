@@ -1,1 +1,4 @@
 pub mod Places
+pub mod Masks
+pub mod Slots
+pub mod Zeros

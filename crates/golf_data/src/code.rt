@@ -173,6 +173,9 @@ pub struct Function {
     /// The line at which the function is declared.
     pub line: u32,
     pub body: List<Line>,
+    /// For each position of the body the mask of its first 64 slots: bit s is 1 where slot s can
+    /// still be read from there on.
+    pub live: List<u64>,
 }
 
 /// The code of a file. Function 0 runs the initialisers and calls `main`.
@@ -198,6 +201,7 @@ impl Drop for Function {
             depth: _,
             line: _,
             body: _,
+            live: _,
         } = self;
     }
 }

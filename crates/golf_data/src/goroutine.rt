@@ -1,5 +1,6 @@
 //! Goroutines: their frames, how they wait, and how a program ends.
 
+use crate::slots::Slots;
 use crate::value::Value;
 use golf_base::{GoroutineId, List, ObjectId, Room};
 
@@ -9,7 +10,7 @@ pub struct Frame {
     pub function: u32,
     /// The place of the next instruction.
     pub at: u32,
-    pub slots: List<Value>,
+    pub slots: Slots,
     pub operands: Room<Value>,
     /// The deferred calls, the last one on top.
     pub deferred: List<Deferred>,

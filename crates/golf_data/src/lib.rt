@@ -4,6 +4,7 @@
 mod code;
 mod goroutine;
 mod report;
+mod slots;
 mod value;
 
 pub use code::{CaseKind, Code, Function, Instr, Line, SelectCase};
@@ -12,4 +13,5 @@ pub use goroutine::{
     WaitKind,
 };
 pub use report::{Book, Entry, Report};
+pub use slots::Slots;
 pub use value::{Channel, Object, Value};

@@ -100,6 +100,10 @@ module _ (stays kept : ℕ → Bool) where
     goroutines = λ g l. f.goroutines g (let h = (grows s c).1 in omega arith);
   }
 
+  pub keeps_fresh-all : (cs : List Change) (s : State) → KeepsFresh stays kept s → KeepsFresh stays kept (apply_all cs s)
+  keeps_fresh-all [] s f = f
+  keeps_fresh-all (c ∷ cs) s f = keeps_fresh-all cs (apply c s) (keeps_fresh s c f)
+
   -- sound changes of the cut state are those changes cut
   pub cut_changes : (F : ℕ → Type 0) (n : ℕ) (cs : List Change) (s : State) → ((o : ℕ) → n < o → Kept stays kept o) → KeepsFresh stays kept s → Sound (Kept stays kept) (Stays stays kept) F n cs → apply_all cs (cut stays kept s) ≡ cut stays kept (apply_all cs s)
   cut_changes F n [] s h f a = refl

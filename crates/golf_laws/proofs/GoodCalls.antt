@@ -17,6 +17,7 @@ use Rattle.golf_data.specs.declared.goroutine.PanicKind.{PanicKind}
 use Rattle.golf_data.specs.declared.goroutine.Queued.{Queued}
 use Rattle.golf_model.specs.Views.{FrameView, GoroutineView}
 use Rattle.golf_model.specs.Values.{refs}
+use Rattle.golf_data.specs.Masks.{stays_under}
 use Rattle.golf_model.specs.State.{State, call_frame, opened}
 use Rattle.golf_model.specs.Waking.{unwinding}
 use Rattle.golf_model.specs.Waiting.{waits_of}
@@ -26,7 +27,7 @@ use Rattle.golf_model.specs.Calls.{is_full, enters, calls, spawns, defers, ends,
 use Rattle.golf_model.specs.Finalising.{finalises_by, finalises, unfinalises, begins_queued}
 use Rattle.golf_model.specs.Refs.{frames_refs, goroutine_refs, deferred_refs, option_refs, queue_refs, wait_refs}
 use Rattle.golf_laws.specs.Invariant.{AllGood, Nothing, Sound, ActorIn, FrameIn}
-use Rattle.golf_laws.proofs.RefLaws.{Val, Vals, vals-cons, vals-append, vals-replicate, frames-cons, frames-head, frames-tail, goroutine-both}
+use Rattle.golf_laws.proofs.RefLaws.{Val, Vals, vals-cons, vals-append, vals-replicate, vals-cleared, frames-cons, frames-head, frames-tail, goroutine-both}
 use Rattle.golf_laws.proofs.Waking.{unwinding-in}
 use Rattle.golf_laws.proofs.Goodness.{all_good-append, good-sound}
 use Rattle.golf_laws.proofs.Acting.{Ground, all-on_some, all-choose, all-taking_one, all-taking, all-at_reference_or, all-at_struct, found-in, good-stands, good-goes, good-dies, good-panics, next-in}
@@ -35,7 +36,7 @@ use Rattle.golf_laws.proofs.Acting.{Ground, all-on_some, all-choose, all-taking_
 module _ (O : ℕ → Type 0) where
   opened-in : (f : ℕ) (arguments : List Value) (discards : Bool) (fn : Function) → Vals O arguments → FrameIn O (opened f arguments discards fn)
   opened-in f arguments discards fn h = record {
-    slots = vals-append O arguments _ h (vals-replicate O (fn.slots - length arguments) (Value.Int (pos 0)) tt);
+    slots = vals-cleared O (stays_under (slice_get fn.live 0)) 0 _ (vals-append O arguments _ h (vals-replicate O (fn.slots - length arguments) (Value.Int (pos 0)) tt));
     operands = tt;
     deferred = tt;
     leaving = tt;

@@ -4,7 +4,7 @@ use Rattle.std.specs.Prelude.{option_to_list}
 use Rattle.golf_theory.specs.Membership.{In, Every, is_in}
 use Rattle.golf_theory.specs.Maps.{find, only, keys}
 use Rattle.golf_theory.proofs.Lists.{In-filter, Every-from, Every-append}
-use Rattle.golf_theory.proofs.MapEntries.{Entry-only, Entry-keys}
+use Rattle.golf_theory.proofs.MapEntries.{Entry-only, Entry-keys, Entry-find}
 use Rattle.golf_theory.proofs.MapFinds.{find-none, none-find, Entry-below}
 use Rattle.golf_theory.proofs.MapKeys.{keys-only}
 use Rattle.golf_theory.proofs.MapOrder.{Rises-only, AllBelow-only}
@@ -13,18 +13,20 @@ use Rattle.golf_data.specs.declared.code.Code.{Code}
 use Rattle.golf_model.specs.Views.{FrameView, GoroutineView}
 use Rattle.golf_model.specs.State.{State, start, call_frame, runnable}
 use Rattle.golf_model.specs.Changes.{Change, apply, apply_all, pass_on, pass_on_at, pass_on_by}
-use Rattle.golf_model.specs.Turn.{step, turn_changes, whose_turn}
+use Rattle.golf_model.specs.Turn.{turned, wants_collection, cleared_after, step, turn_changes, whose_turn}
 use Rattle.golf_model.specs.Refs.{frames_refs}
 use Rattle.golf_model.specs.Reaching.{reach, sources}
 use Rattle.golf_model.specs.Collecting.{queued, plain_collect, cut, sets_finalisers, real_collect}
 use Rattle.golf_model.specs.Futures.{Numbered, UpTo, Leads}
 use Rattle.golf_laws.specs.Invariant.{Sound, objects_after, last_after, finalisable_after, Unfinalised}
 use Rattle.golf_laws.proofs.RefLaws.{frames-cons}
+use Rattle.golf_laws.proofs.Goodness.{good-sound}
 use Rattle.golf_laws.proofs.Changing.{sound-wider}
 use Rattle.golf_laws.proofs.Collecting.{queue-append, queue-keys}
 use Rattle.golf_laws.proofs.GoodCalls.{call_frame-in}
 use Rattle.golf_laws.proofs.GoodStructures.{zeros-in}
 use Rattle.golf_laws.proofs.GoodTurn.{sound_turn}
+use Rattle.golf_laws.proofs.Clearing.{good-clearing}
 use Rattle.golf_laws.proofs.Numbering.{Given, Started, numbered-ground, numbered-objects, numbered-goroutines, numbered-finalisers, numbered-rest, numbered_change, object-in, goroutine-in}
 use Rattle.golf_laws.proofs.Staying.{turn-running}
 
@@ -111,11 +113,20 @@ numbered_changes (c ∷ cs) s n a =
     let w = sound-wider (objects_after c (Given s) s.last_object) (Given t) (Started s) (Started t) (finalisable_after c (Unfinalised s)) (Unfinalised t) (given-after s c) (started-after s c) (unfinalised-after s c) (last_after c s.last_object) cs a.1 in
     numbered_changes cs t (numbered_change s c n a.0) (subst (λ k. Sound (Given t) (Started t) (Unfinalised t) k cs) (last-apply s c) w)
 
-pub numbered-step : (code : Code) (s : State) (k : ℕ) → Numbered s → Numbered (step code s k)
-numbered-step code s k n =
+pub numbered-turned : (code : Code) (s : State) (k : ℕ) → Numbered s → Numbered (turned code s k)
+numbered-turned code s k n =
     numbered_changes (turn_changes code (k / length (runnable s)) s (whose_turn s k)) s n
     (sound_turn (Given s) (Started s) (Unfinalised s) code s (numbered-ground s n) (λ f at l is t o h. h) (k / length (runnable s)) (whose_turn s k)
     (λ g h. let r = turn-running s k g h in Entry-below s.next_goroutine s.goroutines g r.0 n.goroutines_below r.1))
+
+pub numbered-step : (code : Code) (s : State) (k : ℕ) → Numbered s → Numbered (step code s k)
+numbered-step code s k n =
+    let t = turned code s k in
+    let m = numbered-turned code s k n in
+    numbered_changes (cleared_after code s k) t m
+    (good-sound (Given t) (Started t) (Unfinalised t) t.last_object (cleared_after code s k)
+    (good-clearing (Given t) (Started t) code (wants_collection code s k) (whose_turn s k) t
+    (λ g r i e j. let h = Entry-find g t.goroutines r e in (Entry-below t.next_goroutine t.goroutines g r m.goroutines_below h, goroutine-in t m g r h))))
 
 -- collections
 module _ (s : State) (n : Numbered s) where

@@ -12,6 +12,7 @@ pub mod GoodChannels
 pub mod GoodSync
 pub mod GoodCalls
 pub mod GoodTurn
+pub mod Clearing
 pub mod Collecting
 pub mod Staying
 pub mod DeadStill

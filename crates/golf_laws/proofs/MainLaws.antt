@@ -6,11 +6,10 @@ use Rattle.golf_laws.proofs.Printing.{run-prefixed}
 use Rattle.golf_laws.specs.Laws.{DeadAreStill, LeadsNumber, LiveIsClosed, ChangesKeep, InstructionsMoveMembers, InstructionsSame, CollectionsKeep, TurnsKeep, TurnsCut, RecoveryUnseen, ReportedAreStill, RealRunsAgree, BookTellsOfEach, ReferencesPresent, PrintingApart}
 use Rattle.golf_laws.proofs.Closing.{closed_change, closed-ground}
 use Rattle.golf_laws.proofs.Confining.{confined_change}
-use Rattle.golf_laws.proofs.Changing.{closed_changes, confined_changes}
 use Rattle.golf_laws.proofs.GoodTurn.{sound_changes}
 use Rattle.golf_laws.proofs.SameChanges.{same_changes}
 use Rattle.golf_laws.proofs.Collecting.{closed-collect}
-use Rattle.golf_laws.proofs.Staying.{turn-sound}
+use Rattle.golf_laws.proofs.Staying.{step-closed, step-confined}
 use Rattle.golf_laws.proofs.SameTurn.{cut_step}
 use Rattle.golf_laws.proofs.DeadStill.{dead_still, closed-live}
 use Rattle.golf_laws.proofs.RealRuns.{real-runs}
@@ -41,9 +40,7 @@ pub collections_keep : CollectionsKeep
 collections_keep s kept stays h = closed-collect (Passes kept) (Passes stays) s h
 
 pub turns_keep : TurnsKeep
-turns_keep code s k kept stays h =
-    let a = turn-sound code (Passes stays) (Passes kept) s h k in
-    (closed_changes (Passes kept) (Passes stays) (Unfinalised s) s.last_object _ s h.new_objects h a, confined_changes (Passes kept) (Passes stays) (Unfinalised s) s.last_object _ s h.new_objects h a)
+turns_keep code s k kept stays h = (step-closed code (Passes stays) (Passes kept) s h k, step-confined code (Passes stays) (Passes kept) s h k)
 
 pub turns_cut : TurnsCut
 turns_cut code s k kept stays h f = cut_step stays kept (Passes kept) (Passes stays) s h (λ o m. m) (λ g m. m) code k f

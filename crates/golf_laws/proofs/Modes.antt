@@ -17,7 +17,7 @@ use Rattle.golf_model.specs.Views.{GoroutineView}
 use Rattle.golf_model.specs.Refs.{goroutine_refs, refs_of_goroutine, has_finaliser}
 use Rattle.golf_model.specs.Living.{Node, Live, live_list, has_object}
 use Rattle.golf_model.specs.Changes.{Change, apply, apply_all}
-use Rattle.golf_model.specs.Turn.{line_at, step, turn_changes, whose_turn}
+use Rattle.golf_model.specs.Turn.{line_at, wants_collection, turned, cleared_after, step, turn_changes, whose_turn}
 use Rattle.golf_model.specs.Reaching.{RefersTo, reach, sources}
 use Rattle.golf_model.specs.Collecting.{plain_collect, is_setting, sets_finalisers, prevents_removal}
 use Rattle.golf_model.specs.Futures.{Numbered, Leads}
@@ -27,7 +27,8 @@ use Rattle.golf_laws.proofs.Acting.{Ground}
 use Rattle.golf_laws.proofs.Closing.{closed-ground}
 use Rattle.golf_laws.proofs.Changing.{sound-wider}
 use Rattle.golf_laws.proofs.GoodTurn.{Allows, sound_turn}
-use Rattle.golf_laws.proofs.Staying.{turn-running, turn-sound, step-confined}
+use Rattle.golf_laws.proofs.Clearing.{finalisers-clearing}
+use Rattle.golf_laws.proofs.Staying.{turn-running, turn-sound, behind-sound, step-confined}
 use Rattle.golf_laws.proofs.DeadStill.{LiveObject, LiveGoroutine, closed-live}
 use Rattle.golf_laws.proofs.Numbering.{Given, Started, numbered-ground}
 use Rattle.golf_laws.proofs.Leading.{same-pass_on, leads-numbered}
@@ -87,7 +88,8 @@ none-changes O G n (c ∷ cs) s h a =
 
 pub none-step : (O G : ℕ → Type 0) (code : Code) (s : State) (k : ℕ) (c : Ground s O G) → sets_finalisers code ≡ false → ((g : ℕ) → whose_turn s k ≡ Some g → G g) → s.finalisers ≡ [] → (step code s k).finalisers ≡ []
 none-step O G code s k c h w e =
-    none-changes O G s.last_object (turn_changes code (k / length (runnable s)) s (whose_turn s k)) s e
+    finalisers-clearing code (wants_collection code s k) (whose_turn s k) (turned code s k)
+    ∙ none-changes O G s.last_object (turn_changes code (k / length (runnable s)) s (whose_turn s k)) s e
     (sound_turn O G Nothing code s c (allows-none O G code s c h) (k / length (runnable s)) (whose_turn s k) w)
 
 pub none-leads : (code : Code) → sets_finalisers code ≡ false → (s : State) → Leads code s → s.finalisers ≡ []
@@ -121,8 +123,12 @@ module _ (code : Code) (s : State) (n : Numbered s) (gone : List ℕ) (ok : Gone
     flowing-step : Flowing t → Flowing (step code t k)
     flowing-step f =
         let cs = turn_changes code (k / length (runnable t)) t (whose_turn t k) in
-        flow_changes (λ o. kept_by s gone o ≡ true) (λ g. stays_by gone g ≡ true) (Unfinalised t) t.last_object cs t f.new_objects f
-        (sound-wider O (λ o. kept_by s gone o ≡ true) (LiveGoroutine s) (λ g. stays_by gone g ≡ true) (Unfinalised t) (Unfinalised t) w v (λ o h. h) t.last_object cs (turn-sound code (LiveGoroutine s) O t c k))
+        let u = turned code t k in
+        let ds = cleared_after code t k in
+        let turned-flows = flow_changes (λ o. kept_by s gone o ≡ true) (λ g. stays_by gone g ≡ true) (Unfinalised t) t.last_object cs t f.new_objects f
+        (sound-wider O (λ o. kept_by s gone o ≡ true) (LiveGoroutine s) (λ g. stays_by gone g ≡ true) (Unfinalised t) (Unfinalised t) w v (λ o h. h) t.last_object cs (turn-sound code (LiveGoroutine s) O t c k)) in
+        flow_changes (λ o. kept_by s gone o ≡ true) (λ g. stays_by gone g ≡ true) Nothing u.last_object ds u turned-flows.new_objects turned-flows
+        (sound-wider O (λ o. kept_by s gone o ≡ true) (LiveGoroutine s) (λ g. stays_by gone g ≡ true) Nothing Nothing w v (λ o h. h) u.last_object ds (behind-sound code (LiveGoroutine s) O t c k))
 
     present-step : Present t → Present (step code t k)
     present-step p g h =

@@ -5,7 +5,7 @@ use Rattle.std.proofs.lemmas.Bool.{cases_lt}
 use Rattle.golf_theory.specs.Membership.{In, Every}
 use Rattle.golf_theory.specs.Maps.{find, keys}
 use Rattle.golf_theory.proofs.Lists.{In-left, In-cases, In-push, Every-append, Every-at, Every-from, Every-weaker}
-use Rattle.golf_theory.proofs.MapEntries.{In-keys, Entry-Every}
+use Rattle.golf_theory.proofs.MapEntries.{In-keys, Entry-Every, Entry-find}
 use Rattle.golf_theory.proofs.MapFinds.{Entry-below}
 use Rattle.golf_theory.proofs.MapKeys.{keys-put, keys-add}
 use Rattle.golf_data.specs.declared.value.Object.{Object}
@@ -13,7 +13,7 @@ use Rattle.golf_data.specs.declared.code.Code.{Code}
 use Rattle.golf_model.specs.Views.{FrameView, GoroutineView}
 use Rattle.golf_model.specs.State.{State, start, call_frame, runnable}
 use Rattle.golf_model.specs.Changes.{Change, apply, apply_all, pass_on, pass_on_at, pass_on_by}
-use Rattle.golf_model.specs.Turn.{step, turn_changes, whose_turn}
+use Rattle.golf_model.specs.Turn.{turned, wants_collection, cleared_after, step, turn_changes, whose_turn}
 use Rattle.golf_model.specs.Refs.{frames_refs, goroutine_refs}
 use Rattle.golf_model.specs.Collecting.{plain_collect}
 use Rattle.golf_model.specs.Running.{Event, run, stops}
@@ -25,6 +25,8 @@ use Rattle.golf_laws.proofs.Flowing.{Flow, flow_changes, flow-collect}
 use Rattle.golf_laws.proofs.GoodCalls.{call_frame-in}
 use Rattle.golf_laws.proofs.GoodStructures.{zeros-in}
 use Rattle.golf_laws.proofs.GoodTurn.{sound_turn}
+use Rattle.golf_laws.proofs.Goodness.{good-sound}
+use Rattle.golf_laws.proofs.Clearing.{good-clearing}
 use Rattle.golf_laws.proofs.Leading.{numbered-start, numbered-step, numbered-collect}
 use Rattle.golf_laws.proofs.Numbering.{object-in, goroutine-in}
 use Rattle.golf_laws.proofs.Stopping.{stops-kept, run-kept}
@@ -111,12 +113,13 @@ here-change s (Change.Output bytes) = here-same s (apply (Change.Output bytes) s
 here-change s (Change.WakeAll p how) = here-same s (apply (Change.WakeAll p how) s) refl refl
 here-change s (Change.PassOn g m) = passed-here s g m (find g s.goroutines) (find m s.objects)
 
+here-then : (s t u : State) → SameHere s t → SameHere t u → SameHere s u
+here-then s t u first rest = record { on = λ o h. rest.on o (first.on o h); back = λ o h. first.back o (rest.back o h) }
+
 here-changes : (cs : List Change) (s : State) → SameHere s (apply_all cs s)
 here-changes [] s = here-same s s refl refl
 here-changes (c ∷ cs) s =
-    let first = here-change s c in
-    let rest = here-changes cs (apply c s) in
-    record { on = λ o h. rest.on o (first.on o h); back = λ o h. first.back o (rest.back o h) }
+    here-then s (apply c s) (apply_all cs (apply c s)) (here-change s c) (here-changes cs (apply c s))
 
 -- what is there or not given yet is all that a whole state refers to
 whole-flows : (s : State) → IsWhole s → Flow (Here s) All s
@@ -154,9 +157,13 @@ whole-step : (code : Code) (s : State) (k : ℕ) → Numbered s → IsWhole s �
 whole-step code s k n w =
     let f = whole-flows s w in
     let cs : List Change = turn_changes code (k / length (runnable s)) s (whose_turn s k) in
-    flow-whole s (step code s k) (numbered-step code s k n) (here-changes cs s)
-    (flow_changes (Here s) All All s.last_object cs s (λ o m. inr m) f
-    (sound_turn (Here s) All All code s (whole-ground s f) (λ g at l is t o h. tt) (k / length (runnable s)) (whose_turn s k) (λ g h. tt)))
+    let t : State = turned code s k in
+    let ds : List Change = cleared_after code s k in
+    let v = flow_changes (Here s) All All s.last_object cs s (λ o m. inr m) f
+    (sound_turn (Here s) All All code s (whole-ground s f) (λ g at l is t o h. tt) (k / length (runnable s)) (whose_turn s k) (λ g h. tt)) in
+    flow-whole s (step code s k) (numbered-step code s k n) (here-then s t (step code s k) (here-changes cs s) (here-changes ds t))
+    (flow_changes (Here s) All All t.last_object ds t v.new_objects v
+    (good-sound (Here s) All All t.last_object ds (good-clearing (Here s) All code (wants_collection code s k) (whose_turn s k) t (λ g r i e j. (tt, v.goroutines g r tt (Entry-find g t.goroutines r e))))))
 
 pub whole-collect : (s : State) → Numbered s → IsWhole s → IsWhole (plain_collect s)
 whole-collect s n w = flow-whole s (plain_collect s) (numbered-collect s n) (here-same s (plain_collect s) refl refl) (flow-collect (Here s) All s (whole-flows s w))

@@ -15,11 +15,12 @@ use Rattle.golf_model.specs.State.{State, runnable}
 use Rattle.golf_model.specs.Changes.{Change, apply, apply_all, pass_on, pass_on_at, pass_on_by}
 use Rattle.golf_model.specs.Acting.{Actor, choose, at_reference_or}
 use Rattle.golf_model.specs.Selecting.{Offer, Taken, offers_of, is_nil_or_channel, all_on_channels, is_ready_on, is_ready, kept_if, ready, proceeds_by, chosen, selects_one, selects_from}
-use Rattle.golf_model.specs.Turn.{changes, line_at, performs, frame_changes, goroutine_changes, turn_of, turn_changes, whose_turn, step}
+use Rattle.golf_model.specs.Clearing.{clearing}
+use Rattle.golf_model.specs.Turn.{changes, line_at, performs, frame_changes, goroutine_changes, turn_of, turn_changes, whose_turn, turned, cleared_after, step, wants_collection}
 use Rattle.golf_model.specs.Reaching.{reach, sources}
 use Rattle.golf_model.specs.Living.{live_list, live_objects, has_object, dead, is_dead}
 use Rattle.golf_model.specs.Collecting.{plain_collect, queue_outside}
-use Rattle.golf_model.specs.Running.{Event, has_ended, wants_collection, collected_if, happens_in, happens, run}
+use Rattle.golf_model.specs.Running.{Event, has_ended, collected_if, happens_in, happens, run}
 use Rattle.golf_laws.specs.Printing.{prefixed}
 use Rattle.golf_model.specs.Reporting.{report, book_after, entries, entry_of, new_dead, without, numbers, goroutine_id, retained_objects}
 
@@ -118,10 +119,23 @@ module _ (w : List ℕ) (code : Code) where
   same-apply_all [] s = refl
   same-apply_all (c ∷ cs) s = ap (apply_all cs) (same-apply c s) ∙ same-apply_all cs (apply c s)
 
-  pub step-prefixed : (s : State) (k : ℕ) → step code (prefixed w s) k ≡ prefixed w (step code s k)
-  step-prefixed s k =
+  turned-prefixed : (s : State) (k : ℕ) → turned code (prefixed w s) k ≡ prefixed w (turned code s k)
+  turned-prefixed s k =
       ap (λ (cs : List Change). apply_all cs (prefixed w s)) (same-turn (k / length (runnable s)) s (whose_turn s k))
       ∙ same-apply_all (turn_changes code (k / length (runnable s)) s (whose_turn s k)) s
+
+  same-clearing : (b : Bool) (m : Option ℕ) (s : State) → clearing code b m (prefixed w s) ≡ clearing code b m s
+  same-clearing true m s = refl
+  same-clearing false None s = refl
+  same-clearing false (Some g) s = refl
+
+  pub step-prefixed : (s : State) (k : ℕ) → step code (prefixed w s) k ≡ prefixed w (step code s k)
+  step-prefixed s k =
+      let b = wants_collection code s k in
+      let t = turned code s k in
+      ap (λ (u : State). apply_all (clearing code b (whose_turn s k) u) u) (turned-prefixed s k)
+      ∙ ap (λ (cs : List Change). apply_all cs (prefixed w t)) (same-clearing b (whose_turn s k) t)
+      ∙ same-apply_all (cleared_after code s k) t
 
 pub same-reach : (w : List ℕ) (s : State) (xs : List ℕ) → reach (prefixed w s) xs ≡ reach s xs
 unfolding reach

@@ -9,10 +9,10 @@ use Rattle.golf_data.specs.declared.report.Book.{Book}
 use Rattle.golf_data.specs.declared.report.Report.{Report}
 use Rattle.golf_model.specs.State.{State, start, ending}
 use Rattle.golf_model.specs.Changes.{Change}
-use Rattle.golf_model.specs.Turn.{step}
+use Rattle.golf_model.specs.Turn.{step, wants_collection}
 use Rattle.golf_model.specs.Reaching.{reach, sources}
 use Rattle.golf_model.specs.Collecting.{plain_collect, removed, cut, sets_finalisers, real_collect}
-use Rattle.golf_model.specs.Running.{Event, has_ended, wants_collection, collected_if, happens_in, run_by, run, stop_if, stop_in, stops_by, stops, is_taking, first_if, call_in, calls_by, finaliser_calls}
+use Rattle.golf_model.specs.Running.{Event, has_ended, collected_if, happens_in, run_by, run, stop_if, stop_in, stops_by, stops, is_taking, first_if, call_in, calls_by, finaliser_calls}
 use Rattle.golf_model.specs.Reporting.{new_book, report, book_after, reports_from, book_of, real_run, real_reports, real_calls}
 use Rattle.golf_model.specs.Futures.{Numbered}
 use Rattle.golf_laws.proofs.Closing.{closed-ground}

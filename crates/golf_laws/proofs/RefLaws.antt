@@ -1,12 +1,13 @@
 -- What values, lists of values, frames and goroutines refer to.
-use Rattle.std.proofs.Common.{◌≡◌, ℕ, zero, suc, List, [], ◌∷◌, ◌++◌, Some, inl, inr, sym, subst, slice_get, slice_set}
-use Rattle.std.specs.Prelude.{replicate}
+use Rattle.std.proofs.Common.{◌≡◌, ℕ, zero, suc, ◌+◌, Bool, true, false, cond, List, [], ◌∷◌, ◌++◌, Some, inl, inr, sym, subst, slice_get, slice_set}
+use Rattle.std.specs.Prelude.{replicate, pos}
 use Rattle.golf_theory.specs.Membership.{In, Every}
 use Rattle.golf_theory.proofs.Lists.{Every-append, Every-left, Every-right}
 use Rattle.golf_data.specs.declared.value.Value.{Value}
 use Rattle.golf_data.specs.declared.goroutine.Wait.{Wait}
 use Rattle.golf_model.specs.Views.{FrameView, GoroutineView}
 use Rattle.golf_model.specs.Values.{value_refs, refs}
+use Rattle.golf_data.specs.Slots.{cleared_from}
 use Rattle.golf_model.specs.Waiting.{waits_of}
 use Rattle.golf_laws.specs.Invariant.{FrameIn}
 use Rattle.golf_model.specs.Refs.{frame_refs, frames_refs, wait_refs, waited, goroutine_refs, deferred_refs}
@@ -45,6 +46,14 @@ module _ (O : ℕ → Type 0) where
   pub vals-replicate : (n : ℕ) (v : Value) → Val v → Vals (replicate n v)
   vals-replicate zero v a = tt
   vals-replicate (suc n) v a = vals-cons v (replicate n v) a (vals-replicate n v a)
+
+  pub vals-cleared : (test : ℕ → Bool) (i : ℕ) (vs : List Value) → Vals vs → Vals (cleared_from test i vs)
+  vals-cleared test i [] a = tt
+  vals-cleared test i (v ∷ vs) a = vals-cons (cond (test i) v (Value.Int (pos 0))) (cleared_from test (i + 1) vs) (chosen (test i)) (vals-cleared test (i + 1) vs (vals-tail v vs a))
+    where
+      chosen : (b : Bool) → Val (cond b v (Value.Int (pos 0)))
+      chosen true = vals-head v vs a
+      chosen false = tt
 
   pub frame-in : (f : FrameView) → Every O (frame_refs f) → FrameIn O f
   frame-in f a =

@@ -8,27 +8,23 @@ use Rattle.golf_data.specs.declared.code.Code.{Code}
 use Rattle.golf_data.specs.declared.goroutine.Ending.{Ending}
 use Rattle.golf_data.specs.declared.goroutine.Queued.{Queued}
 use Rattle.golf_model.specs.State.{State, ending, runnable}
-use Rattle.golf_model.specs.Changes.{Change, apply, apply_all}
-use Rattle.golf_model.specs.Turn.{step, turn_changes, whose_turn}
+use Rattle.golf_model.specs.Changes.{Change}
+use Rattle.golf_model.specs.Turn.{turned, cleared_after, step, turn_changes, whose_turn, wants_collection}
 use Rattle.golf_model.specs.Views.{GoroutineView}
 use Rattle.golf_model.specs.Refs.{refs_of_goroutine}
 use Rattle.golf_model.specs.Reaching.{reach}
 use Rattle.golf_model.specs.Collecting.{plain_collect, prevents_removal, sets_finalisers, cut}
-use Rattle.golf_model.specs.Running.{Event, has_ended, wants_collection, collected_if, happens_in, happens, run, stop_if, stop_in, stops_by, is_taking, first_if, call_in, calls_by}
+use Rattle.golf_model.specs.Running.{Event, has_ended, collected_if, happens_in, happens, run, stop_if, stop_in, stops_by, is_taking, first_if, call_in, calls_by}
 use Rattle.golf_model.specs.Futures.{Numbered, Sight, sight, futures}
 use Rattle.golf_laws.specs.Invariant.{Closed}
 use Rattle.golf_laws.specs.Cutting.{KeepsFresh}
 use Rattle.golf_laws.proofs.Collecting.{Joined, closed-collect}
-use Rattle.golf_laws.proofs.Cutting.{keeps_fresh}
+use Rattle.golf_laws.proofs.Cutting.{keeps_fresh-all}
 use Rattle.golf_laws.proofs.Flowing.{Flow}
 use Rattle.golf_laws.proofs.Removing.{stays_by}
 use Rattle.golf_laws.proofs.SameTurn.{same-ending, same-wants, same-turn_changes, cut_step}
 use Rattle.golf_laws.proofs.SameSight.{same-sight}
 use Rattle.golf_laws.proofs.Staying.{step-closed}
-
-keeps_fresh-all : (stays kept : ℕ → Bool) (cs : List Change) (s : State) → KeepsFresh stays kept s → KeepsFresh stays kept (apply_all cs s)
-keeps_fresh-all stays kept [] s f = f
-keeps_fresh-all stays kept (c ∷ cs) s f = keeps_fresh-all stays kept cs (apply c s) (keeps_fresh stays kept s c f)
 
 pub map-append : {X Y : Type 0} (f : X → Y) (xs ys : List X) → map f (xs ++ ys) ≡ map f xs ++ map f ys
 map-append f [] ys = refl
@@ -59,7 +55,7 @@ module _ (code : Code) (gone : List ℕ) (kept : ℕ → Bool) (G : ℕ → Type
     O = r.O;
     closed = step-closed code G r.O t r.closed k;
     within = r.within;
-    fresh = keeps_fresh-all (stays_by gone) kept (turn_changes code (k / length (runnable t)) t (whose_turn t k)) t r.fresh;
+    fresh = keeps_fresh-all (stays_by gone) kept (cleared_after code t k) (turned code t k) (keeps_fresh-all (stays_by gone) kept (turn_changes code (k / length (runnable t)) t (whose_turn t k)) t r.fresh);
     mode = m.steps r.O t k r.closed r.within sub_g r.mode;
   }
 

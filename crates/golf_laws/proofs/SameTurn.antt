@@ -14,16 +14,17 @@ use Rattle.golf_data.specs.declared.goroutine.Leaving.{Leaving}
 use Rattle.golf_model.specs.Views.{FrameView, GoroutineView}
 use Rattle.golf_model.specs.State.{State, can_run, runnable, ending, ending_of, not_empty, is_running}
 use Rattle.golf_model.specs.Changes.{Change, apply_all}
-use Rattle.golf_model.specs.Turn.{line_at, acting, performs, frame_changes, goroutine_changes, turn_of, turn_changes, whose_turn, step}
+use Rattle.golf_model.specs.Turn.{line_at, acting, performs, frame_changes, goroutine_changes, turn_of, turn_changes, whose_turn, turned, cleared_after, step, goroutine_collects, wants_collection}
+use Rattle.golf_model.specs.Clearing.{clearing}
 use Rattle.golf_model.specs.Refs.{frames_refs, goroutine_refs}
 use Rattle.golf_model.specs.Collecting.{cut}
-use Rattle.golf_model.specs.Running.{goroutine_collects, wants_collection}
-use Rattle.golf_laws.specs.Invariant.{Closed, Unfinalised}
+use Rattle.golf_laws.specs.Invariant.{Closed, Nothing, Unfinalised}
 use Rattle.golf_laws.proofs.RefLaws.{goroutine-frames, frames-head, frames-tail}
 use Rattle.golf_laws.proofs.Closing.{closed-ground}
 use Rattle.golf_laws.proofs.Changing.{sound-wider}
-use Rattle.golf_laws.proofs.Staying.{turn-sound, turn-running}
-use Rattle.golf_laws.proofs.Cutting.{Kept, Stays, cut_changes}
+use Rattle.golf_laws.proofs.Clearing.{same-clearing}
+use Rattle.golf_laws.proofs.Staying.{turn-sound, turn-running, behind-sound}
+use Rattle.golf_laws.proofs.Cutting.{Kept, Stays, keeps_fresh-all, cut_changes}
 use Rattle.golf_laws.proofs.SameChanges.{same_changes}
 
 module _ (stays kept : ℕ → Bool) (O G : ℕ → Type 0) (s : State) (c : Closed s O G) (sub_o : (o : ℕ) → O o → kept o ≡ true) (sub_g : (g : ℕ) → G g → stays g ≡ true) where
@@ -82,10 +83,28 @@ module _ (stays kept : ℕ → Bool) (O G : ℕ → Type 0) (s : State) (c : Clo
         ∙ ap (turn_changes code (k / length (runnable s)) (cut stays kept s)) (same-whose_turn k)
         ∙ same-turn (k / length (runnable s)) (whose_turn s k) (turn-member k)
 
-    -- a step of the cut state is the step, cut
-    pub cut_step : (k : ℕ) → KeepsFresh stays kept s → step code (cut stays kept s) k ≡ cut stays kept (step code s k)
-    cut_step k f =
+    -- so are the changes of the cut state, and what is cleared behind them
+    cut_turned : (k : ℕ) → KeepsFresh stays kept s → turned code (cut stays kept s) k ≡ cut stays kept (turned code s k)
+    cut_turned k f =
         let cs = turn_changes code (k / length (runnable s)) s (whose_turn s k) in
         ap (λ (ds : List Change). apply_all ds (cut stays kept s)) (same-turn_changes k)
         ∙ cut_changes stays kept (Unfinalised s) s.last_object cs s f.objects f
         (sound-wider O (Kept stays kept) G (Stays stays kept) (Unfinalised s) (Unfinalised s) sub_o sub_g (λ o h. h) s.last_object cs (turn-sound code G O s c k))
+
+    cut_behind : (k : ℕ) → KeepsFresh stays kept s → cleared_after code (cut stays kept s) k ≡ cleared_after code s k
+    cut_behind k f =
+        ap (λ (b : Bool). clearing code b (whose_turn (cut stays kept s) k) (turned code (cut stays kept s) k)) (same-wants k)
+        ∙ ap (λ (m : Option ℕ). clearing code (wants_collection code s k) m (turned code (cut stays kept s) k)) (same-whose_turn k)
+        ∙ ap (clearing code (wants_collection code s k) (whose_turn s k)) (cut_turned k f)
+        ∙ same-clearing stays kept code (wants_collection code s k) (whose_turn s k) (turned code s k) (λ g h. sub_g g (turn-member k g h))
+
+    -- a step of the cut state is the step, cut
+    pub cut_step : (k : ℕ) → KeepsFresh stays kept s → step code (cut stays kept s) k ≡ cut stays kept (step code s k)
+    cut_step k f =
+        let t = turned code s k in
+        let ds = cleared_after code s k in
+        let after = keeps_fresh-all stays kept (turn_changes code (k / length (runnable s)) s (whose_turn s k)) s f in
+        ap (λ (es : List Change). apply_all es (turned code (cut stays kept s) k)) (cut_behind k f)
+        ∙ ap (apply_all ds) (cut_turned k f)
+        ∙ cut_changes stays kept Nothing t.last_object ds t after.objects after
+        (sound-wider O (Kept stays kept) G (Stays stays kept) Nothing Nothing sub_o sub_g (λ o h. h) t.last_object ds (behind-sound code G O s c k))

@@ -10,12 +10,15 @@ use Rattle.golf_theory.proofs.Agreements.{agree-same, agree-then, agree-wider}
 use Rattle.golf_data.specs.declared.code.Code.{Code}
 use Rattle.golf_model.specs.Views.{GoroutineView}
 use Rattle.golf_model.specs.State.{State, is_running, can_run, runnable}
-use Rattle.golf_model.specs.Turn.{step, turn_changes, whose_turn}
+use Rattle.golf_model.specs.Turn.{turned, cleared_after, step, turn_changes, whose_turn, wants_collection}
 use Rattle.golf_model.specs.Collecting.{plain_collect}
-use Rattle.golf_model.specs.Running.{Event, has_ended, wants_collection, collected_if, happens_in, happens, run}
-use Rattle.golf_laws.specs.Invariant.{Closed, Confined, Sound, Unfinalised}
+use Rattle.golf_model.specs.Running.{Event, has_ended, collected_if, happens_in, happens, run}
+use Rattle.golf_laws.specs.Invariant.{Closed, Confined, Nothing, Sound, Unfinalised}
 use Rattle.golf_laws.proofs.Closing.{closed-ground}
+use Rattle.golf_laws.proofs.Goodness.{good-sound}
+use Rattle.golf_laws.proofs.Confining.{confined-then}
 use Rattle.golf_laws.proofs.Changing.{closed_changes, confined_changes}
+use Rattle.golf_laws.proofs.Clearing.{closed-clearing}
 use Rattle.golf_laws.proofs.GoodTurn.{sound_turn}
 use Rattle.golf_laws.proofs.Collecting.{Joined, closed-collect}
 
@@ -58,11 +61,22 @@ module _ (code : Code) (G : ℕ → Type 0) where
     pub turn-sound : (k : ℕ) → Sound O G (Unfinalised s) s.last_object (turn_changes code (k / length (runnable s)) s (whose_turn s k))
     turn-sound k = sound_turn O G (Unfinalised s) code s (closed-ground O G s c) (λ f at l is t o h. h) (k / length (runnable s)) (whose_turn s k) (λ g h. turn-in k g h)
 
+    turned-closed : (k : ℕ) → Closed (turned code s k) O G
+    turned-closed k = closed_changes O G (Unfinalised s) s.last_object (turn_changes code (k / length (runnable s)) s (whose_turn s k)) s c.new_objects c (turn-sound k)
+
+    turned-confined : (k : ℕ) → Confined O G s (turned code s k)
+    turned-confined k = confined_changes O G (Unfinalised s) s.last_object (turn_changes code (k / length (runnable s)) s (whose_turn s k)) s c.new_objects c (turn-sound k)
+
+    pub behind-sound : (k : ℕ) → Sound O G Nothing (turned code s k).last_object (cleared_after code s k)
+    behind-sound k = good-sound O G Nothing (turned code s k).last_object (cleared_after code s k) (closed-clearing O G code (wants_collection code s k) (whose_turn s k) (turned code s k) (turned-closed k))
+
     pub step-closed : (k : ℕ) → Closed (step code s k) O G
-    step-closed k = closed_changes O G (Unfinalised s) s.last_object (turn_changes code (k / length (runnable s)) s (whose_turn s k)) s c.new_objects c (turn-sound k)
+    step-closed k = let t = turned-closed k in closed_changes O G Nothing (turned code s k).last_object (cleared_after code s k) (turned code s k) t.new_objects t (behind-sound k)
 
     pub step-confined : (k : ℕ) → Confined O G s (step code s k)
-    step-confined k = confined_changes O G (Unfinalised s) s.last_object (turn_changes code (k / length (runnable s)) s (whose_turn s k)) s c.new_objects c (turn-sound k)
+    step-confined k =
+        let t = turned-closed k in
+        confined-then O G s (turned code s k) (step code s k) (turned-confined k) (confined_changes O G Nothing (turned code s k).last_object (cleared_after code s k) (turned code s k) t.new_objects t (behind-sound k))
 
     pub after-step : (k : ℕ) → After O G s (step code s k)
     after-step k = let f = step-confined k in record { wide = O; wider = λ o h. h; closed = step-closed k; objects = f.objects; goroutines = f.goroutines }

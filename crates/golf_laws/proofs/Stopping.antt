@@ -4,10 +4,10 @@ use Rattle.golf_theory.specs.Membership.{In}
 use Rattle.golf_theory.proofs.Lists.{In-cases}
 use Rattle.golf_data.specs.declared.code.Code.{Code}
 use Rattle.golf_model.specs.State.{State, start}
-use Rattle.golf_model.specs.Turn.{step}
+use Rattle.golf_model.specs.Turn.{step, wants_collection}
 use Rattle.golf_model.specs.Living.{dead}
 use Rattle.golf_model.specs.Collecting.{plain_collect}
-use Rattle.golf_model.specs.Running.{Event, has_ended, wants_collection, collected_if, happens_in, happens, run, stop_if, stop_in, stops_by, stops}
+use Rattle.golf_model.specs.Running.{Event, has_ended, collected_if, happens_in, happens, run, stop_if, stop_in, stops_by, stops}
 use Rattle.golf_model.specs.Futures.{Numbered, Still}
 use Rattle.golf_model.proofs.Agreeing.{dead-sound}
 use Rattle.golf_laws.proofs.DeadStill.{dead_still}

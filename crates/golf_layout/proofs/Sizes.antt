@@ -1,5 +1,5 @@
 -- A piece has its size wherever it is placed.
-use Rattle.std.proofs.Common.{◌+◌, [], ◌∷◌, refl, arith, length-append}
+use Rattle.std.proofs.Common.{◌+◌, ◌∷◌, refl, arith, length-append}
 use Rattle.golf_layout.specs.Piece.{Piece, size, placed}
 use Rattle.golf_layout.specs.Laws.{PlacedSize}
 

@@ -7,7 +7,7 @@ use Rattle.golf_model.specs.Views.{FrameView}
 use Rattle.golf_model.specs.State.{State}
 use Rattle.golf_model.specs.Values.{line_bytes}
 use Rattle.golf_model.specs.Changes.{Change, apply_all, output}
-use Rattle.golf_model.specs.Acting.{next, stands, goes, on_some}
+use Rattle.golf_model.specs.Acting.{stands, goes, on_some}
 use Rattle.golf_model.specs.Turn.{prints}
 use Rattle.golf_state.specs.Going.{went}
 use Rattle.golf_state.specs.Operands.{operands_of}

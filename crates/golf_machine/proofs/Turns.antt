@@ -1,5 +1,5 @@
 -- Whose turn it is, and what the turn is.
-use Rattle.std.proofs.Common.{◌≡◌, ℕ, ◌+◌, ◌<◌, ◌%◌, ◌/◌, ◌^◌, true, not, ◌||◌, ◌==◌, List, [], ◌∷◌, length, get_or, map, Option, Some, None, refl, sym, ap, ◌∙◌, arith}
+use Rattle.std.proofs.Common.{◌≡◌, ℕ, ◌+◌, ◌<◌, ◌%◌, ◌/◌, ◌^◌, Bool, true, not, ◌||◌, ◌==◌, List, [], ◌∷◌, length, get_or, map, Option, Some, None, refl, sym, ap, ◌∙◌, arith}
 use Rattle.std.specs.Prelude.{slice_get, option_map, option_and_then}
 use Rattle.std.proofs.lemmas.Bool.{and_parts}
 use Rattle.std.proofs.lemmas.List.{length-map}
@@ -19,8 +19,8 @@ use Rattle.golf_theory.proofs.MapFinds.{find-Entry}
 use Rattle.golf_model.specs.Views.{FrameView, GoroutineView}
 use Rattle.golf_model.specs.State.{State, is_running, not_empty, can_run, runnable, ending, ending_of}
 use Rattle.golf_model.specs.Changes.{apply_all, behind_first}
-use Rattle.golf_model.specs.Turn.{changes, line_at, turn_of, turn_changes, whose_turn, step, frame_changes, performs}
-use Rattle.golf_model.specs.Running.{wants_collection, goroutine_collects}
+use Rattle.golf_model.specs.Clearing.{clearing}
+use Rattle.golf_model.specs.Turn.{turned, changes, line_at, turn_of, turn_changes, whose_turn, step, frame_changes, performs, wants_collection, goroutine_collects}
 use Rattle.golf_state.specs.Looked.{frames_of, frames_in}
 use Rattle.golf_state.specs.Doing.{does, Stands, Runs}
 use Rattle.golf_state.proofs.Doings.{does-is}
@@ -67,11 +67,19 @@ turn-runs s n g r h =
 -- ---- the step
 
 module _ (code : Code) (s : State) (n g : ℕ) (turn : whose_turn s n ≡ Some g) where
-  pub step-is : (s1 : State) (count : ℕ) → count ≡ length (runnable s) → s1 ≡ apply_all (turn_of code g (n / count) s (find g s.goroutines)) s → s1 ≡ step code s n
-  step-is s1 count e h = h ∙ ap (λ k. apply_all (turn_of code g (n / k) s (find g s.goroutines)) s) e ∙ sym (ap (λ (o : Option ℕ). apply_all (turn_changes code (n / length (runnable s)) s o) s) turn)
+  turned-is : (s1 : State) (count : ℕ) → count ≡ length (runnable s) → s1 ≡ apply_all (turn_of code g (n / count) s (find g s.goroutines)) s → s1 ≡ turned code s n
+  turned-is s1 count e h = h ∙ ap (λ k. apply_all (turn_of code g (n / k) s (find g s.goroutines)) s) e ∙ sym (ap (λ (o : Option ℕ). apply_all (turn_changes code (n / length (runnable s)) s o) s) turn)
 
   pub wants-is : wants_collection code s n ≡ goroutine_collects code (find g s.goroutines)
   wants-is = ap (λ (o : Option ℕ). goroutine_collects code (option_and_then (λ k. find k s.goroutines) o)) turn
+
+  -- the turn, and what is cleared behind it
+  pub step-is : (s1 s2 : State) (b : Bool) (count : ℕ) → count ≡ length (runnable s) → s1 ≡ apply_all (turn_of code g (n / count) s (find g s.goroutines)) s → b ≡ goroutine_collects code (find g s.goroutines) → s2 ≡ apply_all (clearing code b (Some g) s1) s1 → s2 ≡ step code s n
+  step-is s1 s2 b count e h w is =
+      is
+      ∙ ap (λ c. apply_all (clearing code c (Some g) s1) s1) (w ∙ sym wants-is)
+      ∙ ap (λ (m : Option ℕ). apply_all (clearing code (wants_collection code s n) m s1) s1) (sym turn)
+      ∙ ap (λ (t : State). apply_all (clearing code (wants_collection code s n) (whose_turn s n) t) t) (turned-is s1 count e h)
 
 -- ---- the goroutine's frames
 

@@ -2,7 +2,7 @@
 
 ghost use Rattle.std.specs.Prelude.{◌≡◌, ◌<◌, ◌∷◌, [], ℕ, Some, None, IfOk, OnOk, OnErr, option_map, reverse, slice_get, option_to_list, true};
 ghost use Rattle.golf_model.specs.Views.{frame_view, frame_views};
-ghost use Rattle.golf_model.specs.State.{call_frame};
+ghost use Rattle.golf_model.specs.State.{slots_of, call_frame};
 ghost use Rattle.golf_model.specs.Changes.{apply_all, finish};
 ghost use Rattle.golf_data.specs.declared.goroutine.Ending.{Ending};
 ghost use Rattle.golf_data.specs.declared.goroutine.PanicKind.{PanicKind};
@@ -14,12 +14,28 @@ ghost use Rattle.golf_state.specs.Doing.{does, Stands};
 ghost use Rattle.golf_machine.specs.Acts.{Acts, HasNoFrame, last_of, deferred_of, begins_latest};
 
 use golf_base::{GoroutineId, List, Memory, Room};
-use golf_data::{Code, Deferred, Ending, Frame, Leaving, PanicKind, Value};
+use golf_data::{Code, Deferred, Ending, Frame, Function, Leaving, PanicKind, Slots, Value};
 use golf_state::{Acting, State, defer, enter, enter_deferred, proceed};
 use std::alloc::Global;
 
 /// The most frames of a goroutine.
 const MOST_FRAMES: usize = 10_000;
+
+// The slots of a new frame: the arguments, and 0 in the others; an argument that is not needed is
+// cleared.
+fn slots_of(alloc: Global, function: &Function, arguments: &[Value]) -> Result<Slots, Memory>
+    ensures { IfOk result (λ slots. slots ≡ slots_of function.now arguments.now) }
+{
+    let rest = (function.slots as usize).saturating_sub(arguments.len());
+    let mut slots = Slots::of(alloc, arguments, rest)?;
+    match function.live.as_slice().first() {
+        Some(mask) => {
+            slots.clear_under(*mask);
+            Ok(slots)
+        }
+        None => Ok(slots),
+    }
+}
 
 // The first frame of a call of the function of this number, where the code has one.
 fn open_frame(
@@ -34,10 +50,7 @@ fn open_frame(
     let Some(function) = code.functions.as_slice().get(number as usize) else {
         return Ok(None);
     };
-    let mut slots = List::new(alloc);
-    slots.extend_from_slice(arguments)?;
-    let rest = (function.slots as usize).saturating_sub(arguments.len());
-    slots.extend_with(rest, Value::Int(0))?;
+    let slots = slots_of(alloc, function, arguments)?;
     let mut operands = Room::new(alloc);
     operands.reserve(function.depth as usize)?;
     Ok(Some(Frame {

@@ -5,8 +5,7 @@ ghost use Rattle.golf_theory.specs.Maps.{find};
 ghost use Rattle.golf_data.specs.Places.{HasPlaces};
 ghost use Rattle.golf_model.specs.Changes.{apply_all};
 ghost use Rattle.golf_model.specs.Views.{frame_view};
-ghost use Rattle.golf_model.specs.Turn.{line_at, return_line, turn_of};
-ghost use Rattle.golf_model.specs.Running.{goroutine_collects};
+ghost use Rattle.golf_model.specs.Turn.{line_at, return_line, turn_of, goroutine_collects};
 ghost use Rattle.golf_state.specs.Doing.{Runs};
 
 use crate::entering::begin_queued;

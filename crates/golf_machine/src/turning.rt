@@ -1,16 +1,17 @@
 //! The state before the first turn, and one turn.
 
-ghost use Rattle.std.specs.Prelude.{◌≡◌, None, IfOk, OnOk, OnErr};
+ghost use Rattle.std.specs.Prelude.{◌≡◌, Some, None, IfOk, OnOk, OnErr};
 ghost use Rattle.golf_data.specs.Places.{HasPlaces};
+ghost use Rattle.golf_model.specs.Changes.{apply_all};
+ghost use Rattle.golf_model.specs.Clearing.{clearing};
 ghost use Rattle.golf_model.specs.State.{ending, start as start_of};
-ghost use Rattle.golf_model.specs.Turn.{step};
-ghost use Rattle.golf_model.specs.Running.{wants_collection};
+ghost use Rattle.golf_model.specs.Turn.{step, wants_collection};
 ghost use Rattle.golf_machine.specs.Turns.{turned_of};
 
 use crate::entering::first_frames;
 use crate::stepping::{act, collects};
 use crate::structures::zeros_of;
-use golf_base::Memory;
+use golf_base::{GoroutineId, Memory};
 use golf_data::{Code, Ending};
 use golf_state::State;
 use std::alloc::Global;
@@ -36,6 +37,16 @@ pub fn start(alloc: Global, code: &Code) -> Result<State, Memory>
     State::new(alloc, globals, frames, code.main_line)
 }
 
+// What no instruction can read any more is cleared after the turn of a goroutine, unless it was a
+// collection.
+fn clear_after(code: &Code, state: &mut State, g: GoroutineId, collects: bool)
+    ensures { state.new ≡ apply_all (clearing code.now collects (Some g.0) state.old) state.old }
+{
+    if !collects {
+        state.clear_slots(code, g);
+    }
+}
+
 /// One turn: of the goroutines that can run, in rising order, the one at the place of the number,
 /// counted round. It takes all its memory first: on `Memory` the state is unchanged.
 pub fn turn(alloc: Global, code: &Code, state: &mut State, number: u64) -> Result<Turned, Memory>
@@ -50,6 +61,7 @@ pub fn turn(alloc: Global, code: &Code, state: &mut State, number: u64) -> Resul
     let g = runnable[(number % count) as usize];
     let collects = collects(code, state, g);
     act(alloc, code, state, g, number / count)?;
+    clear_after(code, state, g, collects);
     Ok(match state.ending() {
         Some(ending) => Turned::Ended(ending),
         None if collects => Turned::WantsCollection,

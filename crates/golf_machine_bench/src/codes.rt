@@ -19,8 +19,8 @@ pub(crate) enum Kind {
 // The code of two functions without an argument, and of two globals.
 fn program(alloc: Global, main: Vec<Instr>, other: Vec<Instr>) -> Result<Code, Memory> {
     let mut functions = List::new(alloc);
-    functions.push(function(0, lines(alloc, main)?))?;
-    functions.push(function(0, lines(alloc, other)?))?;
+    functions.push(function(alloc, 0, lines(alloc, main)?)?)?;
+    functions.push(function(alloc, 0, lines(alloc, other)?)?)?;
     code(alloc, functions, &[Value::Nil, Value::Nil], &[])
 }
 

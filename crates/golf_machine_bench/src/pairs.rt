@@ -58,8 +58,8 @@ fn receives(alloc: Global) -> Result<Vec<Instr>, Memory> {
 // The code that starts so many pairs of goroutines.
 fn pairs_code(alloc: Global, pairs: u32) -> Result<Code, Memory> {
     let mut functions = List::new(alloc);
-    functions.push(function(0, lines(alloc, starts(alloc, pairs)?)?))?;
-    functions.push(function(1, lines(alloc, receives(alloc)?)?))?;
+    functions.push(function(alloc, 0, lines(alloc, starts(alloc, pairs)?)?)?)?;
+    functions.push(function(alloc, 1, lines(alloc, receives(alloc)?)?)?)?;
     code(alloc, functions, &[Value::Nil], &[Value::Nil, Value::Nil])
 }
 

@@ -28,8 +28,8 @@ fn texts(alloc: Global) -> Result<List<List<u8>>, Memory> {
 /// and a struct type with an integer and a pointer.
 pub fn program(alloc: Global, main: Vec<Instr>, other: Vec<Instr>) -> Result<Code, Memory> {
     let mut functions = List::new(alloc);
-    functions.push(function(0, lines(alloc, main)?))?;
-    functions.push(function(1, lines(alloc, other)?))?;
+    functions.push(function(alloc, 0, lines(alloc, main)?)?)?;
+    functions.push(function(alloc, 1, lines(alloc, other)?)?)?;
     let mut program = code(
         alloc,
         functions,

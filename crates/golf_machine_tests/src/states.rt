@@ -1,22 +1,22 @@
 //! A state that is changed by hand, and frames with a deferred call.
 
 use golf_base::{GoroutineId, List, Memory, Room};
-use golf_data::{Deferred, Frame, Leaving};
+use golf_data::{Deferred, Frame, Leaving, Slots};
 use golf_state::{State, begin_return, enter_deferred, return_frame};
 use std::alloc::Global;
 use std::test::Fail;
 
 // A frame with these deferred calls.
-fn frame(alloc: Global, deferred: List<Deferred>) -> Frame {
-    Frame {
+fn frame(alloc: Global, deferred: List<Deferred>) -> Result<Frame, Memory> {
+    Ok(Frame {
         function: 0,
         at: 1,
-        slots: List::new(alloc),
+        slots: Slots::of(alloc, &[], 0)?,
         operands: Room::new(alloc),
         deferred,
         leaving: Leaving::No,
         discards: true,
-    }
+    })
 }
 
 // How many frames there are while the deferred call of a returning frame runs, and behind it.
@@ -27,9 +27,9 @@ fn deferred_call(alloc: Global) -> Result<(usize, usize), Memory> {
         arguments: List::new(alloc),
     })?;
     let mut frames = List::new(alloc);
-    frames.push(frame(alloc, deferred))?;
+    frames.push(frame(alloc, deferred)?)?;
     begin_return(&mut frames, 2, 0, None);
-    enter_deferred(&mut frames, frame(alloc, List::new(alloc)))?;
+    enter_deferred(&mut frames, frame(alloc, List::new(alloc))?)?;
     let inside = frames.len();
     return_frame(&mut frames, None)?;
     Ok((inside, frames.len()))

@@ -12,3 +12,4 @@ pub mod Written
 pub mod Finalisers
 pub mod Leaks
 pub mod Graphs
+pub mod Further

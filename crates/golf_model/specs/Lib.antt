@@ -4,6 +4,7 @@ pub mod State
 pub mod Waiting
 pub mod Waking
 pub mod Changes
+pub mod Clearing
 pub mod Acting
 pub mod Calculating
 pub mod Structures

@@ -1,16 +1,11 @@
 -- Runs over events: turns and collections.
-use Rattle.std.specs.Prelude.{ℕ, ◌/◌, Bool, true, false, List, [], ◌∷◌, ◌++◌, length, Option, Some, None, is_some, option_and_then, take}
-use Rattle.golf_theory.specs.Maps.{find}
+use Rattle.std.specs.Prelude.{ℕ, ◌/◌, Bool, true, false, List, [], ◌∷◌, ◌++◌, length, is_some, take}
 use Rattle.golf_theory.specs.Membership.{any_of}
 use Rattle.golf_data.specs.declared.code.Code.{Code}
-use Rattle.golf_data.specs.declared.code.Instr.{Instr}
-use Rattle.golf_data.specs.declared.code.Line.{Line}
-use Rattle.golf_data.specs.declared.goroutine.Leaving.{Leaving}
 use Rattle.golf_data.specs.declared.goroutine.Queued.{Queued}
-use Rattle.golf_model.specs.Views.{FrameView, GoroutineView}
 use Rattle.golf_model.specs.State.{State, runnable, ending, start}
 use Rattle.golf_model.specs.Changes.{Change}
-use Rattle.golf_model.specs.Turn.{line_at, whose_turn, turn_changes, step}
+use Rattle.golf_model.specs.Turn.{whose_turn, turn_changes, wants_collection, step}
 use Rattle.golf_model.specs.Collecting.{plain_collect}
 
 -- a turn with a number of the schedule, or a collection
@@ -20,31 +15,6 @@ pub data Event : Type 0 where
 
 abbrev pub has_ended : State → Bool
 has_ended s = is_some (ending s)
-
-abbrev pub is_collection : Instr → Bool
-is_collection Instr.Collect = true
-is_collection _ = false
-
-abbrev pub line_collects : Option Line → Bool
-line_collects None = false
-line_collects (Some l) = is_collection l.instr
-
-abbrev pub frame_collects : Code → FrameView → Leaving → Bool
-frame_collects code f Leaving.No = line_collects (line_at code f.function f.at)
-frame_collects code f (Leaving.Returning v) = false
-frame_collects code f (Leaving.Unwinding x) = false
-
-abbrev pub frames_collect : Code → List FrameView → Bool
-frames_collect code [] = false
-frames_collect code (f ∷ fs) = frame_collects code f f.leaving
-
-abbrev pub goroutine_collects : Code → Option GoroutineView → Bool
-goroutine_collects code None = false
-goroutine_collects code (Some r) = frames_collect code r.frames
-
--- whether the instruction of this turn is a collection
-abbrev pub wants_collection : Code → State → ℕ → Bool
-wants_collection code s c = goroutine_collects code (option_and_then (λ g. find g s.goroutines) (whose_turn s c))
 
 -- a run whose collections are those of the function
 module _ (collect : State → State) (code : Code) where

@@ -11,6 +11,8 @@ use Rattle.golf_data.specs.declared.goroutine.Mode.{Mode}
 use Rattle.golf_data.specs.declared.goroutine.Queued.{Queued}
 use Rattle.golf_model.specs.Views.{FrameView, GoroutineView}
 use Rattle.golf_model.specs.Values.{zeros_of}
+use Rattle.golf_data.specs.Masks.{stays_under}
+use Rattle.golf_data.specs.Slots.{cleared_slots}
 
 -- everything that a run can depend on; the three maps have their entries in rising order of number, and goroutine 0 is always there
 pub record State : Type 0 where
@@ -50,9 +52,9 @@ ending_of None false = Some Ending.Asleep
 abbrev pub ending : State → Option Ending
 ending s = ending_of s.recorded (not_empty (runnable s))
 
--- the arguments stand in the first slots, and the others hold 0 before they are stored (profile)
+-- the arguments stand in the first slots, and the others hold 0 before they are stored; an argument that is not needed is cleared (profile)
 abbrev pub slots_of : Function → List Value → List Value
-slots_of fn arguments = arguments ++ replicate (fn.slots - length arguments) (Value.Int (pos 0))
+slots_of fn arguments = cleared_slots (stays_under (slice_get fn.live 0)) (arguments ++ replicate (fn.slots - length arguments) (Value.Int (pos 0)))
 
 -- a frame at the first instruction of a function
 abbrev pub opened : ℕ → List Value → Bool → Function → FrameView

@@ -1,5 +1,5 @@
 -- One turn of the plain machine: the changes that it is made of, and the state after it.
-use Rattle.std.specs.Prelude.{ℕ, ◌-◌, ◌/◌, ◌%◌, true, false, cond, pos, List, [], ◌∷◌, length, Option, Some, None, option_and_then, ◌==◌, slice_get, int_lt, int_le}
+use Rattle.std.specs.Prelude.{◌≡◌, ℕ, ◌-◌, ◌/◌, ◌%◌, Bool, true, false, cond, pos, List, [], ◌∷◌, length, Option, Some, None, option_and_then, ◌==◌, slice_get, int_lt, int_le}
 use Rattle.golf_theory.specs.Maps.{find}
 use Rattle.golf_data.specs.declared.value.Value.{Value}
 use Rattle.golf_data.specs.declared.value.Object.{Object}
@@ -10,7 +10,7 @@ use Rattle.golf_data.specs.declared.goroutine.Leaving.{Leaving}
 use Rattle.golf_data.specs.declared.goroutine.PanicKind.{PanicKind}
 use Rattle.golf_model.specs.Views.{FrameView, GoroutineView}
 use Rattle.golf_model.specs.Values.{text_of, line_bytes}
-use Rattle.golf_model.specs.State.{State, runnable}
+use Rattle.golf_model.specs.State.{State, runnable, not_empty}
 use Rattle.golf_model.specs.Changes.{Change, apply_all}
 use Rattle.golf_model.specs.Acting.{Actor, goes, jumps, panics, on_some, taking_one, taking}
 use Rattle.golf_model.specs.Calculating.{pushes, loads, stores, loads_global, stores_global, drops, doubles, doubles_two, negates, inverts, computes, divides, compares, sum, difference, product, quotient, remainder, equates, jumps_unless}
@@ -22,6 +22,7 @@ use Rattle.golf_model.specs.ReadersWriters.{write_locks, write_unlocks, read_loc
 use Rattle.golf_model.specs.Conditions.{makes_condition, gets_mutex, awaits, signals, broadcasts}
 use Rattle.golf_model.specs.Calls.{calls, spawns, defers, returns, returns_value, leaves_returning, leaves_unwinding}
 use Rattle.golf_model.specs.Finalising.{finalises, unfinalises, begins_queued}
+use Rattle.golf_model.specs.Clearing.{clearing}
 
 -- takes so many operands and prints the line
 abbrev pub prints : Code → Actor → ℕ → List Change
@@ -143,6 +144,43 @@ turn_changes code choice s (Some g) = turn_of code g choice s (find g s.goroutin
 abbrev pub whose_turn : State → ℕ → Option ℕ
 whose_turn s c = slice_get (runnable s) (c % length (runnable s))
 
--- the state after the turn of this number; where no rule fits it is unchanged
+abbrev pub is_collection : Instr → Bool
+is_collection Instr.Collect = true
+is_collection _ = false
+
+abbrev pub line_collects : Option Line → Bool
+line_collects None = false
+line_collects (Some l) = is_collection l.instr
+
+abbrev pub frame_collects : Code → FrameView → Leaving → Bool
+frame_collects code f Leaving.No = line_collects (line_at code f.function f.at)
+frame_collects code f (Leaving.Returning v) = false
+frame_collects code f (Leaving.Unwinding x) = false
+
+abbrev pub frames_collect : Code → List FrameView → Bool
+frames_collect code [] = false
+frames_collect code (f ∷ fs) = frame_collects code f f.leaving
+
+abbrev pub goroutine_collects : Code → Option GoroutineView → Bool
+goroutine_collects code None = false
+goroutine_collects code (Some r) = frames_collect code r.frames
+
+-- whether the instruction of this turn is a collection
+abbrev pub wants_collection : Code → State → ℕ → Bool
+wants_collection code s c = goroutine_collects code (option_and_then (λ g. find g s.goroutines) (whose_turn s c))
+
+-- the state that the changes of the turn of this number leave; where no rule fits it is unchanged
+abbrev pub turned : Code → State → ℕ → State
+turned code s c = apply_all (turn_changes code (c / length (runnable s)) s (whose_turn s c)) s
+
+-- what is cleared after it
+abbrev pub cleared_after : Code → State → ℕ → List Change
+cleared_after code s c = clearing code (wants_collection code s c) (whose_turn s c) (turned code s c)
+
+-- the state after the turn of this number: its changes, and then the innermost frame of its goroutine is cleared
 abbrev pub step : Code → State → ℕ → State
-step code s c = apply_all (turn_changes code (c / length (runnable s)) s (whose_turn s c)) s
+step code s c = apply_all (cleared_after code s c) (turned code s c)
+
+-- the turn of this number has changes: the state is not stuck
+abbrev pub MovesOn : Code → State → ℕ → Type 0
+MovesOn code s c = not_empty (turn_changes code (c / length (runnable s)) s (whose_turn s c)) ≡ true

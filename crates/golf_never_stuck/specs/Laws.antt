@@ -10,7 +10,7 @@ use Rattle.golf_model.specs.Futures.{Still, futures}
 use Rattle.golf_shapes.specs.Types.{ValueType, Shape, Typing}
 use Rattle.golf_shapes.specs.Shapes.{HasShapes}
 use Rattle.golf_shapes.specs.WellTyped.{WellTyped}
-use Rattle.golf_progress.specs.Laws.{MovesOn}
+use Rattle.golf_model.specs.Turn.{MovesOn}
 use Rattle.golf_code_of.specs.Files.{CodeOf}
 use Rattle.golf_code_shapes.specs.FileLaws.{types_of_file}
 use Rattle.golf_never_stuck.specs.Reached.{IsProgram, Reached, LeadsOn}

@@ -14,6 +14,7 @@ use Rattle.golf_data.specs.declared.goroutine.Leaving.{Leaving}
 use Rattle.golf_data.specs.declared.goroutine.Mode.{Mode}
 use Rattle.golf_data.specs.declared.goroutine.PanicKind.{PanicKind}
 use Rattle.golf_data.specs.declared.goroutine.Queued.{Queued}
+use Rattle.golf_data.specs.Masks.{stays_under}
 use Rattle.golf_model.specs.Views.{FrameView, GoroutineView}
 use Rattle.golf_model.specs.State.{State, not_empty, slots_of, opened, call_frame}
 use Rattle.golf_model.specs.Changes.{Change}
@@ -25,6 +26,7 @@ use Rattle.golf_shapes.specs.Shapes.{slot_types, pushed, InstructionFits, HasSha
 use Rattle.golf_shapes.specs.WellTyped.{gives, SlotFits, ResultFits, LeavingFits, DeferredFits, FrameBase, FrameFits, FramesFit, FinaliserFits, ModeFits}
 use Rattle.golf_shapes.proofs.Changing.{values-get, given-fits, or_true}
 use Rattle.golf_shapes.proofs.Gets.{slice_get-left}
+use Rattle.golf_progress.proofs.Clearing.{length-cleared, assigned-cleared}
 use Rattle.golf_progress.proofs.Acting.{Proceeds, of-choose, of-some, of-taking_one, Holds, ActorFits, proceeds-stands, proceeds-dies, proceeds-goes, taken, on_no, lands}
 
 pub slice_get-at : {X : Type 0} (xs : List X) (i : ℕ) → i < length xs → (x : X) × (slice_get xs i ≡ Some x)
@@ -95,14 +97,17 @@ module _ (code : Code) (types : Typing) (shapes : HasShapes code types) (known :
       let fn = found.1 in
       let ok = found.4 in
       let ft = with_shapes callee found.0 in
+      let plain = arguments ++ replicate (fn.slots - length arguments) (Value.Int (pos 0)) in
+      let stays = stays_under (slice_get fn.live 0) in
       let slots = slots_of fn arguments in
       let params = values-length types known arguments callee.params h in
       let both = length-append callee.params callee.locals in
       let full : length slots ≡ length (slot_types ft) = (
+      let c = length-cleared stays 0 plain in
       let l = length-append arguments (replicate (fn.slots - length arguments) (Value.Int (pos 0))) in
       let r = length-replicate (fn.slots - length arguments) (Value.Int (pos 0)) in
       let z = ok.slots in
-      omega (arith, l, r, z, both, params)) in
+      omega (arith, c, l, r, z, both, params)) in
       let first = ok.begins in record {
         own = found.0;
         frame = opened f arguments discards fn;
@@ -115,10 +120,10 @@ module _ (code : Code) (types : Typing) (shapes : HasShapes code types) (known :
             rest = [];
             lacks = first.2;
             held = tt;
-            assigned = Every-weaker (λ i. i < length callee.params) (SlotFits types known (slot_types ft) slots) (λ i l.
+            assigned = assigned-cleared code types shapes known ft plain stays first.0.assigned (Every-weaker (λ i. i < length callee.params) (SlotFits types known (slot_types ft) plain) (λ i l.
                 let t = slice_get-at callee.params i l in
                 let v = values-get types known arguments callee.params i t.0 t.1 h in
-                (t.0, v.0, slice_get-left callee.params callee.locals i t.0 t.1, slice_get-left arguments (replicate (fn.slots - length arguments) (Value.Int (pos 0))) i v.0 v.1, v.2)) first.0.assigned first.3;
+                (t.0, v.0, slice_get-left callee.params callee.locals i t.0 t.1, slice_get-left arguments (replicate (fn.slots - length arguments) (Value.Int (pos 0))) i v.0 v.1, v.2)) first.0.assigned first.3) (found.5 0 first.0 first.1);
           },
         );
         discarding = refl;

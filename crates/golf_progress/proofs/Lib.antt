@@ -1,3 +1,4 @@
+pub mod Clearing
 pub mod Acting
 pub mod Calculating
 pub mod Structures

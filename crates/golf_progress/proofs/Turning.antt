@@ -19,7 +19,7 @@ use Rattle.golf_model.specs.State.{State, start, is_running, not_empty, can_run,
 use Rattle.golf_model.specs.Calculating.{sum, difference, product, quotient, remainder}
 use Rattle.golf_model.specs.Acting.{Actor}
 use Rattle.golf_model.specs.Changes.{apply_all}
-use Rattle.golf_model.specs.Turn.{changes, line_at, return_line, acting, performs, frame_changes, goroutine_changes, turn_of, turn_changes, whose_turn}
+use Rattle.golf_model.specs.Turn.{changes, line_at, return_line, acting, performs, frame_changes, goroutine_changes, turn_of, turn_changes, whose_turn, wants_collection, turned, cleared_after}
 use Rattle.golf_model.specs.Presence.{IsWhole, Present}
 use Rattle.golf_model.specs.Refs.{frames_refs}
 use Rattle.golf_model.specs.Futures.{Numbered}
@@ -33,6 +33,7 @@ use Rattle.golf_progress.specs.Laws.{TypedStatesMoveOn, TurnsKeepTypes, StartIsT
 use Rattle.golf_shapes.proofs.Keeping.{typed-changes}
 use Rattle.golf_shapes.proofs.Changing.{or_true}
 use Rattle.golf_progress.proofs.Acting.{Proceeds, ActorFits, proceeds-jumps, proceeds-goes, taken}
+use Rattle.golf_progress.proofs.Clearing.{fits-clearing}
 use Rattle.golf_progress.proofs.Calculating.{proceeds-pushes, proceeds-loads, proceeds-stores, proceeds-loads_global, proceeds-stores_global, proceeds-drops, proceeds-doubles, proceeds-doubles_two, proceeds-negates, proceeds-inverts, proceeds-computes, proceeds-divides, proceeds-compares, proceeds-equates, proceeds-jumps_unless}
 use Rattle.golf_progress.proofs.Structures.{proceeds-makes, proceeds-makes_struct, proceeds-makes_slice, proceeds-makes_channel, proceeds-makes_condition, proceeds-gets_field, proceeds-sets_field, proceeds-gets_element, proceeds-sets_element, proceeds-measures}
 use Rattle.golf_progress.proofs.Channels.{proceeds-sends, proceeds-receives, proceeds-closes}
@@ -190,12 +191,17 @@ move-on code types known s c shapes w whole n o h =
       | inr f ↦ f.moves
     ]
 
-pub turns-keep-types : TurnsKeepTypes
-turns-keep-types code types known s c shapes w whole n o =
+turned-typed : (code : Code) (types : Typing) (known : List (ℕ × ValueType)) (s : State) (c : ℕ) → HasShapes code types → WellTyped types known s → IsWhole s → Numbered s → IsOrderly s → (later : List (ℕ × ValueType)) × WellTyped types later (turned code s c)
+turned-typed code types known s c shapes w whole n o =
     elim (proceeds-whose code types shapes known s w whole n o (c / length (runnable s)) c (whose_turn s c) refl) [
       | inl e ↦ (known, subst (λ m. WellTyped types known (apply_all (turn_changes code (c / length (runnable s)) s m) s)) (sym e) w)
       | inr f ↦ typed-changes types known (turn_changes code (c / length (runnable s)) s (whose_turn s c)) s w f.keeps
     ]
+
+pub turns-keep-types : TurnsKeepTypes
+turns-keep-types code types known s c shapes w whole n o =
+    let t = turned-typed code types known s c shapes w whole n o in
+    typed-changes types t.0 (cleared_after code s c) (turned code s c) t.1 (fits-clearing code types shapes t.0 (wants_collection code s c) (whose_turn s c) (turned code s c) t.1)
 
 pub start-is-typed : StartIsTyped
 start-is-typed code types shapes =

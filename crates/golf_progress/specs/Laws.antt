@@ -1,8 +1,8 @@
 -- The laws of well-typed states, as statements.
-use Rattle.std.specs.Prelude.{◌≡◌, ℕ, Bool, true, ◌/◌, length, List, [], None}
+use Rattle.std.specs.Prelude.{◌≡◌, ℕ, Bool, List, [], None}
 use Rattle.golf_data.specs.declared.code.Code.{Code}
-use Rattle.golf_model.specs.State.{State, start, ending, runnable, not_empty}
-use Rattle.golf_model.specs.Turn.{step, turn_changes, whose_turn}
+use Rattle.golf_model.specs.State.{State, start, ending}
+use Rattle.golf_model.specs.Turn.{step, MovesOn}
 use Rattle.golf_model.specs.Collecting.{real_collect}
 use Rattle.golf_model.specs.Futures.{Numbered, Leads}
 use Rattle.golf_model.specs.Presence.{IsWhole}
@@ -10,10 +10,6 @@ use Rattle.golf_state_laws.specs.Orderly.{IsOrderly}
 use Rattle.golf_shapes.specs.Types.{ValueType, Typing}
 use Rattle.golf_shapes.specs.Shapes.{HasShapes}
 use Rattle.golf_shapes.specs.WellTyped.{WellTyped}
-
--- the turn of this number has changes: the state is not stuck
-abbrev pub MovesOn : Code → State → ℕ → Type 0
-MovesOn code s c = not_empty (turn_changes code (c / length (runnable s)) s (whose_turn s c)) ≡ true
 
 -- a well-typed state without an ending moves on, whoever's turn it is
 abbrev pub TypedStatesMoveOn : Type 0

@@ -12,7 +12,7 @@ use Rattle.golf_model.specs.Futures.{Still, Leads, futures}
 use Rattle.golf_laws.specs.Telling.{named}
 use Rattle.golf_shapes.specs.Types.{Typing}
 use Rattle.golf_shapes.specs.Shapes.{HasShapes}
-use Rattle.golf_progress.specs.Laws.{MovesOn}
+use Rattle.golf_model.specs.Turn.{MovesOn}
 
 -- whatever the code and the events, each goroutine that the report names stays as it was before the collection
 abbrev pub AreStill : Report → State → Type 0

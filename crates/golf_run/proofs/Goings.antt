@@ -7,9 +7,9 @@ use Rattle.golf_data.specs.declared.code.Code.{Code}
 use Rattle.golf_data.specs.declared.goroutine.Ending.{Ending}
 use Rattle.golf_data.specs.declared.report.Book.{Book}
 use Rattle.golf_model.specs.State.{State, ending}
-use Rattle.golf_model.specs.Turn.{step}
+use Rattle.golf_model.specs.Turn.{step, wants_collection}
 use Rattle.golf_model.specs.Collecting.{sets_finalisers}
-use Rattle.golf_model.specs.Running.{Event, has_ended, wants_collection, collected_if, happens_in, stop_in, stop_if}
+use Rattle.golf_model.specs.Running.{Event, has_ended, collected_if, happens_in, stop_in, stop_if}
 use Rattle.golf_model.specs.Reporting.{report, book_after, numbers}
 use Rattle.golf_model.specs.Futures.{Leads}
 use Rattle.golf_texts.specs.Texts.{report_text, reports_text}

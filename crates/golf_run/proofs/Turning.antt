@@ -5,8 +5,8 @@ use Rattle.golf_base.specs.Causes.{Rose, WritesFront}
 use Rattle.golf_data.specs.declared.code.Code.{Code}
 use Rattle.golf_data.specs.declared.goroutine.Ending.{Ending}
 use Rattle.golf_model.specs.State.{State, ending}
-use Rattle.golf_model.specs.Turn.{step}
-use Rattle.golf_model.specs.Running.{Event, wants_collection}
+use Rattle.golf_model.specs.Turn.{step, wants_collection}
+use Rattle.golf_model.specs.Running.{Event}
 use Rattle.golf_machine.specs.Turns.{turned_of}
 use Rattle.golf_machine.specs.declared.turning.Turned.{Turned}
 use Rattle.golf_machine.specs.declared.turning.Turned.TheVariants as t

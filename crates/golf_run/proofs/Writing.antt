@@ -4,9 +4,9 @@ use Rattle.golf_data.specs.declared.code.Code.{Code}
 use Rattle.golf_data.specs.declared.report.Book.{Book}
 use Rattle.golf_data.specs.declared.report.Report.{Report}
 use Rattle.golf_model.specs.State.{State, start}
-use Rattle.golf_model.specs.Turn.{step}
+use Rattle.golf_model.specs.Turn.{step, wants_collection}
 use Rattle.golf_model.specs.Collecting.{plain_collect, sets_finalisers}
-use Rattle.golf_model.specs.Running.{Event, has_ended, wants_collection, collected_if, happens_in, happens, run, stop_in, stops_by}
+use Rattle.golf_model.specs.Running.{Event, has_ended, collected_if, happens_in, happens, run, stop_in, stops_by}
 use Rattle.golf_model.specs.Reporting.{reports_from, new_book}
 use Rattle.golf_schedules.specs.declared.options.Options.{Options}
 use Rattle.golf_texts.specs.Texts.{report_text, reports_text}

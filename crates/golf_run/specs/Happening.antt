@@ -4,8 +4,8 @@ use Rattle.std.specs.Io.KnownBytes.{Appends}
 use Rattle.golf_base.specs.Causes.{Rose, WritesFront}
 use Rattle.golf_data.specs.declared.code.Code.{Code}
 use Rattle.golf_model.specs.State.{State}
-use Rattle.golf_model.specs.Turn.{step}
-use Rattle.golf_model.specs.Running.{Event, wants_collection}
+use Rattle.golf_model.specs.Turn.{step, wants_collection}
+use Rattle.golf_model.specs.Running.{Event}
 use Rattle.golf_texts.specs.Writes.{Write, emptied}
 use Rattle.golf_run.specs.declared.fault.RunFault.{RunFault}
 use Rattle.golf_run.specs.declared.fault.RunFault.TheVariants as faults

@@ -1,5 +1,5 @@
 -- Small codes that have shapes, and bodies that have none.
-use Rattle.std.proofs.Common.{◌≡◌, ℕ, zero, suc, ◌+◌, ◌<◌, List, [], ◌∷◌, Some, None, inl, refl, sym, ap, subst, arith, slice_get, length}
+use Rattle.std.proofs.Common.{◌≡◌, ℕ, zero, suc, ◌+◌, ◌<◌, true, List, [], ◌∷◌, Some, None, inl, refl, sym, ap, subst, arith, slice_get, length}
 use Rattle.std.specs.Prelude.{pos}
 use Rattle.golf_theory.specs.Membership.{Every}
 use Rattle.golf_theory.proofs.Lists.{Every-at}
@@ -8,9 +8,10 @@ use Rattle.golf_data.specs.declared.code.Code.{Code}
 use Rattle.golf_data.specs.declared.code.Function.{Function}
 use Rattle.golf_data.specs.declared.code.Instr.{Instr}
 use Rattle.golf_data.specs.declared.code.Line.{Line}
+use Rattle.golf_data.specs.Masks.{stays_under}
 use Rattle.golf_model.proofs.Examples.Writing.{function, push, code_with}
 use Rattle.golf_shapes.specs.Types.{ValueType, Shape, Signature, FunctionTypes, Types, Typing, with_shapes}
-use Rattle.golf_shapes.specs.Shapes.{InstructionFits, FunctionFits, HasShapes}
+use Rattle.golf_shapes.specs.Shapes.{InstructionFits, FunctionFits, MasksCover, HasShapes}
 
 -- one fact a position
 abbrev EachFits : Types → FunctionTypes → ℕ → List Shape → List Line → Type 0
@@ -97,6 +98,11 @@ receiver-fits = record {
   );
 }
 
+-- a function without masks keeps all its slots
+unmasked : (i : List ℕ) (k : ℕ) → Every (λ j. stays_under (slice_get [] k) j ≡ true) i
+unmasked [] k = tt
+unmasked (j ∷ js) k = (refl, unmasked js k)
+
 pub meeting-has-shapes : HasShapes meeting types
 meeting-has-shapes = record {
   texts = refl;
@@ -107,9 +113,9 @@ meeting-has-shapes = record {
 }
   where
     bodies : (f : ℕ) (sig : Signature) → slice_get types.of.functions f ≡ Some sig
-        → (own : List Shape) × (fn : Function) × (slice_get types.shapes f ≡ Some own) × (slice_get meeting.functions f ≡ Some fn) × FunctionFits types.of fn (with_shapes sig own)
-    bodies zero sig e = let same : sender ≡ sig = cc in (sending, send, refl, refl, subst (λ (s : Signature). FunctionFits types.of send (with_shapes s sending)) same sender-fits)
-    bodies (suc zero) sig e = let same : receiver ≡ sig = cc in (receiving, receive, refl, refl, subst (λ (s : Signature). FunctionFits types.of receive (with_shapes s receiving)) same receiver-fits)
+        → (own : List Shape) × (fn : Function) × (slice_get types.shapes f ≡ Some own) × (slice_get meeting.functions f ≡ Some fn) × FunctionFits types.of fn (with_shapes sig own) × MasksCover fn own
+    bodies zero sig e = let same : sender ≡ sig = cc in (sending, send, refl, refl, subst (λ (s : Signature). FunctionFits types.of send (with_shapes s sending)) same sender-fits, λ k sh e. unmasked sh.assigned k)
+    bodies (suc zero) sig e = let same : receiver ≡ sig = cc in (receiving, receive, refl, refl, subst (λ (s : Signature). FunctionFits types.of receive (with_shapes s receiving)) same receiver-fits, λ k sh e. unmasked sh.assigned k)
     bodies (suc (suc f)) sig e = cc
 
 -- what the first instruction of a body asks of the shape there, which has no operands

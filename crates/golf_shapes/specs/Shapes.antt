@@ -1,5 +1,5 @@
 -- Code that has shapes: what each instruction asks of the shape at its position, and what stands at the next ones.
-use Rattle.std.specs.Prelude.{◌≡◌, ◌⊎◌, ℕ, ◌+◌, ◌<◌, List, [], ◌∷◌, ◌++◌, length, Option, Some, None, option_to_list, slice_get}
+use Rattle.std.specs.Prelude.{◌≡◌, ◌⊎◌, ℕ, ◌+◌, ◌<◌, true, List, [], ◌∷◌, ◌++◌, length, Option, Some, None, option_to_list, slice_get}
 use Rattle.golf_theory.specs.Membership.{In, Every}
 use Rattle.golf_data.specs.declared.value.Value.{Value}
 use Rattle.golf_data.specs.declared.code.Code.{Code}
@@ -8,6 +8,7 @@ use Rattle.golf_data.specs.declared.code.Line.{Line}
 use Rattle.golf_data.specs.declared.code.Instr.{Instr}
 use Rattle.golf_data.specs.declared.code.SelectCase.{SelectCase}
 use Rattle.golf_data.specs.declared.code.CaseKind.{CaseKind}
+use Rattle.golf_data.specs.Masks.{stays_under}
 use Rattle.golf_model.specs.Values.{zero_of, zeros_of}
 use Rattle.golf_shapes.specs.Types.{ValueType, IsNilable, Shape, Signature, FunctionTypes, Types, Typing, with_shapes, ValueFits, ValuesFit}
 
@@ -136,10 +137,14 @@ pub record FunctionFits (types : Types) (fn : Function) (ft : FunctionTypes) : T
   pub begins : (sh : Shape) × (slice_get ft.shapes 0 ≡ Some sh) × (sh.operands ≡ []) × Every (λ i. i < length ft.params) sh.assigned
   pub each : (k : ℕ) (sh : Shape) → slice_get ft.shapes k ≡ Some sh → (l : Line) × (slice_get fn.body k ≡ Some l) × InstructionFits types ft k l.instr sh
 
+-- the slots that shapes ask for stay under the masks of their positions
+abbrev pub MasksCover : Function → List Shape → Type 0
+MasksCover fn own = (k : ℕ) (sh : Shape) → slice_get own k ≡ Some sh → Every (λ i. stays_under (slice_get fn.live k) i ≡ true) sh.assigned
+
 -- the code's tables are of the types, each function that is named has its body and its shapes, and function 0 takes no arguments
 pub record HasShapes (code : Code) (types : Typing) : Type 0 where
   pub texts : types.of.texts ≡ length code.texts
   pub globals : ValuesFit types.of [] (zeros_of code.globals) types.of.globals
   pub structs : (k : ℕ) (ts : List ValueType) → slice_get types.of.structs k ≡ Some ts → (row : List Value) × (slice_get code.structs k ≡ Some row) × ValuesFit types.of [] (zeros_of row) ts
-  pub functions : (f : ℕ) (sig : Signature) → slice_get types.of.functions f ≡ Some sig → (own : List Shape) × (fn : Function) × (slice_get types.shapes f ≡ Some own) × (slice_get code.functions f ≡ Some fn) × FunctionFits types.of fn (with_shapes sig own)
+  pub functions : (f : ℕ) (sig : Signature) → slice_get types.of.functions f ≡ Some sig → (own : List Shape) × (fn : Function) × (slice_get types.shapes f ≡ Some own) × (slice_get code.functions f ≡ Some fn) × FunctionFits types.of fn (with_shapes sig own) × MasksCover fn own
   pub first : (sig : Signature) × (slice_get types.of.functions 0 ≡ Some sig) × (sig.params ≡ [])

@@ -6,7 +6,7 @@
 #![tactic(auto)]
 
 ghost use Rattle.golf_shapes.specs.Laws.{ChangesKeepTypes};
-ghost use Rattle.golf_shapes.specs.NeededSlots.{NeededSlotsSuffice};
+ghost use Rattle.golf_shapes.specs.NeededSlots.{MaskedFit, NeededSlotsSuffice};
 
 /// Changes that fit types leave a well-typed state.
 pub fn changes_keep_types()
@@ -17,4 +17,10 @@ pub fn changes_keep_types()
 /// where a path leads to a load of it, and no store of it is on the path.
 pub fn needed_slots_suffice()
     ensures { NeededSlotsSuffice }
+{}
+
+/// A function that has its masks and whose body fits shapes fits shapes that ask for no slot that is
+/// cleared.
+pub fn masked_functions_fit()
+    ensures { MaskedFit }
 {}

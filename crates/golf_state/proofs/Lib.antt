@@ -17,3 +17,4 @@ mod ReaderLaws
 pub mod FirstLaws
 pub mod Guesses
 mod Leaving
+mod ClearingLaws

@@ -17,5 +17,6 @@ pub mod WokenAll
 pub mod Outcomes
 pub mod Handing
 pub mod Collecting
+pub mod Clearing
 pub mod Lined
 pub mod Left

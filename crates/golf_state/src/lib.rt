@@ -9,6 +9,7 @@
 
 mod acting;
 mod calls;
+mod clearing;
 mod collecting;
 mod finaliser_queue;
 mod finalisers;

@@ -8,7 +8,8 @@ ghost use Rattle.golf_model.specs.Views.{frame_view, frame_views, goroutine_view
 ghost use Rattle.golf_model.specs.State.{runnable, ending, is_running};
 ghost use Rattle.golf_model.specs.Waiting.{first};
 ghost use Rattle.golf_model.specs.ReadersWriters.{readers_next};
-ghost use Rattle.golf_model.specs.Changes.{make, replace, set_global, become, block, spawn, leave, finish, set_finaliser, clear_finaliser, take_queued, output as printed, wake_all, pass_on, move_wait};
+ghost use Rattle.golf_model.specs.Clearing.{clears};
+ghost use Rattle.golf_model.specs.Changes.{apply_all, make, replace, set_global, become, block, spawn, leave, finish, set_finaliser, clear_finaliser, take_queued, output as printed, wake_all, pass_on, move_wait};
 ghost use Rattle.golf_heap.specs.Objects.{kept};
 ghost use Rattle.golf_state.specs.Collecting.{queue_unflagged};
 ghost use Rattle.golf_state.specs.Looked.{looked_up, runs, is_blocked, frames_of, reframed, advanced, opening};
@@ -20,6 +21,7 @@ ghost use Rattle.golf_state.specs.Waited.{waiting_of};
 ghost use Rattle.golf_state.specs.Seen.{waiter_by};
 ghost use Rattle.golf_state.specs.Lending.{LendsFrames, LendsObject};
 
+use crate::clearing::clear_goroutine;
 use crate::collecting::unflagged_finalisers;
 use crate::finaliser_queue::FinaliserQueue;
 use crate::finalisers::{function_of, put_finaliser, take_finaliser};
@@ -35,7 +37,9 @@ use crate::waiters::{
 use crate::wake_all::{readers_next, wake_all};
 use crate::waking::{Waking, wakening_of};
 use golf_base::{GoroutineId, List, Memory, ObjectId};
-use golf_data::{Ending, Frame, Goroutine, Mode, Object, Queued, Side, Value, Wait, WaitKind};
+use golf_data::{
+    Code, Ending, Frame, Goroutine, Mode, Object, Queued, Side, Value, Wait, WaitKind,
+};
 use golf_heap::{Heap, close_up};
 use golf_queues::{Queues, TicketHolder, last_before};
 use std::alloc::Global;
@@ -278,6 +282,23 @@ impl State {
         let place = &mut self.goroutines[at];
         let goroutine = place.goroutine.get_mut();
         &mut goroutine.frames
+    }
+
+    /// The innermost frame of a goroutine is cleared, if the goroutine is there, runs and has one: the
+    /// slots that no instruction from the frame's next one on can read hold 0; if the frame is leaving,
+    /// all do. It takes no memory.
+    pub fn clear_slots(&mut self, code: &Code, g: GoroutineId)
+        ensures { self.new ≡ apply_all (clears code.now g.0 (find g.0 self.old.goroutines)) self.old }
+    {
+        let at = rank_of(self.goroutines.as_slice(), g.0);
+        if at >= self.goroutines.len() {
+            return;
+        }
+        if self.goroutines[at].number != g.0 {
+            return;
+        }
+        let place = &mut self.goroutines[at];
+        clear_goroutine(code, place.goroutine.get_mut());
     }
 
     /// Starts a goroutine with this frame, at this line.

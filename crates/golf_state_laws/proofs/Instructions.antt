@@ -1,5 +1,5 @@
 -- Each instruction, and each turn, keeps goroutines in order.
-use Rattle.std.proofs.Common.{◌≡◌, ℕ, ◌/◌, Bool, true, false, cond, List, [], ◌∷◌, ◌++◌, length, Option, Some, None, refl, sym, subst, ℤ, slice_get, ◌==◌, nat_lt}
+use Rattle.std.proofs.Common.{◌≡◌, ℕ, ◌/◌, Bool, true, false, cond, List, [], ◌∷◌, ◌++◌, length, Option, Some, None, refl, sym, ap, subst, ℤ, slice_get, ◌==◌, nat_lt}
 use Rattle.std.specs.Prelude.{pos, slice_set, unsigned_abs, ◌||◌, ◌-ℤ◌, is_some, int_lt, int_le}
 use Rattle.std.proofs.lemmas.Bool.{eqb-false}
 use Rattle.golf_theory.specs.Membership.{Every}
@@ -21,6 +21,7 @@ use Rattle.golf_data.specs.declared.goroutine.PanicKind.{PanicKind}
 use Rattle.golf_data.specs.declared.goroutine.Queued.{Queued}
 use Rattle.golf_data.specs.declared.goroutine.Side.{Side}
 use Rattle.golf_data.specs.declared.goroutine.WaitKind.{WaitKind}
+use Rattle.golf_data.specs.declared.goroutine.Mode.{Mode}
 use Rattle.golf_model.specs.Views.{FrameView, GoroutineView}
 use Rattle.golf_model.specs.Values.{reference, int_of, bool_of, text_of, equality, is_zero, is_minus_one, line_bytes}
 use Rattle.golf_model.specs.State.{State, is_running, runnable, call_frame}
@@ -36,6 +37,7 @@ use Rattle.golf_model.specs.ReadersWriters.{counted, serves_first, serves, write
 use Rattle.golf_model.specs.Conditions.{makes_condition, gets_mutex, awaits_by, awaits, passes_on, first_only, notifies, signals, broadcasts}
 use Rattle.golf_model.specs.Calls.{is_full, enters, calls, spawns, ends, returns_to, unwinds_to, returns_by, begins_deferred, leaves_returning, leaves_unwinding}
 use Rattle.golf_model.specs.Finalising.{finalises_by, finalises, unfinalises, begins_queued}
+use Rattle.golf_model.specs.Clearing.{clears_in, clears, clearing}
 use Rattle.golf_model.specs.Turn.{changes, line_at, return_line, acting, performs, frame_changes, goroutine_changes, turn_of, turn_changes, whose_turn}
 use Rattle.golf_laws.proofs.Staying.{turn-running}
 use Rattle.golf_state_laws.specs.Orderly.{HasMutex, KeepsOrder, AllKeepOrder}
@@ -418,3 +420,19 @@ keep_turn code s k n = go (whose_turn s k) refl
     go : (m : Option ℕ) → whose_turn s k ≡ m → AllKeepOrder s.objects (turn_changes code (k / length (runnable s)) s m)
     go None e = tt
     go (Some g) e = let r = turn-running s k g e in keep-found code g (k / length (runnable s)) s n r.0 r.1 r.2
+
+-- and so does what is cleared behind it
+module _ (xs : List (ℕ × Object)) (code : Code) (g : ℕ) where
+  keep-clears_in : (r : GoroutineView) (m : Mode) (fs : List FrameView) → r.mode ≡ m → AllKeepOrder xs (clears_in code g r m fs)
+  keep-clears_in r Mode.Running [] e = tt
+  keep-clears_in r Mode.Running (f ∷ fs) e = (ap is_running e, tt)
+  keep-clears_in r (Mode.Blocked kind line waits ticket) fs e = tt
+
+  keep-clears : (m : Option GoroutineView) → AllKeepOrder xs (clears code g m)
+  keep-clears None = tt
+  keep-clears (Some r) = keep-clears_in r r.mode r.frames refl
+
+pub keep_clearing : (xs : List (ℕ × Object)) (code : Code) (b : Bool) (m : Option ℕ) (t : State) → AllKeepOrder xs (clearing code b m t)
+keep_clearing xs code true m t = tt
+keep_clearing xs code false None t = tt
+keep_clearing xs code false (Some g) t = keep-clears xs code g (find g t.goroutines)

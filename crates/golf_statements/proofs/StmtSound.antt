@@ -14,7 +14,6 @@ use Rattle.golf_grammar.specs.declared.expressions.Expr.TheVariants as ex
 use Rattle.golf_grammar.specs.declared.expressions.Expr.TheOpen as F
 use Rattle.golf_grammar.specs.declared.expressions.Expr.TheOpen.{Expr-F}
 use Rattle.golf_grammar.specs.declared.expressions.Element.{Element}
-use Rattle.golf_grammar.specs.declared.statements.Simple.{Simple}
 use Rattle.golf_grammar.specs.declared.statements.Stmt.{Stmt}
 use Rattle.golf_grammar.specs.declared.statements.Stmt.TheVariants as st
 use Rattle.golf_grammar.specs.declared.statements.Clause.{Clause}

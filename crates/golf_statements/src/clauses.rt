@@ -7,10 +7,10 @@ ghost use Rattle.golf_statements.specs.Moves as moves_spec;
 ghost use Rattle.golf_statements.specs.Moves.{selected, clause_at, case_at, headed_at, colon_at, selected_by, weight};
 
 use crate::communications::comm_at;
-use crate::pending::{Head, Move, Pending, Select};
+use crate::pending::{Head, OwnedMove, OwnedPending, Select};
 use golf_base::Memory;
 use golf_expressions::after;
-use golf_grammar::{Clause, OwnedClauses, OwnedStmt, OwnedStmts, Stmt};
+use golf_grammar::OwnedStmts;
 use golf_tokens::{Keyword, Mark, Token, TokenKind};
 use std::alloc::Global;
 
@@ -29,108 +29,77 @@ fn begins_clause(tokens: &[Token]) -> bool
     }
 }
 
-// The `select` with one clause more.
-fn grown(select: Select, head: Head, body: OwnedStmts) -> Result<Select, Memory>
-    ensures { IfOk result (λ s. s ≡ moves_spec.grown select head body) }
-{
-    let Select {
-        line,
-        has_default,
-        mut clauses,
-    } = select;
-    let Head {
-        line: on,
-        communication,
-    } = head;
-    match communication {
-        Some(communication) => {
-            clauses.push(Clause::Case(on, communication, body.into_inner()))?;
-            Ok(Select {
-                line,
-                has_default,
-                clauses,
-            })
-        }
-        None => {
-            clauses.push(Clause::Default(on, body.into_inner()))?;
-            Ok(Select {
-                line,
-                has_default: true,
-                clauses,
-            })
-        }
-    }
-}
-
-// The statement that a `select` with these clauses is.
-fn whole(select: Select) -> OwnedStmt
-    ensures { result ≡ Stmt.Select select.line select.clauses }
-{
-    OwnedStmt::new(Stmt::Select(select.line, select.clauses.into_inner()))
-}
-
 // The statements of a clause from here on: another clause begins, or a statement.
 fn clause_move(
+    alloc: Global,
     select: Select,
     head: Head,
     done: OwnedStmts,
     tokens: &[Token],
-) -> Result<(Move, &[Token]), Memory>
+) -> Result<(OwnedMove, &[Token]), Memory>
     ensures value { IfOk result (λ x. moves_spec.moved (Some x) ≡ clause_at select head done tokens.now) }
     ensures less { IfOk result (λ x. weight x.0 + 8 * length x.1.now ≤ 8 * length tokens.now + 4) }
 {
     if begins_clause(tokens) {
-        return Ok((Move::Clauses(grown(select, head, done)?), tokens));
+        return Ok((
+            OwnedMove::clauses(alloc, select.grown(head, done)?)?,
+            tokens,
+        ));
     }
-    Ok((Move::Wait(Pending::Clause(select, head, done)), tokens))
+    let pending = OwnedPending::clause(alloc, select, head, done)?;
+    Ok((OwnedMove::wait(alloc, pending)?, tokens))
 }
 
-/// Behind a statement of a clause: a semicolon and more, or the brace that closes the `select`, which stays.
+/// After a statement of a clause: a semicolon and more, or the brace that closes the `select`, which stays.
 pub fn case_move(
+    alloc: Global,
     select: Select,
     head: Head,
     done: OwnedStmts,
     tokens: &[Token],
-) -> Result<Option<(Move, &[Token])>, Memory>
+) -> Result<Option<(OwnedMove, &[Token])>, Memory>
     ensures value { IfOk result (λ o. moves_spec.moved o ≡ case_at select head done tokens.now (front_spec.after Mark.Semicolon tokens.now)) }
     ensures less { IfOk result (λ o. IfSome o (λ x. weight x.0 + 8 * length x.1.now < 8 * length tokens.now + 3)) }
 {
     if let Some(next) = after(tokens, Mark::Semicolon) {
-        return Ok(Some(clause_move(select, head, done, next)?));
+        return Ok(Some(clause_move(alloc, select, head, done, next)?));
     }
     match after(tokens, Mark::CloseBrace) {
         None => Ok(None),
-        Some(_) => Ok(Some((Move::Clauses(grown(select, head, done)?), tokens))),
+        Some(_) => Ok(Some((
+            OwnedMove::clauses(alloc, select.grown(head, done)?)?,
+            tokens,
+        ))),
     }
 }
 
-// Behind the colon of a clause.
+// After the colon of a clause.
 #[tactic(auto, unfolding(crate::specs::Moves::headed_at))]
 fn headed_move(
     alloc: Global,
     select: Select,
     head: Head,
     tokens: &[Token],
-) -> Result<(Move, &[Token]), Memory>
+) -> Result<(OwnedMove, &[Token]), Memory>
     ensures value { IfOk result (λ x. moves_spec.moved (Some x) ≡ headed_at select head tokens.now) }
     ensures less { IfOk result (λ x. weight x.0 + 8 * length x.1.now ≤ 8 * length tokens.now + 4) }
 {
     match after(tokens, Mark::CloseBrace) {
-        None => clause_move(select, head, OwnedStmts::empty(alloc), tokens),
+        None => clause_move(alloc, select, head, OwnedStmts::empty(alloc), tokens),
         Some(_) => Ok((
-            Move::Clauses(grown(select, head, OwnedStmts::empty(alloc))?),
+            OwnedMove::clauses(alloc, select.grown(head, OwnedStmts::empty(alloc))?)?,
             tokens,
         )),
     }
 }
 
-/// Behind the head of a clause: its colon.
+/// After the head of a clause: its colon.
 pub fn colon_move(
     alloc: Global,
     select: Select,
     head: Head,
     tokens: &[Token],
-) -> Result<Option<(Move, &[Token])>, Memory>
+) -> Result<Option<(OwnedMove, &[Token])>, Memory>
     ensures value { IfOk result (λ o. moves_spec.moved o ≡ colon_at select head tokens.now) }
     ensures less { IfOk result (λ o. IfSome o (λ x. weight x.0 + 8 * length x.1.now < 8 * length tokens.now)) }
 {
@@ -140,13 +109,13 @@ pub fn colon_move(
     }
 }
 
-// Behind `case`, which stands on this line.
+// After `case`, which stands on this line.
 fn case_head(
     alloc: Global,
     select: Select,
     line: u32,
     tokens: &[Token],
-) -> Result<Option<(Move, &[Token])>, Memory>
+) -> Result<Option<(OwnedMove, &[Token])>, Memory>
     ensures value { IfOk result (λ o. moves_spec.moved o ≡ selected_by select line (TokenKind.Keyword Keyword.Case) tokens.now) }
     ensures less { IfOk result (λ o. IfSome o (λ x. weight x.0 + 8 * length x.1.now ≤ 8 * length tokens.now)) }
 {
@@ -157,24 +126,29 @@ fn case_head(
                 line,
                 communication: Some(communication),
             };
-            Ok(Some((Move::Headed(select, head), rest)))
+            Ok(Some((OwnedMove::headed(alloc, select, head)?, rest)))
         }
     }
 }
 
-// Behind `default`, which stands on this line.
-fn default_head(select: Select, line: u32, tokens: &[Token]) -> Option<(Move, &[Token])>
-    ensures value { moves_spec.moved result ≡ selected_by select line (TokenKind.Keyword Keyword.Default) tokens.now }
-    ensures less { IfSome result (λ x. weight x.0 + 8 * length x.1.now ≤ 8 * length tokens.now + 1) }
+// After `default`, which stands on this line.
+fn default_head(
+    alloc: Global,
+    select: Select,
+    line: u32,
+    tokens: &[Token],
+) -> Result<Option<(OwnedMove, &[Token])>, Memory>
+    ensures value { IfOk result (λ o. moves_spec.moved o ≡ selected_by select line (TokenKind.Keyword Keyword.Default) tokens.now) }
+    ensures less { IfOk result (λ o. IfSome o (λ x. weight x.0 + 8 * length x.1.now ≤ 8 * length tokens.now + 1)) }
 {
     if select.has_default {
-        return None;
+        return Ok(None);
     }
     let head = Head {
         line,
         communication: None,
     };
-    Some((Move::Headed(select, head), tokens))
+    Ok(Some((OwnedMove::headed(alloc, select, head)?, tokens)))
 }
 
 // A clause by its first word, which stands on this line.
@@ -184,13 +158,13 @@ fn keyword_clause<'a>(
     line: u32,
     keyword: Keyword,
     behind: &'a [Token],
-) -> Result<Option<(Move, &'a [Token])>, Memory>
+) -> Result<Option<(OwnedMove, &'a [Token])>, Memory>
     ensures value { IfOk result (λ o. moves_spec.moved o ≡ selected_by select line (TokenKind.Keyword keyword) behind.now) }
     ensures less { IfOk result (λ o. IfSome o (λ x. weight x.0 + 8 * length x.1.now ≤ 8 * length behind.now + 1)) }
 {
     match keyword {
         Keyword::Case => case_head(alloc, select, line, behind),
-        Keyword::Default => Ok(default_head(select, line, behind)),
+        Keyword::Default => default_head(alloc, select, line, behind),
         _ => Ok(None),
     }
 }
@@ -202,14 +176,14 @@ fn kind_clause<'a>(
     line: u32,
     kind: &TokenKind,
     behind: &'a [Token],
-) -> Result<Option<(Move, &'a [Token])>, Memory>
+) -> Result<Option<(OwnedMove, &'a [Token])>, Memory>
     ensures value { IfOk result (λ o. moves_spec.moved o ≡ selected_by select line kind.now behind.now) }
     ensures less { IfOk result (λ o. IfSome o (λ x. weight x.0 + 8 * length x.1.now ≤ 8 * length behind.now + 1)) }
 {
     match kind {
         TokenKind::Keyword(keyword) => keyword_clause(alloc, select, line, *keyword, behind),
         TokenKind::Mark(mark) => match mark {
-            Mark::CloseBrace => Ok(Some((Move::Found(whole(select)), behind))),
+            Mark::CloseBrace => Ok(Some((OwnedMove::found(alloc, select.whole())?, behind))),
             _ => Ok(None),
         },
         TokenKind::Name(_) | TokenKind::Integer(_) | TokenKind::Text(_) => Ok(None),
@@ -221,7 +195,7 @@ pub fn clauses_move(
     alloc: Global,
     select: Select,
     tokens: &[Token],
-) -> Result<Option<(Move, &[Token])>, Memory>
+) -> Result<Option<(OwnedMove, &[Token])>, Memory>
     ensures value { IfOk result (λ o. moves_spec.moved o ≡ selected select tokens.now) }
     ensures less { IfOk result (λ o. IfSome o (λ x. weight x.0 + 8 * length x.1.now < 8 * length tokens.now)) }
 {

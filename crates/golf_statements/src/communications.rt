@@ -102,7 +102,7 @@ fn comm_of(kind: OwnedSimpleKind) -> Option<OwnedCommunication>
     }
 }
 
-// A name and the `=` behind it.
+// A name and the `=` after it.
 fn assigned_at(tokens: &[Token]) -> Option<(&Name, &[Token])>
     ensures value { assigned_seen result ≡ comm_spec.assigned_at tokens.now }
     ensures shorter { IfSome result (λ x. length x.1.now < length tokens.now) }
@@ -112,7 +112,7 @@ fn assigned_at(tokens: &[Token]) -> Option<(&Name, &[Token])>
     Some((name, rest))
 }
 
-// `<-channel` behind a name and `=`.
+// `<-channel` after a name and `=`.
 fn received(
     alloc: Global,
     name: Name,

@@ -51,7 +51,7 @@ fn defines(kind: &SimpleKind) -> bool
     }
 }
 
-// The condition behind the first simple statement of an `if`, or that statement itself.
+// The condition after the first simple statement of an `if`, or that statement itself.
 fn test_behind(
     alloc: Global,
     first: OwnedSimple,
@@ -157,7 +157,7 @@ fn post_at(
     }
 }
 
-// A three-part header, behind its first semicolon.
+// A three-part header, after its first semicolon.
 #[tactic(auto, unfolding(crate::specs::HeaderReading::steps_at))]
 fn steps_at(
     alloc: Global,
@@ -173,7 +173,7 @@ fn steps_at(
     }
 }
 
-// Behind the first simple statement of a header.
+// After the first simple statement of a header.
 fn first_behind(
     alloc: Global,
     first: OwnedSimple,

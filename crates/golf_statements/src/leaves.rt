@@ -8,7 +8,7 @@ ghost use Rattle.golf_statements.specs.StmtReading.{keyword_plan, simple_plan};
 ghost use Rattle.golf_statements.specs.Moves as moves_spec;
 ghost use Rattle.golf_statements.specs.Moves.{weight};
 
-use crate::pending::Move;
+use crate::pending::OwnedMove;
 use crate::variables::var_at;
 use golf_base::Memory;
 use golf_expressions::{Place, expression_at, operand_at, simple_at};
@@ -65,23 +65,30 @@ fn call_at(
     }
 }
 
-/// Behind `var`, which stands on this line.
+/// After `var`, which stands on this line.
 pub fn variable_at(
     alloc: Global,
     line: u32,
     tokens: &[Token],
-) -> Result<Option<(Move, &[Token])>, Memory>
+) -> Result<Option<(OwnedMove, &[Token])>, Memory>
     ensures value { IfOk result (λ o. moves_spec.moved o ≡ run stmt_spec.stmt_at (keyword_plan line Keyword.Var tokens.now tokens.now)) }
     ensures less { IfOk result (λ o. IfSome o (λ x. weight x.0 + 8 * length x.1.now ≤ 8 * length tokens.now)) }
 {
     match var_at(alloc, line, tokens)? {
         None => Ok(None),
-        Some((var, rest)) => Ok(Some((Move::Found(OwnedStmt::new(Stmt::Var(var))), rest))),
+        Some((var, rest)) => Ok(Some((
+            OwnedMove::found(alloc, OwnedStmt::new(Stmt::Var(var)))?,
+            rest,
+        ))),
     }
 }
 
-/// Behind `go`, which stands on this line.
-pub fn go_at(alloc: Global, line: u32, tokens: &[Token]) -> Result<Option<(Move, &[Token])>, Memory>
+/// After `go`, which stands on this line.
+pub fn go_at(
+    alloc: Global,
+    line: u32,
+    tokens: &[Token],
+) -> Result<Option<(OwnedMove, &[Token])>, Memory>
     ensures value { IfOk result (λ o. moves_spec.moved o ≡ run stmt_spec.stmt_at (keyword_plan line Keyword.Go tokens.now tokens.now)) }
     ensures less { IfOk result (λ o. IfSome o (λ x. weight x.0 + 8 * length x.1.now ≤ 8 * length tokens.now)) }
 {
@@ -89,19 +96,22 @@ pub fn go_at(alloc: Global, line: u32, tokens: &[Token]) -> Result<Option<(Move,
         None => Ok(None),
         Some(((callee, arguments), rest)) => {
             Ok(Some((
-                Move::Found(OwnedStmt::new(Stmt::Go(line, callee, arguments.into_inner()))),
+                OwnedMove::found(
+                    alloc,
+                    OwnedStmt::new(Stmt::Go(line, callee, arguments.into_inner())),
+                )?,
                 rest,
             )))
         }
     }
 }
 
-/// Behind `defer`, which stands on this line.
+/// After `defer`, which stands on this line.
 pub fn defer_at(
     alloc: Global,
     line: u32,
     tokens: &[Token],
-) -> Result<Option<(Move, &[Token])>, Memory>
+) -> Result<Option<(OwnedMove, &[Token])>, Memory>
     ensures value { IfOk result (λ o. moves_spec.moved o ≡ run stmt_spec.stmt_at (keyword_plan line Keyword.Defer tokens.now tokens.now)) }
     ensures less { IfOk result (λ o. IfSome o (λ x. weight x.0 + 8 * length x.1.now ≤ 8 * length tokens.now)) }
 {
@@ -109,29 +119,32 @@ pub fn defer_at(
         None => Ok(None),
         Some(((callee, arguments), rest)) => {
             Ok(Some((
-                Move::Found(OwnedStmt::new(Stmt::Defer(line, callee, arguments.into_inner()))),
+                OwnedMove::found(
+                    alloc,
+                    OwnedStmt::new(Stmt::Defer(line, callee, arguments.into_inner())),
+                )?,
                 rest,
             )))
         }
     }
 }
 
-/// Behind `return`, which stands on this line.
+/// After `return`, which stands on this line.
 pub fn return_at(
     alloc: Global,
     line: u32,
     tokens: &[Token],
-) -> Result<Option<(Move, &[Token])>, Memory>
+) -> Result<Option<(OwnedMove, &[Token])>, Memory>
     ensures value { IfOk result (λ o. moves_spec.moved o ≡ run stmt_spec.stmt_at (keyword_plan line Keyword.Return tokens.now tokens.now)) }
     ensures less { IfOk result (λ o. IfSome o (λ x. weight x.0 + 8 * length x.1.now ≤ 8 * length tokens.now)) }
 {
     match expression_at(alloc, Place::Elsewhere, tokens)? {
         None => Ok(Some((
-            Move::Found(OwnedStmt::new(Stmt::Return(line, None))),
+            OwnedMove::found(alloc, OwnedStmt::new(Stmt::Return(line, None)))?,
             tokens,
         ))),
         Some((value, rest)) => Ok(Some((
-            Move::Found(OwnedStmt::new(Stmt::Return(line, Some(value)))),
+            OwnedMove::found(alloc, OwnedStmt::new(Stmt::Return(line, Some(value))))?,
             rest,
         ))),
     }
@@ -141,12 +154,15 @@ pub fn return_at(
 pub fn simple_statement_at(
     alloc: Global,
     tokens: &[Token],
-) -> Result<Option<(Move, &[Token])>, Memory>
+) -> Result<Option<(OwnedMove, &[Token])>, Memory>
     ensures value { IfOk result (λ o. moves_spec.moved o ≡ run stmt_spec.stmt_at (simple_plan tokens.now)) }
     ensures less { IfOk result (λ o. IfSome o (λ x. weight x.0 + 8 * length x.1.now < 8 * length tokens.now)) }
 {
     match simple_at(alloc, Place::Elsewhere, tokens)? {
         None => Ok(None),
-        Some((simple, rest)) => Ok(Some((Move::Found(OwnedStmt::new(Stmt::Simple(simple))), rest))),
+        Some((simple, rest)) => Ok(Some((
+            OwnedMove::found(alloc, OwnedStmt::new(Stmt::Simple(simple)))?,
+            rest,
+        ))),
     }
 }

@@ -7,12 +7,13 @@ ghost use Rattle.golf_expressions.specs.Front.{seen};
 ghost use Rattle.golf_statements.specs.StmtReading as stmt_spec;
 ghost use Rattle.golf_statements.specs.StmtReading.{OfStmt, body, block, else_plan, if_plan, for_plan, select_plan, keyword_plan, kind_plan};
 ghost use Rattle.golf_statements.specs.Moves as moves_spec;
-ghost use Rattle.golf_statements.specs.Moves.{owned, closed_at, body_at, pending_at, weight};
+ghost use Rattle.golf_statements.specs.declared.pending.Pending.{Pending};
+ghost use Rattle.golf_statements.specs.Moves.{owned, body_at, pending_at, weight};
 
 use crate::clauses::{case_move, clauses_move, colon_move};
 use crate::headers::{header_at, test_at};
 use crate::leaves::{defer_at, go_at, return_at, simple_statement_at, variable_at};
-use crate::pending::{Head, Move, Owner, Pending, Select};
+use crate::pending::{Head, Move, OwnedMove, OwnedPending, Owner, Select};
 use golf_base::{List, Memory};
 use golf_expressions::{after, after_keyword};
 use golf_grammar::{
@@ -21,7 +22,7 @@ use golf_grammar::{
 use golf_tokens::{Keyword, Mark, Token, TokenKind};
 use std::alloc::Global;
 
-// Whether a statement begins here that may stand behind `else`.
+// Whether a statement begins here that may stand after `else`.
 fn is_branch(tokens: &[Token]) -> bool
     ensures { result ≡ stmt_spec.is_branch tokens.now }
 {
@@ -35,85 +36,85 @@ fn is_branch(tokens: &[Token]) -> bool
     }
 }
 
-// Behind the body of an `if`: `else` and a branch, or the end.
-fn else_move(
+/// After the body of an `if`: `else` and a branch, or the end.
+pub fn else_move(
+    alloc: Global,
     line: u32,
     first: Option<OwnedSimple>,
     test: OwnedExpr,
     done: OwnedStmts,
     tokens: &[Token],
-) -> Option<(Move, &[Token])>
-    ensures value { moves_spec.moved result ≡ run stmt_spec.stmt_at (else_plan line (first, test) done tokens.now (front_spec.after_keyword Keyword.Else tokens.now)) }
-    ensures less { IfSome result (λ x. weight x.0 + 8 * length x.1.now ≤ 8 * length tokens.now) }
+) -> Result<Option<(OwnedMove, &[Token])>, Memory>
+    ensures value { IfOk result (λ o. moves_spec.moved o ≡ run stmt_spec.stmt_at (else_plan line (first, test) done tokens.now (front_spec.after_keyword Keyword.Else tokens.now))) }
+    ensures less { IfOk result (λ o. IfSome o (λ x. weight x.0 + 8 * length x.1.now ≤ 8 * length tokens.now)) }
 {
     let Some(behind) = after_keyword(tokens, Keyword::Else) else {
-        return Some((
-            Move::Found(OwnedStmt::new(Stmt::If(line, first, test, done.into_inner()))),
+        return Ok(Some((
+            OwnedMove::found(
+                alloc,
+                OwnedStmt::new(Stmt::If(line, first, test, done.into_inner())),
+            )?,
             tokens,
-        ))
+        )))
     };
     if !is_branch(behind) {
-        return None;
+        return Ok(None);
     }
-    Some((Move::Wait(Pending::Else(line, first, test, done)), behind))
+    let pending = OwnedPending::otherwise(alloc, line, first, test, done)?;
+    Ok(Some((OwnedMove::wait(alloc, pending)?, behind)))
 }
 
-// Behind the closing brace of statements.
-#[tactic(auto, unfolding(crate::specs::Moves::closed_at))]
-fn closed_move(owner: Owner, done: OwnedStmts, tokens: &[Token]) -> Option<(Move, &[Token])>
-    ensures value { moves_spec.moved result ≡ closed_at owner (done, tokens.now) }
-    ensures less { IfSome result (λ x. weight x.0 + 8 * length x.1.now ≤ 8 * length tokens.now) }
-{
-    match owner {
-        Owner::Block(line) => Some((
-            Move::Found(OwnedStmt::new(Stmt::Block(line, done.into_inner()))),
-            tokens,
-        )),
-        Owner::If(line, first, test) => else_move(line, first, test, done, tokens),
-        Owner::For(line, header) => Some((
-            Move::Found(OwnedStmt::new(Stmt::For(line, header, done.into_inner()))),
-            tokens,
-        )),
-    }
-}
-
-// Behind the opening brace of statements.
+// After the opening brace of statements.
 #[tactic(auto, using(crate::proofs::Moves::body_steps), unfolding(crate::specs::Moves::closed_at))]
-fn opened_move(alloc: Global, owner: Owner, tokens: &[Token]) -> Option<(Move, &[Token])>
-    ensures value { moves_spec.moved result ≡ run stmt_spec.stmt_at (body tokens.now (front_spec.after Mark.CloseBrace tokens.now) (owned owner)) }
-    ensures less { IfSome result (λ x. weight x.0 + 8 * length x.1.now ≤ 8 * length tokens.now + 4) }
+fn opened_move(
+    alloc: Global,
+    owner: Owner,
+    tokens: &[Token],
+) -> Result<Option<(OwnedMove, &[Token])>, Memory>
+    ensures value { IfOk result (λ o. moves_spec.moved o ≡ run stmt_spec.stmt_at (body tokens.now (front_spec.after Mark.CloseBrace tokens.now) (owned owner))) }
+    ensures less { IfOk result (λ o. IfSome o (λ x. weight x.0 + 8 * length x.1.now ≤ 8 * length tokens.now + 4)) }
 {
     match after(tokens, Mark::CloseBrace) {
-        None => Some((
-            Move::Wait(Pending::Body(owner, OwnedStmts::empty(alloc))),
-            tokens,
-        )),
-        Some(rest) => closed_move(owner, OwnedStmts::empty(alloc), rest),
+        None => {
+            let pending = OwnedPending::body(alloc, owner, OwnedStmts::empty(alloc))?;
+            Ok(Some((OwnedMove::wait(alloc, pending)?, tokens)))
+        }
+        Some(rest) => owner.closed(alloc, OwnedStmts::empty(alloc), rest),
     }
 }
 
 // Statements in braces.
-fn block_move(alloc: Global, owner: Owner, tokens: &[Token]) -> Option<(Move, &[Token])>
-    ensures value { moves_spec.moved result ≡ run stmt_spec.stmt_at (block tokens.now (owned owner)) }
-    ensures less { IfSome result (λ x. weight x.0 + 8 * length x.1.now < 8 * length tokens.now) }
+fn block_move(
+    alloc: Global,
+    owner: Owner,
+    tokens: &[Token],
+) -> Result<Option<(OwnedMove, &[Token])>, Memory>
+    ensures value { IfOk result (λ o. moves_spec.moved o ≡ run stmt_spec.stmt_at (block tokens.now (owned owner))) }
+    ensures less { IfOk result (λ o. IfSome o (λ x. weight x.0 + 8 * length x.1.now < 8 * length tokens.now)) }
 {
     match after(tokens, Mark::OpenBrace) {
-        None => None,
+        None => Ok(None),
         Some(behind) => opened_move(alloc, owner, behind),
     }
 }
 
-// Behind a statement in braces: a semicolon and more, or the closing brace.
-fn body_move(owner: Owner, done: OwnedStmts, tokens: &[Token]) -> Option<(Move, &[Token])>
-    ensures value { moves_spec.moved result ≡ body_at owner done tokens.now (front_spec.after Mark.Semicolon tokens.now) }
-    ensures less { IfSome result (λ x. weight x.0 + 8 * length x.1.now < 8 * length tokens.now) }
+// After a statement in braces: a semicolon and more, or the closing brace.
+fn body_move(
+    alloc: Global,
+    owner: Owner,
+    done: OwnedStmts,
+    tokens: &[Token],
+) -> Result<Option<(OwnedMove, &[Token])>, Memory>
+    ensures value { IfOk result (λ o. moves_spec.moved o ≡ body_at owner done tokens.now (front_spec.after Mark.Semicolon tokens.now)) }
+    ensures less { IfOk result (λ o. IfSome o (λ x. weight x.0 + 8 * length x.1.now < 8 * length tokens.now)) }
 {
     if let Some(next) = after(tokens, Mark::Semicolon) {
-        return Some((Move::Wait(Pending::Body(owner, done)), next));
+        let pending = OwnedPending::body(alloc, owner, done)?;
+        return Ok(Some((OwnedMove::wait(alloc, pending)?, next)));
     }
     match after(tokens, Mark::CloseBrace) {
-        None => None,
-        Some(rest) => closed_move(owner, done, rest),
+        None => Ok(None),
+        Some(rest) => owner.closed(alloc, done, rest),
     }
 }
 
@@ -125,14 +126,18 @@ fn if_owner(line: u32, tested: (Option<OwnedSimple>, OwnedExpr)) -> Owner
     Owner::If(line, first, test)
 }
 
-// Behind `if`.
-fn if_move(alloc: Global, line: u32, tokens: &[Token]) -> Result<Option<(Move, &[Token])>, Memory>
+// After `if`.
+fn if_move(
+    alloc: Global,
+    line: u32,
+    tokens: &[Token],
+) -> Result<Option<(OwnedMove, &[Token])>, Memory>
     ensures value { IfOk result (λ o. moves_spec.moved o ≡ run stmt_spec.stmt_at (if_plan line tokens.now)) }
     ensures less { IfOk result (λ o. IfSome o (λ x. weight x.0 + 8 * length x.1.now ≤ 8 * length tokens.now)) }
 {
     match test_at(alloc, tokens)? {
         None => Ok(None),
-        Some((tested, behind)) => Ok(block_move(alloc, if_owner(line, tested), behind)),
+        Some((tested, behind)) => block_move(alloc, if_owner(line, tested), behind),
     }
 }
 
@@ -143,30 +148,40 @@ fn for_owner(line: u32, header: OwnedHeader) -> Owner
     Owner::For(line, header)
 }
 
-// Behind `for`.
-fn for_move(alloc: Global, line: u32, tokens: &[Token]) -> Result<Option<(Move, &[Token])>, Memory>
+// After `for`.
+fn for_move(
+    alloc: Global,
+    line: u32,
+    tokens: &[Token],
+) -> Result<Option<(OwnedMove, &[Token])>, Memory>
     ensures value { IfOk result (λ o. moves_spec.moved o ≡ run stmt_spec.stmt_at (for_plan line tokens.now)) }
     ensures less { IfOk result (λ o. IfSome o (λ x. weight x.0 + 8 * length x.1.now ≤ 8 * length tokens.now)) }
 {
     match header_at(alloc, tokens)? {
         None => Ok(None),
-        Some((header, behind)) => Ok(block_move(alloc, for_owner(line, header), behind)),
+        Some((header, behind)) => block_move(alloc, for_owner(line, header), behind),
     }
 }
 
-// Behind `select`.
+// After `select`.
 #[tactic(auto, unfolding(crate::specs::Moves::selected))]
-fn select_move(alloc: Global, line: u32, tokens: &[Token]) -> Option<(Move, &[Token])>
-    ensures value { moves_spec.moved result ≡ run stmt_spec.stmt_at (select_plan line tokens.now) }
-    ensures less { IfSome result (λ x. weight x.0 + 8 * length x.1.now ≤ 8 * length tokens.now) }
+fn select_move(
+    alloc: Global,
+    line: u32,
+    tokens: &[Token],
+) -> Result<Option<(OwnedMove, &[Token])>, Memory>
+    ensures value { IfOk result (λ o. moves_spec.moved o ≡ run stmt_spec.stmt_at (select_plan line tokens.now)) }
+    ensures less { IfOk result (λ o. IfSome o (λ x. weight x.0 + 8 * length x.1.now ≤ 8 * length tokens.now)) }
 {
-    let behind = after(tokens, Mark::OpenBrace)?;
+    let Some(behind) = after(tokens, Mark::OpenBrace) else {
+        return Ok(None)
+    };
     let select = Select {
         line,
         has_default: false,
         clauses: OwnedClauses::empty(alloc),
     };
-    Some((Move::Clauses(select), behind))
+    Ok(Some((OwnedMove::clauses(alloc, select)?, behind)))
 }
 
 // A statement by its first word, which stands on this line.
@@ -176,7 +191,7 @@ fn keyword_move<'a>(
     keyword: Keyword,
     behind: &'a [Token],
     tokens: &'a [Token],
-) -> Result<Option<(Move, &'a [Token])>, Memory>
+) -> Result<Option<(OwnedMove, &'a [Token])>, Memory>
     requires shorter { length behind.now < length tokens.now }
     ensures value { IfOk result (λ o. moves_spec.moved o ≡ run stmt_spec.stmt_at (keyword_plan line keyword behind.now tokens.now)) }
     ensures less { IfOk result (λ o. IfSome o (λ x. weight x.0 + 8 * length x.1.now < 8 * length tokens.now)) }
@@ -186,11 +201,17 @@ fn keyword_move<'a>(
         Keyword::Go => go_at(alloc, line, behind),
         Keyword::Defer => defer_at(alloc, line, behind),
         Keyword::Return => return_at(alloc, line, behind),
-        Keyword::Break => Ok(Some((Move::Found(OwnedStmt::new(Stmt::Break(line))), behind))),
-        Keyword::Continue => Ok(Some((Move::Found(OwnedStmt::new(Stmt::Continue(line))), behind))),
+        Keyword::Break => Ok(Some((
+            OwnedMove::found(alloc, OwnedStmt::new(Stmt::Break(line)))?,
+            behind,
+        ))),
+        Keyword::Continue => Ok(Some((
+            OwnedMove::found(alloc, OwnedStmt::new(Stmt::Continue(line)))?,
+            behind,
+        ))),
         Keyword::If => if_move(alloc, line, behind),
         Keyword::For => for_move(alloc, line, behind),
-        Keyword::Select => Ok(select_move(alloc, line, behind)),
+        Keyword::Select => select_move(alloc, line, behind),
         _ => simple_statement_at(alloc, tokens),
     }
 }
@@ -202,7 +223,7 @@ fn kind_move<'a>(
     kind: &TokenKind,
     behind: &'a [Token],
     tokens: &'a [Token],
-) -> Result<Option<(Move, &'a [Token])>, Memory>
+) -> Result<Option<(OwnedMove, &'a [Token])>, Memory>
     requires shorter { length behind.now < length tokens.now }
     ensures value { IfOk result (λ o. moves_spec.moved o ≡ run stmt_spec.stmt_at (kind_plan line kind.now behind.now tokens.now)) }
     ensures less { IfOk result (λ o. IfSome o (λ x. weight x.0 + 8 * length x.1.now < 8 * length tokens.now)) }
@@ -210,7 +231,7 @@ fn kind_move<'a>(
     match kind {
         TokenKind::Keyword(keyword) => keyword_move(alloc, line, *keyword, behind, tokens),
         TokenKind::Mark(mark) => match mark {
-            Mark::OpenBrace => Ok(opened_move(alloc, Owner::Block(line), behind)),
+            Mark::OpenBrace => opened_move(alloc, Owner::Block(line), behind),
             _ => simple_statement_at(alloc, tokens),
         },
         TokenKind::Name(_) | TokenKind::Integer(_) | TokenKind::Text(_) => {
@@ -220,7 +241,7 @@ fn kind_move<'a>(
 }
 
 // The statement at the front.
-fn stmt_move(alloc: Global, tokens: &[Token]) -> Result<Option<(Move, &[Token])>, Memory>
+fn stmt_move(alloc: Global, tokens: &[Token]) -> Result<Option<(OwnedMove, &[Token])>, Memory>
     ensures value { IfOk result (λ o. moves_spec.moved o ≡ stmt_spec.stmt_at OfStmt tokens.now) }
     ensures less { IfOk result (λ o. IfSome o (λ x. weight x.0 + 8 * length x.1.now < 8 * length tokens.now)) }
 {
@@ -254,79 +275,61 @@ fn with_statement(done: OwnedStmts, found: OwnedStmt) -> Result<OwnedStmts, Memo
     Ok(all)
 }
 
-// Statements in braces, behind one more of them.
-fn resume_body(
+/// Statements in braces, after one more of them.
+pub fn resume_body(
+    alloc: Global,
     owner: Owner,
     done: OwnedStmts,
     found: OwnedStmt,
     tokens: &[Token],
-) -> Result<Option<(Move, &[Token])>, Memory>
+) -> Result<Option<(OwnedMove, &[Token])>, Memory>
     ensures value { IfOk result (λ o. moves_spec.moved o ≡ pending_at (Pending.Body owner done) (found, tokens.now)) }
     ensures less { IfOk result (λ o. IfSome o (λ x. weight x.0 + 8 * length x.1.now < 8 * length tokens.now)) }
 {
-    Ok(body_move(owner, with_statement(done, found)?, tokens))
+    body_move(alloc, owner, with_statement(done, found)?, tokens)
 }
 
-// An `if`, behind the statement that its `else` has.
-fn resume_else(
+/// An `if`, after the statement that its `else` has.
+pub fn resume_else(
     alloc: Global,
     line: u32,
     first: Option<OwnedSimple>,
     test: OwnedExpr,
     done: OwnedStmts,
     found: OwnedStmt,
-) -> Result<Move, Memory>
+) -> Result<OwnedMove, Memory>
     ensures { IfOk result (λ m. m ≡ Move.Found (Stmt.IfElse line first test done found)) }
 {
-    Ok(Move::Found(if_else(alloc, line, first, test, done, found)?))
+    Ok(OwnedMove::found(alloc, if_else(alloc, line, first, test, done, found)?)?)
 }
 
-// A clause of a `select`, behind one more statement.
-fn resume_clause(
+/// A clause of a `select`, after one more statement.
+pub fn resume_clause(
+    alloc: Global,
     select: Select,
     head: Head,
     done: OwnedStmts,
     found: OwnedStmt,
     tokens: &[Token],
-) -> Result<Option<(Move, &[Token])>, Memory>
+) -> Result<Option<(OwnedMove, &[Token])>, Memory>
     ensures value { IfOk result (λ o. moves_spec.moved o ≡ pending_at (Pending.Clause select head done) (found, tokens.now)) }
     ensures less { IfOk result (λ o. IfSome o (λ x. weight x.0 + 8 * length x.1.now < 8 * length tokens.now + 3)) }
 {
-    case_move(select, head, with_statement(done, found)?, tokens)
-}
-
-// What waits goes on with the statement that it waited for.
-fn resume(
-    alloc: Global,
-    pending: Pending,
-    found: OwnedStmt,
-    tokens: &[Token],
-) -> Result<Option<(Move, &[Token])>, Memory>
-    ensures value { IfOk result (λ o. moves_spec.moved o ≡ pending_at pending (found, tokens.now)) }
-    ensures less { IfOk result (λ o. IfSome o (λ x. weight x.0 + 8 * length x.1.now < 8 * length tokens.now + 3)) }
-{
-    match pending {
-        Pending::Body(owner, done) => resume_body(owner, done, found, tokens),
-        Pending::Else(line, first, test, done) => {
-            let whole = resume_else(alloc, line, first, test, done, found)?;
-            Ok(Some((whole, tokens)))
-        }
-        Pending::Clause(select, head, done) => resume_clause(select, head, done, found, tokens),
-    }
+    case_move(alloc, select, head, with_statement(done, found)?, tokens)
 }
 
 // All that is read from this on.
 fn read(alloc: Global, tokens: &[Token]) -> Result<Option<(OwnedStmt, &[Token])>, Memory>
     ensures value { IfOk result (λ o. seen o ≡ stmt_spec.stmt_at OfStmt tokens.now) }
 {
-    let mut waiting: List<Pending> = List::new(alloc);
-    let mut now = Move::Seek;
+    let mut waiting: List<OwnedPending> = List::new(alloc);
+    let mut now = OwnedMove::seek(alloc)?;
     let mut rest = tokens;
     'moves: loop {
-        let next = match now {
+        let next = match now.into_inner() {
             Move::Found(found) => match waiting.pop() {
                 None => return Ok(Some((found, rest))),
-                Some(pending) => resume(alloc, pending, found, rest)?,
+                Some(pending) => pending.resume(alloc, found, rest)?,
             },
             Move::Seek => stmt_move(alloc, rest)?,
             Move::Wait(pending) => {

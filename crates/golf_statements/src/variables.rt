@@ -12,7 +12,7 @@ use golf_grammar::{OwnedType, OwnedVar, OwnedVarContent, Var, VarContent};
 use golf_tokens::{Mark, Token};
 use std::alloc::Global;
 
-// Behind a type: a value, or nothing.
+// After a type: a value, or nothing.
 fn typed(
     alloc: Global,
     of_type: OwnedType,
@@ -33,7 +33,7 @@ fn typed(
     }
 }
 
-// `= value` behind a name.
+// `= value` after a name.
 fn untyped(alloc: Global, tokens: &[Token]) -> Result<Option<(OwnedVarContent, &[Token])>, Memory>
     ensures value { IfOk result (λ o. seen o ≡ var_spec.untyped tokens.now) }
     ensures shorter { IfOk result (λ o. IfSome o (λ x. length x.1.now ≤ length tokens.now)) }
@@ -47,7 +47,7 @@ fn untyped(alloc: Global, tokens: &[Token]) -> Result<Option<(OwnedVarContent, &
     }
 }
 
-// What stands behind the name of a variable.
+// What stands after the name of a variable.
 #[tactic(auto, unfolding(crate::specs::VarReading::content_at))]
 fn content_at(
     alloc: Global,
@@ -62,7 +62,7 @@ fn content_at(
     }
 }
 
-/// The variable behind a `var`, which stands on this line, and what follows it.
+/// The variable after a `var`, which stands on this line, and what follows it.
 #[tactic(auto, unfolding(crate::specs::VarReading::var_at))]
 pub fn var_at(
     alloc: Global,

@@ -6,6 +6,7 @@ use Rattle.std.proofs.Math.Seq.{set-append_seam}
 use Rattle.golf_data.specs.declared.code.Line.{Line}
 use Rattle.golf_data.specs.declared.code.Function.{Function}
 use Rattle.golf_layout.specs.Piece.{Piece, size, placed}
+use Rattle.golf_live.specs.Live.{live}
 use Rattle.golf_layout.specs.Depth.{flow, depth}
 use Rattle.golf_emission.specs.declared.mark.Mark.{Mark}
 use Rattle.golf_emission.specs.declared.mark.Mark.TheVariants as mark
@@ -210,10 +211,12 @@ most_is gives p = ap (λ (s : Heights). s.most) (stands_at gives p 0 (Some 0) []
 
 -- Together.
 
-abbrev with_parts : ℕ → ℕ → ℕ → ℕ → List Line → Function
-with_parts params slots line depth body = record { params = params; slots = slots; depth = depth; line = line; body = body }
+abbrev with_parts : ℕ → ℕ → ℕ → ℕ → List Line → List ℕ → Function
+with_parts params slots line depth body masks = record { params = params; slots = slots; depth = depth; line = line; body = body; live = masks }
 
-pub resolves : (gives : List Bool) (params slots line most : ℕ) (body : List Line) (marks : List Mark) → most ≡ most_of gives marks → body ≡ lines_of marks → IsFunction gives params slots line marks (with_parts params slots line most body)
-resolves gives params slots line most body marks height lines = λ p is.
-    ap (λ n. with_parts params slots line n body) (height ∙ ap (most_of gives) is ∙ most_is gives p)
-    ∙ ap (with_parts params slots line (depth gives p)) (lines ∙ ap lines_of is ∙ lines_are p)
+pub resolves : (gives : List Bool) (params slots line most : ℕ) (body : List Line) (masks : List ℕ) (marks : List Mark) → most ≡ most_of gives marks → body ≡ lines_of marks → masks ≡ live slots body
+    → IsFunction gives params slots line marks (with_parts params slots line most body masks)
+resolves gives params slots line most body masks marks height lines found = λ p is.
+    ap (with_parts params slots line most body) found
+    ∙ ap (λ n. with_parts params slots line n body (live slots body)) (height ∙ ap (most_of gives) is ∙ most_is gives p)
+    ∙ ap (λ (ls : List Line). with_parts params slots line (depth gives p) ls (live slots ls)) (lines ∙ ap lines_of is ∙ lines_are p)

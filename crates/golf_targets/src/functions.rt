@@ -10,6 +10,7 @@ use crate::targets::targets_of;
 use golf_base::{List, Memory};
 use golf_data::{Function, Line};
 use golf_emission::Mark;
+use golf_live::live;
 use std::alloc::Global;
 
 fn body_of(alloc: Global, marks: &[Mark]) -> Result<List<Line>, Memory>
@@ -37,11 +38,13 @@ pub fn function(
 {
     let body = body_of(alloc, marks)?;
     let depth = most_of(alloc, gives, marks)?;
+    let live = live(alloc, slots, body.as_slice())?;
     Ok(Function {
         params,
         slots,
         depth,
         line,
         body,
+        live,
     })
 }

@@ -20,4 +20,6 @@ mod rules;
 #[cfg(test)]
 mod runs;
 #[cfg(test)]
+mod slots;
+#[cfg(test)]
 mod worked;

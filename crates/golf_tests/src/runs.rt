@@ -19,7 +19,7 @@ pub const LEAK: &[u8] =
 
 /// Goroutine 2 waits on a channel of the main one, and goroutine 3 on one that goroutine 2 refers to.
 pub const TWO_ROUNDS: &[u8] =
-    b"package main\nimport \"fmt\"\nimport \"runtime\"\nfunc two(a chan int, b chan int) {\n\t<-a\n\tb <- 1\n}\nfunc three(b chan int) {\n\t<-b\n}\nfunc start(a chan int) {\n\tb := make(chan int)\n\tgo two(a, b)\n\tgo three(b)\n}\nfunc main() {\n\ta := make(chan int)\n\tstart(a)\n\tfmt.Println(1)\n\tfmt.Println(2)\n\tfmt.Println(3)\n\tfmt.Println(4)\n\truntime.GC()\n}\n";
+    b"package main\nimport \"fmt\"\nimport \"runtime\"\nfunc two(a chan int, b chan int) {\n\t<-a\n\tb <- 1\n}\nfunc three(b chan int) {\n\t<-b\n}\nfunc start(a chan int) {\n\tb := make(chan int)\n\tgo two(a, b)\n\tgo three(b)\n}\nfunc main() {\n\ta := make(chan int)\n\tstart(a)\n\tfmt.Println(1)\n\tfmt.Println(2)\n\tfmt.Println(3)\n\tfmt.Println(4)\n\truntime.GC()\n\tclose(a)\n}\n";
 
 #[test]
 fn an_empty_main_writes_nothing(rt: HostRuntime) -> Result<(), Fail> {

@@ -6,6 +6,7 @@ ghost use Rattle.golf_trials.specs.Ready.{IsReady};
 
 use golf_base::{List, Memory};
 use golf_data::{Code, Function, Instr, Line, Value};
+use golf_live::live;
 use std::alloc::Global;
 
 /// Instructions at the lines 1, 2 and so on.
@@ -20,15 +21,17 @@ pub fn lines(alloc: Global, instrs: Vec<Instr>) -> Result<List<Line>, Memory> {
 }
 
 /// A function at line 1 with four slots, of which its arguments take the first, and room for four
-/// operands.
-pub fn function(params: u32, body: List<Line>) -> Function {
-    Function {
+/// operands; its masks are those of its body.
+pub fn function(alloc: Global, params: u32, body: List<Line>) -> Result<Function, Memory> {
+    let live = live(alloc, 4, body.as_slice())?;
+    Ok(Function {
         params,
         slots: 4,
         depth: 4,
         line: 1,
         body,
-    }
+        live,
+    })
 }
 
 /// A code without texts of these functions, with these globals, and with a struct type of these fields.

@@ -10,6 +10,7 @@ use Rattle.golf_types.specs.declared.operands.BuiltIn.TheVariants as built_in
 use Rattle.golf_types.specs.Files.{is_main}
 use Rattle.golf_layout.specs.Piece.{placed}
 use Rattle.golf_layout.specs.Depth.{depth}
+use Rattle.golf_live.specs.Live.{needed, live}
 use Rattle.golf_code_of.specs.Table.{table_of, text_number}
 use Rattle.golf_code_of.specs.Texts.{texts_of}
 use Rattle.golf_code_of.specs.Files.{CodeOf, made_function, last_return}
@@ -25,20 +26,20 @@ number_of_a_text = refl
 
 -- go close(c), on line 3: the channel is the one slot
 pub made_for_close : made_function [] (record { operation = built_in.Close; parameters = layered layer.Chan base.Int ∷ []; line = 3 }) ≡
-    record { params = 1; slots = 1; depth = 1; line = 3; body = line 3 (Instr.Load 0 ∷ Instr.Close ∷ Instr.Return ∷ []) [] }
-unfolding depth
+    record { params = 1; slots = 1; depth = 1; line = 3; body = line 3 (Instr.Load 0 ∷ Instr.Close ∷ Instr.Return ∷ []) []; live = 1 ∷ 0 ∷ 0 ∷ [] }
+unfolding depth live needed
 made_for_close = refl
 
 -- defer wg.Done(): -1 is pushed inside
 pub made_for_done : made_function [] (record { operation = built_in.Done; parameters = plain base.Group ∷ []; line = 4 }) ≡
-    record { params = 1; slots = 1; depth = 2; line = 4; body = line 4 (Instr.Load 0 ∷ Instr.Int (negsuc 0) ∷ Instr.GroupAdd ∷ Instr.Return ∷ []) [] }
-unfolding depth
+    record { params = 1; slots = 1; depth = 2; line = 4; body = line 4 (Instr.Load 0 ∷ Instr.Int (negsuc 0) ∷ Instr.GroupAdd ∷ Instr.Return ∷ []) []; live = 1 ∷ 0 ∷ 0 ∷ 0 ∷ [] }
+unfolding depth live needed
 made_for_done = refl
 
 -- go wg.Add(2): receiver and argument are the slots
 pub made_for_add : made_function [] (record { operation = built_in.Add; parameters = plain base.Group ∷ plain base.Int ∷ []; line = 5 }) ≡
-    record { params = 2; slots = 2; depth = 2; line = 5; body = line 5 (Instr.Load 0 ∷ Instr.Load 1 ∷ Instr.GroupAdd ∷ Instr.Return ∷ []) [] }
-unfolding depth
+    record { params = 2; slots = 2; depth = 2; line = 5; body = line 5 (Instr.Load 0 ∷ Instr.Load 1 ∷ Instr.GroupAdd ∷ Instr.Return ∷ []) []; live = 3 ∷ 2 ∷ 0 ∷ 0 ∷ [] }
+unfolding depth live needed
 made_for_add = refl
 
 -- a body ends with a return, of the zero value where there is a result
@@ -70,14 +71,14 @@ empty = record {
 -- function 0 calls `main`, which is function 2
 pub empty-code : CodeOf empty ≡ record {
   functions =
-      record { params = 0; slots = 0; depth = 0; line = 5; body = line 5 (Instr.Call 2 0 ∷ Instr.Return ∷ []) [] }
-      ∷ record { params = 0; slots = 0; depth = 0; line = 4; body = line 4 (Instr.Return ∷ []) [] }
-      ∷ record { params = 0; slots = 0; depth = 0; line = 5; body = line 5 (Instr.Return ∷ []) [] }
+      record { params = 0; slots = 0; depth = 0; line = 5; body = line 5 (Instr.Call 2 0 ∷ Instr.Return ∷ []) []; live = 0 ∷ 0 ∷ [] }
+      ∷ record { params = 0; slots = 0; depth = 0; line = 4; body = line 4 (Instr.Return ∷ []) []; live = 0 ∷ [] }
+      ∷ record { params = 0; slots = 0; depth = 0; line = 5; body = line 5 (Instr.Return ∷ []) []; live = 0 ∷ [] }
       ∷ [];
   globals = [];
   structs = [] ∷ [];
   texts = [] ∷ codes "a" ∷ [];
   main_line = 5;
 }
-unfolding CodeOf texts_of depth is_main
+unfolding CodeOf texts_of depth is_main live needed
 empty-code = refl

@@ -6,6 +6,7 @@ use Rattle.std.specs.Fmt.{digits}
 use Rattle.golf_data.specs.declared.value.Value.{Value}
 use Rattle.golf_data.specs.declared.value.Object.{Object}
 use Rattle.golf_data.specs.declared.code.Code.{Code}
+use Rattle.golf_data.specs.declared.code.Function.{Function}
 use Rattle.golf_data.specs.declared.code.Instr.{Instr}
 use Rattle.golf_data.specs.declared.code.CaseKind.{CaseKind}
 use Rattle.golf_data.specs.declared.goroutine.WaitKind.{WaitKind}
@@ -272,3 +273,23 @@ waiting =
 pub waits_are_references : reports waiting (lowest 4 ++ (second 5 ++ lowest 1)) true ≡ quiet 1 3 3 ∷ []
 unfolding reach live_list
 waits_are_references = refl
+
+-- the channel is in a slot that is not read again: with its masks `main` lets it go, without them it holds it
+abbrev with_masks : List ℕ → Function → Function
+with_masks masks fn = record fn { live = masks }
+
+abbrev in_slot : List ℕ → Code
+in_slot masks =
+    code_with [] (with_masks masks (function 0 1 1 (new_channel 0 ++ (Instr.Store 0 ∷ Instr.Load 0 ∷ Instr.Go 1 1 ∷ Instr.Collect ∷ Instr.Return ∷ [])))
+    ∷ function 1 1 11 (Instr.Load 0 ∷ Instr.Receive ∷ Instr.Drop ∷ Instr.Return ∷ []) ∷ [])
+
+abbrev slot_turns : List ℕ
+slot_turns = lowest 5 ++ (second 2 ++ lowest 1)
+
+pub dead_slot_lets_go : reports (in_slot (0 ∷ 0 ∷ 0 ∷ 1 ∷ 0 ∷ 0 ∷ 0 ∷ [])) slot_turns false ≡ record { number = 1; marked = 0; reported = entry 2 WaitKind.Receive 12 5 ∷ []; kept = 1; reclaimed = 0; objects = 1 } ∷ []
+unfolding reach live_list
+dead_slot_lets_go = refl
+
+pub live_slot_holds : reports (in_slot []) slot_turns false ≡ quiet 1 1 1 ∷ []
+unfolding reach live_list
+live_slot_holds = refl

@@ -5,8 +5,7 @@ use Rattle.golf_data.specs.declared.code.CaseKind.{CaseKind}
 use Rattle.golf_data.specs.declared.code.Instr.{Instr}
 use Rattle.golf_model.specs.State.{State}
 use Rattle.golf_model.specs.Changes.{Change}
-use Rattle.golf_model.specs.Turn.{turn_changes, whose_turn}
-use Rattle.golf_model.specs.Running.{wants_collection}
+use Rattle.golf_model.specs.Turn.{turn_changes, whose_turn, wants_collection}
 use Rattle.golf_model.proofs.Examples.Writing.{number, push, new_channel, straight, case, lowest, after}
 
 abbrev next_changes : Code → State → List Change

@@ -24,7 +24,7 @@ lines_from line (i ∷ is) = record { instr = i; line = line } ∷ lines_from (l
 
 -- a function with so many parameters and slots, whose first instruction has this line
 abbrev pub function : ℕ → ℕ → ℕ → List Instr → Function
-function params slots line is = record { params = params; slots = slots; depth = 8; line = line; body = lines_from line is }
+function params slots line is = record { params = params; slots = slots; depth = 8; line = line; body = lines_from line is; live = [] }
 
 -- an integer, and its instruction
 abbrev pub number : ℕ → Value

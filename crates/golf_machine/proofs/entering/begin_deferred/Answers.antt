@@ -1,4 +1,4 @@
-use Rattle.std.proofs.Common.{true, false, List, [], ◌∷◌, sym, ap, ◌∙◌, arith}
+use Rattle.std.proofs.Common.{true, List, ◌∷◌, sym, ap, ◌∙◌, arith}
 use Rattle.std.specs.Prelude.{option_map}
 use Rattle.std.proofs.lemmas.Result.{on_ok_weaker, on_err_weaker}
 use Rattle.golf_model.specs.Views.{FrameView, frame_view, frame_views}

@@ -1,4 +1,4 @@
-use Rattle.std.proofs.Common.{true, ap}
+use Rattle.std.proofs.Common.{ap}
 use Rattle.golf_model.specs.Views.{frame_views}
 use Rattle.golf_machine.proofs.Frames.{ends-zero}
 use Rattle.golf_machine.proofs.leaving.end.Goals as goal

@@ -1,4 +1,4 @@
-use Rattle.std.proofs.Common.{false, List, None, sym, ap, ◌∙◌}
+use Rattle.std.proofs.Common.{List, None, sym, ap, ◌∙◌}
 use Rattle.std.proofs.lemmas.Result.{on_ok_weaker}
 use Rattle.golf_data.specs.declared.goroutine.Deferred.{Deferred}
 use Rattle.golf_state.proofs.Doings.{actor_of, does-same}

@@ -1,4 +1,4 @@
-use Rattle.std.proofs.Common.{false, arith}
+use Rattle.std.proofs.Common.{arith}
 use Rattle.golf_machine.proofs.Frames.{unwinds-last}
 use Rattle.golf_machine.proofs.leaving.unwind_to.Goals as goal
 

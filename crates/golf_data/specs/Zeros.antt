@@ -1,0 +1,24 @@
+-- Slots that are known to hold 0.
+use Rattle.std.specs.Prelude.{◌≡◌, ℕ, ◌<◌, nat_le, Bool, true, not, ◌||◌, pos, List, Some, slice_get}
+use Rattle.golf_data.specs.declared.value.Value.{Value}
+use Rattle.golf_data.specs.Masks.{has_bit}
+
+-- each slot whose bit is 1 holds 0
+abbrev pub AreZeros : ℕ → List Value → Type 0
+AreZeros zeros vs = (i : ℕ) (v : Value) → i < 64 → has_bit zeros i ≡ true → slice_get vs i ≡ Some v → v ≡ Value.Int (pos 0)
+
+-- each slot holds 0, if this is known
+abbrev pub AreAllZero : Bool → List Value → Type 0
+AreAllZero known vs = known ≡ true → (i : ℕ) (v : Value) → slice_get vs i ≡ Some v → v ≡ Value.Int (pos 0)
+
+-- the slots that stay where those of these bits are cleared
+abbrev pub stays_but : ℕ → ℕ → Bool
+stays_but dead i = nat_le 64 i || not (has_bit dead i)
+
+-- the slots that stay while those of the bits that are left are to be cleared yet
+abbrev pub stays_yet : ℕ → ℕ → ℕ → Bool
+stays_yet dead left i = stays_but dead i || has_bit left i
+
+-- where those of the first n alone are looked at
+abbrev pub stays_until : ℕ → (ℕ → Bool) → ℕ → Bool
+stays_until n test i = nat_le n i || test i

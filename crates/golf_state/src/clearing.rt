@@ -1,0 +1,57 @@
+//! Slots that no instruction can read any more, after a turn.
+
+ghost use Rattle.std.specs.Prelude.{◌≡◌, Some};
+ghost use Rattle.golf_model.specs.Views.{frame_view, frame_views, goroutine_view};
+ghost use Rattle.golf_model.specs.Clearing.{mask_at, cleared};
+ghost use Rattle.golf_model.specs.Waking.{on_top};
+ghost use Rattle.golf_state.specs.Clearing.{tidied};
+ghost use Rattle.golf_state.specs.Roominess.{IsReadyIn};
+
+use crate::frames::top_mut;
+use crate::places::is_running;
+use golf_base::List;
+use golf_data::{Code, Frame, Goroutine, Leaving};
+
+// The mask of a position of a function.
+fn mask_at(code: &Code, function: u32, at: u32) -> Option<u64>
+    ensures { result ≡ mask_at code.now function at }
+{
+    let function = code.functions.as_slice().get(function as usize)?;
+    function.live.as_slice().get(at as usize).copied()
+}
+
+// The slots of a frame that is not leaving which no instruction from its next one on can read hold
+// 0; in a frame that is leaving all do.
+fn clear_frame(code: &Code, frame: &mut Frame)
+    ensures { frame_view frame.new ≡ cleared code.now (frame_view frame.old) }
+{
+    match frame.leaving {
+        Leaving::No => {
+            if let Some(mask) = mask_at(code, frame.function, frame.at) {
+                frame.slots.clear_under(mask);
+            }
+        }
+        Leaving::Returning(_) => frame.slots.clear_all(),
+        Leaving::Unwinding(_) => frame.slots.clear_all(),
+    }
+}
+
+// The innermost frame is cleared, if there is one.
+fn clear_top(code: &Code, frames: &mut List<Frame>)
+    ensures { frame_views frames.new ≡ on_top (cleared code.now) (frame_views frames.old) }
+{
+    if !frames.is_empty() {
+        clear_frame(code, top_mut(frames));
+    }
+}
+
+/// The innermost frame of a goroutine is cleared, if the goroutine runs.
+pub fn clear_goroutine(code: &Code, goroutine: &mut Goroutine)
+    ensures cleared { goroutine_view goroutine.new ≡ tidied code.now (goroutine_view goroutine.old) }
+    ensures ready { IsReadyIn goroutine.old.mode goroutine.old.frames → IsReadyIn goroutine.new.mode goroutine.new.frames }
+    ensures mode { goroutine.new.mode ≡ goroutine.old.mode }
+{
+    if is_running(&goroutine.mode) {
+        clear_top(code, &mut goroutine.frames);
+    }
+}
