@@ -2,16 +2,23 @@
 //!
 //! With the words SHAPE NODES MARKERS it makes a graph of that shape (`list`, `shuffled`, `tree`,
 //! `quad`, `random` or `dense`) with so many nodes, marks it by so many markers, 0 for the plain marking in one thread, and
-//! prints what that took. With no word it marks a small graph of each shape, and prints how many
-//! nodes are marked.
+//! prints what that took. With the words `certificate SHAPE PLACES` it marks a graph in one thread,
+//! certifies the marking, checks the certificate and prepares the reasons of all sleepers, and
+//! prints what each took. Two more shapes are `star`, and `relay`, half of whose places are
+//! sleepers. With no word it marks a small graph of each shape, and prints how many nodes are
+//! marked.
 #![tactic(auto)]
 
+mod certificate;
+mod graphs;
 mod measure;
 mod order;
 
+use certificate::measure_certificate;
 use golf_trials::{BenchFault, Shape, shaped};
+use graphs::graph_of;
 use measure::{count_marked, measure};
-use order::{Order, read_order};
+use order::{Order, read_certificate_order, read_order};
 use std::env;
 
 /// All shapes.
@@ -37,6 +44,12 @@ fn main(rt: HostRuntime) -> Result<(), BenchFault> {
         }
         return Ok(());
     }
+    if let Some(order) = read_certificate_order(words.as_slice()) {
+        let graph = graph_of(rt.alloc(), order.places, order.count)?;
+        let took = measure_certificate(&rt, rt.alloc(), &graph)?;
+        println!(rt; "{:?}, {} places: {took}", order.places, order.count)?;
+        return Ok(());
+    }
     let Some(
         Order {
             shape,
@@ -46,6 +59,9 @@ fn main(rt: HostRuntime) -> Result<(), BenchFault> {
     ) = read_order(words.as_slice())
     else {
         eprintln!(rt; "usage: golf_bench [list|shuffled|tree|quad|random|dense NODES MARKERS]")?;
+        eprintln!(rt;
+            "       golf_bench certificate list|shuffled|tree|quad|random|dense|star|relay PLACES"
+        )?;
         return Ok(());
     };
     let graph = shaped(rt.alloc(), shape, nodes)?;

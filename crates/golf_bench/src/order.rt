@@ -2,6 +2,7 @@
 
 ghost use Rattle.std.specs.Prelude.{◌≤◌, IfSome};
 
+use crate::graphs::Places;
 use golf_trials::Shape;
 
 /// A measurement.
@@ -11,6 +12,13 @@ pub(crate) struct Order {
     pub(crate) nodes: u32,
     /// How many markers, or 0 for the plain marking.
     pub(crate) markers: u32,
+}
+
+/// A measurement of certificates.
+#[derive(Clone, Copy, Debug, PartialEq, Eq)]
+pub(crate) struct CertificateOrder {
+    pub(crate) places: Places,
+    pub(crate) count: u32,
 }
 
 fn shape_of(word: &str) -> Option<Shape> {
@@ -43,4 +51,22 @@ pub(crate) fn read_order(words: &[String]) -> Option<Order>
         nodes,
         markers,
     })
+}
+
+fn places_of(word: &str) -> Option<Places> {
+    match word {
+        "star" => Some(Places::Star),
+        "relay" => Some(Places::Relay),
+        _ => Some(Places::Nodes(shape_of(word)?)),
+    }
+}
+
+/// The measurement of certificates that the words ask for.
+pub(crate) fn read_certificate_order(words: &[String]) -> Option<CertificateOrder> {
+    if words.len() != 3 || words[0].as_str() != "certificate" {
+        return None;
+    }
+    let places = places_of(words[1].as_str())?;
+    let count = words[2].parse::<u32>().ok()?;
+    Some(CertificateOrder { places, count })
 }

@@ -1,7 +1,7 @@
 -- What the ends of a call mean, by its words.
 use Rattle.std.proofs.Common.{◌≡◌, ◌≤◌, ◌<◌, ◌+◌, ℕ, List, [], ◌∷◌, ◌++◌, length, length-append, refl, sym, subst, ap, ◌∙◌, ◌⊎◌, inl, inr, append-nil, arith}
 use Rattle.std.specs.Prelude.{Option, Some, None, IfSome, replicate}
-use Rattle.std.specs.Io.KnownBytes.{Keeps, Consumes, IsAtEnd}
+use Rattle.std.specs.Io.KnownBytes.{Appends, Keeps, Consumes, IsAtEnd}
 use Rattle.std.proofs.KnownBytes.{Keeps-refl}
 use Rattle.std.proofs.lemmas.List.{length-replicate}
 use Rattle.golf_base.specs.Causes.{Rose, ReadsSome}
@@ -15,10 +15,10 @@ use Rattle.golf_texts.specs.declared.status.Status.TheVariants as s
 use Rattle.golf_texts.specs.declared.status.TheConstants.{LIMIT, USAGE, READ_FAULT, TOO_LONG, NO_MEMORY}
 use Rattle.golf_texts.specs.Writes.{Write}
 use Rattle.golf_run.specs.HasRun.{Sinks, sinks, GotWrites, HasFailed, IsSteady}
-use Rattle.golf_command.specs.Meaning.{IsLine, IsNoLine, writes_for, IsFileOf, Meaning}
+use Rattle.golf_command.specs.Meaning.{IsLine, IsNoLine, out_for, err_for, IsFileOf, Meaning}
 use Rattle.golf_command.specs.Meaning.RefusedBy.{TooLong}
 use Rattle.golf_command.specs.Meaning.Meaning.{Misused, Refused, Runs}
-use Rattle.golf_command.specs.Means.{View, seen, FileMeans, RunsWhole, Says, IsRunEnd, LineMeans, UsageMeans, SinkCauses, SourceCauses, Causes, IsQuiet, FileTells, LineTells, Tells}
+use Rattle.golf_command.specs.Means.{View, seen, FileMeans, RunsWhole, Says, IsRunEnd, LineMeans, UsageMeans, SinkCauses, SourceCauses, Causes, IsQuiet, GotMeaning, FileTells, LineTells, IsUntouched, Tells}
 use Rattle.golf_command.proofs.Sinking.{some-rose}
 use Rattle.golf_command.proofs.Filing.{refused-tells, wanting-tells}
 
@@ -104,7 +104,7 @@ long-file (Some xs) (Some ys) h = (xs, refl, omega (arith, ap length h.1, length
 pub too-long : (options : Options) (left left' : Option (List ℕ)) (rf rf' : ℕ) (r : Status) (a b : Sinks) → ReadsSome left left' LIMIT → rf' ≡ rf → Says s.Refused TOO_LONG.now r a b → LineTells (Line.Run options) r (seen left rf a) (seen left' rf' b)
 too-long options left left' rf rf' r a b more same h =
     let file = long-file left left' more in
-    file-tells (Line.Run options) file.0 left left' rf rf' r a b file.1 same (λ o is ran. absurd (no-run h ran)) (refused-tells (Line.Run options) file.0 a b TOO_LONG.now r (TooLong file.2) h)
+    file-tells (Line.Run options) file.0 left left' rf rf' r a b file.1 same (λ o is ran. absurd (no-run h ran)) (refused-tells (Line.Run options) file.0 a b options refl TOO_LONG.now r (TooLong file.2) h)
   where
     no-run : Says s.Refused TOO_LONG.now r a b → IsRunEnd r → ⊥
     no-run (inl e) ran = subst IsRunEnd e.0 ran
@@ -131,24 +131,30 @@ module _ (words : List (List ℕ)) (left left' : Option (List ℕ)) (rf rf' : �
   after = seen left' rf' b
 
   abbrev Whole : Status → Type 0
-  Whole r = (r ≡ s.Memory) ⊎ ((writes : List Write) × Meaning words left r writes × GotWrites writes a b)
+  Whole r = (r ≡ s.Memory) ⊎ GotMeaning words r before after
 
   module _ (quiet : IsQuiet before after) where
     -- a line that says why nothing was done
-    said : (status r : Status) (text : List ℕ) → Says status text r a b → (status ≡ s.Memory) ⊎ Meaning words left status (Write.ToErr text ∷ []) → Whole r
+    line-got : (r : Status) (text : List ℕ) → Meaning words left r [] text → GotWrites (Write.ToErr text ∷ []) a b → GotMeaning words r before after
+    line-got r text why got = record { out = []; err = text; meaning = why; got_out = got.0; got_err = subst (Appends a.err b.err) (append-nil text) got.1 }
+
+    said : (status r : Status) (text : List ℕ) → Says status text r a b → (status ≡ s.Memory) ⊎ Meaning words left status [] text → Whole r
     said status r text (inl e) (inl want) = inl (e.0 ∙ want)
-    said status r text (inl e) (inr why) = inr (Write.ToErr text ∷ [], subst (λ t. Meaning words left t (Write.ToErr text ∷ [])) (sym e.0) why, e.1)
+    said status r text (inl e) (inr why) = inr (line-got r text (subst (λ t. Meaning words left t [] text) (sym e.0) why) e.1)
     said status r text (inr e) why = absurd (loud (Write.ToErr text) left left' rf rf' a b quiet e.1.failed)
 
     ran : (line : Line) (bytes : List ℕ) (r : Status) → IsLine words line → IsFileOf line left bytes → RunsWhole line bytes r a b → Whole r
-    ran line bytes r is file h = inr (writes_for line (CodeOf h.file), subst (λ t. Meaning words left t (writes_for line (CodeOf h.file))) (sym h.status) (Runs line bytes h.file is file h.accepts), h.got)
+    ran line bytes r is file h =
+        let out = out_for line (CodeOf h.file) in
+        let err = err_for line (CodeOf h.file) in
+        inr (record { out = out; err = err; meaning = subst (λ t. Meaning words left t out err) (sym h.status) (Runs line bytes h.file is file h.accepts); got_out = h.out; got_err = h.err })
 
     of-file : (line : Line) (bytes : List ℕ) (r : Status) → IsLine words line → IsFileOf line left bytes → FileMeans line bytes r a b → Whole r
     of-file line bytes s.Clean is file m = ran line bytes s.Clean is file m
     of-file line bytes s.Found is file m = ran line bytes s.Found is file m
     of-file line bytes s.Crashed is file m = ran line bytes s.Crashed is file m
     of-file line bytes s.Spent is file m = ran line bytes s.Spent is file m
-    of-file line bytes s.Refused is file m = inr (Write.ToErr m.0 ∷ [], Refused line bytes m.0 is file m.1, m.2)
+    of-file line bytes s.Refused is file m = inr (line-got s.Refused m.text (Refused m.options bytes m.text (subst (IsLine words) m.is_run is) (subst (λ l. IsFileOf l left bytes) m.is_run file) m.why) m.got)
     of-file line bytes s.Usage is file m = absurd m
     of-file line bytes s.ReadFault is file m = absurd m
     of-file line bytes s.WriteFault is file m = absurd (loud m.1.0 left left' rf rf' a b quiet m.1.2.failed)
@@ -166,7 +172,7 @@ module _ (words : List (List ℕ)) (left left' : Option (List ℕ)) (rf rf' : �
     of-words (Some line) r is m u = of-line line r is (m line is)
     of-words None r is m u = of-none r is (u is)
 
-  tells : (r : Status) → ((line : Line) → IsLine words line → LineMeans line r before after) → (IsNoLine words → UsageMeans r before after) → (((options : Options) → IsLine words (Line.Run options) → ⊥) → Keeps left left') → Causes r before after → Tells words r before after
+  tells : (r : Status) → ((line : Line) → IsLine words line → LineMeans line r before after) → (IsNoLine words → UsageMeans r before after) → (((options : Options) → IsLine words (Line.Run options) → ⊥) → IsUntouched before after) → Causes r before after → Tells words r before after
   tells r means usage unread causes = record { line = means; usage = usage; unread = unread; causes = causes; complete = λ quiet. of-words quiet (line_of words) r refl means usage }
 
   -- the words are a run line
@@ -177,12 +183,15 @@ module _ (words : List (List ℕ)) (left left' : Option (List ℕ)) (rf rf' : �
       (λ none. absurd (none options is))
       h.causes
 
+  untouched : left' ≡ left → rf' ≡ rf → IsUntouched before after
+  untouched same counts = record { left = subst (Keeps left) (sym same) (Keeps-refl left); faults = counts }
+
   -- they ask for a generated file
-  pub tells-generate : (n : ℕ) (r : Status) → IsLine words (Line.Generate n) → LineTells (Line.Generate n) r before after → left' ≡ left → Tells words r before after
-  tells-generate n r is h same = tells r
+  pub tells-generate : (n : ℕ) (r : Status) → IsLine words (Line.Generate n) → LineTells (Line.Generate n) r before after → left' ≡ left → rf' ≡ rf → Tells words r before after
+  tells-generate n r is h same counts = tells r
       (λ other is'. subst (λ l. LineMeans l r before after) (same-line (Line.Generate n) other (sym is ∙ is')) h.means)
       (λ none. absurd (not-none (Line.Generate n) (sym is ∙ none)))
-      (λ _. subst (Keeps left) (sym same) (Keeps-refl left))
+      (λ _. untouched same counts)
       h.causes
 
   says-causes : (status r : Status) (text : List ℕ) → ((v w : View) → w.read_faults ≡ v.read_faults → IsSteady v.sinks w.sinks → Causes status v w) → rf' ≡ rf → Says status text r a b → Causes r before after
@@ -194,14 +203,14 @@ module _ (words : List (List ℕ)) (left left' : Option (List ℕ)) (rf rf' : �
   tells-usage r none h same counts = tells r
       (λ line is. absurd (not-none line (sym is ∙ none)))
       (λ _. inl h)
-      (λ _. subst (Keeps left) (sym same) (Keeps-refl left))
+      (λ _. untouched same counts)
       (says-causes s.Usage r USAGE.now (λ v w x y. record { source = x; sinks = y }) counts h)
 
   -- memory was wanting for the words
   pub tells-wanting : (r : Status) → Says s.Memory NO_MEMORY.now r a b → left' ≡ left → rf' ≡ rf → Tells words r before after
   tells-wanting r h same counts =
       let causes : Causes r before after = says-causes s.Memory r NO_MEMORY.now (λ v w x y. record { source = x; sinks = y }) counts h in
-      tells r (λ line is. (wanting line left left' rf rf' r a b counts h).means) (λ _. inr h) (λ _. subst (Keeps left) (sym same) (Keeps-refl left)) causes
+      tells r (λ line is. (wanting line left left' rf rf' r a b counts h).means) (λ _. inr h) (λ _. untouched same counts) causes
 
 -- a line that asks for a generated file reads nothing
 pub generated-line : (n : ℕ) (left : Option (List ℕ)) (rf : ℕ) (r : Status) (a b : Sinks) → FileTells (Line.Generate n) (generated_file n) r a b → LineTells (Line.Generate n) r (seen left rf a) (seen left rf b)

@@ -13,19 +13,21 @@ use Rattle.golf_texts.specs.declared.status.Status.{Status}
 use Rattle.golf_texts.specs.declared.status.Status.TheVariants as s
 use Rattle.golf_texts.specs.declared.status.TheConstants.{LIMIT, NO_MEMORY}
 use Rattle.golf_texts.specs.Texts.{lexical_line, syntax_line, rule_line}
-use Rattle.golf_texts.specs.Meaning.{out_of, err_of, status_by, status_of, last_of, reports_of, anyone_reported, events_of}
-use Rattle.golf_texts.specs.Writes.{Write, writes_of}
+use Rattle.golf_texts.specs.Meaning.{status_by, status_of, last_of, reports_of, anyone_reported, events_of}
+use Rattle.golf_texts.specs.Writes.{Write}
+use Rattle.golf_model.proofs.Agreeing.{dead-sound, dead-complete}
 use Rattle.golf_laws.proofs.MainLaws as Law
+use Rattle.golf_never_stuck.specs.Reached.{IsProgram}
 use Rattle.golf_never_stuck.proofs.Reaching.{reached-moves-on}
+use Rattle.golf_never_stuck.proofs.Plain.{plain-runs-go-on}
 use Rattle.golf_reader.specs.declared.refusal.Refusal.{Refusal}
 use Rattle.golf_reader.specs.declared.refusal.Refusal.TheVariants as refusals
 use Rattle.golf_reader.specs.Refusals.{IsRefusedBy, HasTypedTree}
-use Rattle.golf_run.proofs.Writing.{out-whole, err-whole}
 use Rattle.golf_run.specs.HasRun.{Sinks, sinks, GotWrites, GotWhole, IsSteady}
 use Rattle.golf_command.specs.Ends.{EndsWith, Refuses}
-use Rattle.golf_command.specs.Meaning.{options_of, writes_for, Accepts, AreTrue, MovesAlways, RefusedBy}
+use Rattle.golf_command.specs.Meaning.{options_of, out_for, err_for, writes_for, Accepts, AreTrue, MovesAlways, RefusedBy}
 use Rattle.golf_command.specs.Meaning.RefusedBy.{Unlexed, Unparsed, Untyped}
-use Rattle.golf_command.specs.Means.{Breaks, AreFirst, MayFollow, RunsWhole, Says, FileTells}
+use Rattle.golf_command.specs.Means.{Breaks, IsSound, AreFirst, MayFollow, RunsWhole, Says, FileTells}
 use Rattle.golf_command.specs.Means.IsCause.{Refusal as Refusing, Wanting}
 use Rattle.golf_command.specs.Means.MayFollow.{Next, Cause}
 use Rattle.golf_command.proofs.Sinking.{gets-more, breaks-later, some-rose, says}
@@ -33,40 +35,50 @@ use Rattle.golf_command.proofs.Sinking.{gets-more, breaks-later, some-rose, says
 -- the reports of a run are true
 are-true : (code : Code) (options : Options) → AreTrue code options
 unfolding reports_of
-are-true code options = record { each = Law.book_tells_of_each code (events_of options) options.recover; still = Law.reported_are_still code (events_of options) }
+are-true code options = record {
+  each = Law.book_tells_of_each code (events_of options) options.recover;
+  dead = λ p g i. (dead-sound p g, dead-complete p g);
+  still = λ p g i d. Law.reported_are_still code (events_of options) p g i (dead-complete p g d);
+}
 
 -- the code of a file that the program accepts is never stuck
-moves-always : (bytes : List ℕ) (file : File) → Accepts bytes file → MovesAlways (CodeOf file)
-moves-always bytes file a = λ s c leads going. reached-moves-on (CodeOf file) s c (record { file = file; program = record { good = a.typed.tree.reads.form.good; typed = a.typed.keeps }; coded = refl; leads = leads }) going
+moves-always : (bytes : List ℕ) (file : File) (options : Options) → Accepts bytes file → MovesAlways (CodeOf file) options
+moves-always bytes file options a =
+    let program : IsProgram file = record { good = a.typed.tree.reads.form.good; typed = a.typed.keeps } in
+    let plain = plain-runs-go-on file program in record {
+      run = plain.0;
+      continuations = plain.1 (events_of options);
+      moves = λ s c leads going. reached-moves-on (CodeOf file) s c (record { file = file; program = program; coded = refl; leads = leads }) going;
+    }
 
--- whole texts are all writes
-whole-writes : (code : Code) (options : Options) (old new : Sinks) → Appends old.out new.out (out_of code options) → Appends old.err new.err (err_of code options) → GotWrites (writes_of code options) old new
-whole-writes code options old new out err = (subst (Appends old.out new.out) (sym (out-whole code options)) out, subst (Appends old.err new.err) (sym (err-whole code options)) err)
+sound-run : (line : Line) (bytes : List ℕ) (file : File) → Accepts bytes file → IsSound line (CodeOf file)
+sound-run line bytes file a = record { reports = are-true (CodeOf file) (options_of line); moves = moves-always bytes file (options_of line) a }
 
 module _ (line : Line) (bytes : List ℕ) where
   none-first : AreFirst line bytes []
-  none-first = record { runs = λ file a. (writes_for line (CodeOf file), refl); refused = λ none. refl }
+  none-first = record { runs = λ file a. record { later = writes_for line (CodeOf file); order = refl; sound = sound-run line bytes file a }; refused = λ none. refl }
 
   module _ (old new : Sinks) where
     -- a write failed behind these
     broken : (done : List Write) (cut : Write) (r : Status) → MayFollow line bytes done cut → r ≡ s.WriteFault → Breaks old new done cut → FileTells line bytes r old new
     broken done cut r why is breaks = subst (λ t. FileTells line bytes t old new) (sym is) (record { means = (done, (cut, why, breaks)); causes = some-rose cut old new breaks.failed })
 
-    pub refused-tells : (text : List ℕ) (r : Status) → RefusedBy bytes text → Says s.Refused text r old new → FileTells line bytes r old new
-    refused-tells text r why (inl e) = subst (λ t. FileTells line bytes t old new) (sym e.0) (record { means = (text, why, e.1); causes = e.2 })
-    refused-tells text r why (inr e) = broken [] (Write.ToErr text) r (Cause text none-first (Refusing text why)) e.0 e.1
+    pub refused-tells : (options : Options) → line ≡ Line.Run options → (text : List ℕ) (r : Status) → RefusedBy bytes text → Says s.Refused text r old new → FileTells line bytes r old new
+    refused-tells options run text r why (inl e) =
+        subst (λ t. FileTells line bytes t old new) (sym e.0) (record { means = record { options = options; is_run = run; text = text; why = why; got = e.1 }; causes = e.2 })
+    refused-tells options run text r why (inr e) = broken [] (Write.ToErr text) r (Cause text none-first (Refusing options text run why)) e.0 e.1
 
     pub wanting-tells : (r : Status) → Says s.Memory NO_MEMORY.now r old new → FileTells line bytes r old new
     wanting-tells r (inl e) = subst (λ t. FileTells line bytes t old new) (sym e.0) (record { means = ([], none-first, e.1); causes = e.2 })
     wanting-tells r (inr e) = broken [] (Write.ToErr NO_MEMORY.now) r (Cause NO_MEMORY.now none-first Wanting) e.0 e.1
 
-  -- the file is refused
-  module _ (within : length bytes ≤ LIMIT) (out : Option (List ℕ)) (of : ℕ) (err err' : Option (List ℕ)) (ef ef' : ℕ) where
+  -- the file of a run line is refused
+  module _ (options : Options) (run : line ≡ Line.Run options) (within : length bytes ≤ LIMIT) (out : Option (List ℕ)) (of : ℕ) (err err' : Option (List ℕ)) (ef ef' : ℕ) where
     abbrev Told : Status → Type 0
     Told r = FileTells line bytes r (sinks out of err ef) (sinks out of err' ef')
 
     by-text : (text : List ℕ) (r : Status) → RefusedBy bytes text → EndsWith r s.Refused text err err' ef ef' → Told r
-    by-text text r why e = refused-tells (sinks out of err ef) (sinks out of err' ef') text r why (says out of err err' ef ef' s.Refused r text e)
+    by-text text r why e = refused-tells (sinks out of err ef) (sinks out of err' ef') options run text r why (says out of err err' ef ef' s.Refused r text e)
 
     by-want : (r : Status) → EndsWith r s.Memory NO_MEMORY.now err err' ef ef' → Told r
     by-want r e = wanting-tells (sinks out of err ef) (sinks out of err' ef') r (says out of err err' ef ef' s.Memory r NO_MEMORY.now e)
@@ -84,17 +96,20 @@ module _ (line : Line) (bytes : List ℕ) where
   -- the file has this code
   module _ (file : File) (code : Code) (accepted : Accepts bytes file) (is : code ≡ CodeOf file) (all : (other : File) → HasTypedTree bytes other → code ≡ CodeOf other) where
     first-of : (done more : List Write) → writes_for line code ≡ done ++ more → AreFirst line bytes done
-    first-of done more split = record { runs = λ other a. (more, ap (writes_for line) (sym (all other a.typed)) ∙ split); refused = λ none. absurd (none file accepted) }
+    first-of done more split = record {
+      runs = λ other a. record { later = more; order = ap (writes_for line) (sym (all other a.typed)) ∙ split; sound = sound-run line bytes other a };
+      refused = λ none. absurd (none file accepted);
+    }
 
     module _ (old new : Sinks) where
-      whole-run : (r : Status) → r ≡ status_of code (options_of line) → GotWrites (writes_for line code) old new → RunsWhole line bytes r old new
-      whole-run r status gets = record {
+      whole-run : (r : Status) → r ≡ status_of code (options_of line) → Appends old.out new.out (out_for line code) → Appends old.err new.err (err_for line code) → RunsWhole line bytes r old new
+      whole-run r status out err = record {
         file = file;
         accepts = accepted;
         status = status ∙ ap (λ c. status_of c (options_of line)) is;
-        got = subst (λ c. GotWrites (writes_for line c) old new) is gets;
-        reports = are-true (CodeOf file) (options_of line);
-        moves = moves-always bytes file accepted;
+        out = subst (λ c. Appends old.out new.out (out_for line c)) is out;
+        err = subst (λ c. Appends old.err new.err (err_for line c)) is err;
+        sound = sound-run line bytes file accepted;
       }
 
       status-runs : (o : Option Ending) (b : Bool) → RunsWhole line bytes (status_by b o) old new → IsSteady old new → FileTells line bytes (status_by b o) old new
@@ -105,12 +120,12 @@ module _ (line : Line) (bytes : List ℕ) where
       status-runs None b h steady = record { means = h; causes = steady }
 
       -- the run went to its end
-      pub ran-tells : (r : Status) → r ≡ status_of code (options_of line) → GotWrites (writes_for line code) old new → IsSteady old new → FileTells line bytes r old new
+      pub ran-tells : (r : Status) → r ≡ status_of code (options_of line) → Appends old.out new.out (out_for line code) → Appends old.err new.err (err_for line code) → IsSteady old new → FileTells line bytes r old new
       unfolding status_of
-      ran-tells r status gets steady =
+      ran-tells r status out err steady =
           let options = options_of line in
           subst (λ t. FileTells line bytes t old new) (sym status)
-          (status-runs (ending (last_of code options)) (anyone_reported (reports_of code options)) (subst (λ t. RunsWhole line bytes t old new) status (whole-run r status gets)) steady)
+          (status-runs (ending (last_of code options)) (anyone_reported (reports_of code options)) (subst (λ t. RunsWhole line bytes t old new) status (whole-run r status out err)) steady)
 
       -- a write failed in it
       pub failed-tells : (done rest : List Write) (cut : Write) → writes_for line code ≡ done ++ (cut ∷ rest) → Breaks old new done cut → FileTells line bytes s.WriteFault old new
@@ -140,4 +155,4 @@ module _ (line : Line) (bytes : List ℕ) where
 -- a run line's run went to its end
 pub went-tells : (options : Options) (bytes : List ℕ) (file : File) (code : Code) → Accepts bytes file → code ≡ CodeOf file → ((other : File) → HasTypedTree bytes other → code ≡ CodeOf other)
     → (old new : Sinks) (r : Status) → GotWhole r code options old new → IsSteady old new → FileTells (Line.Run options) bytes r old new
-went-tells options bytes file code accepted is all old new r got steady = ran-tells (Line.Run options) bytes file code accepted is all old new r got.status (whole-writes code options old new got.out got.err) steady
+went-tells options bytes file code accepted is all old new r got steady = ran-tells (Line.Run options) bytes file code accepted is all old new r got.status got.out got.err steady

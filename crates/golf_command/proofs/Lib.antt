@@ -2,3 +2,4 @@ mod Sinking
 mod Filing
 mod Surveying
 mod Calling
+mod NeverRefused

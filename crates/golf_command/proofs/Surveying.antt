@@ -8,16 +8,14 @@ use Rattle.golf_data.specs.declared.code.Code.{Code}
 use Rattle.golf_grammar.specs.declared.declarations.File.{File}
 use Rattle.golf_code_of.specs.Files.{CodeOf}
 use Rattle.golf_reader.specs.Refusals.{HasTypedTree}
-use Rattle.golf_generate.specs.File.{summary}
 use Rattle.golf_words.specs.declared.line.Line.{Line}
 use Rattle.golf_texts.specs.declared.status.Status.{Status}
 use Rattle.golf_texts.specs.declared.status.Status.TheVariants as s
-use Rattle.golf_texts.specs.Totals.{totals_of}
-use Rattle.golf_texts.specs.Meaning.{reports_of}
+use Rattle.golf_texts.specs.Meaning.{end_of}
 use Rattle.golf_texts.specs.Writes.{Write}
 use Rattle.golf_run.specs.HasRun.{Sinks, sinks, GotWrites, WasCut}
 use Rattle.golf_command.specs.declared.generated.Survey.{Survey}
-use Rattle.golf_command.specs.Generating.{generated_options, generated_writes, summary_of}
+use Rattle.golf_command.specs.Generating.{generated_options, generated_summary, generated_writes}
 use Rattle.golf_command.specs.Surveys.{IsSurvey, WroteBoth, HasSurveyed}
 use Rattle.golf_command.specs.Meaning.{Accepts}
 use Rattle.golf_command.specs.Means.{FileTells}
@@ -28,12 +26,20 @@ pub survey-writes : (of : Survey) (parts : ℕ) (code : Code) → IsSurvey of pa
 unfolding generated_writes
 survey-writes of parts code h =
     ap (λ t. Write.ToOut t ∷ Write.ToErr of.line ∷ []) h.summary
-    ∙ ap (λ t. Write.ToOut (summary (summary_of parts (totals_of (reports_of code generated_options)))) ∷ Write.ToErr t ∷ []) h.line
+    ∙ ap (λ t. Write.ToOut (generated_summary parts code) ∷ Write.ToErr t ∷ []) h.line
+
+-- the texts of these writes
+texts-got : (parts : ℕ) (code : Code) (old new : Sinks) → GotWrites (generated_writes parts code) old new → Appends old.out new.out (generated_summary parts code) × Appends old.err new.err (end_of code generated_options)
+unfolding generated_writes
+texts-got parts code old new got = (
+  subst (Appends old.out new.out) (append-nil (generated_summary parts code)) got.0,
+  subst (Appends old.err new.err) (append-nil (end_of code generated_options)) got.1,
+)
 
 -- the generated file has this code
 pub surveyed-tells : (parts : ℕ) (bytes : List ℕ) (file : File) (code : Code) → Accepts bytes file → code ≡ CodeOf file → ((other : File) → HasTypedTree bytes other → code ≡ CodeOf other)
     → (old new : Sinks) (r : Status) → HasSurveyed r parts code old new → FileTells (Line.Generate parts) bytes r old new
-surveyed-tells parts bytes file code accepted is all old new r (inl h) = ran-tells (Line.Generate parts) bytes file code accepted is all old new r h.0 h.1 h.2
+surveyed-tells parts bytes file code accepted is all old new r (inl h) = let texts = texts-got parts code old new h.1 in ran-tells (Line.Generate parts) bytes file code accepted is all old new r h.0 texts.0 texts.1 h.2
 surveyed-tells parts bytes file code accepted is all old new r (inr (inl h)) =
     subst (λ t. FileTells (Line.Generate parts) bytes t old new) (sym h.0)
     (failed-tells (Line.Generate parts) bytes file code accepted is all old new h.1.done h.1.later h.1.cut h.1.order

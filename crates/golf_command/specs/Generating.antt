@@ -19,7 +19,10 @@ generated_options = record { schedule = Schedule.Rotate; turns = 10000000; every
 abbrev pub summary_of : ℕ → Totals → Summary
 summary_of n t = record { parts = n; lines = newlines (generated_file n); collections = t.collections; reported = t.reported; kept = t.kept; reclaimed = t.reclaimed; objects = t.objects }
 
--- a summary for standard output, and how the run ended for standard error
+-- the line that sums the run up
+unfoldable pub generated_summary : ℕ → Code → List ℕ
+generated_summary n code = summary (summary_of n (totals_of (reports_of code generated_options)))
+
+-- it goes to standard output, and how the run ended to standard error
 unfoldable pub generated_writes : ℕ → Code → List Write
-generated_writes n code =
-    Write.ToOut (summary (summary_of n (totals_of (reports_of code generated_options)))) ∷ Write.ToErr (end_of code generated_options) ∷ []
+generated_writes n code = Write.ToOut (generated_summary n code) ∷ Write.ToErr (end_of code generated_options) ∷ []

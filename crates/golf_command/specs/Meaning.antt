@@ -1,10 +1,10 @@
--- What the words and a file mean: how the program ends, and what it writes, in its order.
-use Rattle.std.specs.Prelude.{◌≡◌, ℕ, ◌≤◌, ◌<◌, List, [], ◌∷◌, length, Option, Some, None, IfSome}
+-- What the words and a file mean: how the program ends, and what it writes.
+use Rattle.std.specs.Prelude.{◌≡◌, ℕ, ◌≤◌, ◌<◌, ◌↔◌, List, [], length, Option, Some, None, IfSome}
 use Rattle.golf_theory.specs.Membership.{In}
 use Rattle.golf_data.specs.declared.code.Code.{Code}
-use Rattle.golf_model.specs.State.{State, ending}
-use Rattle.golf_model.specs.Living.{dead}
-use Rattle.golf_model.specs.Running.{stops}
+use Rattle.golf_model.specs.State.{State, start, ending}
+use Rattle.golf_model.specs.Living.{dead, Dead}
+use Rattle.golf_model.specs.Running.{Event, run, stops}
 use Rattle.golf_model.specs.Futures.{Leads, Still}
 use Rattle.golf_laws.specs.Telling.{TellsOfEach}
 use Rattle.golf_model.specs.Turn.{MovesOn}
@@ -19,9 +19,9 @@ use Rattle.golf_texts.specs.declared.status.Status.{Status}
 use Rattle.golf_texts.specs.declared.status.Status.TheVariants as s
 use Rattle.golf_texts.specs.declared.status.TheConstants.{LIMIT, USAGE, TOO_LONG}
 use Rattle.golf_texts.specs.Texts.{lexical_line, syntax_line, rule_line}
-use Rattle.golf_texts.specs.Meaning.{events_of, reports_of, status_of}
+use Rattle.golf_texts.specs.Meaning.{events_of, out_of, reports_of, end_of, err_of, status_of}
 use Rattle.golf_texts.specs.Writes.{Write, writes_of}
-use Rattle.golf_command.specs.Generating.{generated_options, generated_writes}
+use Rattle.golf_command.specs.Generating.{generated_options, generated_summary, generated_writes}
 
 -- ---- a line
 
@@ -38,7 +38,16 @@ abbrev pub options_of : Line → Options
 options_of (Line.Run options) = options
 options_of (Line.Generate n) = generated_options
 
--- what its run writes
+-- what standard output gets of its run, and what standard error gets
+abbrev pub out_for : Line → Code → List ℕ
+out_for (Line.Run options) code = out_of code options
+out_for (Line.Generate n) code = generated_summary n code
+
+abbrev pub err_for : Line → Code → List ℕ
+err_for (Line.Run options) code = err_of code options
+err_for (Line.Generate n) code = end_of code generated_options
+
+-- what its run writes, in its order
 abbrev pub writes_for : Line → Code → List Write
 writes_for (Line.Run options) code = writes_of code options
 writes_for (Line.Generate n) code = generated_writes n code
@@ -55,14 +64,21 @@ pub record Accepts (bytes : List ℕ) (file : File) : Type 0 where
   pub within : length bytes ≤ LIMIT
   pub typed : HasTypedTree bytes file
 
--- What the reports of a run are worth: each names, once, exactly the goroutines that are blocked outside the live set right before its collection and that no earlier one named; and whoever is so takes no step in any continuation from there.
+-- What the reports of a run are worth. Each names, once, exactly the goroutines that are dead right before its collection and that no earlier one named; these are the blocked ones outside the live set; and whoever is dead there takes no step in any continuation.
 pub record AreTrue (code : Code) (options : Options) : Type 0 where
   pub each : TellsOfEach [] (stops code (events_of options)) (reports_of code options)
-  pub still : (p : State) (g : ℕ) → In p (stops code (events_of options)) → In g (dead p) → Still code p g
+  pub dead : (p : State) (g : ℕ) → In p (stops code (events_of options)) → In g (dead p) ↔ Dead p g
+  pub still : (p : State) (g : ℕ) → In p (stops code (events_of options)) → Dead p g → Still code p g
 
--- No state that moves lead to from the opening state is stuck: whoever's turn it is, a rule of the machine fits, until the program has ended.
-abbrev pub MovesAlways : Code → Type 0
-MovesAlways code = (s : State) (c : ℕ) → Leads code s → ending s ≡ None → MovesOn code s c
+-- on the machine that frees and reclaims nothing no state that events lead on to is stuck: whoever's turn it is, a rule fits, until the program has ended
+abbrev pub GoesOnFrom : Code → State → Type 0
+GoesOnFrom code s = (events : List Event) (c : ℕ) → ending (run code s events) ≡ None → MovesOn code (run code s events) c
+
+-- No turn of the program is stuck: none of its run, none of a continuation of the state right before a collection, and none in a state that moves lead to, collections that free and remove among them.
+pub record MovesAlways (code : Code) (options : Options) : Type 0 where
+  pub run : GoesOnFrom code (start code)
+  pub continuations : (p : State) → In p (stops code (events_of options)) → GoesOnFrom code p
+  pub moves : (s : State) (c : ℕ) → Leads code s → ending s ≡ None → MovesOn code s c
 
 -- the line with which a file is refused
 pub data RefusedBy (bytes : List ℕ) : List ℕ → Type 0 where
@@ -73,7 +89,8 @@ pub data RefusedBy (bytes : List ℕ) : List ℕ → Type 0 where
 
 -- ---- both
 
-pub data Meaning (words : List (List ℕ)) (left : Option (List ℕ)) : Status → List Write → Type 0 where
-  Misused : IsNoLine words → Meaning words left s.Usage (Write.ToErr USAGE.now ∷ [])
-  Refused : (line : Line) (bytes text : List ℕ) → IsLine words line → IsFileOf line left bytes → RefusedBy bytes text → Meaning words left s.Refused (Write.ToErr text ∷ [])
-  Runs : (line : Line) (bytes : List ℕ) (file : File) → IsLine words line → IsFileOf line left bytes → Accepts bytes file → Meaning words left (status_of (CodeOf file) (options_of line)) (writes_for line (CodeOf file))
+-- the status, and what standard output and standard error get; only the file of a run line can be refused
+pub data Meaning (words : List (List ℕ)) (left : Option (List ℕ)) : Status → List ℕ → List ℕ → Type 0 where
+  Misused : IsNoLine words → Meaning words left s.Usage [] USAGE.now
+  Refused : (options : Options) (bytes text : List ℕ) → IsLine words (Line.Run options) → IsFileOf (Line.Run options) left bytes → RefusedBy bytes text → Meaning words left s.Refused [] text
+  Runs : (line : Line) (bytes : List ℕ) (file : File) → IsLine words line → IsFileOf line left bytes → Accepts bytes file → Meaning words left (status_of (CodeOf file) (options_of line)) (out_for line (CodeOf file)) (err_for line (CodeOf file))

@@ -2,8 +2,9 @@
 use Rattle.std.specs.Prelude.{◌≡◌, ℕ, ◌≤◌, ◌⊎◌, List, [], ◌∷◌, ◌++◌, map, Option, string_bytes}
 use Rattle.std.specs.declared.string.String.{String}
 use Rattle.std.specs.declared.alloc.Global.{Global}
-use Rattle.std.specs.Io.KnownBytes.{Keeps, IsAtEnd}
+use Rattle.std.specs.Io.KnownBytes.{Appends, Keeps, IsAtEnd}
 use Rattle.golf_base.specs.Causes.{Rose}
+use Rattle.golf_data.specs.declared.code.Code.{Code}
 use Rattle.golf_grammar.specs.declared.declarations.File.{File}
 use Rattle.golf_code_of.specs.Files.{CodeOf}
 use Rattle.golf_schedules.specs.declared.options.Options.{Options}
@@ -14,7 +15,7 @@ use Rattle.golf_texts.specs.declared.status.TheConstants.{USAGE, READ_FAULT, NO_
 use Rattle.golf_texts.specs.Meaning.{status_of}
 use Rattle.golf_texts.specs.Writes.{Write}
 use Rattle.golf_run.specs.HasRun.{Sinks, GotWrites, IsFrontOf, HasFailed, IsSteady}
-use Rattle.golf_command.specs.Meaning.{IsLine, IsNoLine, options_of, writes_for, IsFileOf, Accepts, AreTrue, MovesAlways, RefusedBy, Meaning}
+use Rattle.golf_command.specs.Meaning.{IsLine, IsNoLine, options_of, out_for, err_for, writes_for, IsFileOf, Accepts, AreTrue, MovesAlways, RefusedBy, Meaning}
 
 -- the bytes of the words
 abbrev pub words_of : List (String Global) → List (List ℕ)
@@ -40,29 +41,48 @@ pub record Breaks (old new : Sinks) (done : List Write) (cut : Write) : Type 0 w
 
 -- ---- what a status says of a file
 
--- the first writes of the file's run; none where no file is run
+-- the reports of the run of the code are true, and no turn of it is ever stuck
+pub record IsSound (line : Line) (code : Code) : Type 0 where
+  pub reports : AreTrue code (options_of line)
+  pub moves : MovesAlways code (options_of line)
+
+-- the first writes of a sound run of the code
+pub record BeginsRun (line : Line) (code : Code) (done : List Write) : Type 0 where
+  pub later : List Write
+  pub order : writes_for line code ≡ done ++ later
+  pub sound : IsSound line code
+
+-- the first writes of the file's run; none if no file is run
 pub record AreFirst (line : Line) (bytes : List ℕ) (done : List Write) : Type 0 where
-  pub runs : (file : File) → Accepts bytes file → (more : List Write) × (writes_for line (CodeOf file) ≡ done ++ more)
+  pub runs : (file : File) → Accepts bytes file → BeginsRun line (CodeOf file) done
   pub refused : ((file : File) → Accepts bytes file → ⊥) → done ≡ []
 
--- the text of a cause, which may stand behind them
-pub data IsCause (bytes : List ℕ) : List ℕ → Type 0 where
-  Refusal : (text : List ℕ) → RefusedBy bytes text → IsCause bytes text
-  Wanting : IsCause bytes NO_MEMORY.now
+-- the text of a cause, which may stand after them; only the file of a run line is refused
+pub data IsCause (line : Line) (bytes : List ℕ) : List ℕ → Type 0 where
+  Refusal : (options : Options) (text : List ℕ) → line ≡ Line.Run options → RefusedBy bytes text → IsCause line bytes text
+  Wanting : IsCause line bytes NO_MEMORY.now
 
--- what may be written behind them: the next write of the run, or the text of a cause
+-- what may be written after them: the next write of the run, or the text of a cause
 pub data MayFollow (line : Line) (bytes : List ℕ) (done : List Write) : Write → Type 0 where
   Next : (write : Write) → AreFirst line bytes (done ++ write ∷ []) → MayFollow line bytes done write
-  Cause : (text : List ℕ) → AreFirst line bytes done → IsCause bytes text → MayFollow line bytes done (Write.ToErr text)
+  Cause : (text : List ℕ) → AreFirst line bytes done → IsCause line bytes text → MayFollow line bytes done (Write.ToErr text)
 
--- the file was run, the sinks got all that its run writes, its reports are true, and no turn of it is ever stuck
+-- the file was run, and each sink got its whole text: what the machine that frees and reclaims nothing prints, and the reports of its book with the last line
 pub record RunsWhole (line : Line) (bytes : List ℕ) (answer : Status) (old new : Sinks) : Type 0 where
   pub file : File
   pub accepts : Accepts bytes file
   pub status : answer ≡ status_of (CodeOf file) (options_of line)
-  pub got : GotWrites (writes_for line (CodeOf file)) old new
-  pub reports : AreTrue (CodeOf file) (options_of line)
-  pub moves : MovesAlways (CodeOf file)
+  pub out : Appends old.out new.out (out_for line (CodeOf file))
+  pub err : Appends old.err new.err (err_for line (CodeOf file))
+  pub sound : IsSound line (CodeOf file)
+
+-- the file of a run line was refused, and standard error got the line that says why
+pub record IsRefused (line : Line) (bytes : List ℕ) (old new : Sinks) : Type 0 where
+  pub options : Options
+  pub is_run : line ≡ Line.Run options
+  pub text : List ℕ
+  pub why : RefusedBy bytes text
+  pub got : GotWrites (Write.ToErr text ∷ []) old new
 
 -- What a status says of a file's bytes and of what the sinks got.
 abbrev pub FileMeans : Line → List ℕ → Status → Sinks → Sinks → Type 0
@@ -70,7 +90,7 @@ FileMeans line bytes s.Clean old new = RunsWhole line bytes s.Clean old new
 FileMeans line bytes s.Found old new = RunsWhole line bytes s.Found old new
 FileMeans line bytes s.Crashed old new = RunsWhole line bytes s.Crashed old new
 FileMeans line bytes s.Spent old new = RunsWhole line bytes s.Spent old new
-FileMeans line bytes s.Refused old new = (text : List ℕ) × RefusedBy bytes text × GotWrites (Write.ToErr text ∷ []) old new
+FileMeans line bytes s.Refused old new = IsRefused line bytes old new
 FileMeans line bytes s.Usage old new = ⊥
 FileMeans line bytes s.ReadFault old new = ⊥
 FileMeans line bytes s.WriteFault old new = (done : List Write) × ((cut : Write) × MayFollow line bytes done cut × Breaks old new done cut)
@@ -134,10 +154,17 @@ pub record IsQuiet (old new : View) : Type 0 where
   pub out : Rose old.sinks.out_faults new.sinks.out_faults → ⊥
   pub err : Rose old.sinks.err_faults new.sinks.err_faults → ⊥
 
--- where no count rose, the sinks got all that the words and the file mean, or memory was wanting
+-- the sinks got all that the words and the file mean, with its status
+pub record GotMeaning (words : List (List ℕ)) (answer : Status) (old new : View) : Type 0 where
+  pub out : List ℕ
+  pub err : List ℕ
+  pub meaning : Meaning words old.left answer out err
+  pub got_out : Appends old.sinks.out new.sinks.out out
+  pub got_err : Appends old.sinks.err new.sinks.err err
+
+-- if no count rose, so it is, or memory was wanting
 abbrev pub IsComplete : List (List ℕ) → Status → View → View → Type 0
-IsComplete words answer old new =
-    IsQuiet old new → (answer ≡ s.Memory) ⊎ ((writes : List Write) × Meaning words old.left answer writes × GotWrites writes old.sinks new.sinks)
+IsComplete words answer old new = IsQuiet old new → (answer ≡ s.Memory) ⊎ GotMeaning words answer old new
 
 -- what the status of a run over a file's bytes says
 pub record FileTells (line : Line) (bytes : List ℕ) (answer : Status) (old new : Sinks) : Type 0 where
@@ -149,10 +176,15 @@ pub record LineTells (line : Line) (answer : Status) (old new : View) : Type 0 w
   pub means : LineMeans line answer old new
   pub causes : Causes answer old new
 
--- All that the status of a call says: what it means where the words are a line, and where they are not; that nothing is read but for a run line; what failed; and that nothing is lacking where nothing failed.
+-- nothing was read: the source has what it had, and its count stands still
+pub record IsUntouched (old new : View) : Type 0 where
+  pub left : Keeps old.left new.left
+  pub faults : new.read_faults ≡ old.read_faults
+
+-- All that the status of a call says: what it means if the words are a line, and if they are none; that nothing is read but for a run line; what failed; and that nothing is lacking if nothing failed.
 pub record Tells (words : List (List ℕ)) (answer : Status) (old new : View) : Type 0 where
   pub line : (line : Line) → IsLine words line → LineMeans line answer old new
   pub usage : IsNoLine words → UsageMeans answer old new
-  pub unread : ((options : Options) → IsLine words (Line.Run options) → ⊥) → Keeps old.left new.left
+  pub unread : ((options : Options) → IsLine words (Line.Run options) → ⊥) → IsUntouched old new
   pub causes : Causes answer old new
   pub complete : IsComplete words answer old new

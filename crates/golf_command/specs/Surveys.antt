@@ -1,21 +1,19 @@
 -- What a run of a generated file came to, and what was written of it.
 use Rattle.std.specs.Prelude.{◌≡◌, ℕ, ◌⊎◌, Bool, true, false, List, [], ◌∷◌}
 use Rattle.golf_data.specs.declared.code.Code.{Code}
-use Rattle.golf_generate.specs.File.{summary}
 use Rattle.golf_texts.specs.declared.status.Status.{Status}
 use Rattle.golf_texts.specs.declared.status.Status.TheVariants as s
 use Rattle.golf_texts.specs.declared.status.TheConstants.{NO_MEMORY}
-use Rattle.golf_texts.specs.Totals.{totals_of}
-use Rattle.golf_texts.specs.Meaning.{reports_of, end_of, status_of}
+use Rattle.golf_texts.specs.Meaning.{end_of, status_of}
 use Rattle.golf_texts.specs.Writes.{Write}
 use Rattle.golf_run.specs.HasRun.{Sinks, GotWrites, IsSteady, WasCut}
 use Rattle.golf_command.specs.declared.generated.Survey.{Survey}
-use Rattle.golf_command.specs.Generating.{generated_options, generated_writes, summary_of}
+use Rattle.golf_command.specs.Generating.{generated_options, generated_summary, generated_writes}
 use Rattle.golf_command.specs.Means.{Says}
 
 pub record IsSurvey (of : Survey) (parts : ℕ) (code : Code) : Type 0 where
   pub status : of.status ≡ status_of code generated_options
-  pub summary : of.summary ≡ summary (summary_of parts (totals_of (reports_of code generated_options)))
+  pub summary : of.summary ≡ generated_summary parts code
   pub line : of.line ≡ end_of code generated_options
 
 -- both texts were written, or the write of one was cut

@@ -10,14 +10,14 @@ ghost use Rattle.golf_command.specs.Surveys.{HasSurveyed, IsSurvey, WroteBoth};
 ghost use Rattle.golf_command.specs.Means.{FileTells};
 ghost use Rattle.golf_words.specs.declared.line.Line.{Line};
 
-use crate::ends::{end, refuse};
+use crate::ends::end;
 use golf_base::{Gate, List, Memory, Sink, write_all};
 use golf_data::Code;
 use golf_generate::{Summary, file_lines, generate, summary_line};
-use golf_reader::read;
+use golf_reader::{Refusal, read};
 use golf_run::survey;
 use golf_schedules::{Options, Schedule};
-use golf_texts::{LIMIT, NO_MEMORY, Status, TOO_LONG, Totals};
+use golf_texts::{NO_MEMORY, Status, Totals};
 use std::alloc::Global;
 use std::thread::Threads;
 
@@ -63,6 +63,7 @@ fn summary(alloc: Global, parts: u32, totals: Totals) -> Result<List<u8>, Memory
 }
 
 // Runs the code of the generated file of so many parts.
+#[tactic(auto, unfolding(crate::specs::Generating::generated_summary))]
 fn surveyed<R: Threads + Sync, G: Gate + Sync>(
     rt: &R,
     alloc: Global,
@@ -125,7 +126,8 @@ fn run_code<R: Threads + Sync, O: Sink, E: Sink, G: Gate + Sync>(
     }
 }
 
-/// Makes the file of so many parts, judges it and runs it, and writes what its run came to.
+/// Makes the file of so many parts, reads it and runs it, and writes what its run came to. Every such file
+/// is accepted.
 pub(crate) fn run_generated<R: Threads + Sync, O: Sink, E: Sink, G: Gate + Sync>(
     rt: &R,
     alloc: Global,
@@ -134,7 +136,8 @@ pub(crate) fn run_generated<R: Threads + Sync, O: Sink, E: Sink, G: Gate + Sync>
     err: &mut E,
     gate: &G,
 ) -> Status
-    requires { parts ≤ 5000 }
+    requires some { 1 ≤ parts }
+    requires most { parts ≤ 5000 }
     ensures { FileTells (Line.Generate parts) (file_of parts) result
         (sinks (O.written out.old) (O.faults out.old) (E.written err.old) (E.faults err.old))
         (sinks (O.written out.new) (O.faults out.new) (E.written err.new) (E.faults err.new)) }
@@ -143,11 +146,11 @@ pub(crate) fn run_generated<R: Threads + Sync, O: Sink, E: Sink, G: Gate + Sync>
         Ok(bytes) => bytes,
         Err(_) => return end(err, NO_MEMORY, Status::Memory),
     };
-    if bytes.len() > LIMIT as usize {
-        return end(err, TOO_LONG, Status::Refused);
-    }
     match read(alloc, bytes.as_slice()) {
         Ok(code) => run_code(rt, alloc, parts, &code, out, err, gate),
-        Err(refusal) => refuse(alloc, err, refusal),
+        Err(Refusal::Memory) => end(err, NO_MEMORY, Status::Memory),
+        Err(Refusal::Lexical { .. }) => unreachable!(),
+        Err(Refusal::Syntax { .. }) => unreachable!(),
+        Err(Refusal::Untyped { .. }) => unreachable!(),
     }
 }

@@ -1,11 +1,12 @@
 -- The laws of the code of a typed file, as statements.
 use Rattle.std.specs.Prelude.{◌≡◌, ℕ, Bool, List, None}
+use Rattle.golf_theory.specs.Membership.{In}
 use Rattle.golf_data.specs.declared.code.Code.{Code}
 use Rattle.golf_grammar.specs.declared.declarations.File.{File}
-use Rattle.golf_model.specs.State.{State, ending}
+use Rattle.golf_model.specs.State.{State, start, ending}
 use Rattle.golf_model.specs.Collecting.{plain_collect, sets_finalisers, removed, real_collect}
 use Rattle.golf_model.specs.Living.{Dead}
-use Rattle.golf_model.specs.Running.{Event}
+use Rattle.golf_model.specs.Running.{Event, run, stops}
 use Rattle.golf_model.specs.Futures.{Still, futures}
 use Rattle.golf_shapes.specs.Types.{ValueType, Shape, Typing}
 use Rattle.golf_shapes.specs.Shapes.{HasShapes}
@@ -44,3 +45,12 @@ abbrev pub ReachedRecoveryUnseen : Type 0
 ReachedRecoveryUnseen = (code : Code) (s : State) (recover : Bool) → Reached code s → ending s ≡ None
     → ((events : List Event) → futures code (real_collect s recover (sets_finalisers code)) events (removed s recover (sets_finalisers code)) ≡ futures code (plain_collect s) events (removed s recover (sets_finalisers code)))
     × GoesOn code (real_collect s recover (sets_finalisers code))
+
+-- on the machine that frees and reclaims nothing no state that events lead on to is stuck before its ending
+abbrev pub PlainGoesOn : Code → State → Type 0
+PlainGoesOn code s = (events : List Event) (c : ℕ) → ending (run code s events) ≡ None → MovesOn code (run code s events) c
+
+-- so it is for the code of a well-formed file that breaks no rule, from its opening state and from the state right before each collection of a run
+abbrev pub PlainRunsGoOn : Type 0
+PlainRunsGoOn = (file : File) → IsProgram file
+    → PlainGoesOn (CodeOf file) (start (CodeOf file)) × ((events : List Event) (p : State) → In p (stops (CodeOf file) events) → PlainGoesOn (CodeOf file) p)

@@ -6,6 +6,7 @@
 
 ghost use Rattle.golf_never_stuck.specs.Laws.{
   FilesHaveShapes,
+  PlainRunsGoOn,
   ReachedDeadAreStill,
   ReachedGoesOn,
   ReachedMovesOn,
@@ -43,4 +44,10 @@ pub fn reached_dead_are_still()
 /// never stuck.
 pub fn reached_recovery_unseen()
     ensures { ReachedRecoveryUnseen }
+{}
+
+/// The machine that frees and reclaims nothing is never stuck on the code of such a file: not in its run,
+/// and not in a continuation of the state right before one of its collections.
+pub fn plain_runs_go_on()
+    ensures { PlainRunsGoOn }
 {}

@@ -16,7 +16,7 @@ pub returns-in-Ok-Some-Generate : goal.returns-in-Ok-Some-Generate
 returns-in-Ok-Some-Generate g c =
     let is = sym c.in-Ok-Some-Generate.ensures.line ∙ c.in-Ok-Some-Generate.field-0-is ∙ ap (λ (l : Line). Some l) c.in-Ok-Some-Generate.field-0-0-is in
     tells-generate (words_of c.args.words.now) _ _ _ _ _ _ c.in-Ok-Some-Generate.parts c.run_generated.result is
-    (generated-line c.in-Ok-Some-Generate.parts _ _ c.run_generated.result _ _ c.run_generated.ensures) refl
+    (generated-line c.in-Ok-Some-Generate.parts _ _ c.run_generated.result _ _ c.run_generated.ensures) refl refl
 
 pub returns-in-Ok-None : goal.returns-in-Ok-None
 returns-in-Ok-None g c = tells-usage (words_of c.args.words.now) _ _ _ _ _ _ c.end.result (sym (rw c.in-Ok-None.field-0-is at c.in-Ok-None.ensures.line)) (says _ _ _ _ _ _ s.Usage c.end.result USAGE.now c.end.ensures) refl refl

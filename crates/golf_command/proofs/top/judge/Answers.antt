@@ -1,9 +1,10 @@
+use Rattle.std.proofs.Common.{refl}
 use Rattle.golf_words.specs.declared.line.Line.{Line}
 use Rattle.golf_command.proofs.Filing.{refusal-tells, went-tells, failed-tells, stopped-tells}
 use Rattle.golf_command.proofs.top.judge.Goals as goal
 
 pub returns-in-Err : goal.returns-in-Err
-returns-in-Err g c = refusal-tells (Line.Run c.args.options) c.args.bytes.now c.requires.within _ _ _ _ _ _ c.in-Err.refusal c.refuse.result c.in-Err.ensures.answer c.refuse.ensures
+returns-in-Err g c = refusal-tells (Line.Run c.args.options) c.args.bytes.now c.args.options refl c.requires.within _ _ _ _ _ _ c.in-Err.refusal c.refuse.result c.in-Err.ensures.answer c.refuse.ensures
 
 pub returns-in-Ok-run : goal.returns-in-Ok-run
 returns-in-Ok-run g c =

@@ -1,0 +1,12 @@
+pub mod Lists
+pub mod StepLaws
+pub mod Claims
+pub mod Walks
+pub mod Adopting
+pub mod Trails
+pub mod FlagLaws
+pub mod Certifying
+pub mod EdgeLaws
+pub mod VerdictLaws
+pub mod ReasonLaws
+pub mod Computing

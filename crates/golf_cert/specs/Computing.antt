@@ -1,0 +1,37 @@
+-- Levels and reasons, computed: by rounds over all places, and by the least place that passes a test.
+use Rattle.std.specs.Prelude.{◌-◌, ◌&&◌, ◌++◌, ℕ, zero, suc, Bool, not, List, [], ◌∷◌, Option, filter, find, option_map, unwrap_or}
+use Rattle.std.specs.List.{range_with_len}
+use Rattle.golf_theory.specs.Membership.{is_in}
+use Rattle.golf_model.specs.declared.graph.GraphParts.{GraphParts}
+use Rattle.golf_model.specs.Graph.{sleeper_place, justifies, is_justified_next}
+use Rattle.golf_cert.specs.Steps.{place_count}
+
+-- the places of this level at most: each round has the roots, and what the places of the round before justify
+unfoldable pub within : GraphParts → ℕ → List ℕ
+within g zero = []
+within g (suc level) = filter (is_justified_next g (within g level)) (range_with_len 0 (place_count g))
+
+-- whether the place is of this level: this round has it, and the one before does not
+abbrev pub is_at_level : GraphParts → ℕ → ℕ → Bool
+is_at_level g level p = is_in p (within g level) && not (is_in p (within g (level - 1)))
+
+-- the level of a place. There is none outside the least closed set
+unfoldable pub level_in : GraphParts → ℕ → Option ℕ
+level_in g p = find (λ level. is_at_level g level p) (range_with_len 1 (place_count g))
+
+-- the least place of this level that justifies the next one
+unfoldable pub least_before : GraphParts → ℕ → ℕ → Option ℕ
+least_before g level next = find (λ p. is_at_level g level p && justifies g p next) (range_with_len 0 (place_count g))
+
+-- the places of a reason of this length that ends with the place
+unfoldable pub places_to : GraphParts → ℕ → ℕ → List ℕ
+places_to g zero p = []
+places_to g (suc level) p = unwrap_or (option_map (places_to g level) (least_before g level p)) [] ++ p ∷ []
+
+-- the reason of a place, or nothing outside the least closed set
+unfoldable pub reason_to : GraphParts → ℕ → List ℕ
+reason_to g p = unwrap_or (option_map (λ level. places_to g level p) (level_in g p)) []
+
+-- the reason of a sleeper, or nothing outside the least closed set
+abbrev pub reason_in : GraphParts → ℕ → List ℕ
+reason_in g sleeper = reason_to g (sleeper_place g sleeper)

@@ -1,0 +1,14 @@
+-- What is promised of the definitions.
+use Rattle.std.specs.Prelude.{◌≡◌, ◌↔◌, ℕ, List, []}
+use Rattle.golf_model.specs.declared.graph.GraphParts.{GraphParts}
+use Rattle.golf_model.specs.Graph.{Least, IsInRange}
+use Rattle.golf_cert.specs.Levels.{IsReason}
+use Rattle.golf_cert.specs.Computing.{reason_to}
+
+-- a place has one reason at most
+abbrev pub OneReason : Type 0
+OneReason = (g : GraphParts) (p : ℕ) (a b : List ℕ) → IsReason g p a → IsReason g p b → a ≡ b
+
+-- the computed list is the one reason of each place of the least closed set, and empty for all others
+abbrev pub ReasonsComputed : Type 0
+ReasonsComputed = (g : GraphParts) → IsInRange g → (p : ℕ) → ((places : List ℕ) → IsReason g p places ↔ (Least g p × (places ≡ reason_to g p))) × ((Least g p → ⊥) → reason_to g p ≡ [])

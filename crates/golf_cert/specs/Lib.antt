@@ -1,0 +1,10 @@
+pub mod Links
+pub mod Levels
+pub mod Steps
+pub mod Walking
+pub mod Parents
+pub mod Edges
+pub mod Verifying
+pub mod Finding
+pub mod Computing
+pub mod Laws

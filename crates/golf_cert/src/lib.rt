@@ -1,0 +1,20 @@
+//! Certificates that a marking is the least closed set of a graph, and reasons why a sleeper is in
+//! that set.
+#![tactic(auto)]
+
+mod certificates;
+mod edges;
+mod flags;
+mod laws;
+mod links;
+mod parents;
+mod reasons;
+mod steps;
+mod verdicts;
+mod walk;
+
+pub use certificates::certify;
+pub use laws::{reasons_are_computed, reasons_are_unique};
+pub use links::{Certificate, Link, Verdict};
+pub use reasons::{Reasons, reason};
+pub use verdicts::verify;

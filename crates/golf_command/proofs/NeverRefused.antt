@@ -1,0 +1,29 @@
+-- No generated file is refused.
+use Rattle.std.proofs.Common.{◌≡◌, ℕ, ◌≤◌, List, length, subst}
+use Rattle.golf_grammar.specs.declared.declarations.File.{File}
+use Rattle.golf_generate.specs.File.{file as generated_file}
+use Rattle.golf_reader.specs.declared.refusal.Refusal.{Refusal}
+use Rattle.golf_reader.specs.declared.refusal.Refusal.TheVariants as refusals
+use Rattle.golf_reader.specs.Refusals.{HasTypedTree, IsRefusedBy}
+use Rattle.golf_texts.specs.declared.status.TheConstants.{LIMIT}
+use Rattle.golf_generated_accepted.proofs.Accepting as generated
+
+module _ (n : ℕ) (some : 1 ≤ n) (most : n ≤ 5000) where
+  pub short : length (generated_file n) ≤ LIMIT
+  short = (generated.accepted n some most).1.short
+
+  typed : (file : File) × HasTypedTree (generated_file n) file
+  typed = let a = generated.accepted n some most in (a.0, record { tree = a.1.reads; keeps = a.1.typed })
+
+  module _ (bytes : List ℕ) (same : bytes ≡ generated_file n) (refusal : Refusal) (why : IsRefusedBy bytes refusal) where
+    refused-by : (other : Refusal) → refusal ≡ other → IsRefusedBy (generated_file n) other
+    refused-by other e = subst (λ (bs : List ℕ). IsRefusedBy bs other) same (subst (IsRefusedBy bytes) e why)
+
+    pub not-lexical : (line byte : ℕ) → refusal ≡ refusals.Lexical line byte → ⊥
+    not-lexical line byte e = let r = typed in (refused-by (refusals.Lexical line byte) e).none r.0 r.1
+
+    pub not-syntax : (line : ℕ) → refusal ≡ refusals.Syntax line → ⊥
+    not-syntax line e = let r = typed in (refused-by (refusals.Syntax line) e).none r.0 r.1
+
+    pub not-untyped : (line rule : ℕ) → refusal ≡ refusals.Untyped line rule → ⊥
+    not-untyped line rule e = let r = typed in (refused-by (refusals.Untyped line rule) e).none r.0 r.1

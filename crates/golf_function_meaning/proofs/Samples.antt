@@ -1,0 +1,323 @@
+-- How the small bodies of the examples are written: each tree with what it means, by the equations for its kind.
+use Rattle.std.specs.Prelude.{◌≡◌, ℕ, Bool, List, [], ◌∷◌, Option, Some, None, map}
+use Rattle.std.proofs.Common.{refl, ap, ◌∙◌}
+use Rattle.golf_grammar.specs.declared.expressions.UnaryOperator.{UnaryOperator}
+use Rattle.golf_grammar.specs.declared.expressions.BinaryOperator.{BinaryOperator}
+use Rattle.golf_grammar.specs.declared.expressions.Expr.{Expr}
+use Rattle.golf_grammar.specs.declared.expressions.Expr.TheVariants as ex
+use Rattle.golf_grammar.specs.declared.expressions.Expr.TheOpen as E
+use Rattle.golf_grammar.specs.declared.statements.UpdateOperator.{UpdateOperator}
+use Rattle.golf_grammar.specs.declared.statements.Simple.{Simple}
+use Rattle.golf_grammar.specs.declared.statements.SimpleKind.{SimpleKind}
+use Rattle.golf_grammar.specs.declared.statements.SimpleKind.TheVariants as simple
+use Rattle.golf_grammar.specs.declared.statements.Header.TheVariants as header
+use Rattle.golf_grammar.specs.declared.statements.RangeNames.{RangeNames}
+use Rattle.golf_grammar.specs.declared.statements.Communication.TheVariants as comm
+use Rattle.golf_grammar.specs.declared.statements.Stmt.{Stmt}
+use Rattle.golf_grammar.specs.declared.statements.Stmt.TheVariants as st
+use Rattle.golf_grammar.specs.declared.statements.Clause.{Clause}
+use Rattle.golf_grammar.specs.declared.statements.Clause.TheVariants as cl
+use Rattle.golf_grammar.specs.declared.statements.Clause.TheOpen as F
+use Rattle.golf_data.specs.declared.code.Instr.{Instr}
+use Rattle.golf_model.specs.Calculating.{sum, difference}
+use Rattle.golf_types.specs.declared.scopes.Scope.{Scope}
+use Rattle.golf_types.specs.Types.{is_slice, element}
+use Rattle.golf_types.specs.Expressions.{given_by}
+use Rattle.golf_types.specs.Judging.{Judge, judge, judge_step}
+use Rattle.golf_types.specs.Statements.{behind, is_outer, range_slots, bool_type}
+use Rattle.golf_code_of.specs.Statements as L
+use Rattle.golf_code_of.specs.Statements.{Part, within, past}
+use Rattle.golf_code_of.specs.Loops as O
+use Rattle.golf_code_of.specs.Selects as K
+use Rattle.golf_code_of.proofs.JudgeEquations as j
+use Rattle.golf_code_of.proofs.Examples.Writing.{tables}
+use Rattle.golf_flat_meaning.specs.Worlds.{World, bind}
+use Rattle.golf_flat_meaning.specs.Doing.{computed}
+use Rattle.golf_source_meaning.specs.Names.{Env}
+use Rattle.golf_source_meaning.specs.Operations.{Gives, both, visible}
+use Rattle.golf_source_meaning.specs.Exprs.{if_none}
+use Rattle.golf_source_meaning.specs.Meaning.{Meant, meant, meant_step}
+use Rattle.golf_statement_meaning.specs.Flows.{Course, Flow, on, after, ends_here, or_else, guarded, tested, turns, then_post}
+use Rattle.golf_statement_meaning.specs.Steps.{Deals, Deed, Step, declared, drops, update_operation, updates, assigns, one, defines_pair, simple_deals, then_deed, in_order, in_block, block, optional, returned, parts, in_loop, is_plain, measured, over}
+use Rattle.golf_statement_meaning.specs.Selecting.{ClauseStep, communicates, breaking}
+use Rattle.golf_statement_meaning.specs.Statements.{step, step_step, clause_step, clause_step_step}
+use Rattle.golf_function_meaning.proofs.Equations as e
+use Rattle.golf_flat_meaning.specs.Worlds as W
+
+-- Expressions.
+
+pub record Sample : Type 0 where
+  pub tree : Expr
+  pub value : Meant
+  pub judged : Judge
+  pub same : meant tables tree ≡ value
+  pub alike : judge tree ≡ judged
+
+abbrev pub name : List ℕ → Sample
+name n = record { tree = ex.Name n; value = meant_step tables (E.Name n); judged = judge_step (E.Name n); same = e.meant-Name tables n; alike = j.judge-Name n }
+
+abbrev pub integer : List ℕ → Sample
+integer n = record { tree = ex.Integer n; value = meant_step tables (E.Integer n); judged = judge_step (E.Integer n); same = e.meant-Integer tables n; alike = j.judge-Integer n }
+
+abbrev pub index : Sample → Sample → Sample
+index a b = record {
+  tree = ex.Index a.tree b.tree;
+  value = meant_step tables (E.Index a.value b.value);
+  judged = judge_step (E.Index a.judged b.judged);
+  same = e.meant-Index tables a.tree b.tree ∙ ap (λ m. meant_step tables (E.Index m (meant tables b.tree))) a.same ∙ ap (λ m. meant_step tables (E.Index a.value m)) b.same;
+  alike = j.judge-Index a.tree b.tree ∙ ap (λ m. judge_step (E.Index m (judge b.tree))) a.alike ∙ ap (λ m. judge_step (E.Index a.judged m)) b.alike;
+}
+
+abbrev pub unary_of : UnaryOperator → Sample → Sample
+unary_of o a = record {
+  tree = ex.Unary o a.tree;
+  value = meant_step tables (E.Unary o a.value);
+  judged = judge_step (E.Unary o a.judged);
+  same = e.meant-Unary tables o a.tree ∙ ap (λ m. meant_step tables (E.Unary o m)) a.same;
+  alike = j.judge-Unary o a.tree ∙ ap (λ m. judge_step (E.Unary o m)) a.alike;
+}
+
+abbrev pub binary_of : BinaryOperator → Sample → Sample → Sample
+binary_of o a b = record {
+  tree = ex.Binary o a.tree b.tree;
+  value = meant_step tables (E.Binary o a.value b.value);
+  judged = judge_step (E.Binary o a.judged b.judged);
+  same = e.meant-Binary tables o a.tree b.tree ∙ ap (λ m. meant_step tables (E.Binary o m (meant tables b.tree))) a.same ∙ ap (λ m. meant_step tables (E.Binary o a.value m)) b.same;
+  alike = j.judge-Binary o a.tree b.tree ∙ ap (λ m. judge_step (E.Binary o m (judge b.tree))) a.alike ∙ ap (λ m. judge_step (E.Binary o a.judged m)) b.alike;
+}
+
+-- what a sample's meaning gives on a line
+abbrev gives_on : Meant → ℕ → Scope → Env → Gives
+gives_on m l s env = (m.does l s).value env
+
+-- Simple statements, on line 1.
+
+pub record KindSample : Type 0 where
+  pub kind : SimpleKind
+  pub deals : Scope → Deals
+  pub same : simple_deals tables 1 kind ≡ deals
+
+abbrev expression_deals : Meant → Judge → Scope → Deals
+expression_deals m k s env w = bind (gives_on m 1 s env w) (drops (k 1 s).meaning env)
+
+abbrev pub expression : Sample → KindSample
+expression a = record { kind = simple.Expression a.tree; deals = expression_deals a.value a.judged; same = ap (λ m. expression_deals m (judge a.tree)) a.same ∙ ap (λ k. expression_deals a.value k) a.alike }
+
+abbrev send_deals : Meant → Meant → Scope → Deals
+send_deals m k s env w = bind (both (gives_on m 1 s env) (gives_on k 1 s env) w) (λ vs u. bind (visible Instr.Send [] vs u) (λ us v. if_none us v (W.Part.Gives env v)))
+
+abbrev pub send : Sample → Sample → KindSample
+send a b = record { kind = simple.Send a.tree b.tree; deals = send_deals a.value b.value; same = ap (λ m. send_deals m (meant tables b.tree)) a.same ∙ ap (λ m. send_deals a.value m) b.same }
+
+abbrev increment_deals : Meant → Scope → Deals
+increment_deals m s env w = updates (m.does 1 s) one (computed sum) env w
+
+abbrev pub increment : Sample → KindSample
+increment a = record { kind = simple.Increment a.tree; deals = increment_deals a.value; same = ap increment_deals a.same }
+
+abbrev decrement_deals : Meant → Scope → Deals
+decrement_deals m s env w = updates (m.does 1 s) one (computed difference) env w
+
+abbrev pub decrement : Sample → KindSample
+decrement a = record { kind = simple.Decrement a.tree; deals = decrement_deals a.value; same = ap decrement_deals a.same }
+
+abbrev assign_deals : Meant → Meant → Scope → Deals
+assign_deals m k s env w = assigns (m.does 1 s) (gives_on k 1 s env) env w
+
+abbrev pub assign : Sample → Sample → KindSample
+assign a b = record { kind = simple.Assign a.tree b.tree; deals = assign_deals a.value b.value; same = ap (λ m. assign_deals m (meant tables b.tree)) a.same ∙ ap (λ m. assign_deals a.value m) b.same }
+
+abbrev update_deals : UpdateOperator → Meant → Meant → Scope → Deals
+update_deals o m k s env w = updates (m.does 1 s) (gives_on k 1 s env) (update_operation o) env w
+
+abbrev pub update_by : UpdateOperator → Sample → Sample → KindSample
+update_by o a b = record { kind = simple.Update a.tree o b.tree; deals = update_deals o a.value b.value; same = ap (λ m. update_deals o m (meant tables b.tree)) a.same ∙ ap (λ m. update_deals o a.value m) b.same }
+
+abbrev define_deals : List ℕ → Meant → Scope → Deals
+define_deals n m s env w = bind (gives_on m 1 s env w) (declared env n)
+
+abbrev pub define : List ℕ → Sample → KindSample
+define n a = record { kind = simple.Define n a.tree; deals = define_deals n a.value; same = ap (define_deals n) a.same }
+
+abbrev pair_deals : List ℕ → List ℕ → Meant → Judge → Scope → Deals
+pair_deals n q m k s env w = bind (gives_on m 1 s env w) (λ vs u. bind (visible Instr.ReceiveOk (element (given_by (k 1 s)) ∷ (bool_type ∷ [])) vs u) (defines_pair tables s n q env))
+
+abbrev pub define_received : List ℕ → List ℕ → Sample → KindSample
+define_received n q a = record { kind = simple.DefineReceived n q a.tree; deals = pair_deals n q a.value a.judged; same = ap (λ m. pair_deals n q m (judge a.tree)) a.same ∙ ap (λ k. pair_deals n q a.value k) a.alike }
+
+-- Statements.
+
+pub record StmtSample : Type 0 where
+  pub tree : Stmt
+  pub value : Step
+  pub same : step tables tree ≡ value
+
+abbrev pub trees : List StmtSample → List Stmt
+trees xs = map (λ (x : StmtSample). x.tree) xs
+
+abbrev pub values : List StmtSample → List Step
+values xs = map (λ (x : StmtSample). x.value) xs
+
+pub all-same : (xs : List StmtSample) → map (step tables) (trees xs) ≡ values xs
+all-same [] = refl
+all-same (x ∷ xs) = ap (λ y. y ∷ map (step tables) (trees xs)) x.same ∙ ap (λ ys. x.value ∷ ys) (all-same xs)
+
+abbrev pub line : KindSample → Simple
+line k = record { line = 1; kind = k.kind }
+
+abbrev deals_deed : (Scope → Deals) → Deed
+deals_deed d a s n env w = on (d s env w)
+
+abbrev does_step : Simple → (Scope → Deals) → Step
+does_step x d = record { part = L.simple_part tables x; deed = deals_deed d }
+
+abbrev pub does : KindSample → StmtSample
+does k = record { tree = st.Simple (line k); value = does_step (line k) k.deals; same = e.step-Simple tables (line k) ∙ ap (does_step (line k)) k.same }
+
+abbrev return_step : Expr → Meant → Step
+return_step x m = record { part = L.return_part tables 1 (Some x); deed = λ a s n env w. after (gives_on m 1 s env w) returned }
+
+abbrev pub returns : Sample → StmtSample
+returns a = record { tree = st.Return 1 (Some a.tree); value = return_step a.tree a.value; same = e.step-Return tables 1 (Some a.tree) ∙ ap (return_step a.tree) a.same }
+
+abbrev pub breaks : StmtSample
+breaks = record { tree = st.Break 1; value = step_step tables (F.Break 1); same = e.step-Break tables 1 }
+
+abbrev pub continues : StmtSample
+continues = record { tree = st.Continue 1; value = step_step tables (F.Continue 1); same = e.step-Continue tables 1 }
+
+abbrev pub block_of : List StmtSample → StmtSample
+block_of xs = record { tree = st.Block 1 (trees xs); value = step_step tables (F.Block 1 (values xs)); same = e.step-Block tables 1 (trees xs) ∙ ap (λ ys. step_step tables (F.Block 1 ys)) (all-same xs) }
+
+-- a condition, and what it guards
+abbrev tests : Meant → Deed → Deed
+tests m d a s n env w = after (gives_on m 1 s env w) (λ vs u. tested vs u (d a s n env u) (Flow.Goes Course.Skips env u))
+
+abbrev then_of : Meant → List Step → Deed
+then_of m ys = then_deed (L.optional tables None) (optional tables None) (tests m (block ys))
+
+abbrev if_step : Expr → List Step → Meant → Step
+if_step x ys m = record { part = L.if_part tables 1 None x (parts ys); deed = in_block (λ a s n env w. ends_here (then_of m ys (within 1 a) s n env w)) }
+
+abbrev pub if_then : Sample → List StmtSample → StmtSample
+if_then a xs = record { tree = st.If 1 None a.tree (trees xs); value = if_step a.tree (values xs) a.value; same = e.step-If tables 1 None a.tree (trees xs) ∙ ap (λ ys. step_step tables (F.If 1 None a.tree ys)) (all-same xs) ∙ ap (if_step a.tree (values xs)) a.same }
+
+abbrev else_step : Expr → List Step → Step → Meant → Step
+else_step x ys z m = record {
+  part = L.else_part tables 1 None x (parts ys) z.part;
+  deed = in_block (λ a s n env w.
+      let p = L.then_part tables 1 None x (parts ys) in
+      or_else (then_of m ys (within 2 a) s n env w) (λ env u. ends_here (z.deed (within 1 (past a (p.lay (within 2 a) s))) (behind s (p.walk s)) n env u)));
+}
+
+abbrev pub if_else : Sample → List StmtSample → StmtSample → StmtSample
+if_else a xs z = record {
+  tree = st.IfElse 1 None a.tree (trees xs) z.tree;
+  value = else_step a.tree (values xs) z.value a.value;
+  same = e.step-IfElse tables 1 None a.tree (trees xs) z.tree ∙ ap (λ ys. step_step tables (F.IfElse 1 None a.tree ys (step tables z.tree))) (all-same xs) ∙ ap (λ y. step_step tables (F.IfElse 1 None a.tree (values xs) y)) z.same ∙ ap (else_step a.tree (values xs) z.value) a.same;
+}
+
+-- Loops.
+
+abbrev pub forever : List StmtSample → StmtSample
+forever xs = record { tree = st.For 1 header.Forever (trees xs); value = step_step tables (F.For 1 header.Forever (values xs)); same = e.step-For tables 1 header.Forever (trees xs) ∙ ap (λ ys. step_step tables (F.For 1 header.Forever ys)) (all-same xs) }
+
+abbrev while_step : Expr → List Step → Meant → Step
+while_step x ys m = record { part = O.for_part tables 1 (header.While x) (parts ys); deed = in_block (λ a s n env w. turns n (tests m (in_loop 1 0 (block ys)) a s n) env w) }
+
+abbrev pub while : Sample → List StmtSample → StmtSample
+while a xs = record { tree = st.For 1 (header.While a.tree) (trees xs); value = while_step a.tree (values xs) a.value; same = e.step-For tables 1 (header.While a.tree) (trees xs) ∙ ap (λ ys. step_step tables (F.For 1 (header.While a.tree) ys)) (all-same xs) ∙ ap (while_step a.tree (values xs)) a.same }
+
+-- `for first; test; post`
+abbrev steps_step : Simple → Expr → Simple → List Step → (Scope → Deals) → Meant → (Scope → Deals) → Step
+steps_step x t y ys d m f = record {
+  part = O.for_part tables 1 (header.Steps (Some x) (Some t) (Some y)) (parts ys);
+  deed = in_block (then_deed (L.simple_part tables x) (deals_deed d) (λ a s n env w.
+      guarded (is_plain (Some y)) w (turns n (tests m (λ a s n env w. then_post (in_loop 2 0 (block ys) (past a ((L.simple_part tables y).lay a s)) (behind s ((L.simple_part tables y).walk s)) n env w) (deals_deed f a s n)) a s n) env w)));
+}
+
+abbrev pub stepping : KindSample → Sample → KindSample → List StmtSample → StmtSample
+stepping k a q xs = record {
+  tree = st.For 1 (header.Steps (Some (line k)) (Some a.tree) (Some (line q))) (trees xs);
+  value = steps_step (line k) a.tree (line q) (values xs) k.deals a.value q.deals;
+  same =
+      e.step-For tables 1 (header.Steps (Some (line k)) (Some a.tree) (Some (line q))) (trees xs)
+      ∙ ap (λ ys. step_step tables (F.For 1 (header.Steps (Some (line k)) (Some a.tree) (Some (line q))) ys)) (all-same xs)
+      ∙ ap (λ d. steps_step (line k) a.tree (line q) (values xs) d (meant tables a.tree) (simple_deals tables 1 q.kind)) k.same
+      ∙ ap (λ m. steps_step (line k) a.tree (line q) (values xs) k.deals m (simple_deals tables 1 q.kind)) a.same
+      ∙ ap (λ f. steps_step (line k) a.tree (line q) (values xs) k.deals a.value f) q.same;
+}
+
+abbrev range_deed : RangeNames → List Step → Meant → Judge → Deed
+range_deed names ys m k a s n env w =
+    let v = given_by (k 1 s) in
+    after (gives_on m 1 s env w) (λ vs u. measured vs u (λ x y. over (is_outer is_slice v) n (element v) names (in_loop 2 0 (block ys) a (behind s (range_slots names v s)) n) x env y))
+
+abbrev range_of : RangeNames → Expr → List Step → Meant → Judge → Step
+range_of names x ys m k = record { part = O.for_part tables 1 (header.Range names x) (parts ys); deed = in_block (range_deed names ys m k) }
+
+abbrev pub ranges_over : RangeNames → Sample → List StmtSample → StmtSample
+ranges_over names a xs = record {
+  tree = st.For 1 (header.Range names a.tree) (trees xs);
+  value = range_of names a.tree (values xs) a.value a.judged;
+  same =
+      e.step-For tables 1 (header.Range names a.tree) (trees xs) ∙ ap (λ ys. step_step tables (F.For 1 (header.Range names a.tree) ys)) (all-same xs)
+      ∙ ap (λ m. range_of names a.tree (values xs) m (judge a.tree)) a.same ∙ ap (λ k. range_of names a.tree (values xs) a.value k) a.alike;
+}
+
+-- Clauses of a `select`.
+
+pub record ClauseSample : Type 0 where
+  pub tree : Clause
+  pub value : ClauseStep
+  pub same : clause_step tables tree ≡ value
+
+abbrev send_clause : Expr → Expr → List Step → Meant → Meant → ClauseStep
+send_clause x y ys m k = record {
+  part = K.case_clause tables 1 (comm.Send x y) (parts ys);
+  operands = λ l s env. both (gives_on m l s env) (gives_on k l s env);
+  leaves = λ l s. [];
+  deed = λ l vs. in_block (then_deed (K.communication tables l 1 (comm.Send x y)) (communicates tables (comm.Send x y) vs) (breaking (in_order ys)));
+}
+
+abbrev pub case_send : Sample → Sample → List StmtSample → ClauseSample
+case_send a b xs = record {
+  tree = cl.Case 1 (comm.Send a.tree b.tree) (trees xs);
+  value = send_clause a.tree b.tree (values xs) a.value b.value;
+  same =
+      e.step-Case tables 1 (comm.Send a.tree b.tree) (trees xs) ∙ ap (λ ys. clause_step_step tables (F.Case 1 (comm.Send a.tree b.tree) ys)) (all-same xs)
+      ∙ ap (λ m. send_clause a.tree b.tree (values xs) m (meant tables b.tree)) a.same ∙ ap (λ m. send_clause a.tree b.tree (values xs) a.value m) b.same;
+}
+
+abbrev define_clause : List ℕ → Expr → List Step → Meant → Judge → ClauseStep
+define_clause n x ys m k = record {
+  part = K.case_clause tables 1 (comm.Define n x) (parts ys);
+  operands = λ l s env. gives_on m l s env;
+  leaves = λ l s. element (given_by (k l s)) ∷ [];
+  deed = λ l vs. in_block (then_deed (K.communication tables l 1 (comm.Define n x)) (communicates tables (comm.Define n x) vs) (breaking (in_order ys)));
+}
+
+abbrev pub case_define : List ℕ → Sample → List StmtSample → ClauseSample
+case_define n a xs = record {
+  tree = cl.Case 1 (comm.Define n a.tree) (trees xs);
+  value = define_clause n a.tree (values xs) a.value a.judged;
+  same =
+      e.step-Case tables 1 (comm.Define n a.tree) (trees xs) ∙ ap (λ ys. clause_step_step tables (F.Case 1 (comm.Define n a.tree) ys)) (all-same xs)
+      ∙ ap (λ m. define_clause n a.tree (values xs) m (judge a.tree)) a.same ∙ ap (λ k. define_clause n a.tree (values xs) a.value k) a.alike;
+}
+
+abbrev pub default : List StmtSample → ClauseSample
+default xs = record { tree = cl.Default 1 (trees xs); value = clause_step_step tables (F.Default 1 (values xs)); same = e.step-Default tables 1 (trees xs) ∙ ap (λ ys. clause_step_step tables (F.Default 1 ys)) (all-same xs) }
+
+abbrev pub clause_trees : List ClauseSample → List Clause
+clause_trees cs = map (λ (c : ClauseSample). c.tree) cs
+
+abbrev pub clause_values : List ClauseSample → List ClauseStep
+clause_values cs = map (λ (c : ClauseSample). c.value) cs
+
+pub clauses-same : (cs : List ClauseSample) → map (clause_step tables) (clause_trees cs) ≡ clause_values cs
+clauses-same [] = refl
+clauses-same (c ∷ cs) = ap (λ y. y ∷ map (clause_step tables) (clause_trees cs)) c.same ∙ ap (λ ys. c.value ∷ ys) (clauses-same cs)
+
+abbrev pub selects : List ClauseSample → StmtSample
+selects cs = record { tree = st.Select 1 (clause_trees cs); value = step_step tables (F.Select 1 (clause_values cs)); same = e.step-Select tables 1 (clause_trees cs) ∙ ap (λ ys. step_step tables (F.Select 1 ys)) (clauses-same cs) }

@@ -1,0 +1,4 @@
+pub mod ValueKinds
+pub mod Calculus
+pub mod Operators
+pub mod NameValues

@@ -1,0 +1,48 @@
+-- The laws of meanings that break no rule of types, as statements.
+use Rattle.std.specs.Prelude.{◌≡◌, ℕ, Bool, [], ◌∷◌, ◌++◌, Some, List}
+use Rattle.golf_grammar.specs.declared.expressions.UnaryOperator.{UnaryOperator}
+use Rattle.golf_grammar.specs.declared.expressions.BinaryOperator.{BinaryOperator}
+use Rattle.golf_data.specs.declared.value.Value.{Value}
+use Rattle.golf_flat_meaning.specs.Worlds.{World}
+use Rattle.golf_types.specs.declared.scopes.Scope.{Scope}
+use Rattle.golf_types.specs.declared.types.Base.TheVariants as base
+use Rattle.golf_types.specs.Faults.{broken}
+use Rattle.golf_types.specs.Types.{has_base}
+use Rattle.golf_types.specs.Names.{is_blank}
+use Rattle.golf_types.specs.Expressions.{Judged, used, given_by, named, unary_judged, binary_judged, index_judged}
+use Rattle.golf_shapes.specs.Types.{Types}
+use Rattle.golf_code_of.specs.declared.tables.Tables.{Tables}
+use Rattle.golf_code_shapes.specs.Sound.{FileFits}
+use Rattle.golf_source_meaning.specs.Operations.{Gives, both, then_do, visible}
+use Rattle.golf_source_meaning.specs.Names.{Env}
+use Rattle.golf_source_meaning.specs.Meaning.{outer}
+use Rattle.golf_source_meaning.specs.Exprs.{Place, name_does, unary_does, binary_does, element_type, read}
+use Rattle.golf_meaning_typed.specs.Sound.{Sound, YieldsBy, Shown, NamesFit}
+
+-- what stands as a value gives a value
+abbrev pub Fits : ℕ → Judged → Gives → Type 0
+Fits l j f = used l j ≡ [] → YieldsBy (given_by j) f
+
+abbrev pub UnaryFits : Type 0
+UnaryFits = (l : ℕ) (s : Scope) (o : UnaryOperator) (j : Judged) (f : Gives) → Fits l j f → (unary_judged l s o j).faults ≡ [] → Shown (unary_judged l s o j).meaning (then_do f (unary_does o (unary_judged l s o j).meaning))
+
+abbrev pub BinaryFits : Type 0
+BinaryFits = (l : ℕ) (o : BinaryOperator) (j k : Judged) (f g : Gives) → Fits l j f → Fits l k g → (binary_judged l o j k).faults ≡ [] → Shown (binary_judged l o j k).meaning (binary_does o f g)
+
+-- an element of a slice is read
+abbrev pub IndexFits : Type 0
+IndexFits = (l : ℕ) (j k : Judged) (f g : Gives) (env : Env) → Fits l j f → Fits l k g → (index_judged l j k).faults ≡ [] → Shown (index_judged l j k).meaning (then_do (both f g) (read env (Place.Element (element_type (index_judged l j k).meaning))))
+
+abbrev pub OperatorsFit : Type 0
+OperatorsFit = UnaryFits × BinaryFits × IndexFits
+
+-- a name that stands as a value gives the value that it has, if names mean what the types of the code say
+abbrev pub NamesGive : Type 0
+NamesGive = (types : Types) (t : Tables) (l : ℕ) (s : Scope) (env : Env) (n : List ℕ) → FileFits types t s.file → NamesFit s.locals env → Fits l (named l s n) ((name_does t (is_blank n) n (outer s n)).value env)
+
+-- a condition that breaks no rule is one truth value
+abbrev pub IsTruth : List Value → Type 0
+IsTruth vs = (b : Bool) × (vs ≡ Value.Bool b ∷ [])
+
+abbrev pub ConditionsDecide : Type 0
+ConditionsDecide = (l : ℕ) (j : Judged) (f : Gives) → Fits l j f → used l j ++ broken l 8 (has_base base.Bool (given_by j)) ≡ [] → (w : World) → Sound IsTruth (f w)

@@ -1,0 +1,9 @@
+pub mod Flowing
+pub mod Simples
+pub mod Conditions
+pub mod Loops
+pub mod Ranges
+pub mod Stmts
+pub mod Ranks
+pub mod Numbers
+pub mod Choices
