@@ -1,0 +1,6 @@
+pub mod History
+pub mod Names
+pub mod Rule
+pub mod Runs
+pub mod Seats
+pub mod Steps

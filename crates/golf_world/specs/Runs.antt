@@ -1,0 +1,20 @@
+-- A run by threads that has come to its end.
+use Rattle.std.specs.Prelude.{◌≡◌, ℕ, ◌≤◌, false, length, None}
+use Rattle.golf_data.specs.declared.code.Code.{Code}
+use Rattle.golf_model.specs.State.{State, start, ending}
+use Rattle.golf_model.specs.Reporting.{real_run, real_reports, book_of}
+use Rattle.golf_model.specs.Running.{run, stops}
+use Rattle.golf_model.specs.Collecting.{sets_finalisers}
+use Rattle.golf_world.specs.declared.history.History.{History}
+use Rattle.golf_world.specs.History.{turns, IsHistory}
+
+-- the state and the reports are those of the run of the entries' numbers whose collections free and remove nobody; it prints, ends and reports as the plain run of these numbers; and it has ended or has as many turns as it may have
+pub record IsWholeRun (code : Code) (passes : ℕ) (s : State) (h : History) : Type 0 where
+  pub state : s ≡ real_run code (turns h.entries) false
+  pub reports : h.reports ≡ real_reports code (turns h.entries) false
+  pub prints : s.output ≡ (run code (start code) (turns h.entries)).output
+  pub ends : ending s ≡ ending (run code (start code) (turns h.entries))
+  pub tells : h.reports ≡ book_of (stops code (turns h.entries)) false (sets_finalisers code)
+  pub history : IsHistory code passes h.entries
+  pub few : length h.entries ≤ 100000
+  pub whole : ending s ≡ None → length h.entries ≡ 100000

@@ -1,0 +1,97 @@
+-- What clauses say of passes and of steps.
+use Rattle.std.specs.Prelude.{◌≡◌, ◌↔◌, ℕ, ◌<◌, true, false, Option, Result, List, [], ◌∷◌, ◌++◌, length, Some, None, Ok, Err}
+use mathlib.Core.List.{IsPrefix}
+use Rattle.golf_base.specs.declared.ids.GoroutineId.{GoroutineId}
+use Rattle.golf_base.specs.declared.Memory.{Memory}
+use Rattle.golf_data.specs.declared.code.Code.{Code}
+use Rattle.golf_data.specs.declared.goroutine.Ending.{Ending}
+use Rattle.golf_data.specs.declared.report.Book.{Book}
+use Rattle.golf_data.specs.declared.report.Report.{Report}
+use Rattle.golf_model.specs.Views.{FrameView}
+use Rattle.golf_model.specs.State.{State, ending}
+use Rattle.golf_model.specs.Turn.{step, wants_collection, whose_turn}
+use Rattle.golf_model.specs.Collecting.{sets_finalisers, real_collect}
+use Rattle.golf_model.specs.Reporting.{report, book_after}
+use Rattle.golf_world.specs.declared.history.HistoryEntry.{HistoryEntry}
+use Rattle.golf_world.specs.declared.history.Stepped.{Stepped}
+use Rattle.golf_world.specs.History.{entry, after, next_number, own}
+
+abbrev pub place_in : List FrameView → ℕ
+place_in [] = 0
+place_in (f ∷ fs) = f.at
+
+-- without a report the turn asks for no collection, and is all that happened; with one the collection followed
+abbrev pub HasAdvanced : Code → ℕ → Option Report → State → State → Book → Book → Type 0
+HasAdvanced code n None s t b c = (wants_collection code s n ≡ false) × (t ≡ step code s n) × (c ≡ b)
+HasAdvanced code n (Some r) s t b c =
+    (wants_collection code s n ≡ true) × (t ≡ real_collect (step code s n) false (sets_finalisers code)) × (r ≡ report false (sets_finalisers code) b (step code s n)) × (c ≡ book_after false (sets_finalisers code) b (step code s n))
+
+-- a pass: its number, the prefix of the history that it has seen, and the places and numbers of its own entries
+pub record Pass : Type 0 where
+  pub number : ℕ
+  pub seen : List HistoryEntry
+  pub mine : List (ℕ × ℕ)
+
+-- the history, and what a turn of the pass makes of it
+abbrev pub Does : Code → ℕ → Stepped → List HistoryEntry → List HistoryEntry → Type 0
+Does code p (Stepped.Turned at g number) old new =
+    (at ≡ length old) × (length old < 100000) × (ending (after code old) ≡ None) × (number ≡ next_number code p old) × (whose_turn (after code old) number ≡ Some g.0) × (new ≡ old ++ entry p number ∷ [])
+Does code p (Stepped.Ended e) old new = (ending (after code old) ≡ Some e) × (new ≡ old)
+Does code p Stepped.Spent old new = (ending (after code old) ≡ None) × (length old ≡ 100000) × (new ≡ old)
+
+-- the pass took a turn: what it had seen is a prefix of what stood before, its entry stands last, and is one of its own; its goroutine is the one that the number picks
+pub record HasTurned (code : Code) (old new : Pass) (at : ℕ) (g : GoroutineId) (number : ℕ) : Type 0 where
+  pub before : List HistoryEntry
+  pub later : IsPrefix old.seen before
+  pub seen : new.seen ≡ before ++ entry new.number number ∷ []
+  pub mine : new.mine ≡ old.mine ++ (at, number) ∷ []
+  pub place : at ≡ length before
+  pub few : at < 100000
+  pub numbered : number ≡ next_number code new.number before
+  pub goes : ending (after code before) ≡ None
+  pub whose : whose_turn (after code before) number ≡ Some g.0
+
+-- the run of what the pass has now seen has ended, and it has no entry more
+pub record HasEnded (code : Code) (old new : Pass) (e : Ending) : Type 0 where
+  pub later : IsPrefix old.seen new.seen
+  pub mine : new.mine ≡ old.mine
+  pub ends : ending (after code new.seen) ≡ Some e
+
+-- it has not, and there are as many entries as there may be
+pub record IsSpent (code : Code) (old new : Pass) : Type 0 where
+  pub later : IsPrefix old.seen new.seen
+  pub mine : new.mine ≡ old.mine
+  pub goes : ending (after code new.seen) ≡ None
+  pub full : length new.seen ≡ 100000
+
+abbrev pub HasStepped : Code → Stepped → Pass → Pass → Type 0
+HasStepped code (Stepped.Turned at g number) old new = HasTurned code old new at g number
+HasStepped code (Stepped.Ended e) old new = HasEnded code old new e
+HasStepped code Stepped.Spent old new = IsSpent code old new
+
+-- the answer is a turn with this number, at this place
+abbrev pub IsTurn : Result Stepped Memory → ℕ → ℕ → Type 0
+IsTurn (Ok (Stepped.Turned k g n)) at number = (k ≡ at) × (n ≡ number)
+IsTurn (Ok (Stepped.Ended e)) at number = ⊥
+IsTurn (Ok Stepped.Spent) at number = ⊥
+IsTurn (Err m) at number = ⊥
+
+-- when each answer comes: a turn exactly if the pass has one entry more; else an ending exactly if the run of what it has seen has ended, and spent exactly if that has not ended and has as many entries as there may be
+pub record ComesExactly (code : Code) (r : Result Stepped Memory) (old new : Pass) : Type 0 where
+  pub turned : (at number : ℕ) → IsTurn r at number ↔ (new.mine ≡ old.mine ++ (at, number) ∷ [])
+  pub ended : (e : Ending) → (r ≡ Ok (Stepped.Ended e)) ↔ ((new.mine ≡ old.mine) × (ending (after code new.seen) ≡ Some e))
+  pub spent : (r ≡ Ok Stepped.Spent) ↔ ((new.mine ≡ old.mine) × (ending (after code new.seen) ≡ None) × (length new.seen ≡ 100000))
+
+-- without memory nothing was done: the run of what the pass has seen has not ended and could go on
+pub record HasFailed (code : Code) (old new : Pass) : Type 0 where
+  pub mine : new.mine ≡ old.mine
+  pub goes : ending (after code new.seen) ≡ None
+  pub few : length new.seen < 100000
+
+-- what the pass has seen is a prefix of the history, and its entries in the history are its own, in their order
+abbrev pub IsPassIn : List HistoryEntry → Pass → Type 0
+IsPassIn es p = IsPrefix p.seen es × (own p.number es ≡ p.mine)
+
+-- the passes that a world begins with
+abbrev pub IsNewPass : ℕ → Pass → Type 0
+IsNewPass n p = (p.number ≡ n) × (p.seen ≡ []) × (p.mine ≡ [])

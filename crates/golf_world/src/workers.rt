@@ -1,0 +1,128 @@
+//! Runs a program by threads that step it, each in a thread of its own.
+
+ghost use Rattle.std.specs.Prelude.{◌≡◌, ◌<◌, ◌≤◌, IfOk, IsTrue, None, length};
+ghost use Rattle.std.specs.Thread.{IsSync};
+ghost use Rattle.golf_data.specs.Places.{HasPlaces};
+ghost use Rattle.golf_model.specs.State.{ending as ending_of, start as start_of};
+ghost use Rattle.golf_world.specs.Names.{table_name, pass_count};
+ghost use Rattle.golf_world.specs.Runs.{IsWholeRun};
+
+use crate::history::{History, HistoryEntry, Stepped};
+use crate::pass::StepPass;
+use crate::rule::WorldName;
+use crate::table::WorldTable;
+use crate::world::World;
+use golf_base::{Gate, Memory};
+use golf_data::Code;
+use golf_machine::start;
+use golf_state::State;
+use std::alloc::Global;
+use std::marker::Brand;
+use std::sync::Wait;
+use std::thread::{Threads, join_mut};
+
+// Steps until a step is no turn. It passes the gate before each, outside the lock, with the number of
+// the pass and that of its turn, counted from 0.
+fn work<W: WorldName, R: Threads + Wait + Sync, G: Gate>(
+    rt: &R,
+    alloc: Global,
+    world: &World<W>,
+    gate: &G,
+    pass: &mut StepPass<W>,
+) {
+    let number = pass.number();
+    let mut turn = 0u64;
+    for _ in rt.forever() {
+        gate.pass(number, turn);
+        match world.step(rt, alloc, pass) {
+            Ok(Stepped::Turned { .. }) => turn = turn.wrapping_add(1),
+            Ok(Stepped::Ended(_) | Stepped::Spent) | Err(_) => return,
+        }
+    }
+}
+
+// The workers, each in a thread of its own.
+fn work_all<W: WorldName + Send + Sync, R: Threads + Wait + Sync, G: Gate + Sync>(
+    rt: &R,
+    alloc: Global,
+    world: &World<W>,
+    gate: &G,
+    passes: &mut [StepPass<W>],
+) {
+    if passes.is_empty() {
+        return;
+    }
+    if passes.len() == 1 {
+        work(rt, alloc, world, gate, &mut passes[0]);
+        return;
+    }
+    let half = passes.len() / 2;
+    let (left, right) = passes.split_at_mut(half);
+    join_mut(
+        rt,
+        &mut ||
+            requires { IsSync R.row }
+        { work_all(rt, alloc, world, gate, left) },
+        &mut ||
+            requires { IsSync R.row }
+        { work_all(rt, alloc, world, gate, right) },
+    );
+}
+
+/// Runs the program by as many threads as the table has passes, in a world that `W` names, until it has
+/// ended or has taken 100,000 turns. A worker that is out of memory stops, and the others go on: the
+/// answer is `Memory` if the program came to neither end so.
+pub fn run_world<W: WorldName + Send + Sync, R: Threads + Wait + Sync, G: Gate + Sync>(
+    rt: &R,
+    alloc: Global,
+    table: WorldTable,
+    code: Code,
+    state: State,
+    gate: &G,
+) -> Result<(State, History), Memory>
+    requires table { table_name table ≡ W.table }
+    requires passes { pass_count table ≡ W.passes }
+    requires code { code ≡ W.code }
+    requires places { HasPlaces code }
+    requires state { state ≡ start_of code }
+    ensures { IfOk result (λ r. IsWholeRun code (pass_count table) r.0 r.1) }
+{
+    let (world, mut passes) = World::<W>::new(alloc, table, code, state)?;
+    work_all(rt, alloc, &world, gate, passes.as_mut_slice());
+    let (state, history) = world.close(passes);
+    if is_done(&state, history.entries.as_slice()) {
+        Ok((state, history))
+    } else {
+        Err(Memory)
+    }
+}
+
+// Whether the program has ended, or the history is full.
+fn is_done(state: &State, entries: &[HistoryEntry]) -> bool
+    ensures { IsTrue result → ending_of state.now ≡ None → 100000 ≤ length entries.now }
+{
+    match state.ending() {
+        Some(_) => true,
+        None => entries.len() >= 100_000,
+    }
+}
+
+/// Runs the program from its start by so many threads, 1 to 16, until it has ended or has taken 100,000
+/// turns. Each passes the gate before each of its steps. Where no thread can be made, its steps are
+/// taken by another one.
+pub fn run_threads<R: Threads + Wait + Sync, G: Gate + Sync>(
+    rt: &R,
+    alloc: Global,
+    code: Code,
+    passes: u32,
+    gate: &G,
+) -> Result<(State, History), Memory>
+    requires some { 0 < passes }
+    requires few { passes ≤ 16 }
+    requires places { HasPlaces code }
+    ensures { IfOk result (λ r. IsWholeRun code passes r.0 r.1) }
+{
+    let table = WorldTable::new(alloc, passes)?;
+    let state = start(alloc, &code)?;
+    run_world::<Brand, R, G>(rt, alloc, table, code, state, gate)
+}

@@ -1,0 +1,113 @@
+//! A program that callers' threads step.
+
+ghost use Rattle.std.specs.Prelude.{◌≡◌, ◌<◌, ◌≤◌, [], ◌∷◌, IfOk, OnErr, length, Some, slice_get, true, ℕ};
+ghost use mathlib.Core.List.{IsPrefix};
+ghost use Rattle.golf_theory.specs.Membership.{Every, In};
+ghost use Rattle.golf_data.specs.Places.{HasPlaces};
+ghost use Rattle.golf_model.specs.State.{start as start_of};
+ghost use Rattle.golf_world.specs.History.{after, reports_after, IsHistory};
+ghost use Rattle.golf_world.specs.Rule.{first_view, pass_entries, keeper_view};
+ghost use Rattle.golf_world.specs.Names.{table_name, pass_count};
+ghost use Rattle.golf_world.specs.Steps.{Pass, HasStepped, HasFailed, ComesExactly, IsNewPass, IsPassIn};
+
+use crate::execution::Execution;
+use crate::guarded::Guarded;
+use crate::history::{History, Stepped};
+use crate::pass::StepPass;
+use crate::passes::{OwnedTable, join_passes, split_passes};
+use crate::rule::WorldName;
+use crate::table::WorldTable;
+use golf_base::{List, Memory};
+use golf_data::Code;
+use golf_state::State;
+use std::alloc::Global;
+use std::sync::{Mutex, Wait};
+use std::thread::Threads;
+
+/// A program that threads step through a `&`, each with a pass of its own.
+#[derive(Drop)]
+pub struct World<W: WorldName> {
+    lock: Mutex<Guarded<W>>,
+    table: OwnedTable,
+    code: Code,
+    ghost named: { table.shared.table_id ≡ W.table },
+    ghost word: { table.shared.table_id.words ≡ 1 },
+    ghost no_slots: { table.shared.table_id.slots ≡ 0 },
+    ghost coded: { code ≡ W.code },
+}
+
+impl<W: WorldName> World<W> {
+    /// A world at its first turn, and its passes, which are numbered from 0. `W` names the table, its number of passes
+    /// and the code. On `Memory` nothing is handed back.
+    pub fn new(
+        alloc: Global,
+        table: WorldTable,
+        code: Code,
+        state: State,
+    ) -> Result<(World<W>, List<StepPass<W>>), Memory>
+        requires table { table_name table ≡ W.table }
+        requires passes { pass_count table ≡ W.passes }
+        requires code { code ≡ W.code }
+        requires places { HasPlaces code }
+        requires state { state ≡ start_of code }
+        ensures count { IfOk result (λ r. length r.1 ≡ W.passes) }
+        ensures passes { IfOk result (λ r. (n : ℕ) (p : Pass) → slice_get r.1 n ≡ Some p → IsNewPass n p) }
+    {
+        let WorldTable {
+            table,
+            mut first,
+            passes,
+        } = table;
+        let list = split_passes::<W>(alloc, &table, &mut first, passes)?;
+        let guarded = Guarded::new(Execution::new(alloc, state), first);
+        let world = World {
+            lock: Mutex::new(guarded),
+            table,
+            code,
+        };
+        Ok((world, list))
+    }
+
+    /// A step of the program by this pass, while no other pass takes one: of the m goroutines that can run, in rising
+    /// order, the one at the place `(p + t) % m` takes a turn, where p is the number of the pass and t the number of
+    /// entries. A collection that its instruction asks for follows at once, with one marker, without recovery. Nothing
+    /// is done if the program has ended or the history has its 100,000 entries.
+    ///
+    /// On `Memory` state, history and reports are as before the call.
+    pub fn step<R: Threads + Wait + Sync>(
+        &self,
+        rt: &R,
+        alloc: Global,
+        pass: &mut StepPass<W>,
+    ) -> Result<Stepped, Memory>
+        ensures number { pass.new.number ≡ pass.old.number }
+        ensures later { IsPrefix pass.old.seen pass.new.seen }
+        ensures ok { IfOk result (λ s. HasStepped W.code s pass.old pass.new) }
+        ensures err { OnErr result (HasFailed W.code pass.old pass.new) }
+        ensures exactly { ComesExactly W.code result pass.old pass.new }
+    {
+        let mut guarded = self.lock.lock(rt);
+        guarded.step(rt, alloc, &self.code, &self.table.shared, pass)
+    }
+
+    /// The state and the history, once no thread steps any more. The passes are those that were kept: of each the
+    /// history has just its own entries, in its order.
+    pub fn close(self, passes: List<StepPass<W>>) -> (State, History)
+        ensures state { result.0 ≡ after W.code result.1.entries }
+        ensures reports { result.1.reports ≡ reports_after W.code result.1.entries }
+        ensures history { IsHistory W.code W.passes result.1.entries }
+        ensures few { length result.1.entries ≤ 100000 }
+        ensures passes { Every (IsPassIn result.1.entries) passes }
+    {
+        let World {
+            lock,
+            table,
+            code: _,
+        } = self;
+        let Guarded { execution, keeper } = lock.into_inner();
+        let keeper = join_passes::<W>(&table, keeper, passes);
+        let closed = table.close_with(keeper);
+        closed.free();
+        execution.into_parts()
+    }
+}
