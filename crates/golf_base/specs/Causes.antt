@@ -1,14 +1,14 @@
 -- Counts of faults, and what reads and writes did to known bytes.
-use Rattle.std.specs.Prelude.{◌≡◌, ℕ, ◌+◌, ◌-◌, ◌^◌, ◌<◌, ◌≤◌, min, List, ◌++◌, length, Option, Result, OnOk, OnErr}
+use Rattle.std.specs.Prelude.{◌≡◌, ℕ, ◌+◌, ◌-◌, ◌^◌, ◌<◌, ◌≤◌, ◌⊎◌, min, List, ◌++◌, length, Option, Result, OnOk, OnErr}
 use Rattle.std.specs.Io.KnownBytes.{Appends, Consumes}
 
 -- one more fault; the count stands still at its type's end
 abbrev pub next_fault : ℕ → ℕ
 next_fault faults = min (faults + 1) (2 ^ 64 - 1)
 
--- the count has risen, or stands at its last value
+-- the count has risen, or stood at its type's last value and stands there still
 abbrev pub Rose : ℕ → ℕ → Type 0
-Rose before now = next_fault before ≤ now
+Rose before now = (before < now) ⊎ ((before ≡ 2 ^ 64 - 1) × (now ≡ before))
 
 -- an error comes only where the count rose, and wherever it rose
 pub record HasCause {T E : Type 0} (before now : ℕ) (result : Result T E) : Type 0 where

@@ -21,7 +21,7 @@ pub use in_memory::{MemorySink, MemorySource};
 pub use list::List;
 pub use room::Room;
 use std::alloc::{AllocError, AllocFailed};
-pub use stdio::{StdErrSink, StdSink, StdSource};
+pub use stdio::{StdErrSink, StdSink, StdSource, StreamSink, StreamSource};
 pub use streams::{
     Failed, Gate, OpenGate, ReadError, Sink, Source, WriteFault, read_file, write_all,
 };

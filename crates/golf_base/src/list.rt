@@ -29,6 +29,18 @@ impl<T> Model for List<T> {
     ghost view = { λ l. l.items.items };
 }
 
+impl<T: PartialEq> PartialEq for List<T> {
+    ghost use Rattle.std.specs.Cmp.Lexicographic.{pointwise, lists_per};
+
+    ghost eq = { λ x y. pointwise T.eq x y };
+
+    ghost laws = { lists_per T.laws };
+
+    fn eq(&self, other: &Self) -> bool {
+        self.items == other.items
+    }
+}
+
 impl<T> List<T> {
     /// The empty list. It takes no memory.
     pub fn new(alloc: Global) -> List<T>

@@ -6,20 +6,23 @@ ghost use Rattle.std.specs.Counts.{IsPrefixLen};
 use crate::streams::{Failed, Sink, Source, one_more};
 use std::io::{Read, Stderr, Stdin, Stdout, Write};
 
-/// Standard input. Its count of faults rises at each read that fails.
+/// A stream that bytes come from. Its count of faults rises at each read that fails.
 #[derive(Drop)]
-pub struct StdSource {
-    input: Stdin,
+pub struct StreamSource<R> {
+    input: R,
     failed: u64,
 }
 
-impl StdSource {
-    pub fn new(input: Stdin) -> StdSource {
-        StdSource { input, failed: 0 }
+/// Standard input.
+pub type StdSource = StreamSource<Stdin>;
+
+impl<R> StreamSource<R> {
+    pub fn new(input: R) -> StreamSource<R> {
+        StreamSource { input, failed: 0 }
     }
 }
 
-impl Source for StdSource {
+impl<R: Read> Source for StreamSource<R> {
     ghost left = { λ _. None };
 
     ghost faults = { λ s. s.failed };

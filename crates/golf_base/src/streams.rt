@@ -3,7 +3,7 @@
 ghost use Rattle.std.specs.Prelude.{◌≡◌, ◌<◌, ◌≤◌, List, ℕ, length, Option, IfOk, IsErrOf, OnOk};
 ghost use Rattle.std.specs.Io.{ReadsAtMost, WritesAtMost};
 ghost use Rattle.std.specs.Io.KnownBytes.{Appends, Consumes, IsAtEnd, ReadConsumes, WriteAppends};
-ghost use Rattle.golf_base.specs.Causes.{next_fault, HasCause, ReadsSome, WritesFront};
+ghost use Rattle.golf_base.specs.Causes.{next_fault, Rose, HasCause, ReadsSome, WritesFront};
 ghost use Rattle.golf_base.specs.ReadCause.{ReadCause};
 ghost use Rattle.golf_base.specs.declared.streams.ReadError.TheVariants as errors;
 
@@ -95,7 +95,9 @@ impl Gate for OpenGate {
 
 // A count of faults after one more. It stands still at its type's end.
 pub(crate) fn one_more(faults: u64) -> u64
-    ensures { result ≡ next_fault faults }
+    ensures next { result ≡ next_fault faults }
+    ensures later { faults ≤ result }
+    ensures rose { Rose faults result }
 {
     faults.saturating_add(1)
 }

@@ -1,4 +1,5 @@
-pub mod Places
+pub mod Fatal
 pub mod Masks
+pub mod Places
 pub mod Slots
 pub mod Zeros

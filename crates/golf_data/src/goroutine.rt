@@ -1,5 +1,8 @@
 //! Goroutines: their frames, how they wait, and how a program ends.
 
+ghost use Rattle.std.specs.Prelude.{◌≡◌};
+ghost use Rattle.golf_data.specs.Fatal.{is_fatal};
+
 use crate::slots::Slots;
 use crate::value::Value;
 use golf_base::{GoroutineId, List, ObjectId, Room};
@@ -68,6 +71,32 @@ pub enum PanicKind {
     FinalizerSet,
     /// Fatal.
     StackOverflow,
+}
+
+impl PanicKind {
+    /// Whether the program ends with it at once: no deferred call runs (profile).
+    pub fn is_fatal(self) -> bool
+        ensures { result ≡ is_fatal self }
+    {
+        match self {
+            PanicKind::UnlockUnlocked => true,
+            PanicKind::UnlockUnlockedRw => true,
+            PanicKind::RUnlockUnlocked => true,
+            PanicKind::ReaderLimit => true,
+            PanicKind::FinalizerSet => true,
+            PanicKind::StackOverflow => true,
+            PanicKind::Custom(_) => false,
+            PanicKind::NilPointer => false,
+            PanicKind::Index { .. } => false,
+            PanicKind::DivideByZero => false,
+            PanicKind::SliceSize => false,
+            PanicKind::ChanSize => false,
+            PanicKind::SendClosed => false,
+            PanicKind::CloseClosed => false,
+            PanicKind::CloseNil => false,
+            PanicKind::NegativeGroup => false,
+        }
+    }
 }
 
 /// A goroutine that has not ended.

@@ -382,9 +382,9 @@ impl OwnedCommunication {
     }
 }
 
-/// A statement, owned.
+/// A statement, owned: in a box, since it is large to move.
 pub struct OwnedStmt {
-    inner: Stmt,
+    inner: Boxed<Stmt>,
 }
 
 impl Model for OwnedStmt {
@@ -407,31 +407,34 @@ impl Drop for OwnedStmt {
 }
 
 impl OwnedStmt {
-    pub fn new(inner: Stmt) -> OwnedStmt
-        ensures { result ≡ inner }
+    pub fn new(alloc: Global, inner: Stmt) -> Result<OwnedStmt, Memory>
+        ensures { IfOk result (λ s. s ≡ inner) }
     {
-        OwnedStmt { inner }
+        Ok(OwnedStmt {
+            inner: Boxed::new(alloc, inner)?,
+        })
     }
 
     /// Lends the tree.
     pub fn get(&self) -> &Stmt
         ensures { result.now ≡ self.now }
     {
-        &self.inner
+        self.inner.get()
     }
 
     pub fn into_inner(self) -> Stmt
         ensures { result ≡ self }
     {
         let OwnedStmt { inner } = self;
-        inner
+        inner.into_inner()
     }
 
     /// The statement in a box, as an `else` holds it.
-    pub fn boxed(self, alloc: Global) -> Result<Boxed<Stmt>, Memory>
-        ensures { IfOk result (λ b. b ≡ self) }
+    pub fn boxed(self) -> Boxed<Stmt>
+        ensures { result ≡ self }
     {
-        Boxed::new(alloc, self.into_inner())
+        let OwnedStmt { inner } = self;
+        inner
     }
 }
 

@@ -1,6 +1,7 @@
 -- What the outcomes of operations say.
 use Rattle.std.specs.Prelude.{◌≡◌, ℕ, Bool, true, false, List}
 use Rattle.golf_data.specs.declared.goroutine.PanicKind.{PanicKind}
+use Rattle.golf_data.specs.Fatal.{is_fatal}
 use Rattle.golf_model.specs.State.{State}
 use Rattle.golf_model.specs.Changes.{Change}
 use Rattle.golf_model.specs.Acting.{Actor, panics, dies, choose}
@@ -9,24 +10,6 @@ use Rattle.golf_state.specs.Looked.{runs, is_blocked}
 use Rattle.golf_state.specs.Doing.{does, Stands}
 
 -- a fatal error ends the program at once; a panic unwinds
-abbrev pub is_fatal : PanicKind → Bool
-is_fatal (PanicKind.Custom k) = false
-is_fatal PanicKind.NilPointer = false
-is_fatal (PanicKind.Index at length) = false
-is_fatal PanicKind.DivideByZero = false
-is_fatal PanicKind.SliceSize = false
-is_fatal PanicKind.ChanSize = false
-is_fatal PanicKind.SendClosed = false
-is_fatal PanicKind.CloseClosed = false
-is_fatal PanicKind.CloseNil = false
-is_fatal PanicKind.NegativeGroup = false
-is_fatal PanicKind.UnlockUnlocked = true
-is_fatal PanicKind.UnlockUnlockedRw = true
-is_fatal PanicKind.RUnlockUnlocked = true
-is_fatal PanicKind.ReaderLimit = true
-is_fatal PanicKind.FinalizerSet = true
-is_fatal PanicKind.StackOverflow = true
-
 abbrev pub faults : Actor → PanicKind → List Change
 faults a kind = choose (is_fatal kind) (dies a kind) (panics a kind)
 

@@ -8,7 +8,7 @@ ghost use Rattle.golf_state.specs.Operands.{operands_of};
 ghost use Rattle.golf_state.specs.Doing.{does, Stands};
 ghost use Rattle.golf_state.specs.Going.{went};
 ghost use Rattle.golf_state.specs.Looked.{values_of, runs, is_blocked};
-ghost use Rattle.golf_state.specs.Outcomes.{faults, is_fatal, carries, StandsToFault};
+ghost use Rattle.golf_state.specs.Outcomes.{faults, carries, StandsToFault};
 
 use crate::acting::Acting;
 use crate::frames::{Given, advance, advance_with, exchange, unwind};
@@ -30,37 +30,13 @@ pub enum Outcome {
     Stuck,
 }
 
-// Whether the program ends with it at once.
-fn is_fatal(kind: PanicKind) -> bool
-    ensures { result ≡ is_fatal kind }
-{
-    match kind {
-        PanicKind::UnlockUnlocked => true,
-        PanicKind::UnlockUnlockedRw => true,
-        PanicKind::RUnlockUnlocked => true,
-        PanicKind::ReaderLimit => true,
-        PanicKind::FinalizerSet => true,
-        PanicKind::StackOverflow => true,
-        PanicKind::Custom(_) => false,
-        PanicKind::NilPointer => false,
-        PanicKind::Index { .. } => false,
-        PanicKind::DivideByZero => false,
-        PanicKind::SliceSize => false,
-        PanicKind::ChanSize => false,
-        PanicKind::SendClosed => false,
-        PanicKind::CloseClosed => false,
-        PanicKind::CloseNil => false,
-        PanicKind::NegativeGroup => false,
-    }
-}
-
 /// The goroutine in its turn panics, or ends the program by a fatal error.
 pub fn fault(state: &mut State, acting: Acting, kind: PanicKind)
     requires { Stands acting.goroutine.0 acting.after state.old }
     ensures { state.new ≡ does (λ a. faults a kind) acting.goroutine.0 acting.line state.old }
 {
     let (goroutine, line) = (acting.goroutine, acting.line);
-    if is_fatal(kind) {
+    if kind.is_fatal() {
         state.finish(Ending::Panicked {
             kind,
             goroutine,

@@ -183,7 +183,7 @@ fn kind_clause<'a>(
     match kind {
         TokenKind::Keyword(keyword) => keyword_clause(alloc, select, line, *keyword, behind),
         TokenKind::Mark(mark) => match mark {
-            Mark::CloseBrace => Ok(Some((OwnedMove::found(alloc, select.whole())?, behind))),
+            Mark::CloseBrace => Ok(Some((OwnedMove::found(alloc, select.whole(alloc)?)?, behind))),
             _ => Ok(None),
         },
         TokenKind::Name(_) | TokenKind::Integer(_) | TokenKind::Text(_) => Ok(None),

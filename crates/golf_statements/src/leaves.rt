@@ -77,7 +77,7 @@ pub fn variable_at(
     match var_at(alloc, line, tokens)? {
         None => Ok(None),
         Some((var, rest)) => Ok(Some((
-            OwnedMove::found(alloc, OwnedStmt::new(Stmt::Var(var)))?,
+            OwnedMove::found(alloc, OwnedStmt::new(alloc, Stmt::Var(var))?)?,
             rest,
         ))),
     }
@@ -98,7 +98,7 @@ pub fn go_at(
             Ok(Some((
                 OwnedMove::found(
                     alloc,
-                    OwnedStmt::new(Stmt::Go(line, callee, arguments.into_inner())),
+                    OwnedStmt::new(alloc, Stmt::Go(line, callee, arguments.into_inner()))?,
                 )?,
                 rest,
             )))
@@ -121,7 +121,7 @@ pub fn defer_at(
             Ok(Some((
                 OwnedMove::found(
                     alloc,
-                    OwnedStmt::new(Stmt::Defer(line, callee, arguments.into_inner())),
+                    OwnedStmt::new(alloc, Stmt::Defer(line, callee, arguments.into_inner()))?,
                 )?,
                 rest,
             )))
@@ -140,11 +140,14 @@ pub fn return_at(
 {
     match expression_at(alloc, Place::Elsewhere, tokens)? {
         None => Ok(Some((
-            OwnedMove::found(alloc, OwnedStmt::new(Stmt::Return(line, None)))?,
+            OwnedMove::found(alloc, OwnedStmt::new(alloc, Stmt::Return(line, None))?)?,
             tokens,
         ))),
         Some((value, rest)) => Ok(Some((
-            OwnedMove::found(alloc, OwnedStmt::new(Stmt::Return(line, Some(value))))?,
+            OwnedMove::found(
+                alloc,
+                OwnedStmt::new(alloc, Stmt::Return(line, Some(value)))?,
+            )?,
             rest,
         ))),
     }
@@ -161,7 +164,7 @@ pub fn simple_statement_at(
     match simple_at(alloc, Place::Elsewhere, tokens)? {
         None => Ok(None),
         Some((simple, rest)) => Ok(Some((
-            OwnedMove::found(alloc, OwnedStmt::new(Stmt::Simple(simple)))?,
+            OwnedMove::found(alloc, OwnedStmt::new(alloc, Stmt::Simple(simple))?)?,
             rest,
         ))),
     }

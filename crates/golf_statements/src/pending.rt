@@ -307,15 +307,15 @@ impl Select {
     }
 
     /// The statement that a `select` with these clauses is.
-    pub fn whole(self) -> OwnedStmt
-        ensures { result ≡ Stmt.Select self.line self.clauses }
+    pub fn whole(self, alloc: Global) -> Result<OwnedStmt, Memory>
+        ensures { IfOk result (λ s. s ≡ Stmt.Select self.line self.clauses) }
     {
         let Select {
             line,
             has_default: _,
             clauses,
         } = self;
-        OwnedStmt::new(Stmt::Select(line, clauses.into_inner()))
+        OwnedStmt::new(alloc, Stmt::Select(line, clauses.into_inner()))
     }
 }
 
@@ -333,14 +333,17 @@ impl Owner {
     {
         match self {
             Owner::Block(line) => Ok(Some((
-                OwnedMove::found(alloc, OwnedStmt::new(Stmt::Block(line, done.into_inner())))?,
+                OwnedMove::found(
+                    alloc,
+                    OwnedStmt::new(alloc, Stmt::Block(line, done.into_inner()))?,
+                )?,
                 tokens,
             ))),
             Owner::If(line, first, test) => else_move(alloc, line, first, test, done, tokens),
             Owner::For(line, header) => Ok(Some((
                 OwnedMove::found(
                     alloc,
-                    OwnedStmt::new(Stmt::For(line, header, done.into_inner())),
+                    OwnedStmt::new(alloc, Stmt::For(line, header, done.into_inner()))?,
                 )?,
                 tokens,
             ))),

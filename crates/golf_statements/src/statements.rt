@@ -52,7 +52,7 @@ pub fn else_move(
         return Ok(Some((
             OwnedMove::found(
                 alloc,
-                OwnedStmt::new(Stmt::If(line, first, test, done.into_inner())),
+                OwnedStmt::new(alloc, Stmt::If(line, first, test, done.into_inner()))?,
             )?,
             tokens,
         )))
@@ -202,11 +202,11 @@ fn keyword_move<'a>(
         Keyword::Defer => defer_at(alloc, line, behind),
         Keyword::Return => return_at(alloc, line, behind),
         Keyword::Break => Ok(Some((
-            OwnedMove::found(alloc, OwnedStmt::new(Stmt::Break(line)))?,
+            OwnedMove::found(alloc, OwnedStmt::new(alloc, Stmt::Break(line))?)?,
             behind,
         ))),
         Keyword::Continue => Ok(Some((
-            OwnedMove::found(alloc, OwnedStmt::new(Stmt::Continue(line)))?,
+            OwnedMove::found(alloc, OwnedStmt::new(alloc, Stmt::Continue(line))?)?,
             behind,
         ))),
         Keyword::If => if_move(alloc, line, behind),
@@ -262,8 +262,11 @@ fn if_else(
 ) -> Result<OwnedStmt, Memory>
     ensures { IfOk result (λ s. s ≡ Stmt.IfElse line first test done otherwise) }
 {
-    let otherwise = otherwise.boxed(alloc)?;
-    Ok(OwnedStmt::new(Stmt::IfElse(line, first, test, done.into_inner(), otherwise)))
+    let otherwise = otherwise.boxed();
+    OwnedStmt::new(
+        alloc,
+        Stmt::IfElse(line, first, test, done.into_inner(), otherwise),
+    )
 }
 
 // The statements with one more.

@@ -7,6 +7,7 @@ use Rattle.golf_data.specs.declared.goroutine.PanicKind.{PanicKind}
 use Rattle.golf_data.specs.declared.goroutine.WaitKind.{WaitKind}
 use Rattle.golf_data.specs.declared.report.Entry.{Entry}
 use Rattle.golf_data.specs.declared.report.Report.{Report}
+use Rattle.golf_data.specs.Fatal.{is_fatal}
 
 -- how a goroutine is blocked (the words of Go's own traces, as far as they have them)
 abbrev pub wait_text : WaitKind → List ℕ
@@ -68,25 +69,6 @@ panic_text texts PanicKind.RUnlockUnlocked = codes "sync: RUnlock of unlocked RW
 panic_text texts PanicKind.ReaderLimit = codes "sync: too many readers"
 panic_text texts PanicKind.FinalizerSet = codes "runtime.SetFinalizer: finalizer already set"
 panic_text texts PanicKind.StackOverflow = codes "stack overflow"
-
--- a fatal error runs no deferred call (profile)
-abbrev pub is_fatal : PanicKind → Bool
-is_fatal (PanicKind.Custom k) = false
-is_fatal PanicKind.NilPointer = false
-is_fatal (PanicKind.Index at bound) = false
-is_fatal PanicKind.DivideByZero = false
-is_fatal PanicKind.SliceSize = false
-is_fatal PanicKind.ChanSize = false
-is_fatal PanicKind.SendClosed = false
-is_fatal PanicKind.CloseClosed = false
-is_fatal PanicKind.CloseNil = false
-is_fatal PanicKind.NegativeGroup = false
-is_fatal PanicKind.UnlockUnlocked = true
-is_fatal PanicKind.UnlockUnlockedRw = true
-is_fatal PanicKind.RUnlockUnlocked = true
-is_fatal PanicKind.ReaderLimit = true
-is_fatal PanicKind.FinalizerSet = true
-is_fatal PanicKind.StackOverflow = true
 
 abbrev pub fault_word : Bool → List ℕ
 fault_word true = codes "fatal error: "

@@ -1,6 +1,7 @@
 //! The lines of collections, of panics and of the end.
 
 ghost use Rattle.std.specs.Prelude.{◌≡◌, ◌++◌, IfOk, OnOk, string_bytes};
+ghost use Rattle.golf_data.specs.Fatal.{is_fatal};
 ghost use Rattle.golf_texts.specs.Texts.{
   wait_text as wait_bytes,
   entry_line as entry_bytes,
@@ -9,7 +10,6 @@ ghost use Rattle.golf_texts.specs.Texts.{
   left_text as left_bytes,
   report_text as report_bytes,
   panic_text as panic_bytes,
-  is_fatal,
   fault_word as fault_word_bytes,
   fault_line as fault_bytes,
   asleep_line as asleep_bytes,
@@ -148,14 +148,10 @@ fn add_reason(
 fn fault_word(kind: PanicKind) -> &'static str
     ensures { result.now ≡ fault_word_bytes (is_fatal kind) }
 {
-    match kind {
-        PanicKind::UnlockUnlocked
-        | PanicKind::UnlockUnlockedRw
-        | PanicKind::RUnlockUnlocked
-        | PanicKind::ReaderLimit
-        | PanicKind::FinalizerSet
-        | PanicKind::StackOverflow => "fatal error: ",
-        _ => "panic: ",
+    if kind.is_fatal() {
+        "fatal error: "
+    } else {
+        "panic: "
     }
 }
 
