@@ -26,7 +26,7 @@ use Rattle.golf_types.specs.declared.scopes.Scope.{Scope}
 use Rattle.golf_types.specs.Faults.{IsFirst, Tells}
 use Rattle.golf_types.specs.Types.{given, given_type, type_of, type_given}
 use Rattle.golf_types.specs.Scopes.{member}
-use Rattle.golf_types.specs.Expressions.{Judged, leaf, value, called_name, struct_member, condition_member, condition_method, mutex_method, group_method, read_method, base_member, type_member, value_member, selected_from, package_member, without_package}
+use Rattle.golf_types.specs.Expressions.{Judged, leaf, value, called_name, struct_member, condition_member, condition_method, mutex_method, group_method, read_method, base_member, type_member, value_member, has_type, package_selected, selected_from, package_member, without_package}
 use Rattle.golf_types.specs.Calls.{called_with}
 use Rattle.golf_types.specs.Files.{with_forms, globals_above}
 use Rattle.golf_check_forms.specs.Forms.{without_late, Forms, called_form, formed_decl}
@@ -75,6 +75,11 @@ unfolding Refused
 named_refused r l k None h = refl
 named_refused r l k (Some b) h = absurd h
 
+package_refused : (r l k : ℕ) (p : Package) (n : List ℕ) → Refused r l (package_selected k p n)
+unfolding Refused
+package_refused r l k p n =
+    elim (has_type p n) as (λ b. Refused r l (cond b (leaf operand.TypeName []) (called_name k (package_member p n)))) [ true ↦ (λ h. absurd h) | false ↦ named_refused r l k (package_member p n) ]
+
 struct_refused : (r l k : ℕ) (f : FileScope) (n : ℕ) (m : Option Member) → Refused r l (struct_member k f n m)
 unfolding Refused
 struct_refused r l k f n None h = refl
@@ -108,7 +113,7 @@ value_refused r l k f n given_as.Unknown h = refl
 
 selected_refused : (r l k : ℕ) (f : FileScope) (n : List ℕ) (m : Operand) → Refused r l (selected_from k f n m)
 unfolding Refused
-selected_refused r l k f n (operand.Package p) h = named_refused r l k (package_member p n) h
+selected_refused r l k f n (operand.Package p) h = package_refused r l k p n h
 selected_refused r l k f n (operand.Value t) h = value_refused r l k f n (given_type t) h
 selected_refused r l k f n (operand.Outcome t) h = value_refused r l k f n (given_type t) h
 selected_refused r l k f n (operand.Variable w t) h = value_refused r l k f n (given_type t) h

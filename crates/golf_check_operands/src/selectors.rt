@@ -2,10 +2,11 @@
 
 ghost use Rattle.std.specs.Prelude.{◌≡◌};
 ghost use Rattle.golf_types.specs.Judging.{Finds};
-ghost use Rattle.golf_types.specs.Expressions.{fmt_member as fmt_member_of, runtime_member as runtime_member_of, sync_member as sync_member_of, package_member as package_member_of, called_name as called_name_of, mutex_method as mutex_method_of, group_method as group_method_of, write_method as write_method_of, read_method as read_method_of, condition_method as condition_method_of, condition_member as condition_member_of, struct_member as struct_member_of, base_member as base_member_of, value_member as value_member_of, selected_from};
+ghost use Rattle.golf_types.specs.Expressions.{fmt_member as fmt_member_of, runtime_member as runtime_member_of, sync_member as sync_member_of, package_member as package_member_of, has_type as has_type_of, package_selected as package_selected_of, called_name as called_name_of, mutex_method as mutex_method_of, group_method as group_method_of, write_method as write_method_of, read_method as read_method_of, condition_method as condition_method_of, condition_member as condition_member_of, struct_member as struct_member_of, base_member as base_member_of, value_member as value_member_of, selected_from};
 
 use crate::literals::type_of_field;
 use crate::operators::{as_value, value};
+use crate::written_types::sync_base;
 use golf_types::{Base, BuiltIn, FileScope, Given, Member, Operand, Package, TypeFault, member_at};
 use std::alloc::Global;
 
@@ -52,6 +53,16 @@ fn package_member(from: Package, name: &[u8]) -> Option<BuiltIn>
     }
 }
 
+// Whether a package has a type of this name.
+fn has_type(from: Package, name: &[u8]) -> bool
+    ensures { result ≡ has_type_of from name.now }
+{
+    match from {
+        Package::Sync => sync_base(name).is_some(),
+        Package::Fmt | Package::Runtime => false,
+    }
+}
+
 fn called_name(line: u32, name: Option<BuiltIn>) -> Result<Operand, TypeFault>
     ensures { Finds result (called_name_of line name) }
 {
@@ -59,6 +70,16 @@ fn called_name(line: u32, name: Option<BuiltIn>) -> Result<Operand, TypeFault>
         None => Err(TypeFault::At { line, rule: 3 }),
         Some(built_in) => Ok(Operand::BuiltIn(built_in)),
     }
+}
+
+// What a package has: a type, which is no value, or what is called. Rule 3.
+fn package_selected(line: u32, from: Package, name: &[u8]) -> Result<Operand, TypeFault>
+    ensures { Finds result (package_selected_of line from name.now) }
+{
+    if has_type(from, name) {
+        return Ok(Operand::TypeName);
+    }
+    called_name(line, package_member(from, name))
 }
 
 #[tactic(auto, unfolding(golf_types::specs::Expressions::mutex_method))]
@@ -214,7 +235,7 @@ pub fn select(
     ensures { Finds result (selected_from line file.now name.now operand) }
 {
     match &operand {
-        Operand::Package(from) => called_name(line, package_member(*from, name)),
+        Operand::Package(from) => package_selected(line, *from, name),
         _ => {
             let given = as_value(alloc, line, operand)?;
             value_member(alloc, line, file, name, &given)

@@ -47,8 +47,9 @@ pub fn made_base(name: &[u8]) -> Option<Base>
     None
 }
 
+/// What package sync has.
 #[tactic(auto, unfolding(golf_types::specs::Written::sync_base))]
-fn sync_base(name: &[u8]) -> Option<Base>
+pub fn sync_base(name: &[u8]) -> Option<Base>
     ensures { result ≡ sync_base_of name.now }
 {
     if name == b"Cond".as_slice() {

@@ -8,7 +8,9 @@ ghost use Rattle.golf_types.specs.Statements.{Adds, Walks, action_faults, action
 use crate::pairs::{assign_pair, define_pair};
 use golf_base::List;
 use golf_check_expressions::{callee, given, operand};
-use golf_check_operands::{assignable, can_give, can_take, element, has_base, is_value, late};
+use golf_check_operands::{
+    assignable, can_give, can_take, element, has_base, has_channel, is_value, late,
+};
 use golf_grammar::{Expr, Simple, SimpleKind};
 use golf_types::{
     Base, Given, GoType, Operand, Scope, TypeFault, declare, is_blank, is_here, is_reserved,
@@ -56,7 +58,8 @@ fn can_be_sent(line: u32, channel: Given, value: &Given) -> Result<(), TypeFault
     ensures { Tells result (send_faults line channel value.now) (λ _. Unit {0}) }
 {
     let takes = can_take(&channel);
-    require(line, 9, assignable(value, &element(channel)))?;
+    let carries = has_channel(&channel);
+    require(line, 9, !carries || assignable(value, &element(channel)))?;
     require(line, 16, takes)
 }
 

@@ -30,7 +30,7 @@ use Rattle.golf_code_of.specs.Selects.{ClausePart, case_clause, default_clause, 
 use Rattle.golf_code_shapes.specs.Types.{value_type, known_type}
 use Rattle.golf_code_shapes.specs.Sound.{LocalFits, ScopeFits, Pushes}
 use Rattle.golf_code_shapes.specs.Flowing.{IsMaking, Slotted, MadeFit}
-use Rattle.golf_code_shapes.proofs.Typings.{none-left, none-right, kept}
+use Rattle.golf_code_shapes.proofs.Typings.{none-left, none-right, kept, carried-on}
 use Rattle.golf_code_shapes.proofs.Names.{of-taking, of-giving, given-to}
 use Rattle.golf_code_shapes.proofs.Branches.{further}
 use Rattle.golf_code_shapes.proofs.Flows.{Right, then-in, locals-wider, slotted-left, slotted-right, made-left, made-right, quiet, scope-quiet}
@@ -134,8 +134,10 @@ module _ (types : Types) (t : Tables) (ft : FunctionTypes) where
         let one = none-right (used l (judge c l r)) _ clean2 in
         let two = none-right (used l (judge e l r)) _ one in
         let v = given_by (judge e l r) in
-        let ch = of-taking types t ft A r (given_by (judge c l r)) (piece_at t l r c) (kept l 16 _ (none-right (broken l 9 (assignable v (element (given_by (judge c l r))))) _ two)) (value-of types t ft l c r A okr (none-left (used l (judge c l r)) _ clean2)) in
-        let fit = subst (λ o. assignable v o ≡ true) ch.1 (kept l 9 _ (none-left (broken l 9 (assignable v (element (given_by (judge c l r))))) _ two)) in
+        let carries = broken l 9 (W.is_carried (given_by (judge c l r)) v) in
+        let may = kept l 16 _ (none-right carries _ two) in
+        let ch = of-taking types t ft A r (given_by (judge c l r)) (piece_at t l r c) may (value-of types t ft l c r A okr (none-left (used l (judge c l r)) _ clean2)) in
+        let fit = subst (λ o. assignable v o ≡ true) ch.1 (carried-on (given_by (judge c l r)) v may (kept l 9 _ (none-left carries _ two))) in
         let pv = given-to types t ft A r v ch.0 (piece_at t l r e) fit (value-of types t ft l e r A okr (none-left (used l (judge e l r)) _ one)) in
         let T = value_type ch.0 in
         record {

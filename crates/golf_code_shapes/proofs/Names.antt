@@ -174,7 +174,7 @@ module _ (types : Types) (t : Tables) (ft : FunctionTypes) (A : List ℕ) (s : S
 
   is-call : (n : List ℕ) (m : Operand) → call_name n ≡ Some m → Named m
   unfolding call_name
-  is-call n = tried _ (operand.BuiltIn built_in.Length) _ refl (tried _ (operand.BuiltIn built_in.Close) _ refl (tried _ (operand.BuiltIn built_in.Panic) None refl no-name))
+  is-call n = tried _ (operand.BuiltIn built_in.Length) _ refl (tried _ (operand.BuiltIn built_in.Close) _ refl (tried _ (operand.BuiltIn built_in.Panic) _ refl (tried _ operand.TypeName _ tt (tried _ operand.TypeName None tt no-name))))
 
   is-package : (i : Imports) (n : List ℕ) (m : Operand) → package_name i n ≡ Some m → Named m
   unfolding package_name

@@ -17,7 +17,7 @@ use Rattle.golf_types.specs.declared.scopes.Member.TheVariants as members
 use Rattle.golf_types.specs.declared.scopes.Scope.{Scope}
 use Rattle.golf_types.specs.Types.{given}
 use Rattle.golf_types.specs.Scopes.{member}
-use Rattle.golf_types.specs.Expressions.{Judged, value_faults, value_member, type_member, base_member, struct_member, called_name, condition_member, condition_method, mutex_method, group_method, read_method, write_method, package_member, fmt_member, runtime_member, sync_member, selected_from, leaf, value}
+use Rattle.golf_types.specs.Expressions.{Judged, value_faults, value_member, type_member, base_member, struct_member, called_name, condition_member, condition_method, mutex_method, group_method, read_method, write_method, package_member, has_type, fmt_member, runtime_member, sync_member, selected_from, leaf, value}
 use Rattle.golf_shapes.specs.Types.{ValueType, FunctionTypes, Types}
 use Rattle.golf_layout.specs.Piece.{Piece, op}
 use Rattle.golf_layout_shapes.proofs.Pieces.{has-op}
@@ -135,6 +135,12 @@ module _ (types : Types) (t : Tables) (ft : FunctionTypes) (A : List ℕ) (s : S
   of-package l p None fits none h = cc
   of-package l p (Some m) fits none h = subst (λ o. Receives types ft A o p) (sym (fits m refl)) h
 
+  -- a type of a package, or what is called
+  package-name : (l : ℕ) (p : Piece) (test : Bool) (j : Judged) → (j.faults ≡ [] → Sh j.meaning (selector l j.meaning p)) → (cond test (leaf operand.TypeName []) j).faults ≡ []
+      → Sh (cond test (leaf operand.TypeName []) j).meaning (selector l (cond test (leaf operand.TypeName []) j).meaning p)
+  package-name l p true j k none = tt
+  package-name l p false j k none = k none
+
   of-given : (l : ℕ) (n : List ℕ) (g : Given) (p : Piece) → (value_member l s.file n g).faults ≡ [] → GivesBy types t ft A s g p → Sh (value_member l s.file n g).meaning (selector l (value_member l s.file n g).meaning p)
   of-given l n (given_as.Typed e) p none h = of-type l n e.layers e.base p none h
   of-given l n given_as.Nil p none h = cc
@@ -142,7 +148,7 @@ module _ (types : Types) (t : Tables) (ft : FunctionTypes) (A : List ℕ) (s : S
 
   -- `e.n`, where this is what e is
   pub on-selector : (l : ℕ) (n : List ℕ) (m : Operand) (x : Made) → (selected_from l s.file n m).faults ≡ [] → Sh m x → Sh (selected_from l s.file n m).meaning (selector l (selected_from l s.file n m).meaning x.piece)
-  on-selector l n (operand.Package q) x none h = of-package l x.piece (package_member q n) (from-package q n) none h
+  on-selector l n (operand.Package q) x none h = package-name l x.piece (has_type q n) (called_name l (package_member q n)) (λ e. of-package l x.piece (package_member q n) (from-package q n) e h) none
   on-selector l n (operand.Value e) x none h = of-given l n (given (operand.Value e)) x.piece (none-right (value_faults l (operand.Value e)) _ none) (valued types t ft A s l (operand.Value e) x (none-left (value_faults l (operand.Value e)) _ none) h)
   on-selector l n (operand.Outcome e) x none h = of-given l n (given (operand.Outcome e)) x.piece (none-right (value_faults l (operand.Outcome e)) _ none) (valued types t ft A s l (operand.Outcome e) x (none-left (value_faults l (operand.Outcome e)) _ none) h)
   on-selector l n (operand.Constant k b) x none h = of-given l n (given (operand.Constant k b)) x.piece (none-right (value_faults l (operand.Constant k b)) _ none) (valued types t ft A s l (operand.Constant k b) x (none-left (value_faults l (operand.Constant k b)) _ none) h)

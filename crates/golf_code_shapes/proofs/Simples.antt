@@ -19,7 +19,7 @@ use Rattle.golf_types.specs.declared.operands.Operand.{Operand}
 use Rattle.golf_types.specs.declared.operands.Operand.TheVariants as operand
 use Rattle.golf_types.specs.declared.scopes.Scope.{Scope}
 use Rattle.golf_types.specs.Faults.{broken}
-use Rattle.golf_types.specs.Types.{given, type_of, type_given, is_nil, has_base, element, assignable}
+use Rattle.golf_types.specs.Types.{given, type_of, type_given, is_nil, has_base, assignable}
 use Rattle.golf_types.specs.Written.{write}
 use Rattle.golf_types.specs.Expressions.{used, named_or_used, given_by, value_faults}
 use Rattle.golf_types.specs.Judging.{judge}
@@ -38,7 +38,7 @@ use Rattle.golf_code_of.specs.Statements.{drops, updates, assigns, update_instr}
 use Rattle.golf_code_shapes.specs.Types.{value_type}
 use Rattle.golf_code_shapes.specs.Sound.{ScopeFits, Shown, Gives, Turns, Pushes, Silent, Places}
 use Rattle.golf_code_shapes.specs.Flowing.{SimpleFits}
-use Rattle.golf_code_shapes.proofs.Typings.{none-left, none-right, kept, same-value}
+use Rattle.golf_code_shapes.proofs.Typings.{none-left, none-right, kept, carried-on, same-value}
 use Rattle.golf_code_shapes.proofs.Turning.{turn-op, turn-none, turn-then, turn-last, one-turn, over}
 use Rattle.golf_code_shapes.proofs.Names.{of-used, based, given-to, of-taking, some-type, push-fits}
 use Rattle.golf_code_shapes.proofs.Literals.{written-known, zero-fits}
@@ -104,8 +104,10 @@ module _ (types : Types) (t : Tables) (ft : FunctionTypes) where
           let k = judge e l s in
           let one = none-right (used l j) _ none in
           let two = none-right (used l k) _ one in
-          let ch = of-taking types t ft A s (given_by j) (piece_at t l s c) (kept l 16 _ (none-right (broken l 9 (assignable (given_by k) (element (given_by j)))) _ two)) (value-of l c s A ok (none-left (used l j) _ none)) in
-          let fit = subst (λ o. assignable (given_by k) o ≡ true) ch.1 (kept l 9 _ (none-left (broken l 9 (assignable (given_by k) (element (given_by j)))) _ two)) in
+          let carries = broken l 9 (W.is_carried (given_by j) (given_by k)) in
+          let may = kept l 16 _ (none-right carries _ two) in
+          let ch = of-taking types t ft A s (given_by j) (piece_at t l s c) may (value-of l c s A ok (none-left (used l j) _ none)) in
+          let fit = subst (λ o. assignable (given_by k) o ≡ true) ch.1 (carried-on (given_by j) (given_by k) may (kept l 9 _ (none-left carries _ two))) in
           let v = given-to types t ft A s (given_by k) ch.0 (piece_at t l s e) fit (value-of l e s A ok (none-left (used l k) _ one)) in
           turn-then types ft A (piece_at t l s c) _ [] (ValueType.Chan (value_type ch.0) ∷ []) [] ch.2
           (turn-then types ft A (piece_at t l s e) _ (ValueType.Chan (value_type ch.0) ∷ []) (value_type ch.0 ∷ ValueType.Chan (value_type ch.0) ∷ []) [] (over types ft A (piece_at t l s e) (value_type ch.0) (ValueType.Chan (value_type ch.0) ∷ []) v)

@@ -1,13 +1,16 @@
 -- What the tests of the checker say of the types of shapes.
-use Rattle.std.proofs.Common.{◌≡◌, ◌⊎◌, inl, inr, ℕ, Bool, true, false, ◌&&◌, ◌==◌, List, [], ◌∷◌, ◌++◌, Some, refl, ap, ◌∙◌, arith}
+use Rattle.std.proofs.Common.{◌≡◌, ◌⊎◌, inl, inr, ℕ, Bool, true, false, not, ◌&&◌, ◌||◌, ◌==◌, List, [], ◌∷◌, ◌++◌, Some, refl, ap, ◌∙◌, arith}
 use Rattle.std.proofs.lemmas.Bool.{and_parts, or_cases}
 use Rattle.golf_types.specs.declared.types.Layer.{Layer}
 use Rattle.golf_types.specs.declared.types.Layer.TheVariants as layer
 use Rattle.golf_types.specs.declared.types.Base.{Base}
 use Rattle.golf_types.specs.declared.types.Base.TheVariants as base
 use Rattle.golf_types.specs.declared.types.GoType.{GoType}
-use Rattle.golf_types.specs.Types.{same_layers, same_base, same_type, narrows, assignable_type, takes_nil, is_slice, is_channel, is_any, gives, takes, starts_with, inside}
+use Rattle.golf_types.specs.declared.operands.Given.{Given}
+use Rattle.golf_types.specs.declared.operands.Given.TheVariants as given_as
+use Rattle.golf_types.specs.Types.{same_layers, same_base, same_type, narrows, assignable_type, assignable, takes_nil, has_layer, is_slice, is_channel, is_any, gives, takes, starts_with, inside, element}
 use Rattle.golf_types.specs.Faults.{broken}
+use Rattle.golf_types.specs.Statements.{is_carried}
 use Rattle.golf_shapes.specs.Types.{ValueType, IsNilable}
 use Rattle.golf_code_shapes.specs.Types.{base_type, layers_type, value_type}
 
@@ -99,6 +102,26 @@ sent-on (layer.Slice ∷ xs) b e = cc
 sent-on (layer.Chan ∷ xs) b e = (record { layers = xs; base = b }, refl, refl)
 sent-on (layer.SendChan ∷ xs) b e = (record { layers = xs; base = b }, refl, refl)
 sent-on (layer.ReceiveChan ∷ xs) b e = cc
+
+is-a-channel : (xs : List Layer) → starts_with takes xs ≡ true → starts_with is_channel xs ≡ true
+is-a-channel [] e = cc
+is-a-channel (layer.Slice ∷ xs) e = cc
+is-a-channel (layer.Chan ∷ xs) e = refl
+is-a-channel (layer.SendChan ∷ xs) e = refl
+is-a-channel (layer.ReceiveChan ∷ xs) e = cc
+
+has-channel : (c : Given) → has_layer takes c ≡ true → has_layer is_channel c ≡ true
+has-channel (given_as.Typed a) e = is-a-channel a.layers e
+has-channel given_as.Nil e = cc
+has-channel given_as.Unknown e = refl
+
+where-true : (a b : Bool) → a ≡ true → (not a || b) ≡ true → b ≡ true
+where-true true b h e = e
+where-true false b h e = cc
+
+-- what may be sent is of the type that the channel carries
+pub carried-on : (c v : Given) → has_layer takes c ≡ true → is_carried c v ≡ true → assignable v (element c) ≡ true
+carried-on c v e h = where-true (has_layer is_channel c) (assignable v (element c)) (has-channel c e) h
 
 pub channel-of : (xs : List Layer) (b : Base) → starts_with is_channel xs ≡ true → (e : GoType) × (inside xs b ≡ Some e) × (layers_type xs b ≡ ValueType.Chan (value_type e))
 channel-of [] b e = cc

@@ -1,6 +1,6 @@
 //! The finalisers that are to be called.
 
-ghost use Rattle.std.specs.Prelude.{◌≡◌, IfOk, OnOk, OnErr, length, map};
+ghost use Rattle.std.specs.Prelude.{◌≡◌, ◌+◌, IfOk, OnOk, OnErr, length, map};
 ghost use Rattle.golf_theory.specs.Maps.{keys};
 ghost use Rattle.golf_theory.specs.Membership.{is_in};
 ghost use Rattle.golf_heap.specs.Objects.{kept};
@@ -30,13 +30,18 @@ fn flagged(alloc: Global, state: &State, flags: &[bool]) -> Result<List<bool>, M
 }
 
 /// Each object with a finaliser that is not marked loses it and joins the queue with that function,
-/// in rising order of number (package runtime, `SetFinalizer`). A call that answers `Memory` leaves
-/// the state unchanged.
-pub fn queue_finalisers(alloc: Global, state: &mut State, retained: &Marked) -> Result<(), Memory>
+/// in rising order of number (package runtime, `SetFinalizer`). The answer is how many joined. A
+/// call that answers `Memory` leaves the state unchanged.
+pub fn queue_finalisers(
+    alloc: Global,
+    state: &mut State,
+    retained: &Marked,
+) -> Result<usize, Memory>
     requires count { length retained.now.flags ≡ length state.old.objects }
     requires numbered { Numbered state.old }
     requires whole { IsWhole state.old }
     ensures ok { OnOk result (state.new ≡ queue_outside (kept retained.now.flags (keys state.old.objects)) state.old) }
+    ensures count { IfOk result (λ count. length state.new.queue ≡ length state.old.queue + count) }
     ensures err { OnErr result (state.new ≡ state.old) }
 {
     let stays = flagged(alloc, state, retained.flags.as_slice())?;

@@ -110,7 +110,7 @@ module _ (types : Types) (t : Tables) (l : ℕ) where
 
   is-call : (n : List ℕ) (m : Operand) → call_name n ≡ Some m → Outer m
   unfolding call_name
-  is-call n = tried _ (operand.BuiltIn built_in.Length) _ (λ none. cc) (tried _ (operand.BuiltIn built_in.Close) _ (λ none. cc) (tried _ (operand.BuiltIn built_in.Panic) None (λ none. cc) no-name))
+  is-call n = tried _ (operand.BuiltIn built_in.Length) _ (λ none. cc) (tried _ (operand.BuiltIn built_in.Close) _ (λ none. cc) (tried _ (operand.BuiltIn built_in.Panic) _ (λ none. cc) (tried _ operand.TypeName _ (λ none. cc) (tried _ operand.TypeName None (λ none. cc) no-name))))
 
   is-package : (i : Imports) (n : List ℕ) (m : Operand) → package_name i n ≡ Some m → Outer m
   unfolding package_name

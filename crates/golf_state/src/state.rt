@@ -553,17 +553,18 @@ impl State {
     }
 
     /// The finalisers whose flag is false are set no longer, and are to be called, behind those
-    /// that are to be called already.
-    pub fn queue_finalisers(&mut self, stays: &[bool]) -> Result<(), Memory>
+    /// that are to be called already. The answer is how many they are.
+    pub fn queue_finalisers(&mut self, stays: &[bool]) -> Result<usize, Memory>
         requires { length stays.now ≡ length self.old.finalisers }
         ensures ok { OnOk result (self.new ≡ queue_unflagged stays.now self.old) }
+        ensures count { IfOk result (λ count. length self.new.queue ≡ length self.old.queue + count) }
         ensures err { OnErr result (self.new ≡ self.old) }
     {
         let alloc = *self.finalisers.allocator();
         let entries = unflagged_finalisers(alloc, self.finalisers.as_slice(), stays)?;
         self.queue.add(entries.as_slice())?;
         close_up(&mut self.finalisers, stays);
-        Ok(())
+        Ok(entries.len())
     }
 
     /// Frees the objects whose flag, in rising order of number, is false. It takes no memory.

@@ -28,7 +28,7 @@ use Rattle.golf_types.specs.Faults.{Fault, broken}
 use Rattle.golf_types.specs.Types.{plain, given, type_of, has_base, has_layer, is_slice, is_channel, is_any, gives, element, assignable, comparable}
 use Rattle.golf_types.specs.Names.{is_blank}
 use Rattle.golf_types.specs.Scopes.{meaning, type_at, member}
-use Rattle.golf_types.specs.Written.{Written, made_base, of_sync}
+use Rattle.golf_types.specs.Written.{Written, made_base, sync_base, of_sync}
 
 -- What an expression is, the rules that it breaks, and the types of its parts in the order of their prints.
 pub record Judged : Type 0 where
@@ -208,10 +208,19 @@ package_member packages.Fmt n = fmt_member n
 package_member packages.Runtime n = runtime_member n
 package_member packages.Sync n = sync_member n
 
+-- whether a package has a type of this name
+abbrev pub has_type : Package → List ℕ → Bool
+has_type packages.Sync n = is_some (sync_base n)
+has_type p n = false
+
 -- Rule 3: what stands behind a dot is known.
 abbrev pub called_name : ℕ → Option BuiltIn → Judged
 called_name l None = leaf operand.Unknown (broken l 3 false)
 called_name l (Some b) = leaf (operand.BuiltIn b) []
+
+-- what a package has: a type, which is no value, or what is called
+abbrev pub package_selected : ℕ → Package → List ℕ → Judged
+package_selected l p n = cond (has_type p n) (leaf operand.TypeName []) (called_name l (package_member p n))
 
 unfoldable pub mutex_method : List ℕ → Option BuiltIn
 mutex_method n = cond (bytes_eq n (codes "Lock")) (Some built_in.Lock) (cond (bytes_eq n (codes "Unlock")) (Some built_in.Unlock) None)
@@ -267,7 +276,7 @@ value_member l f n given_as.Unknown = leaf operand.Unknown []
 
 -- what stands behind a dot: of a package, or of a value
 abbrev pub selected_from : ℕ → FileScope → List ℕ → Operand → Judged
-selected_from l f n (operand.Package p) = called_name l (package_member p n)
+selected_from l f n (operand.Package p) = package_selected l p n
 selected_from l f n m = record {
   meaning = (value_member l f n (given m)).meaning;
   faults = value_faults l m ++ (value_member l f n (given m)).faults;

@@ -1,7 +1,6 @@
 -- Tables of names, and the names that statements declare (Go specification, "Declarations and scope").
 use Rattle.std.specs.Prelude.{ℕ, ◌==◌, Bool, false, cond, List, [], ◌∷◌, ◌++◌, Option, Some, None, codes}
 use Rattle.std.specs.Str.{bytes_eq}
-use Rattle.std.specs.List.{list_any}
 use Rattle.golf_types.specs.declared.locals.Local.{Local}
 
 -- names with their numbers
@@ -36,7 +35,3 @@ look ds n = look_from None ds n
 
 abbrev pub is_blank : List ℕ → Bool
 is_blank n = bytes_eq n (codes "_")
-
--- `int bool string true false nil make new len close panic`, and the names of the packages
-abbrev pub is_reserved : List ℕ → Bool
-is_reserved n = list_any (bytes_eq n) (codes "int" ∷ codes "bool" ∷ codes "string" ∷ codes "true" ∷ codes "false" ∷ codes "nil" ∷ codes "make" ∷ codes "new" ∷ codes "len" ∷ codes "close" ∷ codes "panic" ∷ codes "fmt" ∷ codes "sync" ∷ codes "runtime" ∷ [])

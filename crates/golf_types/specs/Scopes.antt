@@ -1,5 +1,5 @@
 -- What names mean (Go specification, "Declarations and scope", "Predeclared identifiers").
-use Rattle.std.specs.Prelude.{ℕ, ◌+◌, ◌-◌, ◌==◌, Bool, true, false, not, ◌&&◌, ◌||◌, cond, List, ◌++◌, take, slice_get, is_some, Option, Some, None, codes}
+use Rattle.std.specs.Prelude.{ℕ, ◌+◌, ◌-◌, ◌==◌, Bool, true, false, not, ◌&&◌, cond, List, ◌++◌, take, slice_get, is_some, Option, Some, None, codes}
 use Rattle.std.specs.Option.{option_map, option_and_then}
 use Rattle.std.specs.Str.{bytes_eq}
 use Rattle.golf_types.specs.declared.types.GoType.{GoType}
@@ -36,11 +36,14 @@ value_name n =
     (cond (bytes_eq n (codes "false")) (Some (operand.Truth false))
     (cond (bytes_eq n (codes "nil")) (Some operand.Nil) None))
 
+-- `make` and `new` have operands of their own; elsewhere they are names that are no values.
 unfoldable pub call_name : List ℕ → Option Operand
 call_name n =
     cond (bytes_eq n (codes "len")) (Some (operand.BuiltIn built_in.Length))
     (cond (bytes_eq n (codes "close")) (Some (operand.BuiltIn built_in.Close))
-    (cond (bytes_eq n (codes "panic")) (Some (operand.BuiltIn built_in.Panic)) None))
+    (cond (bytes_eq n (codes "panic")) (Some (operand.BuiltIn built_in.Panic))
+    (cond (bytes_eq n (codes "make")) (Some operand.TypeName)
+    (cond (bytes_eq n (codes "new")) (Some operand.TypeName) None))))
 
 -- Packages, where they are imported.
 unfoldable pub package_name : Imports → List ℕ → Option Operand
@@ -54,7 +57,7 @@ predeclared i n = or_else (type_name n) (or_else (value_name n) (or_else (call_n
 
 -- a predeclared name, or that of a package
 unfoldable pub is_reserved : List ℕ → Bool
-is_reserved n = is_some (predeclared (record { fmt = true; runtime = true; sync = true }) n) || (bytes_eq n (codes "make") || bytes_eq n (codes "new"))
+is_reserved n = is_some (predeclared (record { fmt = true; runtime = true; sync = true }) n)
 
 -- Names of the file.
 

@@ -101,9 +101,13 @@ action_faults l m = value_faults l m ++ broken l 18 false
 abbrev pub action : ℕ → Expr → Walk
 action l e s = judges ((judge_at l s e).faults ++ action_faults l (judge_at l s e).meaning) (types_of (judge_at l s e))
 
+-- Whether a value is assignable to what a channel carries. What is no channel carries nothing.
+abbrev pub is_carried : Given → Given → Bool
+is_carried c v = not (has_layer is_channel c) || assignable v (element c)
+
 -- Rules 9 and 16 of a send.
 abbrev pub send_faults : ℕ → Given → Given → List Fault
-send_faults l c v = broken l 9 (assignable v (element c)) ++ broken l 16 (has_layer takes c)
+send_faults l c v = broken l 9 (is_carried c v) ++ broken l 16 (has_layer takes c)
 
 abbrev pub send : ℕ → Expr → Expr → Walk
 send l c e s = judges

@@ -116,7 +116,8 @@ pub enum Operand {
     Package(Package),
     /// A struct of the file.
     Struct(u32),
-    /// `int`, `bool`, `string`, or a package in parentheses: a name that is no value.
+    /// `int`, `bool`, `string`, `make`, `new`, a type of a package, or a package in parentheses: a
+    /// name that is no value.
     TypeName,
 }
 

@@ -208,6 +208,12 @@ fn call_name(name: &[u8]) -> Option<Operand>
     if name == b"panic".as_slice() {
         return Some(Operand::BuiltIn(BuiltIn::Panic));
     }
+    if name == b"make".as_slice() {
+        return Some(Operand::TypeName);
+    }
+    if name == b"new".as_slice() {
+        return Some(Operand::TypeName);
+    }
     None
 }
 
@@ -253,7 +259,7 @@ pub fn is_reserved(name: &[u8]) -> bool
         runtime: true,
         sync: true,
     };
-    predeclared(all, name).is_some() || name == b"make".as_slice() || name == b"new".as_slice()
+    predeclared(all, name).is_some()
 }
 
 /// Whether a name is `_`.
