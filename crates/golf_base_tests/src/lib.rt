@@ -4,4 +4,6 @@
 #[cfg(test)]
 mod lists;
 #[cfg(test)]
+mod stdio;
+#[cfg(test)]
 mod streams;

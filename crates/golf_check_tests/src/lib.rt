@@ -6,6 +6,8 @@ mod expressions;
 #[cfg(test)]
 mod files;
 #[cfg(test)]
+mod kinds;
+#[cfg(test)]
 mod likes;
 #[cfg(test)]
 mod orders;

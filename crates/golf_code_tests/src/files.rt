@@ -46,6 +46,20 @@ fn a_function_is_made_for_go(rt: HostRuntime) -> Result<(), Fail> {
 }
 
 #[test]
+fn each_branch_has_a_made_function_of_its_own(rt: HostRuntime) -> Result<(), Fail> {
+    let told = functions(
+        &rt,
+        rt.alloc(),
+        "package main\nfunc main() {\nvar c chan int\nb := true\nif b {\ngo close(c)\n} else {\ngo close(c)\n}\n}",
+    )?;
+    assert_eq!(rt;
+        told.as_str(),
+        "2: 0 0 0; Call(1, 0) on 2; Return on 2\n2: 0 2 1; Nil on 3; Store(0) on 3; Bool(true) on 4; Store(1) on 4; Load(1) on 5; JumpIfNot(9) on 5; Load(0) on 6; Go(2, 1) on 6; Jump(11) on 5; Load(0) on 8; Go(3, 1) on 8; Return on 2\n6: 1 1 1; Load(0) on 6; Close on 6; Return on 6\n8: 1 1 1; Load(0) on 8; Close on 8; Return on 8\n"
+    );
+    Ok(())
+}
+
+#[test]
 fn a_text_is_returned(rt: HostRuntime) -> Result<(), Fail> {
     let told = functions(
         &rt,

@@ -389,26 +389,83 @@ fn finalisers_are_queued_by_rising_number(rt: HostRuntime) -> Result<(), Fail> {
     tells(&rt, &code, told, told)
 }
 
-// Whether a collection that may get no memory frees and queues all, or changes nothing.
-fn frees_all_or_nothing<R: Threads + Sync>(rt: &R, alloc: Global) -> Result<bool, Memory> {
-    let code = unreachable_structs(alloc)?;
-    let mut state = state_of(alloc, &code)?;
-    let mut book = Ledger::new(alloc);
-    let got = collect_once(rt, alloc, &code, &mut state, &mut book, true);
-    let there = (
-        state.heap().count(),
-        state.finalisers().len(),
-        state.queue().len(),
-        book.collections(),
-    );
-    match got {
-        Ok(_) => Ok(there == (2, 0, 2, 1)),
-        Err(Memory) => Ok(there == (3, 2, 0, 0)),
+// A goroutine is left behind on a channel of its own, beside two structs that get finalisers and a third without one.
+fn left_behind(alloc: Global) -> Result<Code, Memory> {
+    let main = vec![in alloc;
+        Instr::Int(0),
+        Instr::NewChan(Value::Int(0)),
+        Instr::Nil,
+        Instr::Go(1, 2),
+        Instr::NewStruct(0),
+        Instr::SetFinalizer(2),
+        Instr::NewStruct(0),
+        Instr::SetFinalizer(2),
+        Instr::NewStruct(0),
+        Instr::Drop,
+    ]?;
+    program(alloc, forever(alloc, main)?, receiver(alloc)?)
+}
+
+// What a collection with recovery can change of a state and of a book.
+#[derive(Clone, Copy, Debug, PartialEq, Eq)]
+struct Standing {
+    objects: u32,
+    goroutines: usize,
+    finalisers: usize,
+    queued: usize,
+    collections: u32,
+    reported: usize,
+    reclaimed: usize,
+}
+
+fn standing_of(state: &State, book: &Ledger) -> Standing {
+    Standing {
+        objects: state.heap().count(),
+        goroutines: state.goroutines().len(),
+        finalisers: state.finalisers().len(),
+        queued: state.queue().len(),
+        collections: book.collections(),
+        reported: book.reported().len(),
+        reclaimed: book.reclaimed().len(),
     }
 }
 
+// What was before a collection that may get no memory, whether it got all, and what was after it.
+fn collected<R: Threads + Sync>(
+    rt: &R,
+    alloc: Global,
+) -> Result<(Standing, bool, Standing), Memory> {
+    let code = left_behind(alloc)?;
+    let mut state = state_of(alloc, &code)?;
+    let mut book = Ledger::new(alloc);
+    let before = standing_of(&state, &book);
+    let got = collect_once(rt, alloc, &code, &mut state, &mut book, true);
+    Ok((before, got.is_ok(), standing_of(&state, &book)))
+}
+
+// Each growth can be refused in turn (`rt try --test --fail-alloc N`).
 #[test]
 fn a_refused_growth_changes_neither_state_nor_book(rt: HostRuntime) -> Result<(), Fail> {
-    assert!(rt; frees_all_or_nothing(&rt, rt.alloc())?);
+    let (before, got, after) = collected(&rt, rt.alloc())?;
+    let left = Standing {
+        objects: 4,
+        goroutines: 3,
+        finalisers: 2,
+        queued: 0,
+        collections: 0,
+        reported: 0,
+        reclaimed: 0,
+    };
+    let gone = Standing {
+        objects: 2,
+        goroutines: 2,
+        finalisers: 0,
+        queued: 2,
+        collections: 1,
+        reported: 1,
+        reclaimed: 1,
+    };
+    assert_eq!(rt; before, left);
+    assert_eq!(rt; after, if got { gone } else { left });
     Ok(())
 }

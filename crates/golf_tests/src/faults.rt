@@ -2,19 +2,23 @@
 
 use crate::calls::{Ends, expect_ends};
 use crate::runs::{EMPTY_MAIN, LEAK};
-use crate::worked::{POOL, POOL_ERRORS};
+use crate::worked::{POOL, POOL_ERRORS, POOL_OUT, POOL_RECOVERED};
 use golf_texts::{READ_FAULT, Status, USAGE};
+use std::process::Abort;
 use std::test::Fail;
+use std::thread::Threads;
 
 // The first bytes of a text, or all.
-fn front(text: &[u8], length: usize) -> &[u8] {
-    let (front, _) = text.split_at(length.min(text.len()));
-    front
+fn prefix(text: &[u8], length: usize) -> &[u8] {
+    let (prefix, _) = text.split_at(length.min(text.len()));
+    prefix
 }
 
 // The pool has 753 bytes, which come in 12 pieces and an end.
-#[test]
-fn each_call_of_the_source_that_fails_is_a_read_fault(rt: HostRuntime) -> Result<(), Fail> {
+fn fails_to_read<R: AllocGlobal + Abort + Threads + Sync>(
+    rt: &R,
+    words: &[&str],
+) -> Result<(), Fail> {
     for before in 0..13u32 {
         let ends = Ends {
             most: 64,
@@ -22,22 +26,29 @@ fn each_call_of_the_source_that_fails_is_a_read_fault(rt: HostRuntime) -> Result
             out: &[],
             err: &[],
         };
-        expect_ends(
-            &rt,
-            &["run"],
-            POOL,
-            ends,
-            Status::ReadFault,
-            b"",
-            READ_FAULT,
-        )?;
+        expect_ends(rt, words, POOL, ends, Status::ReadFault, b"", READ_FAULT)?;
     }
     Ok(())
 }
 
-// The pool prints after its collection: 7 bytes, behind 121 of errors.
 #[test]
-fn each_call_of_a_sink_that_fails_cuts_its_text(rt: HostRuntime) -> Result<(), Fail> {
+fn each_call_of_the_source_that_fails_is_a_read_fault(rt: HostRuntime) -> Result<(), Fail> {
+    fails_to_read(&rt, &["run"])
+}
+
+#[test]
+fn with_recovery_each_call_of_the_source_that_fails_is_a_read_fault(
+    rt: HostRuntime,
+) -> Result<(), Fail> {
+    fails_to_read(&rt, &["run", "--recover"])
+}
+
+// The pool prints after its collection: 7 bytes, which go in 3 pieces.
+fn fails_to_print<R: AllocGlobal + Abort + Threads + Sync>(
+    rt: &R,
+    words: &[&str],
+    errors: &[u8],
+) -> Result<(), Fail> {
     for before in 0..3u32 {
         let ends = Ends {
             most: 3,
@@ -45,17 +56,18 @@ fn each_call_of_a_sink_that_fails_cuts_its_text(rt: HostRuntime) -> Result<(), F
             out: &[before + 1],
             err: &[],
         };
-        let out = front(b"sum 55\n", before as usize * 3);
-        expect_ends(
-            &rt,
-            &["run"],
-            POOL,
-            ends,
-            Status::WriteFault,
-            out,
-            POOL_ERRORS,
-        )?;
+        let out = prefix(POOL_OUT, before as usize * 3);
+        expect_ends(rt, words, POOL, ends, Status::WriteFault, out, errors)?;
     }
+    Ok(())
+}
+
+// Its errors have 121 bytes, which go in 41 pieces.
+fn fails_to_report<R: AllocGlobal + Abort + Threads + Sync>(
+    rt: &R,
+    words: &[&str],
+    errors: &[u8],
+) -> Result<(), Fail> {
     for before in 0..41u32 {
         let ends = Ends {
             most: 3,
@@ -63,15 +75,27 @@ fn each_call_of_a_sink_that_fails_cuts_its_text(rt: HostRuntime) -> Result<(), F
             out: &[],
             err: &[before + 1],
         };
-        let err = front(POOL_ERRORS, before as usize * 3);
-        expect_ends(&rt, &["run"], POOL, ends, Status::WriteFault, b"", err)?;
+        let err = prefix(errors, before as usize * 3);
+        expect_ends(rt, words, POOL, ends, Status::WriteFault, b"", err)?;
     }
     Ok(())
 }
 
-// What a failed write leaves, by the call of `out` or `err` that fails: nothing is written behind it.
 #[test]
-fn nothing_is_written_behind_a_write_that_failed(rt: HostRuntime) -> Result<(), Fail> {
+fn each_call_of_a_sink_that_fails_cuts_its_text(rt: HostRuntime) -> Result<(), Fail> {
+    fails_to_print(&rt, &["run"], POOL_ERRORS)?;
+    fails_to_report(&rt, &["run"], POOL_ERRORS)
+}
+
+#[test]
+fn with_recovery_each_call_of_a_sink_that_fails_cuts_its_text(rt: HostRuntime) -> Result<(), Fail> {
+    fails_to_print(&rt, &["run", "--recover"], POOL_RECOVERED)?;
+    fails_to_report(&rt, &["run", "--recover"], POOL_RECOVERED)
+}
+
+// What a failed write leaves, by the call of `out` or `err` that fails: nothing is written after it.
+#[test]
+fn nothing_is_written_after_a_write_that_failed(rt: HostRuntime) -> Result<(), Fail> {
     let calls: [(&[&str], &[u8], u32, u32, &[u8], &[u8]); 6] = [
         (&["run"], LEAK, 1, 0, b"", b""),
         (&["run"], LEAK, 0, 3, b"1\n", b"collecti"),

@@ -10,9 +10,13 @@ mod files;
 #[cfg(test)]
 mod generated;
 #[cfg(test)]
+mod limits;
+#[cfg(test)]
 mod markers;
 #[cfg(test)]
 mod options;
+#[cfg(test)]
+mod panics;
 #[cfg(test)]
 mod refusals;
 #[cfg(test)]

@@ -1,7 +1,7 @@
 //! Files that are refused, each with its line.
 
-use crate::calls::{Outcome, refuses, run};
-use crate::runs::LEAK;
+use crate::calls::{Outcome, expect, refuses, run};
+use crate::worked::{POOL, POOL_ERRORS, POOL_OUT};
 use golf_base::List;
 use golf_texts::{LIMIT, Status, TOO_LONG};
 use std::test::Fail;
@@ -75,14 +75,27 @@ fn is_refusal(text: &[u8]) -> bool {
     newlines == 1 && text.starts_with(b"refused: ") && text.ends_with(b"\n")
 }
 
+// The pool has 753 bytes, and is the same file without its last newline.
 #[test]
-fn each_front_of_a_file_is_refused_with_one_line(rt: HostRuntime) -> Result<(), Fail> {
-    // The file without its last newline is a file.
-    for length in 0..LEAK.len() - 1 {
-        let (front, _) = LEAK.split_at(length);
-        let Outcome { status, out, err } = run(&rt, front)?;
+fn each_prefix_of_the_pool_is_refused_with_one_line(rt: HostRuntime) -> Result<(), Fail> {
+    for length in 0..752 {
+        let (prefix, _) = POOL.split_at(length);
+        let Outcome { status, out, err } = run(&rt, prefix)?;
         assert!(rt; status == Status::Refused && out.written().is_empty());
         assert!(rt; is_refusal(err.written()));
+    }
+    for length in [752, 753] {
+        let (prefix, _) = POOL.split_at(length);
+        expect(&rt, prefix, Status::Found, POOL_OUT, POOL_ERRORS)?;
+    }
+    let lines: [(usize, &[u8]); 3] = [
+        (0, b"refused: line 1: syntax\n"),
+        (6, b"refused: line 1: syntax\n"),
+        (12, b"refused: line 1: rule 6\n"),
+    ];
+    for (length, line) in lines {
+        let (prefix, _) = POOL.split_at(length);
+        refuses(&rt, prefix, line)?;
     }
     Ok(())
 }

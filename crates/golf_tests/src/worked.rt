@@ -11,6 +11,11 @@ pub const POOL: &[u8] =
 pub const POOL_ERRORS: &[u8] =
     b"collection 1: marked 2, reported 1, kept 1, reclaimed 0, objects 3\ngoroutine 5: chan send at line 34, started at line 29\n";
 
+pub const POOL_RECOVERED: &[u8] =
+    b"collection 1: marked 2, reported 1, kept 0, reclaimed 1, objects 2\ngoroutine 5: chan send at line 34, started at line 29\n";
+
+pub const POOL_OUT: &[u8] = b"sum 55\n";
+
 /// Two goroutines wait for each other, and two collections.
 pub const CYCLE: &[u8] =
     b"package main\nimport \"runtime\"\nfunc wait(x, y chan int) {\n\t<-x\n\ty <- 1\n}\nfunc start() {\n\tx := make(chan int)\n\ty := make(chan int)\n\tgo wait(x, y)\n\tgo wait(y, x)\n}\nfunc main() {\n\tstart()\n\tfor i := 0; i < 50; i++ {\n\t}\n\truntime.GC()\n\truntime.GC()\n}\n";
@@ -108,57 +113,6 @@ fn finaliser_set_later_on_a_shared_object(rt: HostRuntime) -> Result<(), Fail> {
     let recovered =
         b"collection 1: marked 1, reported 1, kept 1, reclaimed 0, objects 2\ngoroutine 2: chan receive at line 14, started at line 18\ncollection 2: marked 0, reported 0, kept 1, reclaimed 0, objects 2\n";
     expect_both(&rt, file, Status::Found, out, err, recovered)
-}
-
-#[test]
-fn a_channel_has_at_most_65536_places(rt: HostRuntime) -> Result<(), Fail> {
-    let file = b"package main\nfunc main() {\n\tc := make(chan int, 65537)\n}\n";
-    let out = b"";
-    let err = b"panic: makechan: size out of range (goroutine 1, line 3)\n";
-    expect(&rt, file, Status::Crashed, out, err)
-}
-
-#[test]
-fn a_slice_has_65536_elements(rt: HostRuntime) -> Result<(), Fail> {
-    let file = b"package main\nfunc main() {\n\ta := make([]int, 65536)\n}\n";
-    let out = b"";
-    let err = b"";
-    expect(&rt, file, Status::Clean, out, err)
-}
-
-#[test]
-fn a_slice_has_no_more_elements(rt: HostRuntime) -> Result<(), Fail> {
-    let file = b"package main\nfunc main() {\n\ta := make([]int, 65537)\n}\n";
-    let out = b"";
-    let err = b"panic: runtime error: makeslice: len out of range (goroutine 1, line 3)\n";
-    expect(&rt, file, Status::Crashed, out, err)
-}
-
-#[test]
-fn ten_thousand_frames_of_a_recursion(rt: HostRuntime) -> Result<(), Fail> {
-    let file =
-        b"package main\nfunc f(n int) {\n\tif n > 0 {\n\tf(n - 1)\n\t}\n}\nfunc main() {\n\tf(9997)\n}\n";
-    let out = b"";
-    let err = b"";
-    expect(&rt, file, Status::Clean, out, err)
-}
-
-#[test]
-fn one_frame_more_of_a_recursion(rt: HostRuntime) -> Result<(), Fail> {
-    let file =
-        b"package main\nfunc f(n int) {\n\tif n > 0 {\n\tf(n - 1)\n\t}\n}\nfunc main() {\n\tf(9998)\n}\n";
-    let out = b"";
-    let err = b"fatal error: stack overflow (goroutine 1, line 4)\n";
-    expect(&rt, file, Status::Crashed, out, err)
-}
-
-#[test]
-fn parentheses_nest_992_deep(rt: HostRuntime) -> Result<(), Fail> {
-    let file =
-        b"package main\nfunc main() {\n\tx := ((((((((((((((((((((((((((((((((((((((((((((((((((((((((((((((((((((((((((((((((((((((((((((((((((((((((((((((((((((((((((((((((((((((((((((((((((((((((((((((((((((((((((((((((((((((((((((((((((((((((((((((((((((((((((((((((((((((((((((((((((((((((((((((((((((((((((((((((((((((((((((((((((((((((((((((((((((((((((((((((((((((((((((((((((((((((((((((((((((((((((((((((((((((((((((((((((((((((((((((((((((((((((((((((((((((((((((((((((((((((((((((((((((((((((((((((((((((((((((((((((((((((((((((((((((((((((((((((((((((((((((((((((((((((((((((((((((((((((((((((((((((((((((((((((((((((((((((((((((((((((((((((((((((((((((((((((((((((((((((((((((((((((((((((((((((((((((((((((((((((((((((((((((((((((((((((((((((((((((((((((((((((((((((((((((((((((((((((((((((((((((((((((((((((((((((((((((((((((((((((((((((((((((((((((((((((((((((((((((((((((((((((((((((((((((((((((((((((((((((((((((((((((((((((((((((((((((((((((((((((((((((((((((((((((((((((((((((((((((((((((((((((((((((((((((((((((((((((1))))))))))))))))))))))))))))))))))))))))))))))))))))))))))))))))))))))))))))))))))))))))))))))))))))))))))))))))))))))))))))))))))))))))))))))))))))))))))))))))))))))))))))))))))))))))))))))))))))))))))))))))))))))))))))))))))))))))))))))))))))))))))))))))))))))))))))))))))))))))))))))))))))))))))))))))))))))))))))))))))))))))))))))))))))))))))))))))))))))))))))))))))))))))))))))))))))))))))))))))))))))))))))))))))))))))))))))))))))))))))))))))))))))))))))))))))))))))))))))))))))))))))))))))))))))))))))))))))))))))))))))))))))))))))))))))))))))))))))))))))))))))))))))))))))))))))))))))))))))))))))))))))))))))))))))))))))))))))))))))))))))))))))))))))))))))))))))))))))))))))))))))))))))))))))))))))))))))))))))))))))))))))))))))))))))))))))))))))))))))))))))))))))))))))))))))))))))))))))))))))))))))))))))))))))))))))))))))))))))))))))))))))))))))))))))))))))))))))))))))))))))))))))))))))))))))))))))))))))))))))))))))))))))))))))))))))))))))))))))))))))))))))))))))))))))))))))))))\n}\n";
-    let out = b"";
-    let err = b"";
-    expect(&rt, file, Status::Clean, out, err)
 }
 
 #[test]
@@ -288,8 +242,12 @@ fn unreachable_finalised_object_holds_a_channel(rt: HostRuntime) -> Result<(), F
 
 #[test]
 fn worker_pool_with_an_abandoned_reply(rt: HostRuntime) -> Result<(), Fail> {
-    let out = b"sum 55\n";
-    let recovered =
-        b"collection 1: marked 2, reported 1, kept 0, reclaimed 1, objects 2\ngoroutine 5: chan send at line 34, started at line 29\n";
-    expect_both(&rt, POOL, Status::Found, out, POOL_ERRORS, recovered)
+    expect_both(
+        &rt,
+        POOL,
+        Status::Found,
+        POOL_OUT,
+        POOL_ERRORS,
+        POOL_RECOVERED,
+    )
 }

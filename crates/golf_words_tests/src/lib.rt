@@ -1,4 +1,4 @@
-//! Tests of words, schedules and the generated file.
+//! Tests of words, schedules, texts and the generated file.
 #![tactic(auto)]
 
 #[cfg(test)]
@@ -9,3 +9,5 @@ mod lines;
 mod refusals;
 #[cfg(test)]
 mod schedules;
+#[cfg(test)]
+mod texts;

@@ -1,0 +1,189 @@
+//! The texts of the program, its limit of length and the numbers of its statuses, each as a literal.
+
+use golf_base::{GoroutineId, List};
+use golf_data::{Ending, Entry, PanicKind, Report, WaitKind};
+use golf_texts::{
+    LIMIT, NO_MEMORY, READ_FAULT, Status, TOO_LONG, ending_line, lexical_line, list_of,
+    report_text, rule_line, stopped_line, syntax_line,
+};
+use std::alloc::Global;
+use std::process::Abort;
+use std::test::Fail;
+
+const WAITS: [WaitKind; 11] = [
+    WaitKind::Receive,
+    WaitKind::ReceiveNil,
+    WaitKind::Send,
+    WaitKind::SendNil,
+    WaitKind::Select,
+    WaitKind::SelectNone,
+    WaitKind::Lock,
+    WaitKind::Group,
+    WaitKind::ReadLock,
+    WaitKind::WriteLock,
+    WaitKind::Condition,
+];
+
+const REPORT: &[u8] =
+    b"collection 7: marked 1, reported 11, kept 12, reclaimed 13, objects 14\ngoroutine 2: chan receive at line 3, started at line 4\ngoroutine 2: chan receive (nil chan) at line 3, started at line 4\ngoroutine 2: chan send at line 3, started at line 4\ngoroutine 2: chan send (nil chan) at line 3, started at line 4\ngoroutine 2: select at line 3, started at line 4\ngoroutine 2: select (no cases) at line 3, started at line 4\ngoroutine 2: sync.Mutex.Lock at line 3, started at line 4\ngoroutine 2: sync.WaitGroup.Wait at line 3, started at line 4\ngoroutine 2: sync.RWMutex.RLock at line 3, started at line 4\ngoroutine 2: sync.RWMutex.Lock at line 3, started at line 4\ngoroutine 2: sync.Cond.Wait at line 3, started at line 4\n";
+
+// A report of a goroutine for each way of waiting.
+fn report_is_written_so(rt: &impl Abort, alloc: Global) -> Result<(), Fail> {
+    let mut reported = List::new(alloc);
+    for wait in WAITS {
+        reported.push(Entry {
+            goroutine: GoroutineId(2),
+            wait,
+            line: 3,
+            started: 4,
+        })?;
+    }
+    let report = Report {
+        number: 7,
+        marked: 1,
+        reported,
+        kept: 12,
+        reclaimed: 13,
+        objects: 14,
+    };
+    assert_eq!(rt; report_text(alloc, &report)?.as_slice(), REPORT);
+    Ok(())
+}
+
+// Each panic and each fatal error of goroutine 3 on line 5.
+const FAULTS: [(PanicKind, &[u8]); 16] = [
+    (PanicKind::Custom(0), b"panic: lost (goroutine 3, line 5)\n"),
+    (
+        PanicKind::NilPointer,
+        b"panic: runtime error: invalid memory address or nil pointer dereference (goroutine 3, line 5)\n",
+    ),
+    (
+        PanicKind::Index { at: -1, length: 2 },
+        b"panic: runtime error: index out of range [-1] with length 2 (goroutine 3, line 5)\n",
+    ),
+    (
+        PanicKind::DivideByZero,
+        b"panic: runtime error: integer divide by zero (goroutine 3, line 5)\n",
+    ),
+    (
+        PanicKind::SliceSize,
+        b"panic: runtime error: makeslice: len out of range (goroutine 3, line 5)\n",
+    ),
+    (
+        PanicKind::ChanSize,
+        b"panic: makechan: size out of range (goroutine 3, line 5)\n",
+    ),
+    (
+        PanicKind::SendClosed,
+        b"panic: send on closed channel (goroutine 3, line 5)\n",
+    ),
+    (
+        PanicKind::CloseClosed,
+        b"panic: close of closed channel (goroutine 3, line 5)\n",
+    ),
+    (
+        PanicKind::CloseNil,
+        b"panic: close of nil channel (goroutine 3, line 5)\n",
+    ),
+    (
+        PanicKind::NegativeGroup,
+        b"panic: sync: negative WaitGroup counter (goroutine 3, line 5)\n",
+    ),
+    (
+        PanicKind::UnlockUnlocked,
+        b"fatal error: sync: unlock of unlocked mutex (goroutine 3, line 5)\n",
+    ),
+    (
+        PanicKind::UnlockUnlockedRw,
+        b"fatal error: sync: Unlock of unlocked RWMutex (goroutine 3, line 5)\n",
+    ),
+    (
+        PanicKind::RUnlockUnlocked,
+        b"fatal error: sync: RUnlock of unlocked RWMutex (goroutine 3, line 5)\n",
+    ),
+    (
+        PanicKind::ReaderLimit,
+        b"fatal error: sync: too many readers (goroutine 3, line 5)\n",
+    ),
+    (
+        PanicKind::FinalizerSet,
+        b"fatal error: runtime.SetFinalizer: finalizer already set (goroutine 3, line 5)\n",
+    ),
+    (
+        PanicKind::StackOverflow,
+        b"fatal error: stack overflow (goroutine 3, line 5)\n",
+    ),
+];
+
+fn faults_are_written_so(rt: &impl Abort, alloc: Global) -> Result<(), Fail> {
+    let mut texts = List::new(alloc);
+    texts.push(list_of(alloc, b"lost")?)?;
+    for (kind, line) in FAULTS {
+        let ending = Ending::Panicked {
+            kind,
+            goroutine: GoroutineId(3),
+            line: 5,
+        };
+        assert_eq!(rt;
+            ending_line(alloc, texts.as_slice(), ending)?.as_slice(),
+            line
+        );
+    }
+    Ok(())
+}
+
+fn ends_are_written_so(rt: &impl Abort, alloc: Global) -> Result<(), Fail> {
+    assert_eq!(rt;
+        ending_line(alloc, &[], Ending::Returned)?.as_slice(),
+        b"".as_slice()
+    );
+    assert_eq!(rt;
+        ending_line(alloc, &[], Ending::Asleep)?.as_slice(),
+        b"fatal error: all goroutines are asleep - deadlock!\n".as_slice()
+    );
+    assert_eq!(rt;
+        stopped_line(alloc, 1_000_000)?.as_slice(),
+        b"stopped after 1000000 turns\n".as_slice()
+    );
+    assert_eq!(rt;
+        lexical_line(alloc, 3, 36)?.as_slice(),
+        b"refused: line 3: byte 36\n".as_slice()
+    );
+    assert_eq!(rt;
+        syntax_line(alloc, 2)?.as_slice(),
+        b"refused: line 2: syntax\n".as_slice()
+    );
+    assert_eq!(rt;
+        rule_line(alloc, 3, 24)?.as_slice(),
+        b"refused: line 3: rule 24\n".as_slice()
+    );
+    assert_eq!(rt; READ_FAULT.as_slice(), b"read fault\n".as_slice());
+    assert_eq!(rt;
+        TOO_LONG.as_slice(),
+        b"refused: more than 1048576 bytes\n".as_slice()
+    );
+    assert_eq!(rt; NO_MEMORY.as_slice(), b"out of memory\n".as_slice());
+    assert_eq!(rt; LIMIT, 1_048_576);
+    Ok(())
+}
+
+fn statuses_have_these_numbers(rt: &impl Abort) {
+    assert_eq!(rt; Status::Clean as u8, 0);
+    assert_eq!(rt; Status::Found as u8, 1);
+    assert_eq!(rt; Status::Crashed as u8, 2);
+    assert_eq!(rt; Status::Spent as u8, 3);
+    assert_eq!(rt; Status::Refused as u8, 4);
+    assert_eq!(rt; Status::Usage as u8, 5);
+    assert_eq!(rt; Status::ReadFault as u8, 6);
+    assert_eq!(rt; Status::WriteFault as u8, 7);
+    assert_eq!(rt; Status::Memory as u8, 8);
+}
+
+#[test]
+fn each_text_the_limit_and_each_status_is_this_one(rt: HostRuntime) -> Result<(), Fail> {
+    report_is_written_so(&rt, rt.alloc())?;
+    faults_are_written_so(&rt, rt.alloc())?;
+    ends_are_written_so(&rt, rt.alloc())?;
+    statuses_have_these_numbers(&rt);
+    Ok(())
+}
