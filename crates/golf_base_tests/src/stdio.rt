@@ -64,7 +64,7 @@ impl Write for Taker {
 
 const TEN: &[u8] = b"0123456789";
 
-fn giver(most: usize, fails: u32) -> Giver<'static> {
+fn reader_of(most: usize, fails: u32) -> Giver<'static> {
     Giver {
         left: TEN,
         most,
@@ -73,7 +73,7 @@ fn giver(most: usize, fails: u32) -> Giver<'static> {
     }
 }
 
-fn taker(alloc: Global, most: usize, fails: u32, flush_fails: u32) -> Taker {
+fn writer_of(alloc: Global, most: usize, fails: u32, flush_fails: u32) -> Taker {
     Taker {
         taken: Vec::new(alloc),
         most,
@@ -88,7 +88,7 @@ fn taker(alloc: Global, most: usize, fails: u32, flush_fails: u32) -> Taker {
 fn a_source_goes_on_to_the_end_of_a_reader_that_gives_one_byte_a_call(
     rt: HostRuntime,
 ) -> Result<(), Fail> {
-    let mut source = StreamSource::new(giver(1, 0));
+    let mut source = StreamSource::new(reader_of(1, 0));
     let bytes = read_file(rt.alloc(), &mut source, 10).expect(&rt, "ten bytes fit");
     assert_eq!(rt; bytes.as_slice(), TEN);
     Ok(())
@@ -98,7 +98,7 @@ fn a_source_goes_on_to_the_end_of_a_reader_that_gives_one_byte_a_call(
 #[test]
 fn a_read_that_fails_is_no_end(rt: HostRuntime) -> Result<(), Fail> {
     for before in 0..11u32 {
-        let mut source = StreamSource::new(giver(1, before + 1));
+        let mut source = StreamSource::new(reader_of(1, before + 1));
         let error = read_file(rt.alloc(), &mut source, 10).err();
         assert!(rt; matches!(error, Some(ReadError::ReadFault)));
     }
@@ -107,7 +107,7 @@ fn a_read_that_fails_is_no_end(rt: HostRuntime) -> Result<(), Fail> {
 
 #[test]
 fn after_a_read_that_failed_a_source_goes_on(rt: HostRuntime) -> Result<(), Fail> {
-    let mut source = StreamSource::new(giver(4, 2));
+    let mut source = StreamSource::new(reader_of(4, 2));
     let mut part = [0u8; 8];
     assert_eq!(rt; source.read(&mut part), Ok(4));
     assert_eq!(rt; source.read(&mut part), Err(Failed));
@@ -118,7 +118,7 @@ fn after_a_read_that_failed_a_source_goes_on(rt: HostRuntime) -> Result<(), Fail
 
 #[test]
 fn a_short_write_counts_what_was_taken(rt: HostRuntime) -> Result<(), Fail> {
-    let mut writer = taker(rt.alloc(), 3, 0, 0);
+    let mut writer = writer_of(rt.alloc(), 3, 0, 0);
     let mut sink = StreamSink::new(&mut writer);
     assert_eq!(rt; sink.write(TEN), Ok(3));
     assert_eq!(rt; sink.write(b""), Ok(0), "an empty piece is taken whole");
@@ -127,7 +127,7 @@ fn a_short_write_counts_what_was_taken(rt: HostRuntime) -> Result<(), Fail> {
 
 #[test]
 fn all_is_written_to_a_writer_that_takes_one_byte_a_call(rt: HostRuntime) -> Result<(), Fail> {
-    let mut writer = taker(rt.alloc(), 1, 0, 0);
+    let mut writer = writer_of(rt.alloc(), 1, 0, 0);
     let mut sink = StreamSink::new(&mut writer);
     assert_eq!(rt; write_all(&mut sink, TEN), Ok(()));
     assert_eq!(rt; writer.taken.as_slice(), TEN);
@@ -136,7 +136,7 @@ fn all_is_written_to_a_writer_that_takes_one_byte_a_call(rt: HostRuntime) -> Res
 
 // What a writer of one byte a call has taken, and whether all was written.
 fn written(alloc: Global, fails: u32, flush_fails: u32) -> (Result<(), WriteFault>, Vec<u8>) {
-    let mut writer = taker(alloc, 1, fails, flush_fails);
+    let mut writer = writer_of(alloc, 1, fails, flush_fails);
     let mut sink = StreamSink::new(&mut writer);
     let got = write_all(&mut sink, TEN);
     (got, writer.taken)
@@ -164,7 +164,7 @@ fn a_flush_that_fails_is_told_and_nothing_is_written_after_it(rt: HostRuntime) -
 
 #[test]
 fn a_write_that_takes_nothing_fails(rt: HostRuntime) -> Result<(), Fail> {
-    let mut writer = taker(rt.alloc(), 0, 0, 0);
+    let mut writer = writer_of(rt.alloc(), 0, 0, 0);
     let mut sink = StreamSink::new(&mut writer);
     assert_eq!(rt; sink.write(TEN), Err(Failed));
     assert_eq!(rt; write_all(&mut sink, TEN), Err(WriteFault));
