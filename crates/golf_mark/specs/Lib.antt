@@ -6,3 +6,6 @@ pub mod Turning
 pub mod Finishing
 pub mod Gathering
 pub mod Ready
+pub mod Sheets
+pub mod Alone
+pub mod Ways

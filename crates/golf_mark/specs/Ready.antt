@@ -6,14 +6,13 @@ use Rattle.golf_theory.specs.Membership.{In}
 use Rattle.golf_base.specs.Roomy.{Roomy}
 use Rattle.golf_marks.specs.declared.marks.Marks.{Marks}
 use Rattle.golf_marks.specs.declared.marks.MarkSeat.{MarkSeat}
-use Rattle.golf_marks.specs.Seats.{graph_in, known, seat_count}
+use Rattle.golf_marks.specs.Seats.{known, seat_count}
 use Rattle.golf_grey.specs.declared.hand.GreyHand.{GreyHand}
 use Rattle.golf_grey.specs.declared.pool.GreyPool.{GreyPool}
 use Rattle.golf_grey.specs.Hands.{took, hand_count}
 use Rattle.golf_mark.specs.declared.marker.Marker.{Marker}
 use Rattle.golf_mark.specs.Gathering.{marker_parts}
 use Rattle.golf_mark.specs.Turning.{IsMarkerOf, Keeps}
-use Rattle.golf_mark.specs.Waiters.{IsWaiters}
 
 -- the marker k has taken nothing yet
 pub record IsFresh (marks : Marks) (pool : GreyPool) (k : ℕ) (m : Marker) : Type 0 where
@@ -31,9 +30,8 @@ pub record Seeds (marks : Marks) (pool : GreyPool) (root : ℕ) (old new : Marke
   pub took : (f : ℕ → ℕ) → took f new.hand ≡ took f old.hand
   pub there : In root (known new.scanner.seat)
 
--- all that marking needs is there
-pub record IsReady (marks : Marks) (pool : GreyPool) (waiters : List (List ℕ)) (ms : List Marker) (hands : Roomy GreyHand) (seats : Roomy MarkSeat) : Type 0 where
-  pub waiting : IsWaiters (graph_in marks) waiters
+-- all that several markers need is there
+pub record IsReady (marks : Marks) (pool : GreyPool) (ms : List Marker) (hands : Roomy GreyHand) (seats : Roomy MarkSeat) : Type 0 where
   pub some_marker : 0 < length ms
   pub few : length ms ≤ 16
   pub count : length ms ≡ hand_count pool

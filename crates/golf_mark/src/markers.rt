@@ -3,10 +3,11 @@
 ghost use Rattle.std.specs.Prelude.{◌≡◌, ◌<◌, ◌≤◌, length, IfOk};
 ghost use Rattle.golf_marks.specs.Seats.{graph_in};
 ghost use Rattle.golf_mark.specs.Marking.{MarksLeast};
-ghost use Rattle.golf_mark.specs.Ready.{AllFresh};
+ghost use Rattle.golf_mark.specs.Ready.{AllFresh, IsReady};
 ghost use Rattle.golf_mark.specs.Turning.{EachRuns};
 ghost use Rattle.golf_mark.specs.Waiters.{IsWaiters};
 
+use crate::alone::Alone;
 use crate::conclude::conclude;
 use crate::deal::{deal, equip};
 use crate::marker::{Marker, Shared, run_all};
@@ -17,33 +18,12 @@ use golf_marks::{MarkSeat, Marks};
 use golf_model::{Graph, Marked};
 use std::alloc::Global;
 use std::marker::Model;
+use std::snapshot::Snapshot;
 use std::sync::atomic::AtomicU64;
 use std::thread::Threads;
 
 /// How often a marker shares a place at most. Then it keeps what it finds to itself.
 const SHARES: u32 = 16_384;
-
-/// All that some markers need to mark one graph, which is what contracts see.
-pub struct Markers {
-    marks: Marks,
-    pool: GreyPool,
-    waiters: Waiters,
-    markers: Vec<Marker>,
-    hands: Room<GreyHand>,
-    seats: Room<MarkSeat>,
-}
-
-impl Model for Markers {
-    ghost use Rattle.golf_marks.specs.Seats.{graph_in};
-    ghost use Rattle.golf_model.specs.declared.graph.GraphParts.{GraphParts};
-    ghost use Rattle.golf_mark.specs.Ready.{IsReady};
-
-    ghost Value = { GraphParts };
-
-    ghost view = { λ m. graph_in m.marks };
-
-    ghost invariant = { λ m. IsReady m.marks m.pool m.waiters m.markers.items m.hands m.seats };
-}
 
 // Runs the markers.
 fn run_markers<G: Gate + Sync, R: Threads + Sync>(
@@ -63,16 +43,109 @@ fn run_markers<G: Gate + Sync, R: Threads + Sync>(
     markers
 }
 
+/// Several markers before their run: the words and the pool that they share, and what each has of its own.
+#[derive(Drop)]
+pub(crate) struct Team {
+    pub(crate) marks: Marks,
+    pub(crate) pool: GreyPool,
+    pub(crate) markers: Vec<Marker>,
+    pub(crate) hands: Room<GreyHand>,
+    pub(crate) seats: Room<MarkSeat>,
+}
+
+impl Team {
+    /// So many markers for a graph, with all memory that they need.
+    fn new(alloc: Global, graph: &Graph, count: u32) -> Result<Team, Memory>
+        requires some { 0 < count }
+        requires few { count ≤ 16 }
+        ensures graph { IfOk result (λ team. graph_in team.marks ≡ graph.now) }
+        ensures ready { IfOk result (λ team. IsReady team.marks team.pool team.markers.items team.hands team.seats) }
+    {
+        let places = graph.nodes() + graph.sleepers();
+        let budget = places.min(SHARES);
+        let (marks, seats) = Marks::new(alloc, graph, count)?;
+        let (pool, hands) = GreyPool::new(alloc, count, budget)?;
+        let markers = equip(alloc, &marks, &pool, places, budget, seats, hands)?;
+        let mut hand_room = Room::new(alloc);
+        hand_room.reserve(count as usize)?;
+        let mut seat_room = Room::new(alloc);
+        seat_room.reserve(1)?;
+        Ok(Team {
+            marks,
+            pool,
+            markers,
+            hands: hand_room,
+            seats: seat_room,
+        })
+    }
+
+    /// Marks the least closed set of the graph, as `Markers::mark` says. It takes no memory.
+    fn mark<R: Threads + Sync, G: Gate + Sync>(
+        self,
+        rt: &R,
+        graph: &Graph,
+        waiters: &Waiters,
+        gate: &G,
+    ) -> Marked
+        requires graph { graph_in self.marks ≡ graph.now }
+        requires waiters { IsWaiters graph.now waiters.now }
+        requires ready { IsReady self.marks self.pool self.markers.items self.hands self.seats }
+        ensures { MarksLeast graph.now result }
+    {
+        let Team {
+            marks,
+            pool,
+            markers,
+            hands,
+            seats,
+        } = self;
+        let dealt = deal(&marks, &pool, graph, markers);
+        let idle = AtomicU64::new(0);
+        let shared = Shared {
+            marks: &marks,
+            pool: &pool,
+            graph,
+            waiters,
+            count: dealt.len() as u64,
+            idle: &idle,
+        };
+        let done = run_markers(rt, gate, &shared, dealt);
+        conclude(marks, pool, graph, waiters, done, hands, seats)
+    }
+}
+
+/// How a graph is marked: by one marker, which needs no words and no deque, or by several.
+#[derive(Drop)]
+pub(crate) enum Way {
+    Alone(Alone),
+    Together(Team),
+}
+
+/// All that some markers need to mark one graph, which is what contracts see.
+pub struct Markers {
+    graph: Snapshot<Graph>,
+    waiters: Waiters,
+    way: Way,
+}
+
+impl Model for Markers {
+    ghost use Rattle.golf_model.specs.declared.graph.GraphParts.{GraphParts};
+    ghost use Rattle.golf_mark.specs.Ways.{IsReadyFor};
+
+    ghost Value = { GraphParts };
+
+    ghost view = { λ m. m.graph.value };
+
+    ghost invariant = { λ m. IsReadyFor m.graph.value m.waiters m.way };
+}
+
 // Written out once here, so that no other crate goes through the fields where it lets markers go.
 impl Drop for Markers {
     fn drop(self) {
         let Markers {
-            marks: _,
-            pool: _,
+            graph: _,
             waiters: _,
-            markers: _,
-            hands: _,
-            seats: _,
+            way: _,
         } = self;
     }
 }
@@ -85,55 +158,38 @@ impl Markers {
         ensures { IfOk result (λ markers. markers ≡ graph.now) }
     {
         let waiters = Waiters::new(alloc, graph)?;
-        let places = graph.nodes() + graph.sleepers();
-        let (marks, seats) = Marks::new(alloc, graph, count)?;
-        let budget = if count > 1 { places.min(SHARES) } else { 0 };
-        let (pool, hands) = GreyPool::new(alloc, count, budget)?;
-        let markers = equip(alloc, &marks, &pool, places, budget, seats, hands)?;
-        let mut hand_room = Room::new(alloc);
-        hand_room.reserve(count as usize)?;
-        let mut seat_room = Room::new(alloc);
-        seat_room.reserve(1)?;
+        let way = if count == 1 {
+            Way::Alone(Alone::new(alloc, graph)?)
+        } else {
+            Way::Together(Team::new(alloc, graph, count)?)
+        };
         Ok(Markers {
-            marks,
-            pool,
+            graph: Snapshot::of(graph),
             waiters,
-            markers,
-            hands: hand_room,
-            seats: seat_room,
+            way,
         })
     }
 
     /// Marks the least closed set of the graph that `new` saw. It takes no memory.
     ///
-    /// Each marker runs in a thread of its own; where one cannot be started, its caller does that
-    /// work itself. In each turn a marker takes a place and marks all that it justifies; it ends
-    /// where none comes. The gate is passed before each turn, the last one included; markers and
-    /// turns count from 0. What a marker took and could not yet know as marked, and what is left,
-    /// is scanned at the end, without the gate.
+    /// One marker marks as `mark_alone` does, in the thread of the caller. Each of several runs in a
+    /// thread of its own; where one cannot be started, its caller does that work itself. In each turn a
+    /// marker takes a place and marks all that it justifies; it ends if none comes. The gate is passed
+    /// before each turn, the last one included; markers and turns count from 0. What one of several
+    /// markers took and could not yet know as marked, and what is left, is scanned at the end, without
+    /// the gate.
     pub fn mark<R: Threads + Sync, G: Gate + Sync>(self, rt: &R, graph: &Graph, gate: &G) -> Marked
         requires { self ≡ graph.now }
         ensures { MarksLeast graph.now result }
     {
         let Markers {
-            marks,
-            pool,
+            graph: _,
             waiters,
-            markers,
-            hands,
-            seats,
+            way,
         } = self;
-        let dealt = deal(&marks, &pool, graph, markers);
-        let idle = AtomicU64::new(0);
-        let shared = Shared {
-            marks: &marks,
-            pool: &pool,
-            graph,
-            waiters: &waiters,
-            count: dealt.len() as u64,
-            idle: &idle,
-        };
-        let done = run_markers(rt, gate, &shared, dealt);
-        conclude(marks, pool, graph, &waiters, done, hands, seats)
+        match way {
+            Way::Alone(alone) => alone.mark(graph, &waiters, gate),
+            Way::Together(team) => team.mark(rt, graph, &waiters, gate),
+        }
     }
 }

@@ -1,15 +1,15 @@
 //! The places that are marked so far, and the scan of one of them.
 
-ghost use Rattle.std.specs.Prelude.{◌≡◌, ◌+◌, ◌-◌, ◌^◌, ◌<◌, ◌≤◌, ◌↔◌, ℕ, [], IfOk, length, slice_get};
-ghost use Rattle.std.specs.List.Sorted.{IsStrictlyIncreasing};
+ghost use Rattle.std.specs.Prelude.{◌≡◌, ◌+◌, ◌^◌, ◌<◌, ◌≤◌, ℕ, [], IfOk, length, slice_get};
 ghost use Rattle.golf_theory.specs.Membership.{In, Every};
 ghost use Rattle.golf_model.specs.Graph.{node_count, sleeper_count, Justifies};
-ghost use Rattle.golf_marks.specs.Flags.{HasMarked, IsSet};
+ghost use Rattle.golf_marks.specs.Flags.{HasMarked};
 ghost use Rattle.golf_mark.specs.Waiters.{IsWaiters};
 ghost use Rattle.golf_mark.specs.Working.{Gains, IsScanned, Working};
 
 use crate::waiters::Waiters;
 use golf_base::{List, Memory, Room};
+use golf_marks::numbers_of;
 use golf_model::{Graph, Marked};
 use std::alloc::Global;
 use std::marker::Model;
@@ -89,39 +89,67 @@ impl Work {
         }
     }
 
-    /// What is marked, in a graph with so many nodes.
-    pub(crate) fn into_marked(self, alloc: Global, nodes: u32) -> Result<Marked, Memory>
-        requires { nodes ≤ self.places }
-        ensures { IfOk result (HasMarked nodes (self.places - nodes) (λ p. In p self.order)) }
+    /// What is marked, on this sheet.
+    pub(crate) fn into_marked(self, sheet: Sheet) -> Marked
+        requires places { length sheet.flags + length sheet.awake ≡ self.places }
+        requires empty { sheet.numbers.items ≡ [] }
+        requires room { length sheet.flags ≤ sheet.numbers.spare }
+        requires small { self.places < 2 ^ 32 }
+        ensures { HasMarked (length sheet.flags) (length sheet.awake) (λ p. In p self.order) result }
     {
         let Work { bits, order: _ } = self;
-        let (of_nodes, of_sleepers) = bits.as_slice().split_at(nodes as usize);
-        let mut flags = List::new(alloc);
-        flags.extend_from_slice(of_nodes)?;
-        let mut awake = List::new(alloc);
-        awake.extend_from_slice(of_sleepers)?;
-        let order = numbers_of(alloc, of_nodes)?;
-        Ok(Marked {
+        let Sheet {
             flags,
-            order,
             awake,
+            numbers,
+        } = sheet;
+        let (of_nodes, of_sleepers) = bits.as_slice().split_at(flags.len());
+        let order = numbers_of(of_nodes, numbers);
+        Marked {
+            flags: copied(flags, of_nodes),
+            order,
+            awake: copied(awake, of_sleepers),
+        }
+    }
+}
+
+/// What a marking is written on: a flag for each node and for each sleeper, and room for the numbers of
+/// the marked nodes.
+#[derive(Drop)]
+pub(crate) struct Sheet {
+    pub(crate) flags: List<bool>,
+    pub(crate) awake: List<bool>,
+    pub(crate) numbers: Room<u32>,
+}
+
+impl Sheet {
+    ghost use Rattle.golf_mark.specs.Sheets.{IsBlank};
+
+    /// A sheet for a graph of so many nodes and sleepers.
+    pub(crate) fn new(alloc: Global, nodes: u32, sleepers: u32) -> Result<Sheet, Memory>
+        ensures { IfOk result (IsBlank nodes sleepers) }
+    {
+        let mut flags = List::new(alloc);
+        flags.extend_with(nodes as usize, false)?;
+        let mut awake = List::new(alloc);
+        awake.extend_with(sleepers as usize, false)?;
+        let mut numbers = Room::new(alloc);
+        numbers.reserve(nodes as usize)?;
+        Ok(Sheet {
+            flags,
+            awake,
+            numbers,
         })
     }
 }
 
-// The numbers of the flags that are set.
-fn numbers_of(alloc: Global, flags: &[bool]) -> Result<List<u32>, Memory>
-    requires { length flags.now ≤ 2 ^ 32 }
-    ensures rising { IfOk result IsStrictlyIncreasing }
-    ensures members { IfOk result (λ numbers. (n : ℕ) → In n numbers ↔ IsSet flags.now n) }
+// The list with these flags in place of its own.
+fn copied(mut list: List<bool>, flags: &[bool]) -> List<bool>
+    requires { length list ≡ length flags.now }
+    ensures { result ≡ flags.now }
 {
-    let mut numbers = List::new(alloc);
-    for (number, flag) in flags.iter().enumerate() {
-        if *flag {
-            numbers.push(number as u32)?;
-        }
-    }
-    Ok(numbers)
+    list.as_mut_slice().copy_from_slice(flags);
+    list
 }
 
 /// Marks all that a place justifies.

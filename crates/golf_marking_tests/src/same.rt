@@ -20,19 +20,13 @@ fn is_same(one: &Marked, other: &Marked) -> bool {
         && one.awake.as_slice() == other.awake.as_slice()
 }
 
-// Whether 1, 2, 3 and 16 markers mark what is marked in one thread.
+// Whether 2, 3 and 16 markers mark what one marks.
 fn agree<R: Threads + Sync>(rt: &R, alloc: Global, graph: &Graph) -> Result<bool, Fail> {
     let alone = mark_alone(alloc, graph, &OpenGate)?;
-    let one = Markers::new(alloc, graph, 1)?.mark(rt, graph, &OpenGate);
     let two = Markers::new(alloc, graph, 2)?.mark(rt, graph, &OpenGate);
     let three = Markers::new(alloc, graph, 3)?.mark(rt, graph, &OpenGate);
     let sixteen = Markers::new(alloc, graph, 16)?.mark(rt, graph, &OpenGate);
-    Ok(
-        is_same(&alone, &one)
-            && is_same(&alone, &two)
-            && is_same(&alone, &three)
-            && is_same(&alone, &sixteen),
-    )
+    Ok(is_same(&alone, &two) && is_same(&alone, &three) && is_same(&alone, &sixteen))
 }
 
 // The same at a graph, where it could be made.

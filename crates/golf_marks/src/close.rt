@@ -27,8 +27,8 @@ pub(crate) fn fill(closed: &Closed<(), Global>, first: usize, mut flags: List<bo
     flags
 }
 
-// The numbers of the flags that are set, in a room that holds them.
-pub(crate) fn numbers_of(flags: &[bool], room: Room<u32>) -> List<u32>
+/// The numbers of the flags that are set, in rising order, in a room that holds them. It takes no memory.
+pub fn numbers_of(flags: &[bool], room: Room<u32>) -> List<u32>
     requires empty { room.items ≡ [] }
     requires room { length flags.now ≤ room.spare }
     requires small { length flags.now < 4294967296 }

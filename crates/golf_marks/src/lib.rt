@@ -11,5 +11,6 @@ mod deal;
 mod marks;
 mod rule;
 
+pub use close::numbers_of;
 pub use marks::{MarkSeat, Marks};
 pub use rule::{Plan, View};

@@ -1,4 +1,4 @@
-use Rattle.std.proofs.Common.{◌≡◌, ℕ, ◌-◌, List, arith, sym, subst}
+use Rattle.std.proofs.Common.{ℕ, List, length, arith, sym, subst}
 use Rattle.golf_theory.specs.Membership.{In}
 use Rattle.golf_theory.proofs.Lists.{In-get_or}
 use Rattle.golf_model.specs.Graph.{node_count, sleeper_count, Least}
@@ -7,20 +7,20 @@ use Rattle.golf_mark.specs.Working.{Gains}
 use Rattle.golf_mark.proofs.Ranges.{Least-below}
 use Rattle.golf_mark.proofs.Marked.{HasMarked-same}
 use Rattle.golf_mark.proofs.Turns.{slice_get-some, slice_get-none, begins, goes_on, ends}
-use Rattle.golf_mark.proofs.alone.mark_alone.Goals as goal
+use Rattle.golf_mark.proofs.alone.Alone.mark.Goals as goal
 
 pub loop-place-init : goal.loop-place-init
 loop-place-init g c =
     let roots = c.args.graph.now.roots in
-    begins c.args.graph.now c.in_ok-work.work c.claim_all.new.self (omega (arith, c.in_ok-work.ensures.places, c.nodes.ensures.count, c.sleepers.ensures)) c.in_ok-work.ensures.order
-    (subst (λ (l : List ℕ). Gains (λ p. In p l) c.in_ok-work.work c.claim_all.new.self) c.roots.ensures c.claim_all.ensures.gains)
+    begins c.args.graph.now c.args.self.work c.claim_all.new.self c.requires.alone.places c.requires.alone.none
+    (subst (λ (l : List ℕ). Gains (λ p. In p l) c.args.self.work c.claim_all.new.self) c.roots.ensures c.claim_all.ensures.gains)
     (λ p h. c.claim_all.ensures.there p (subst (λ (l : List ℕ). In p l) (sym c.roots.ensures) h))
 
 pub scan-requires-clause-place : goal.scan-requires-clause-place
 scan-requires-clause-place g c =
     let w = c.loop-place.work in
     let at = slice_get-some w.order c.loop-place.turn c.in-Some.place (sym c.in-Some.ensures.value) in
-    Least-below c.args.graph.now c.nodes.ensures.in_range c.in-Some.place
+    Least-below c.args.graph.now c.nodes-nodes.ensures.in_range c.in-Some.place
     (c.loop-place.invariant.sound c.in-Some.place (subst (λ (p : ℕ). In p w.order) at.1 (In-get_or w.order c.loop-place.turn 0 at.0)))
 
 pub loop-place-smaller : goal.loop-place-smaller
@@ -38,8 +38,8 @@ returns g c =
     let graph = c.args.graph.now in
     let w = c.loop-place.work in
     let u = c.loop-place.invariant in
+    let sheet = c.args.self.sheet in
     let all = slice_get-none w.order c.loop-place.turn (sym c.in_default.ensures.value) in
-    let sleepers : w.places - node_count graph ≡ sleeper_count graph = omega (arith, u.places) in
-    HasMarked-same (node_count graph) (w.places - node_count graph) (sleeper_count graph) (λ p. In p w.order) (Least graph) c.in_ok-marked.marked sleepers
+    HasMarked-same (node_count graph) (length sheet.awake) (sleeper_count graph) (λ p. In p w.order) (Least graph) c.into_marked.result c.requires.alone.blank.awake
     (λ p. (u.sound p, ends graph w c.loop-place.turn all u p))
-    (subst (λ (n : ℕ). HasMarked n (w.places - n) (λ p. In p w.order) c.in_ok-marked.marked) c.nodes-2.ensures.count c.in_ok-marked.ensures)
+    (subst (λ (n : ℕ). HasMarked n (length sheet.awake) (λ p. In p w.order) c.into_marked.result) c.requires.alone.blank.flags c.into_marked.ensures)

@@ -1,6 +1,6 @@
 use Rattle.std.proofs.Common.{◌-◌}
 use Rattle.golf_mark.specs.Working.{IsUnderWay}
-use Rattle.golf_mark.proofs.alone.mark_alone.Given as goal
+use Rattle.golf_mark.proofs.alone.Alone.mark.Given as goal
 
 abbrev pub invariant-loop-place : goal.invariant-loop-place
 invariant-loop-place g l = IsUnderWay l.graph l.work l.turn
