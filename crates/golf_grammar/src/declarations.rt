@@ -6,10 +6,19 @@ use crate::types::Name;
 use golf_base::List;
 
 /// A whole file of package `main`.
-#[derive(Drop)]
 pub struct File {
     pub imports: List<Import>,
     pub declarations: List<Decl>,
+}
+
+// Written out once here, so that no other crate goes through the trees where it lets a file go.
+impl Drop for File {
+    fn drop(self) {
+        let File {
+            imports: _,
+            declarations: _,
+        } = self;
+    }
 }
 
 /// An import declaration.
