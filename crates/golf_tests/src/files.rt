@@ -1,6 +1,6 @@
 //! The files of `examples/`, with the output and the reports that their head comments tell. Expected values are by hand.
 
-use crate::calls::expect;
+use crate::calls::{expect, expect_both};
 use golf_texts::Status;
 use std::test::Fail;
 
@@ -52,4 +52,24 @@ fn a_condition_that_nobody_signals(rt: HostRuntime) -> Result<(), Fail> {
     let err =
         b"collection 1: marked 0, reported 1, kept 1, reclaimed 0, objects 3\ngoroutine 2: sync.Cond.Wait at line 26, started at line 40\n";
     expect(&rt, file, Status::Found, out, err)
+}
+
+#[test]
+fn a_finaliser_that_wakes_a_goroutine(rt: HostRuntime) -> Result<(), Fail> {
+    let file =
+        b"// A finaliser wakes a goroutine: nothing comes to the box any more at the first collection, and its finaliser sends\n// on the channel that the goroutine waits on. So the goroutine is live, and nobody is reported.\n//\n//\tgot 9\n//\tcollection 1: marked 1, reported 0, kept 0, reclaimed 0, objects 2\n//\tcollection 2: marked 0, reported 0, kept 0, reclaimed 0, objects 0\npackage main\n\nimport (\n\t\"fmt\"\n\t\"runtime\"\n)\n\ntype box struct {\n\tc chan int\n}\n\n// last is the finaliser of a box.\nfunc last(b *box) {\n\tb.c <- 9\n}\n\nfunc wait(c chan int) {\n\tv := <-c\n\tfmt.Println(\"got\", v)\n}\n\nfunc start() {\n\tb := &box{c: make(chan int)}\n\truntime.SetFinalizer(b, last)\n\tgo wait(b.c)\n}\n\nfunc main() {\n\tstart()\n\tfor i := 0; i < 50; i++ {\n\t}\n\truntime.GC()\n\tfor i := 0; i < 50; i++ {\n\t}\n\truntime.GC()\n}\n";
+    let out = b"got 9\n";
+    let err =
+        b"collection 1: marked 1, reported 0, kept 0, reclaimed 0, objects 2\ncollection 2: marked 0, reported 0, kept 0, reclaimed 0, objects 0\n";
+    expect_both(&rt, file, Status::Clean, out, err, err)
+}
+
+#[test]
+fn a_finaliser_that_is_set_later_keeps_who_holds_its_object(rt: HostRuntime) -> Result<(), Fail> {
+    let file =
+        b"// A goroutine that waits for ever holds an object that gets a finaliser later. With --recover it is kept all the same:\n// if it were taken back, the finaliser would be called, and without --recover it is not.\n//\n//\tend\n//\tcollection 1: marked 1, reported 1, kept 1, reclaimed 0, objects 2\n//\tgoroutine 2: chan receive at line 28, started at line 33\n//\tcollection 2: marked 0, reported 0, kept 1, reclaimed 0, objects 2\npackage main\n\nimport (\n\t\"fmt\"\n\t\"runtime\"\n)\n\ntype resource struct {\n\tn int\n}\n\nvar keep = &resource{n: 5}\n\n// done is the finaliser of a resource.\nfunc done(r *resource) {\n\tfmt.Println(\"done\", r.n)\n}\n\n// hold waits for ever, since nobody else knows its channel.\nfunc hold(r *resource, c chan int) {\n\t<-c\n\tfmt.Println(r.n)\n}\n\nfunc main() {\n\tgo hold(keep, make(chan int))\n\tfor i := 0; i < 50; i++ {\n\t}\n\truntime.GC()\n\truntime.SetFinalizer(keep, done)\n\tkeep = nil\n\truntime.GC()\n\tfor i := 0; i < 50; i++ {\n\t}\n\tfmt.Println(\"end\")\n}\n";
+    let out = b"end\n";
+    let err =
+        b"collection 1: marked 1, reported 1, kept 1, reclaimed 0, objects 2\ngoroutine 2: chan receive at line 28, started at line 33\ncollection 2: marked 0, reported 0, kept 1, reclaimed 0, objects 2\n";
+    expect_both(&rt, file, Status::Found, out, err, err)
 }

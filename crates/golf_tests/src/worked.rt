@@ -104,18 +104,6 @@ fn empty_waits(rt: HostRuntime) -> Result<(), Fail> {
 }
 
 #[test]
-fn finaliser_set_later_on_a_shared_object(rt: HostRuntime) -> Result<(), Fail> {
-    let file =
-        b"package main\nimport (\n\t\"fmt\"\n\t\"runtime\"\n)\ntype Res struct {\n\tn int\n}\nvar keep = &Res{n: 5}\nfunc done(r *Res) {\n\tfmt.Println(\"done\", r.n)\n}\nfunc hold(r *Res, c chan int) {\n\t<-c\n\tfmt.Println(r.n)\n}\nfunc main() {\n\tgo hold(keep, make(chan int))\n\tfor i := 0; i < 50; i++ {\n\t}\n\truntime.GC()\n\truntime.SetFinalizer(keep, done)\n\tkeep = nil\n\truntime.GC()\n\tfor i := 0; i < 50; i++ {\n\t}\n\tfmt.Println(\"end\")\n}\n";
-    let out = b"end\n";
-    let err =
-        b"collection 1: marked 1, reported 1, kept 1, reclaimed 0, objects 2\ngoroutine 2: chan receive at line 14, started at line 18\ncollection 2: marked 0, reported 0, kept 1, reclaimed 0, objects 2\n";
-    let recovered =
-        b"collection 1: marked 1, reported 1, kept 1, reclaimed 0, objects 2\ngoroutine 2: chan receive at line 14, started at line 18\ncollection 2: marked 0, reported 0, kept 1, reclaimed 0, objects 2\n";
-    expect_both(&rt, file, Status::Found, out, err, recovered)
-}
-
-#[test]
 fn lost_condition(rt: HostRuntime) -> Result<(), Fail> {
     let file =
         b"package main\nimport (\n\t\"fmt\"\n\t\"runtime\"\n\t\"sync\"\n)\nvar mu = &sync.Mutex{}\nvar cond = sync.NewCond(mu)\nvar ready = 0\nfunc consumer() {\n\tmu.Lock()\n\tfor ready == 0 {\n\t\tcond.Wait()\n\t}\n\tcond.L.Unlock()\n\tfmt.Println(\"ready\", ready)\n}\nfunc lost() {\n\tm := &sync.Mutex{}\n\tc := sync.NewCond(m)\n\tm.Lock()\n\tc.Wait()\n}\nfunc main() {\n\tgo consumer()\n\tgo lost()\n\tfor i := 0; i < 50; i++ {\n\t}\n\truntime.GC()\n\tmu.Lock()\n\tready = 3\n\tcond.Signal()\n\tmu.Unlock()\n\tfor i := 0; i < 50; i++ {\n\t}\n}\n";
@@ -226,18 +214,6 @@ fn unlock_of_an_unlocked_mutex(rt: HostRuntime) -> Result<(), Fail> {
     let out = b"";
     let err = b"fatal error: sync: unlock of unlocked mutex (goroutine 1, line 5)\n";
     expect(&rt, file, Status::Crashed, out, err)
-}
-
-#[test]
-fn unreachable_finalised_object_holds_a_channel(rt: HostRuntime) -> Result<(), Fail> {
-    let file =
-        b"package main\nimport (\n\t\"fmt\"\n\t\"runtime\"\n)\ntype Box struct {\n\tc chan int\n}\nfunc last(b *Box) {\n\tb.c <- 9\n}\nfunc wait(c chan int) {\n\tv := <-c\n\tfmt.Println(\"got\", v)\n}\nfunc start() {\n\tb := &Box{c: make(chan int)}\n\truntime.SetFinalizer(b, last)\n\tgo wait(b.c)\n}\nfunc main() {\n\tstart()\n\tfor i := 0; i < 50; i++ {\n\t}\n\truntime.GC()\n\tfor i := 0; i < 50; i++ {\n\t}\n\truntime.GC()\n}\n";
-    let out = b"got 9\n";
-    let err =
-        b"collection 1: marked 1, reported 0, kept 0, reclaimed 0, objects 2\ncollection 2: marked 0, reported 0, kept 0, reclaimed 0, objects 0\n";
-    let recovered =
-        b"collection 1: marked 1, reported 0, kept 0, reclaimed 0, objects 2\ncollection 2: marked 0, reported 0, kept 0, reclaimed 0, objects 0\n";
-    expect_both(&rt, file, Status::Clean, out, err, recovered)
 }
 
 #[test]
