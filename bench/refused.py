@@ -2,8 +2,8 @@
 """refused.py PROGRAM FILE WORDS..
 
 Runs the built program by these words on the file, once for each request for memory that the run makes, and refuses that one
-request. Each of these runs must end as the whole run does, or with status 8, a front of its output, and `out of memory` behind
-a front of its errors. It wants a C compiler, `cc`, and Linux."""
+request. Each of these runs must end as the whole run does, or with status 8, a prefix of its output, and `out of memory` after
+a prefix of its errors. It wants a C compiler, `cc`, and Linux."""
 import os
 import subprocess
 import sys
@@ -15,20 +15,22 @@ SHIM = r"""
 #include <errno.h>
 #include <stddef.h>
 #include <stdlib.h>
+#include <sys/syscall.h>
 #include <unistd.h>
 static long at = -1, count;
 static int refused(void) {
     if (at < 0) { const char *word = getenv("REFUSE"); at = word ? atol(word) : 0; }
     return __sync_add_and_fetch(&count, 1) == at;
 }
-__attribute__((destructor)) static void tell(void) {
+static void tell(void) {
     const char *word = getenv("REFUSE_TELLS");
     char text[24]; int n = sizeof text; long left = count;
     if (!word) return;
     text[--n] = '\n';
     do text[--n] = '0' + left % 10; while (left /= 10);
-    if (write(atoi(word), text + n, sizeof text - n) < 0) _exit(9);
+    if (write(atoi(word), text + n, sizeof text - n) < 0) syscall(SYS_exit_group, 9);
 }
+void _exit(int status) { tell(); syscall(SYS_exit_group, status); __builtin_unreachable(); }
 extern void *__libc_malloc(size_t), *__libc_calloc(size_t, size_t), *__libc_realloc(void *, size_t), *__libc_memalign(size_t, size_t);
 void *malloc(size_t n) { if (refused()) { errno = ENOMEM; return 0; } return __libc_malloc(n); }
 void *calloc(size_t n, size_t m) { if (refused()) { errno = ENOMEM; return 0; } return __libc_calloc(n, m); }
