@@ -60,8 +60,12 @@ module _ (code : Code) (threads : ℕ) (s : State) (history : History) (w : IsWh
 
   pub texts-are : (of : RunTexts) (texts : List (List ℕ)) → texts ≡ code.texts → of.status ≡ status_by (anyone_reported history.reports) (ending s) → of.out ≡ s.output
       → of.err ≡ (reports_text history.reports ++ last_line texts (length history.entries) (ending s)) ++ history_line ns → AreTextsByThreads of threads code
-  texts-are of texts same status out err = (ns, (are-turns, record {
-    status = status ∙ sym status-is;
-    out = out ∙ sym out-is;
-    err = err ∙ ap (λ ts. (reports_text history.reports ++ last_line ts (length history.entries) (ending s)) ++ history_line ns) same ∙ ap (λ t. t ++ history_line ns) (sym err-is);
-  }))
+  texts-are of texts same status out err = (
+    ns,
+    are-turns,
+    record {
+      status = status ∙ sym status-is;
+      out = out ∙ sym out-is;
+      err = err ∙ ap (λ ts. (reports_text history.reports ++ last_line ts (length history.entries) (ending s)) ++ history_line ns) same ∙ ap (λ t. t ++ history_line ns) (sym err-is);
+    },
+  )

@@ -102,10 +102,10 @@ module _ (line : Line) (bytes : List ℕ) (within : IsWithin line) (file : File)
 
 pub made-of-parts : (parts : ℕ) (code : Code) (made : Result RunTexts Memory) → IfOk made (λ of. AreTextsOf of (Way.Generated parts) code)
     → IfOk made (λ of. (way : Way) × IsWayOf (Line.Generate parts) code way × WritesLast way code × AreTextsOf of way code)
-made-of-parts parts code (Ok of) h = (Way.Generated parts, (refl, (generated-last parts code, h)))
+made-of-parts parts code (Ok of) h = (Way.Generated parts, refl, generated-last parts code, h)
 made-of-parts parts code (Err m) h = tt
 
 pub made-by-threads : (threads : ℕ) (code : Code) (made : Result RunTexts Memory) → IfOk made (λ of. AreTextsByThreads of threads code)
     → IfOk made (λ of. (way : Way) × IsWayOf (Line.Threads threads) code way × WritesLast way code × AreTextsOf of way code)
-made-by-threads threads code (Ok of) h = (Way.ByThreads h.0, ((h.0, (refl, h.1)), (refl, h.2)))
+made-by-threads threads code (Ok of) h = (Way.ByThreads h.0, (h.0, refl, h.1), refl, h.2)
 made-by-threads threads code (Err m) h = tt

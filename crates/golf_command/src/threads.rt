@@ -94,14 +94,7 @@ pub(crate) fn serve_threads<
     O: Sink,
     E: Sink,
     G: Gate + Sync,
->(
-    rt: &R,
-    threads: u32,
-    source: &mut S,
-    out: &mut O,
-    err: &mut E,
-    gate: &G,
-) -> Status
+>(rt: &R, threads: u32, source: &mut S, out: &mut O, err: &mut E, gate: &G) -> Status
     requires some { 1 ≤ threads }
     requires few { threads ≤ 16 }
     ensures { LineTells (Line.Threads threads) result

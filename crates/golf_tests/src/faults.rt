@@ -101,7 +101,7 @@ fn nothing_is_written_behind_a_write_that_failed(rt: HostRuntime) -> Result<(), 
 
 #[test]
 fn words_that_are_no_line_are_refused_and_nothing_is_read(rt: HostRuntime) -> Result<(), Fail> {
-    let lines: [&[&str]; 9] = [
+    let lines: [&[&str]; 14] = [
         &[],
         &["Run"],
         &["run", "run"],
@@ -111,6 +111,11 @@ fn words_that_are_no_line_are_refused_and_nothing_is_read(rt: HostRuntime) -> Re
         &["run", "--turns", "--"],
         &["run", "--turns=000000000000000000003"],
         &["generate", "0"],
+        &["run", "--threads"],
+        &["run", "--threads", "0"],
+        &["run", "--threads=17"],
+        &["run", "--threads=2", "--threads=2"],
+        &["run", "--threads=2", "--recover"],
     ];
     for words in lines {
         let ends = Ends {

@@ -22,4 +22,6 @@ mod runs;
 #[cfg(test)]
 mod slots;
 #[cfg(test)]
+mod threads;
+#[cfg(test)]
 mod worked;

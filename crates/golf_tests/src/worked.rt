@@ -11,6 +11,10 @@ pub const POOL: &[u8] =
 pub const POOL_ERRORS: &[u8] =
     b"collection 1: marked 2, reported 1, kept 1, reclaimed 0, objects 3\ngoroutine 5: chan send at line 34, started at line 29\n";
 
+/// A `select` with two cases that are both ready.
+pub const CHOICE: &[u8] =
+    b"package main\nimport \"fmt\"\nfunc main() {\n\tc := make(chan int, 1)\n\tc <- 1\n\tselect {\n\tcase v := <-c:\n\t\tfmt.Println(\"first\", v)\n\tcase v := <-c:\n\t\tfmt.Println(\"second\", v)\n\t}\n}\n";
+
 /// Two goroutines wait for each other, and two collections.
 pub const CYCLE: &[u8] =
     b"package main\nimport \"runtime\"\nfunc wait(x, y chan int) {\n\t<-x\n\ty <- 1\n}\nfunc start() {\n\tx := make(chan int)\n\ty := make(chan int)\n\tgo wait(x, y)\n\tgo wait(y, x)\n}\nfunc main() {\n\tstart()\n\tfor i := 0; i < 50; i++ {\n\t}\n\truntime.GC()\n\truntime.GC()\n}\n";
@@ -39,11 +43,9 @@ fn channel_whose_variable_is_read_no_more(rt: HostRuntime) -> Result<(), Fail> {
 
 #[test]
 fn choice_of_a_select_case(rt: HostRuntime) -> Result<(), Fail> {
-    let file =
-        b"package main\nimport \"fmt\"\nfunc main() {\n\tc := make(chan int, 1)\n\tc <- 1\n\tselect {\n\tcase v := <-c:\n\t\tfmt.Println(\"first\", v)\n\tcase v := <-c:\n\t\tfmt.Println(\"second\", v)\n\t}\n}\n";
     let out = b"second 1\n";
     let err = b"";
-    expect(&rt, file, Status::Clean, out, err)
+    expect(&rt, CHOICE, Status::Clean, out, err)
 }
 
 #[test]

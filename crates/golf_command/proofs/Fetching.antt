@@ -1,8 +1,9 @@
 -- What the reading of a line's file means for a line that reads.
-use Rattle.std.proofs.Common.{◌≡◌, ◌≤◌, ℕ, List, length, ◌∙◌}
+use Rattle.std.proofs.Common.{◌≡◌, ◌≤◌, ℕ, List, length, subst}
 use Rattle.std.specs.Prelude.{Option, IfSome}
 use Rattle.std.specs.Io.KnownBytes.{Consumes, IsAtEnd}
 use Rattle.golf_base.specs.Causes.{Rose, ReadsSome}
+use Rattle.golf_data.specs.declared.code.Code.{Code}
 use Rattle.golf_reader.specs.declared.refusal.Refusal.{Refusal}
 use Rattle.golf_reader.specs.Refusals.{IsRefusedBy}
 use Rattle.golf_words.specs.declared.line.Line.{Line}
@@ -39,6 +40,8 @@ module _ (left left' : Option (List ℕ)) (rf rf' : ℕ) (err err' : Option (Lis
       (refusal-tells line bytes within reads short out of err err' ef ef' refusal r why e)
 
 -- the file has code, and what follows tells of it
-pub loaded-tells : (line : Line) (reads : Reads line) (left left' : Option (List ℕ)) (rf rf' : ℕ) (r : Status) (a b : Sinks) (bytes : List ℕ) → IfSome left (λ told. told ≡ bytes) → IsAtEnd left' → rf' ≡ rf
-    → FileTells line bytes r a b → LineTells line r (seen left rf a) (seen left' rf' b)
-loaded-tells line reads left left' rf rf' r a b bytes told at_end same h = file-tells line bytes left left' rf rf' r a b (read-file line left bytes reads told) same (λ _ _. at_end) h
+module _ (line : Line) (reads : Reads line) (code : Code) (left left' : Option (List ℕ)) (rf rf' : ℕ) (l : HasLoaded code left left' rf rf') (out err err1 : Option (List ℕ)) (of ef ef1 : ℕ) where
+  pub loaded-tells : (b : Sinks) (r : Status) → err1 ≡ err → ef1 ≡ ef → FileTells line l.bytes r (sinks out of err1 ef1) b → LineTells line r (seen left rf (sinks out of err ef)) (seen left' rf' b)
+  loaded-tells b r same quiet h =
+      file-tells line l.bytes left left' rf rf' r (sinks out of err ef) b (read-file line left l.bytes reads l.told) l.quiet (λ _ _. l.at_end)
+      (subst (λ (y : Option (List ℕ) × ℕ). FileTells line l.bytes r (sinks out of y.0 y.1) b) (λ i. (same i, quiet i)) h)
