@@ -28,3 +28,7 @@ asked-within (Ok (Some (Line.Run options))) n e w = absurd (never n e)
 asked-within (Ok (Some (Line.Generate m))) n e w = absurd (never n e)
 asked-within (Ok None) n e w = absurd (never n e)
 asked-within (Err m) n e w = absurd (never n e)
+
+-- the words stand for what was found
+pub found-line : (words : List (List ℕ)) (r : Result (Option Line) Memory) (found line : Option Line) → r ≡ Ok found → found ≡ line → IfOk r (λ asked. asked ≡ line_of words) → line_of words ≡ line
+found-line words r found line e f is = sym (subst (λ (q : Result (Option Line) Memory). IfOk q (λ asked. asked ≡ line_of words)) e is) ∙ f

@@ -14,7 +14,7 @@ use Rattle.golf_texts.specs.declared.status.Status.{Status}
 use Rattle.golf_texts.specs.declared.status.Status.TheVariants as s
 use Rattle.golf_texts.specs.declared.status.TheConstants.{LIMIT, USAGE, READ_FAULT, TOO_LONG, NO_MEMORY}
 use Rattle.golf_texts.specs.Writes.{Write}
-use Rattle.golf_run.specs.HasRun.{Sinks, sinks, GotWrites, HasFailed, IsSteady}
+use Rattle.golf_run.specs.HasRun.{Sinks, GotWrites, HasFailed, IsSteady}
 use Rattle.golf_command.specs.Ways.{out_for, err_for}
 use Rattle.golf_command.specs.Meaning.{IsLine, IsNoLine, Reads, IsFileOf, Meaning}
 use Rattle.golf_command.specs.Meaning.RefusedBy.{TooLong}

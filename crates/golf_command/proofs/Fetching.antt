@@ -1,7 +1,7 @@
 -- What the reading of a line's file means for a line that reads.
 use Rattle.std.proofs.Common.{◌≡◌, ◌≤◌, ℕ, List, length, subst}
 use Rattle.std.specs.Prelude.{Option, IfSome}
-use Rattle.std.specs.Io.KnownBytes.{Consumes, IsAtEnd}
+use Rattle.std.specs.Io.KnownBytes.{IsAtEnd}
 use Rattle.golf_base.specs.Causes.{Rose, ReadsSome}
 use Rattle.golf_data.specs.declared.code.Code.{Code}
 use Rattle.golf_reader.specs.declared.refusal.Refusal.{Refusal}
@@ -14,8 +14,8 @@ use Rattle.golf_texts.specs.declared.status.TheConstants.{LIMIT, TOO_LONG, READ_
 use Rattle.golf_run.specs.HasRun.{Sinks, sinks}
 use Rattle.golf_command.specs.Ends.{EndsWith, Refuses}
 use Rattle.golf_command.specs.Meaning.{Reads}
-use Rattle.golf_command.specs.Means.{seen, FileTells, LineTells, IsRunEnd}
-use Rattle.golf_command.specs.Loads.{HasLoaded, Loads}
+use Rattle.golf_command.specs.Means.{seen, FileTells, LineTells}
+use Rattle.golf_command.specs.Loads.{HasLoaded}
 use Rattle.golf_command.proofs.Sinking.{says}
 use Rattle.golf_command.proofs.Filing.{refusal-tells}
 use Rattle.golf_command.proofs.Calling.{file-tells, read-file, unread, too-long, wanting}

@@ -1,7 +1,6 @@
 -- The texts of a run by threads are those of the run of its numbers.
-use Rattle.std.proofs.Common.{◌≡◌, ℕ, false, List, ◌++◌, length, map, sym, ap, ◌∙◌}
+use Rattle.std.proofs.Common.{◌≡◌, ℕ, false, List, ◌++◌, length, sym, ap, ◌∙◌}
 use Rattle.golf_data.specs.declared.code.Code.{Code}
-use Rattle.golf_data.specs.declared.report.Report.{Report}
 use Rattle.golf_model.specs.State.{State, start, ending}
 use Rattle.golf_model.specs.Collecting.{sets_finalisers}
 use Rattle.golf_model.specs.Reporting.{book_of}
@@ -13,7 +12,7 @@ use Rattle.golf_world.specs.declared.history.History.{History}
 use Rattle.golf_world.specs.History.{turns}
 use Rattle.golf_world.specs.Runs.{IsWholeRun}
 use Rattle.golf_command.specs.declared.texts.RunTexts.{RunTexts}
-use Rattle.golf_command.specs.Ways.{history_options, turns_with, AreTurns}
+use Rattle.golf_command.specs.Ways.{history_options, AreTurns}
 use Rattle.golf_command.specs.Written.{AreTextsByThreads}
 use Rattle.golf_command.proofs.Turns.{numbers_in, turns-are, turns-counted, numbers-counted, history-turns}
 

@@ -1,9 +1,8 @@
 -- The ways of a line: there is one, and none writes anything before its first write.
-use Rattle.std.proofs.Common.{◌≡◌, ℕ, ◌<◌, List, [], refl, arith}
+use Rattle.std.proofs.Common.{◌<◌, [], refl, arith}
 use Rattle.golf_data.specs.declared.code.Code.{Code}
 use Rattle.golf_words.specs.declared.line.Line.{Line}
 use Rattle.golf_words.specs.Words.{IsWithin}
-use Rattle.golf_texts.specs.Writes.{Write}
 use Rattle.golf_command.specs.Ways.{Way, IsWayOf}
 use Rattle.golf_command.specs.Means.{MayStand}
 use Rattle.golf_command.proofs.Turns.{some-turns}

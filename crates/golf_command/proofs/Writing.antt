@@ -13,6 +13,7 @@ use Rattle.golf_words.specs.declared.line.Line.{Line}
 use Rattle.golf_words.specs.Words.{IsWithin}
 use Rattle.golf_texts.specs.declared.status.Status.{Status}
 use Rattle.golf_texts.specs.declared.status.Status.TheVariants as s
+use Rattle.golf_texts.specs.declared.status.TheConstants.{NO_MEMORY}
 use Rattle.golf_texts.specs.Writes.{Write}
 use Rattle.golf_run.specs.HasRun.{Sinks, sinks, GotWrites, WasCut}
 use Rattle.golf_command.specs.declared.texts.RunTexts.{RunTexts}
@@ -20,7 +21,7 @@ use Rattle.golf_command.specs.Generating.{generated_writes}
 use Rattle.golf_command.specs.Ways.{Way, IsWayOf, out_for, err_for, writes_for}
 use Rattle.golf_command.specs.Written.{AreTextsOf, AreTextsByThreads, text_writes, WroteBoth, HasWritten}
 use Rattle.golf_command.specs.Meaning.{Accepts}
-use Rattle.golf_command.specs.Means.{FileTells}
+use Rattle.golf_command.specs.Means.{Says, FileTells}
 use Rattle.golf_command.proofs.Filing.{ran-tells, failed-tells, wanting-tells}
 
 -- ---- both texts
@@ -109,3 +110,11 @@ pub made-by-threads : (threads : ℕ) (code : Code) (made : Result RunTexts Memo
     → IfOk made (λ of. (way : Way) × IsWayOf (Line.Threads threads) code way × WritesLast way code × AreTextsOf of way code)
 made-by-threads threads code (Ok of) h = (Way.ByThreads h.0, (h.0, refl, h.1), refl, h.2)
 made-by-threads threads code (Err m) h = tt
+
+-- there are none
+pub none-written : (made : Result RunTexts Memory) (m : Memory) (r : Status) (old new : Sinks) → made ≡ Err m → Says s.Memory NO_MEMORY.now r old new → HasWritten made r old new
+none-written made m r old new e said = subst (λ (x : Result RunTexts Memory). HasWritten x r old new) (sym e) said
+
+-- the file in other words
+pub same-file : (line : Line) (bytes other : List ℕ) (r : Status) (old new : Sinks) → bytes ≡ other → FileTells line bytes r old new → FileTells line other r old new
+same-file line bytes other r old new e h = subst (λ bs. FileTells line bs r old new) e h

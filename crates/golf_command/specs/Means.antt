@@ -7,7 +7,6 @@ use Rattle.golf_base.specs.Causes.{Rose}
 use Rattle.golf_data.specs.declared.code.Code.{Code}
 use Rattle.golf_grammar.specs.declared.declarations.File.{File}
 use Rattle.golf_code_of.specs.Files.{CodeOf}
-use Rattle.golf_schedules.specs.declared.options.Options.{Options}
 use Rattle.golf_words.specs.declared.line.Line.{Line}
 use Rattle.golf_texts.specs.declared.status.Status.{Status}
 use Rattle.golf_texts.specs.declared.status.Status.TheVariants as s

@@ -6,8 +6,7 @@ use Rattle.golf_texts.specs.declared.status.TheConstants.{LIMIT, NO_MEMORY}
 use Rattle.golf_command.proofs.Sinking.{says}
 use Rattle.golf_command.proofs.Filing.{wanting-tells}
 use Rattle.golf_command.proofs.NeverRefused.{short, not-lexical, not-syntax, not-untyped}
-use Rattle.golf_command.specs.Means.{FileTells}
-use Rattle.golf_command.proofs.Writing.{written-tells, made-of-parts}
+use Rattle.golf_command.proofs.Writing.{written-tells, made-of-parts, same-file}
 use Rattle.golf_command.proofs.generated.run_generated.Goals as goal
 
 pub returns-in-Err : goal.returns-in-Err
@@ -23,7 +22,7 @@ returns-in-Ok-read g c =
     let made = c.surveyed.result in
     let same : bytes ≡ generated_file c.args.parts = c.as_slice.ensures ∙ c.in-Ok.ensures in
     let within : length bytes ≤ LIMIT = subst (λ (bs : List ℕ). length bs ≤ LIMIT) (sym same) (short c.args.parts c.requires.some c.requires.most) in
-    subst (λ (bs : List ℕ). FileTells line bs c.write_texts.result _ _) same
+    same-file line bytes (generated_file c.args.parts) c.write_texts.result _ _ same
     (written-tells line bytes (c.requires.some, c.requires.most) has.file code (record { within = within; typed = has.typed }) has.is has.only made c.write_texts.result _ _ (made-of-parts c.args.parts code made c.surveyed.ensures) c.write_texts.ensures)
 
 pub read-requires : goal.read-requires

@@ -1,4 +1,4 @@
-use Rattle.std.proofs.Common.{refl}
+use Rattle.std.proofs.Common.{sym, ◌∙◌}
 use Rattle.golf_words.specs.declared.line.Line.{Line}
 use Rattle.golf_command.specs.Means.{words_of}
 use Rattle.golf_command.proofs.Calling.{tells-reading}
@@ -6,7 +6,7 @@ use Rattle.golf_command.proofs.Asking.{asked-line}
 use Rattle.golf_command.proofs.top.golf.Goals as goal
 
 pub returns-in-Some : goal.returns-in-Some
-returns-in-Some g c = tells-reading (words_of c.args.words.now) _ _ _ _ _ _ (Line.Threads c.in-Some.threads) c.serve_threads.result tt (asked-line c.parse.result c.in-Some.threads _ _ _) c.serve_threads.ensures
+returns-in-Some g c = tells-reading (words_of c.args.words.now) _ _ _ _ _ _ (Line.Threads c.in-Some.threads) c.serve_threads.result tt (asked-line (words_of c.args.words.now) c.parse-line.result c.in-Some.threads (sym c.threads_of.ensures ∙ c.in-Some.is) c.parse-line.ensures.line) c.serve_threads.ensures
 
 pub returns-in-None : goal.returns-in-None
-returns-in-None g c = c.serve.ensures (words_of c.args.words.now) c.parse.ensures.line
+returns-in-None g c = c.serve.ensures (words_of c.args.words.now) c.parse-line.ensures.line
