@@ -6,16 +6,17 @@ use Rattle.std.proofs.KnownBytes.{Keeps-refl}
 use Rattle.std.proofs.lemmas.List.{length-replicate}
 use Rattle.golf_base.specs.Causes.{Rose, ReadsSome}
 use Rattle.golf_code_of.specs.Files.{CodeOf}
-use Rattle.golf_schedules.specs.declared.options.Options.{Options}
 use Rattle.golf_generate.specs.File.{file as generated_file}
 use Rattle.golf_words.specs.declared.line.Line.{Line}
-use Rattle.golf_words.specs.Words.{line_of}
+use Rattle.golf_words.specs.Words.{line_of, IsWithin}
+use Rattle.golf_words.proofs.Limits.{line-within}
 use Rattle.golf_texts.specs.declared.status.Status.{Status}
 use Rattle.golf_texts.specs.declared.status.Status.TheVariants as s
 use Rattle.golf_texts.specs.declared.status.TheConstants.{LIMIT, USAGE, READ_FAULT, TOO_LONG, NO_MEMORY}
 use Rattle.golf_texts.specs.Writes.{Write}
-use Rattle.golf_run.specs.HasRun.{Sinks, sinks, GotWrites, HasFailed, IsSteady}
-use Rattle.golf_command.specs.Meaning.{IsLine, IsNoLine, out_for, err_for, IsFileOf, Meaning}
+use Rattle.golf_run.specs.HasRun.{Sinks, GotWrites, HasFailed, IsSteady}
+use Rattle.golf_command.specs.Ways.{out_for, err_for}
+use Rattle.golf_command.specs.Meaning.{IsLine, IsNoLine, Reads, IsFileOf, Meaning}
 use Rattle.golf_command.specs.Meaning.RefusedBy.{TooLong}
 use Rattle.golf_command.specs.Meaning.Meaning.{Misused, Refused, Runs}
 use Rattle.golf_command.specs.Means.{View, seen, FileMeans, RunsWhole, Says, IsRunEnd, LineMeans, UsageMeans, SinkCauses, SourceCauses, Causes, IsQuiet, GotMeaning, FileTells, LineTells, IsUntouched, Tells}
@@ -50,7 +51,7 @@ no-read-fault line bytes s.Memory a b m e = cc
 
 -- a file of which the status tells
 pub file-tells : (line : Line) (bytes : List ℕ) (left left' : Option (List ℕ)) (rf rf' : ℕ) (r : Status) (a b : Sinks)
-    → IsFileOf line left bytes → rf' ≡ rf → ((options : Options) → line ≡ Line.Run options → IsRunEnd r → IsAtEnd left') → FileTells line bytes r a b → LineTells line r (seen left rf a) (seen left' rf' b)
+    → IsFileOf line left bytes → rf' ≡ rf → (Reads line → IsRunEnd r → IsAtEnd left') → FileTells line bytes r a b → LineTells line r (seen left rf a) (seen left' rf' b)
 file-tells line bytes left left' rf rf' r a b is same end h = record {
   means = inr (record { bytes = bytes; is_file = is; means = h.means; at_end = end });
   causes = record { source = causes-of r rf rf' a b same h.causes (no-read-fault line bytes r a b h.means); sinks = h.causes };
@@ -70,21 +71,28 @@ known (Some xs) = (xs, refl)
 some-file : (line : Line) (left : Option (List ℕ)) → (bytes : List ℕ) × IsFileOf line left bytes
 some-file (Line.Run options) left = known left
 some-file (Line.Generate n) left = (generated_file n, refl)
+some-file (Line.Threads n) left = known left
 
--- memory was wanting before anything was read
-pub wanting : (line : Line) (left left' : Option (List ℕ)) (rf rf' : ℕ) (r : Status) (a b : Sinks) → rf' ≡ rf → Says s.Memory NO_MEMORY.now r a b → LineTells line r (seen left rf a) (seen left' rf' b)
-wanting line left left' rf rf' r a b same h =
+-- the file of a line that reads is what was left
+pub read-file : (line : Line) (left : Option (List ℕ)) (bytes : List ℕ) → Reads line → IfSome left (λ told. told ≡ bytes) → IsFileOf line left bytes
+read-file (Line.Run options) left bytes reads told = told
+read-file (Line.Generate n) left bytes reads told = absurd reads
+read-file (Line.Threads n) left bytes reads told = told
+
+-- memory was wanting before anything was run
+pub wanting : (line : Line) (within : IsWithin line) (left left' : Option (List ℕ)) (rf rf' : ℕ) (r : Status) (a b : Sinks) → rf' ≡ rf → Says s.Memory NO_MEMORY.now r a b → LineTells line r (seen left rf a) (seen left' rf' b)
+wanting line within left left' rf rf' r a b same h =
     let file = some-file line left in
-    file-tells line file.0 left left' rf rf' r a b file.1 same (λ options is ran. absurd (no-run r a b h ran)) (wanting-tells line file.0 a b r h)
+    file-tells line file.0 left left' rf rf' r a b file.1 same (λ reads ran. absurd (no-run r a b h ran)) (wanting-tells line file.0 within a b r h)
   where
     no-run : (r : Status) (a b : Sinks) → Says s.Memory NO_MEMORY.now r a b → IsRunEnd r → ⊥
     no-run r a b (inl e) ran = subst IsRunEnd e.0 ran
     no-run r a b (inr e) ran = subst IsRunEnd e.0 ran
 
 -- the source failed
-pub unread : (options : Options) (left left' : Option (List ℕ)) (rf rf' : ℕ) (r : Status) (a b : Sinks) → Rose rf rf' → rf ≤ rf' → Says s.ReadFault READ_FAULT.now r a b → LineTells (Line.Run options) r (seen left rf a) (seen left' rf' b)
-unread options left left' rf rf' r a b rose later h = record {
-  means = inl (record { options = options; is_run = refl; failed = rose; says = h });
+pub unread : (line : Line) (reads : Reads line) (left left' : Option (List ℕ)) (rf rf' : ℕ) (r : Status) (a b : Sinks) → Rose rf rf' → rf ≤ rf' → Says s.ReadFault READ_FAULT.now r a b → LineTells line r (seen left rf a) (seen left' rf' b)
+unread line reads left left' rf rf' r a b rose later h = record {
+  means = inl (record { reads = reads; failed = rose; says = h });
   causes = caused h;
 }
   where
@@ -101,16 +109,21 @@ long-file None left' h = let some = longer LIMIT in (some.0, tt, some.1)
 long-file (Some xs) None h = absurd h.1
 long-file (Some xs) (Some ys) h = (xs, refl, omega (arith, ap length h.1, length-append h.0 ys, h.2))
 
-pub too-long : (options : Options) (left left' : Option (List ℕ)) (rf rf' : ℕ) (r : Status) (a b : Sinks) → ReadsSome left left' LIMIT → rf' ≡ rf → Says s.Refused TOO_LONG.now r a b → LineTells (Line.Run options) r (seen left rf a) (seen left' rf' b)
-too-long options left left' rf rf' r a b more same h =
+pub too-long : (line : Line) (reads : Reads line) (within : IsWithin line) (left left' : Option (List ℕ)) (rf rf' : ℕ) (r : Status) (a b : Sinks) → ReadsSome left left' LIMIT → rf' ≡ rf → Says s.Refused TOO_LONG.now r a b
+    → LineTells line r (seen left rf a) (seen left' rf' b)
+too-long line reads within left left' rf rf' r a b more same h =
     let file = long-file left left' more in
-    file-tells (Line.Run options) file.0 left left' rf rf' r a b file.1 same (λ o is ran. absurd (no-run h ran)) (refused-tells (Line.Run options) file.0 a b options refl TOO_LONG.now r (TooLong file.2) h)
+    file-tells line file.0 left left' rf rf' r a b (read-file line left file.0 reads file.1) same (λ _ ran. absurd (no-run h ran)) (refused-tells line file.0 within a b reads TOO_LONG.now r (TooLong file.2) h)
   where
     no-run : Says s.Refused TOO_LONG.now r a b → IsRunEnd r → ⊥
     no-run (inl e) ran = subst IsRunEnd e.0 ran
     no-run (inr e) ran = subst IsRunEnd e.0 ran
 
 -- ---- all words
+
+-- a line of words is within its limits
+line-is-within : (words : List (List ℕ)) (line : Line) → IsLine words line → IsWithin line
+line-is-within words line is = subst (λ (o : Option Line). IfSome o IsWithin) is (line-within words)
 
 same-line : (a b : Line) → ◌≡◌ {A = Option Line} (Some a) (Some b) → a ≡ b
 same-line a b e = cc
@@ -145,16 +158,16 @@ module _ (words : List (List ℕ)) (left left' : Option (List ℕ)) (rf rf' : �
 
     ran : (line : Line) (bytes : List ℕ) (r : Status) → IsLine words line → IsFileOf line left bytes → RunsWhole line bytes r a b → Whole r
     ran line bytes r is file h =
-        let out = out_for line (CodeOf h.file) in
-        let err = err_for line (CodeOf h.file) in
-        inr (record { out = out; err = err; meaning = subst (λ t. Meaning words left t out err) (sym h.status) (Runs line bytes h.file is file h.accepts); got_out = h.out; got_err = h.err })
+        let out = out_for h.way (CodeOf h.file) in
+        let err = err_for h.way (CodeOf h.file) in
+        inr (record { out = out; err = err; meaning = subst (λ t. Meaning words left t out err) (sym h.status) (Runs line bytes h.file h.way is file h.accepts h.is_way); got_out = h.out; got_err = h.err })
 
     of-file : (line : Line) (bytes : List ℕ) (r : Status) → IsLine words line → IsFileOf line left bytes → FileMeans line bytes r a b → Whole r
     of-file line bytes s.Clean is file m = ran line bytes s.Clean is file m
     of-file line bytes s.Found is file m = ran line bytes s.Found is file m
     of-file line bytes s.Crashed is file m = ran line bytes s.Crashed is file m
     of-file line bytes s.Spent is file m = ran line bytes s.Spent is file m
-    of-file line bytes s.Refused is file m = inr (line-got s.Refused m.text (Refused m.options bytes m.text (subst (IsLine words) m.is_run is) (subst (λ l. IsFileOf l left bytes) m.is_run file) m.why) m.got)
+    of-file line bytes s.Refused is file m = inr (line-got s.Refused m.text (Refused line bytes m.text is m.reads file m.why) m.got)
     of-file line bytes s.Usage is file m = absurd m
     of-file line bytes s.ReadFault is file m = absurd m
     of-file line bytes s.WriteFault is file m = absurd (loud m.1.0 left left' rf rf' a b quiet m.1.2.failed)
@@ -172,27 +185,26 @@ module _ (words : List (List ℕ)) (left left' : Option (List ℕ)) (rf rf' : �
     of-words (Some line) r is m u = of-line line r is (m line is)
     of-words None r is m u = of-none r is (u is)
 
-  tells : (r : Status) → ((line : Line) → IsLine words line → LineMeans line r before after) → (IsNoLine words → UsageMeans r before after) → (((options : Options) → IsLine words (Line.Run options) → ⊥) → IsUntouched before after) → Causes r before after → Tells words r before after
+  tells : (r : Status) → ((line : Line) → IsLine words line → LineMeans line r before after) → (IsNoLine words → UsageMeans r before after) → (((line : Line) → IsLine words line → Reads line → ⊥) → IsUntouched before after) → Causes r before after → Tells words r before after
   tells r means usage unread causes = record { line = means; usage = usage; unread = unread; causes = causes; complete = λ quiet. of-words quiet (line_of words) r refl means usage }
-
-  -- the words are a run line
-  pub tells-run : (options : Options) (r : Status) → IsLine words (Line.Run options) → LineTells (Line.Run options) r before after → Tells words r before after
-  tells-run options r is h = tells r
-      (λ other same. subst (λ l. LineMeans l r before after) (same-line (Line.Run options) other (sym is ∙ same)) h.means)
-      (λ none. absurd (not-none (Line.Run options) (sym is ∙ none)))
-      (λ none. absurd (none options is))
-      h.causes
 
   untouched : left' ≡ left → rf' ≡ rf → IsUntouched before after
   untouched same counts = record { left = subst (Keeps left) (sym same) (Keeps-refl left); faults = counts }
 
+  tells-line : (line : Line) (r : Status) → IsLine words line → LineTells line r before after → ((Reads line → ⊥) → IsUntouched before after) → Tells words r before after
+  tells-line line r is h unread = tells r
+      (λ other same. subst (λ l. LineMeans l r before after) (same-line line other (sym is ∙ same)) h.means)
+      (λ none. absurd (not-none line (sym is ∙ none)))
+      (λ none. unread (λ reads. none line is reads))
+      h.causes
+
+  -- the words are a line that reads
+  pub tells-reading : (line : Line) (r : Status) → Reads line → IsLine words line → LineTells line r before after → Tells words r before after
+  tells-reading line r reads is h = tells-line line r is h (λ none. absurd (none reads))
+
   -- they ask for a generated file
   pub tells-generate : (n : ℕ) (r : Status) → IsLine words (Line.Generate n) → LineTells (Line.Generate n) r before after → left' ≡ left → rf' ≡ rf → Tells words r before after
-  tells-generate n r is h same counts = tells r
-      (λ other is'. subst (λ l. LineMeans l r before after) (same-line (Line.Generate n) other (sym is ∙ is')) h.means)
-      (λ none. absurd (not-none (Line.Generate n) (sym is ∙ none)))
-      (λ _. untouched same counts)
-      h.causes
+  tells-generate n r is h same counts = tells-line (Line.Generate n) r is h (λ _. untouched same counts)
 
   says-causes : (status r : Status) (text : List ℕ) → ((v w : View) → w.read_faults ≡ v.read_faults → IsSteady v.sinks w.sinks → Causes status v w) → rf' ≡ rf → Says status text r a b → Causes r before after
   says-causes status r text quiet same (inl e) = subst (λ t. Causes t before after) (sym e.0) (quiet before after same e.2)
@@ -210,11 +222,8 @@ module _ (words : List (List ℕ)) (left left' : Option (List ℕ)) (rf rf' : �
   pub tells-wanting : (r : Status) → Says s.Memory NO_MEMORY.now r a b → left' ≡ left → rf' ≡ rf → Tells words r before after
   tells-wanting r h same counts =
       let causes : Causes r before after = says-causes s.Memory r NO_MEMORY.now (λ v w x y. record { source = x; sinks = y }) counts h in
-      tells r (λ line is. (wanting line left left' rf rf' r a b counts h).means) (λ _. inr h) (λ _. untouched same counts) causes
+      tells r (λ line is. (wanting line (line-is-within words line is) left left' rf rf' r a b counts h).means) (λ _. inr h) (λ _. untouched same counts) causes
 
 -- a line that asks for a generated file reads nothing
 pub generated-line : (n : ℕ) (left : Option (List ℕ)) (rf : ℕ) (r : Status) (a b : Sinks) → FileTells (Line.Generate n) (generated_file n) r a b → LineTells (Line.Generate n) r (seen left rf a) (seen left rf b)
-generated-line n left rf r a b h = file-tells (Line.Generate n) (generated_file n) left left rf rf r a b refl refl (λ options is ran. absurd (other-line n options is)) h
-  where
-    other-line : (n : ℕ) (options : Options) → Line.Generate n ≡ Line.Run options → ⊥
-    other-line n options e = cc
+generated-line n left rf r a b h = file-tells (Line.Generate n) (generated_file n) left left rf rf r a b refl refl (λ reads ran. absurd reads) h

@@ -9,6 +9,7 @@ use Rattle.golf_grammar.specs.declared.declarations.File.{File}
 use Rattle.golf_code_of.specs.Files.{CodeOf}
 use Rattle.golf_schedules.specs.declared.options.Options.{Options}
 use Rattle.golf_words.specs.declared.line.Line.{Line}
+use Rattle.golf_words.specs.Words.{IsWithin}
 use Rattle.golf_texts.specs.declared.status.Status.{Status}
 use Rattle.golf_texts.specs.declared.status.Status.TheVariants as s
 use Rattle.golf_texts.specs.declared.status.TheConstants.{LIMIT, NO_MEMORY}
@@ -23,14 +24,16 @@ use Rattle.golf_never_stuck.proofs.Plain.{plain-runs-go-on}
 use Rattle.golf_reader.specs.declared.refusal.Refusal.{Refusal}
 use Rattle.golf_reader.specs.declared.refusal.Refusal.TheVariants as refusals
 use Rattle.golf_reader.specs.Refusals.{IsRefusedBy, HasTypedTree}
-use Rattle.golf_run.specs.HasRun.{Sinks, sinks, GotWrites, GotWhole, IsSteady}
+use Rattle.golf_run.specs.HasRun.{Sinks, sinks, GotWrites, IsSteady}
 use Rattle.golf_command.specs.Ends.{EndsWith, Refuses}
-use Rattle.golf_command.specs.Meaning.{options_of, out_for, err_for, writes_for, Accepts, AreTrue, MovesAlways, RefusedBy}
+use Rattle.golf_command.specs.Ways.{Way, IsWayOf, options_of, out_for, err_for, writes_for}
+use Rattle.golf_command.specs.Meaning.{Reads, Accepts, AreTrue, MovesAlways, RefusedBy}
 use Rattle.golf_command.specs.Meaning.RefusedBy.{Unlexed, Unparsed, Untyped}
-use Rattle.golf_command.specs.Means.{Breaks, IsSound, AreFirst, MayFollow, RunsWhole, Says, FileTells}
+use Rattle.golf_command.specs.Means.{Breaks, IsSound, BeginsRun, AreFirst, MayFollow, MayStand, RunsWhole, Says, FileTells}
 use Rattle.golf_command.specs.Means.IsCause.{Refusal as Refusing, Wanting}
 use Rattle.golf_command.specs.Means.MayFollow.{Next, Cause}
 use Rattle.golf_command.proofs.Sinking.{gets-more, breaks-later, some-rose, says}
+use Rattle.golf_command.proofs.Ways.{some-way, none-stands}
 
 -- the reports of a run are true
 are-true : (code : Code) (options : Options) → AreTrue code options
@@ -51,65 +54,76 @@ moves-always bytes file options a =
       moves = λ s c leads going. reached-moves-on (CodeOf file) s c (record { file = file; program = program; coded = refl; leads = leads }) going;
     }
 
-sound-run : (line : Line) (bytes : List ℕ) (file : File) → Accepts bytes file → IsSound line (CodeOf file)
-sound-run line bytes file a = record { reports = are-true (CodeOf file) (options_of line); moves = moves-always bytes file (options_of line) a }
+sound-run : (way : Way) (bytes : List ℕ) (file : File) → Accepts bytes file → IsSound way (CodeOf file)
+sound-run way bytes file a = record { reports = are-true (CodeOf file) (options_of way); moves = moves-always bytes file (options_of way) a }
 
-module _ (line : Line) (bytes : List ℕ) where
+begins : (line : Line) (bytes : List ℕ) (file : File) → Accepts bytes file → (w : (way : Way) × IsWayOf line (CodeOf file) way) → BeginsRun line (CodeOf file) []
+begins line bytes file a w = record { way = w.0; is_way = w.1; later = writes_for w.0 (CodeOf file); order = refl; sound = sound-run w.0 bytes file a }
+
+module _ (line : Line) (bytes : List ℕ) (within : IsWithin line) where
   none-first : AreFirst line bytes []
-  none-first = record { runs = λ file a. record { later = writes_for line (CodeOf file); order = refl; sound = sound-run line bytes file a }; refused = λ none. refl }
+  none-first = record { runs = λ file a. begins line bytes file a (some-way line (CodeOf file) within); refused = λ none. refl }
 
   module _ (old new : Sinks) where
     -- a write failed behind these
     broken : (done : List Write) (cut : Write) (r : Status) → MayFollow line bytes done cut → r ≡ s.WriteFault → Breaks old new done cut → FileTells line bytes r old new
     broken done cut r why is breaks = subst (λ t. FileTells line bytes t old new) (sym is) (record { means = (done, (cut, why, breaks)); causes = some-rose cut old new breaks.failed })
 
-    pub refused-tells : (options : Options) → line ≡ Line.Run options → (text : List ℕ) (r : Status) → RefusedBy bytes text → Says s.Refused text r old new → FileTells line bytes r old new
-    refused-tells options run text r why (inl e) =
-        subst (λ t. FileTells line bytes t old new) (sym e.0) (record { means = record { options = options; is_run = run; text = text; why = why; got = e.1 }; causes = e.2 })
-    refused-tells options run text r why (inr e) = broken [] (Write.ToErr text) r (Cause text none-first (Refusing options text run why)) e.0 e.1
+    pub refused-tells : Reads line → (text : List ℕ) (r : Status) → RefusedBy bytes text → Says s.Refused text r old new → FileTells line bytes r old new
+    refused-tells reads text r why (inl e) =
+        subst (λ t. FileTells line bytes t old new) (sym e.0) (record { means = record { reads = reads; text = text; why = why; got = e.1 }; causes = e.2 })
+    refused-tells reads text r why (inr e) = broken [] (Write.ToErr text) r (Cause text none-first (Refusing text reads why)) e.0 e.1
 
     pub wanting-tells : (r : Status) → Says s.Memory NO_MEMORY.now r old new → FileTells line bytes r old new
-    wanting-tells r (inl e) = subst (λ t. FileTells line bytes t old new) (sym e.0) (record { means = ([], none-first, e.1); causes = e.2 })
+    wanting-tells r (inl e) = subst (λ t. FileTells line bytes t old new) (sym e.0) (record { means = ([], none-stands line, none-first, e.1); causes = e.2 })
     wanting-tells r (inr e) = broken [] (Write.ToErr NO_MEMORY.now) r (Cause NO_MEMORY.now none-first Wanting) e.0 e.1
 
-  -- the file of a run line is refused
-  module _ (options : Options) (run : line ≡ Line.Run options) (within : length bytes ≤ LIMIT) (out : Option (List ℕ)) (of : ℕ) (err err' : Option (List ℕ)) (ef ef' : ℕ) where
+  -- the file of a line that reads is refused
+  module _ (reads : Reads line) (short : length bytes ≤ LIMIT) (out : Option (List ℕ)) (of : ℕ) (err err' : Option (List ℕ)) (ef ef' : ℕ) where
     abbrev Told : Status → Type 0
     Told r = FileTells line bytes r (sinks out of err ef) (sinks out of err' ef')
 
     by-text : (text : List ℕ) (r : Status) → RefusedBy bytes text → EndsWith r s.Refused text err err' ef ef' → Told r
-    by-text text r why e = refused-tells (sinks out of err ef) (sinks out of err' ef') options run text r why (says out of err err' ef ef' s.Refused r text e)
+    by-text text r why e = refused-tells (sinks out of err ef) (sinks out of err' ef') reads text r why (says out of err err' ef ef' s.Refused r text e)
 
     by-want : (r : Status) → EndsWith r s.Memory NO_MEMORY.now err err' ef ef' → Told r
     by-want r e = wanting-tells (sinks out of err ef) (sinks out of err' ef') r (says out of err err' ef ef' s.Memory r NO_MEMORY.now e)
 
     pub refusal-tells : (refusal : Refusal) (r : Status) → IsRefusedBy bytes refusal → Refuses r refusal err err' ef ef' → Told r
-    refusal-tells (refusals.Lexical at byte) r why (inl e) = by-text (lexical_line at byte) r (Unlexed at byte within why) e
+    refusal-tells (refusals.Lexical at byte) r why (inl e) = by-text (lexical_line at byte) r (Unlexed at byte short why) e
     refusal-tells (refusals.Lexical at byte) r why (inr e) = by-want r e
-    refusal-tells (refusals.Syntax at) r why (inl e) = by-text (syntax_line at) r (Unparsed at within why) e
+    refusal-tells (refusals.Syntax at) r why (inl e) = by-text (syntax_line at) r (Unparsed at short why) e
     refusal-tells (refusals.Syntax at) r why (inr e) = by-want r e
-    refusal-tells (refusals.Untyped at rule) r why (inl e) = by-text (rule_line at rule) r (Untyped at rule within why) e
+    refusal-tells (refusals.Untyped at rule) r why (inl e) = by-text (rule_line at rule) r (Untyped at rule short why) e
     refusal-tells (refusals.Untyped at rule) r why (inr e) = by-want r e
     refusal-tells refusals.Memory r why (inl e) = by-want r e
     refusal-tells refusals.Memory r why (inr e) = by-want r e
 
   -- the file has this code
-  module _ (file : File) (code : Code) (accepted : Accepts bytes file) (is : code ≡ CodeOf file) (all : (other : File) → HasTypedTree bytes other → code ≡ CodeOf other) where
-    first-of : (done more : List Write) → writes_for line code ≡ done ++ more → AreFirst line bytes done
+  module _ (file : File) (code : Code) (accepted : Accepts bytes file) (is : code ≡ CodeOf file) (all : (other : File) → HasTypedTree bytes other → code ≡ CodeOf other) (way : Way) (is_way : IsWayOf line code way) where
+    first-of : (done more : List Write) → writes_for way code ≡ done ++ more → AreFirst line bytes done
     first-of done more split = record {
-      runs = λ other a. record { later = more; order = ap (writes_for line) (sym (all other a.typed)) ∙ split; sound = sound-run line bytes other a };
+      runs = λ other a. record {
+        way = way;
+        is_way = subst (λ c. IsWayOf line c way) (all other a.typed) is_way;
+        later = more;
+        order = ap (writes_for way) (sym (all other a.typed)) ∙ split;
+        sound = sound-run way bytes other a;
+      };
       refused = λ none. absurd (none file accepted);
     }
 
     module _ (old new : Sinks) where
-      whole-run : (r : Status) → r ≡ status_of code (options_of line) → Appends old.out new.out (out_for line code) → Appends old.err new.err (err_for line code) → RunsWhole line bytes r old new
+      whole-run : (r : Status) → r ≡ status_of code (options_of way) → Appends old.out new.out (out_for way code) → Appends old.err new.err (err_for way code) → RunsWhole line bytes r old new
       whole-run r status out err = record {
         file = file;
         accepts = accepted;
-        status = status ∙ ap (λ c. status_of c (options_of line)) is;
-        out = subst (λ c. Appends old.out new.out (out_for line c)) is out;
-        err = subst (λ c. Appends old.err new.err (err_for line c)) is err;
-        sound = sound-run line bytes file accepted;
+        way = way;
+        is_way = subst (λ c. IsWayOf line c way) is is_way;
+        status = status ∙ ap (λ c. status_of c (options_of way)) is;
+        out = subst (λ c. Appends old.out new.out (out_for way c)) is out;
+        err = subst (λ c. Appends old.err new.err (err_for way c)) is err;
+        sound = sound-run way bytes file accepted;
       }
 
       status-runs : (o : Option Ending) (b : Bool) → RunsWhole line bytes (status_by b o) old new → IsSteady old new → FileTells line bytes (status_by b o) old new
@@ -120,19 +134,19 @@ module _ (line : Line) (bytes : List ℕ) where
       status-runs None b h steady = record { means = h; causes = steady }
 
       -- the run went to its end
-      pub ran-tells : (r : Status) → r ≡ status_of code (options_of line) → Appends old.out new.out (out_for line code) → Appends old.err new.err (err_for line code) → IsSteady old new → FileTells line bytes r old new
+      pub ran-tells : (r : Status) → r ≡ status_of code (options_of way) → Appends old.out new.out (out_for way code) → Appends old.err new.err (err_for way code) → IsSteady old new → FileTells line bytes r old new
       unfolding status_of
       ran-tells r status out err steady =
-          let options = options_of line in
+          let options = options_of way in
           subst (λ t. FileTells line bytes t old new) (sym status)
           (status-runs (ending (last_of code options)) (anyone_reported (reports_of code options)) (subst (λ t. RunsWhole line bytes t old new) status (whole-run r status out err)) steady)
 
       -- a write failed in it
-      pub failed-tells : (done rest : List Write) (cut : Write) → writes_for line code ≡ done ++ (cut ∷ rest) → Breaks old new done cut → FileTells line bytes s.WriteFault old new
+      pub failed-tells : (done rest : List Write) (cut : Write) → writes_for way code ≡ done ++ (cut ∷ rest) → Breaks old new done cut → FileTells line bytes s.WriteFault old new
       failed-tells done rest cut split breaks = broken old new done cut s.WriteFault (Next cut (first-of (done ++ cut ∷ []) rest (split ∙ sym (append_assoc done (cut ∷ []) rest)))) refl breaks
 
     -- memory was wanting in it, and then a line was written
-    module _ (out out' mid err err' : Option (List ℕ)) (of of' mf ef ef' : ℕ) (done more : List Write) (split : writes_for line code ≡ done ++ more) where
+    module _ (out out' mid err err' : Option (List ℕ)) (of of' mf ef ef' : ℕ) (done more : List Write) (split : writes_for way code ≡ done ++ more) (stands : MayStand line done) where
       abbrev first : Sinks
       first = sinks out of err ef
 
@@ -144,15 +158,10 @@ module _ (line : Line) (bytes : List ℕ) where
 
       stopped : (r : Status) → GotWrites done first mid_way → IsSteady first mid_way → Says s.Memory NO_MEMORY.now r mid_way last → FileTells line bytes r first last
       stopped r got steady (inl e) = subst (λ t. FileTells line bytes t first last) (sym e.0) (record {
-        means = (done, first-of done more split, gets-more first mid_way last done (Write.ToErr NO_MEMORY.now ∷ []) got e.1);
+        means = (done, stands, first-of done more split, gets-more first mid_way last done (Write.ToErr NO_MEMORY.now ∷ []) got e.1);
         causes = record { out = e.2.out ∙ steady.out; err = e.2.err ∙ steady.err };
       })
       stopped r got steady (inr e) = broken first last done (Write.ToErr NO_MEMORY.now) r (Cause NO_MEMORY.now (first-of done more split) Wanting) e.0 (breaks-later first mid_way last done (Write.ToErr NO_MEMORY.now) got steady e.1)
 
       pub stopped-tells : (r : Status) → GotWrites done first mid_way → IsSteady first mid_way → EndsWith r s.Memory NO_MEMORY.now mid err' mf ef' → FileTells line bytes r first last
       stopped-tells r got steady ends = stopped r got steady (says out' of' mid err' mf ef' s.Memory r NO_MEMORY.now ends)
-
--- a run line's run went to its end
-pub went-tells : (options : Options) (bytes : List ℕ) (file : File) (code : Code) → Accepts bytes file → code ≡ CodeOf file → ((other : File) → HasTypedTree bytes other → code ≡ CodeOf other)
-    → (old new : Sinks) (r : Status) → GotWhole r code options old new → IsSteady old new → FileTells (Line.Run options) bytes r old new
-went-tells options bytes file code accepted is all old new r got steady = ran-tells (Line.Run options) bytes file code accepted is all old new r got.status got.out got.err steady

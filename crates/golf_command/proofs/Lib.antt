@@ -1,5 +1,10 @@
 mod Sinking
+mod Turns
+mod Ways
 mod Filing
-mod Surveying
+mod Writing
+mod Threading
 mod Calling
+mod Fetching
+mod Asking
 mod NeverRefused

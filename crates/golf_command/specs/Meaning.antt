@@ -19,9 +19,8 @@ use Rattle.golf_texts.specs.declared.status.Status.{Status}
 use Rattle.golf_texts.specs.declared.status.Status.TheVariants as s
 use Rattle.golf_texts.specs.declared.status.TheConstants.{LIMIT, USAGE, TOO_LONG}
 use Rattle.golf_texts.specs.Texts.{lexical_line, syntax_line, rule_line}
-use Rattle.golf_texts.specs.Meaning.{events_of, out_of, reports_of, end_of, err_of, status_of}
-use Rattle.golf_texts.specs.Writes.{Write, writes_of}
-use Rattle.golf_command.specs.Generating.{generated_options, generated_summary, generated_writes}
+use Rattle.golf_texts.specs.Meaning.{events_of, reports_of, status_of}
+use Rattle.golf_command.specs.Ways.{Way, IsWayOf, options_of, out_for, err_for}
 
 -- ---- a line
 
@@ -33,29 +32,17 @@ IsLine words line = line_of words ≡ Some line
 abbrev pub IsNoLine : List (List ℕ) → Type 0
 IsNoLine words = line_of words ≡ None
 
--- how the file of a line is run
-abbrev pub options_of : Line → Options
-options_of (Line.Run options) = options
-options_of (Line.Generate n) = generated_options
-
--- what standard output gets of its run, and what standard error gets
-abbrev pub out_for : Line → Code → List ℕ
-out_for (Line.Run options) code = out_of code options
-out_for (Line.Generate n) code = generated_summary n code
-
-abbrev pub err_for : Line → Code → List ℕ
-err_for (Line.Run options) code = err_of code options
-err_for (Line.Generate n) code = end_of code generated_options
-
--- what its run writes, in its order
-abbrev pub writes_for : Line → Code → List Write
-writes_for (Line.Run options) code = writes_of code options
-writes_for (Line.Generate n) code = generated_writes n code
+-- a line that reads: its file stands in the source
+abbrev pub Reads : Line → Type 0
+Reads (Line.Run options) = Unit {0}
+Reads (Line.Generate n) = ⊥
+Reads (Line.Threads n) = Unit {0}
 
 -- its file is what the source had left, where that is told, or the generated one
 abbrev pub IsFileOf : Line → Option (List ℕ) → List ℕ → Type 0
 IsFileOf (Line.Run options) left bytes = IfSome left (λ known. known ≡ bytes)
 IsFileOf (Line.Generate n) left bytes = bytes ≡ generated_file n
+IsFileOf (Line.Threads n) left bytes = IfSome left (λ known. known ≡ bytes)
 
 -- ---- a file
 
@@ -89,8 +76,9 @@ pub data RefusedBy (bytes : List ℕ) : List ℕ → Type 0 where
 
 -- ---- both
 
--- the status, and what standard output and standard error get; only the file of a run line can be refused
+-- the status, and what standard output and standard error get; only the file of a line that reads can be refused
 pub data Meaning (words : List (List ℕ)) (left : Option (List ℕ)) : Status → List ℕ → List ℕ → Type 0 where
   Misused : IsNoLine words → Meaning words left s.Usage [] USAGE.now
-  Refused : (options : Options) (bytes text : List ℕ) → IsLine words (Line.Run options) → IsFileOf (Line.Run options) left bytes → RefusedBy bytes text → Meaning words left s.Refused [] text
-  Runs : (line : Line) (bytes : List ℕ) (file : File) → IsLine words line → IsFileOf line left bytes → Accepts bytes file → Meaning words left (status_of (CodeOf file) (options_of line)) (out_for line (CodeOf file)) (err_for line (CodeOf file))
+  Refused : (line : Line) (bytes text : List ℕ) → IsLine words line → Reads line → IsFileOf line left bytes → RefusedBy bytes text → Meaning words left s.Refused [] text
+  Runs : (line : Line) (bytes : List ℕ) (file : File) (way : Way) → IsLine words line → IsFileOf line left bytes → Accepts bytes file → IsWayOf line (CodeOf file) way
+      → Meaning words left (status_of (CodeOf file) (options_of way)) (out_for way (CodeOf file)) (err_for way (CodeOf file))

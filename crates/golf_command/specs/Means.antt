@@ -7,7 +7,6 @@ use Rattle.golf_base.specs.Causes.{Rose}
 use Rattle.golf_data.specs.declared.code.Code.{Code}
 use Rattle.golf_grammar.specs.declared.declarations.File.{File}
 use Rattle.golf_code_of.specs.Files.{CodeOf}
-use Rattle.golf_schedules.specs.declared.options.Options.{Options}
 use Rattle.golf_words.specs.declared.line.Line.{Line}
 use Rattle.golf_texts.specs.declared.status.Status.{Status}
 use Rattle.golf_texts.specs.declared.status.Status.TheVariants as s
@@ -15,7 +14,8 @@ use Rattle.golf_texts.specs.declared.status.TheConstants.{USAGE, READ_FAULT, NO_
 use Rattle.golf_texts.specs.Meaning.{status_of}
 use Rattle.golf_texts.specs.Writes.{Write}
 use Rattle.golf_run.specs.HasRun.{Sinks, GotWrites, IsFrontOf, HasFailed, IsSteady}
-use Rattle.golf_command.specs.Meaning.{IsLine, IsNoLine, options_of, out_for, err_for, writes_for, IsFileOf, Accepts, AreTrue, MovesAlways, RefusedBy, Meaning}
+use Rattle.golf_command.specs.Ways.{Way, IsWayOf, options_of, out_for, err_for, writes_for}
+use Rattle.golf_command.specs.Meaning.{IsLine, IsNoLine, Reads, IsFileOf, Accepts, AreTrue, MovesAlways, RefusedBy, Meaning}
 
 -- the bytes of the words
 abbrev pub words_of : List (String Global) → List (List ℕ)
@@ -42,24 +42,26 @@ pub record Breaks (old new : Sinks) (done : List Write) (cut : Write) : Type 0 w
 -- ---- what a status says of a file
 
 -- the reports of the run of the code are true, and no turn of it is ever stuck
-pub record IsSound (line : Line) (code : Code) : Type 0 where
-  pub reports : AreTrue code (options_of line)
-  pub moves : MovesAlways code (options_of line)
+pub record IsSound (way : Way) (code : Code) : Type 0 where
+  pub reports : AreTrue code (options_of way)
+  pub moves : MovesAlways code (options_of way)
 
--- the first writes of a sound run of the code
+-- the first writes of a sound run of the code, in a way of the line
 pub record BeginsRun (line : Line) (code : Code) (done : List Write) : Type 0 where
+  pub way : Way
+  pub is_way : IsWayOf line code way
   pub later : List Write
-  pub order : writes_for line code ≡ done ++ later
-  pub sound : IsSound line code
+  pub order : writes_for way code ≡ done ++ later
+  pub sound : IsSound way code
 
 -- the first writes of the file's run; none if no file is run
 pub record AreFirst (line : Line) (bytes : List ℕ) (done : List Write) : Type 0 where
   pub runs : (file : File) → Accepts bytes file → BeginsRun line (CodeOf file) done
   pub refused : ((file : File) → Accepts bytes file → ⊥) → done ≡ []
 
--- the text of a cause, which may stand after them; only the file of a run line is refused
+-- the text of a cause, which may stand after them; only the file of a line that reads is refused
 pub data IsCause (line : Line) (bytes : List ℕ) : List ℕ → Type 0 where
-  Refusal : (options : Options) (text : List ℕ) → line ≡ Line.Run options → RefusedBy bytes text → IsCause line bytes text
+  Refusal : (text : List ℕ) → Reads line → RefusedBy bytes text → IsCause line bytes text
   Wanting : IsCause line bytes NO_MEMORY.now
 
 -- what may be written after them: the next write of the run, or the text of a cause
@@ -71,18 +73,25 @@ pub data MayFollow (line : Line) (bytes : List ℕ) (done : List Write) : Write 
 pub record RunsWhole (line : Line) (bytes : List ℕ) (answer : Status) (old new : Sinks) : Type 0 where
   pub file : File
   pub accepts : Accepts bytes file
-  pub status : answer ≡ status_of (CodeOf file) (options_of line)
-  pub out : Appends old.out new.out (out_for line (CodeOf file))
-  pub err : Appends old.err new.err (err_for line (CodeOf file))
-  pub sound : IsSound line (CodeOf file)
+  pub way : Way
+  pub is_way : IsWayOf line (CodeOf file) way
+  pub status : answer ≡ status_of (CodeOf file) (options_of way)
+  pub out : Appends old.out new.out (out_for way (CodeOf file))
+  pub err : Appends old.err new.err (err_for way (CodeOf file))
+  pub sound : IsSound way (CodeOf file)
 
--- the file of a run line was refused, and standard error got the line that says why
+-- the file of a line that reads was refused, and standard error got the line that says why
 pub record IsRefused (line : Line) (bytes : List ℕ) (old new : Sinks) : Type 0 where
-  pub options : Options
-  pub is_run : line ≡ Line.Run options
+  pub reads : Reads line
   pub text : List ℕ
   pub why : RefusedBy bytes text
   pub got : GotWrites (Write.ToErr text ∷ []) old new
+
+-- which writes may stand if memory runs out: a run by options has written its first ones, the others have written nothing
+abbrev pub MayStand : Line → List Write → Type 0
+MayStand (Line.Run options) done = Unit {0}
+MayStand (Line.Generate n) done = done ≡ []
+MayStand (Line.Threads n) done = done ≡ []
 
 -- What a status says of a file's bytes and of what the sinks got.
 abbrev pub FileMeans : Line → List ℕ → Status → Sinks → Sinks → Type 0
@@ -94,7 +103,7 @@ FileMeans line bytes s.Refused old new = IsRefused line bytes old new
 FileMeans line bytes s.Usage old new = ⊥
 FileMeans line bytes s.ReadFault old new = ⊥
 FileMeans line bytes s.WriteFault old new = (done : List Write) × ((cut : Write) × MayFollow line bytes done cut × Breaks old new done cut)
-FileMeans line bytes s.Memory old new = (done : List Write) × AreFirst line bytes done × GotWrites (done ++ Write.ToErr NO_MEMORY.now ∷ []) old new
+FileMeans line bytes s.Memory old new = (done : List Write) × MayStand line done × AreFirst line bytes done × GotWrites (done ++ Write.ToErr NO_MEMORY.now ∷ []) old new
 
 -- ---- what it says of a call
 
@@ -104,10 +113,9 @@ Says status text answer old new =
     ((answer ≡ status) × GotWrites (Write.ToErr text ∷ []) old new × IsSteady old new)
     ⊎ ((answer ≡ s.WriteFault) × Breaks old new [] (Write.ToErr text))
 
--- the source failed, and the sinks got that line
+-- the source of a line that reads failed, and the sinks got that line
 pub record IsUnread (line : Line) (answer : Status) (old new : View) : Type 0 where
-  pub options : Options
-  pub is_run : line ≡ Line.Run options
+  pub reads : Reads line
   pub failed : Rose old.read_faults new.read_faults
   pub says : Says s.ReadFault READ_FAULT.now answer old.sinks new.sinks
 
@@ -119,12 +127,12 @@ IsRunEnd s.Crashed = Unit {0}
 IsRunEnd s.Spent = Unit {0}
 IsRunEnd _ = ⊥
 
--- the line's file, of which the status tells; the source is at its end where the file was run
+-- the line's file, of which the status tells; the source of a line that reads is at its end if the file was run
 pub record TellsOfFile (line : Line) (answer : Status) (old new : View) : Type 0 where
   pub bytes : List ℕ
   pub is_file : IsFileOf line old.left bytes
   pub means : FileMeans line bytes answer old.sinks new.sinks
-  pub at_end : (options : Options) → line ≡ Line.Run options → IsRunEnd answer → IsAtEnd new.left
+  pub at_end : Reads line → IsRunEnd answer → IsAtEnd new.left
 
 -- what a status says where the words are this line
 abbrev pub LineMeans : Line → Status → View → View → Type 0
@@ -181,10 +189,10 @@ pub record IsUntouched (old new : View) : Type 0 where
   pub left : Keeps old.left new.left
   pub faults : new.read_faults ≡ old.read_faults
 
--- All that the status of a call says: what it means if the words are a line, and if they are none; that nothing is read but for a run line; what failed; and that nothing is lacking if nothing failed.
+-- All that the status of a call says: what it means if the words are a line, and if they are none; that nothing is read but for a line that reads; what failed; and that nothing is lacking if nothing failed.
 pub record Tells (words : List (List ℕ)) (answer : Status) (old new : View) : Type 0 where
   pub line : (line : Line) → IsLine words line → LineMeans line answer old new
   pub usage : IsNoLine words → UsageMeans answer old new
-  pub unread : ((options : Options) → IsLine words (Line.Run options) → ⊥) → IsUntouched old new
+  pub unread : ((line : Line) → IsLine words line → Reads line → ⊥) → IsUntouched old new
   pub causes : Causes answer old new
   pub complete : IsComplete words answer old new

@@ -6,12 +6,14 @@ ghost use Rattle.golf_schedules.specs.Options.{IsWithinLimits};
 ghost use Rattle.golf_generate.specs.File.{file as file_of, summary as summary_bytes};
 ghost use Rattle.golf_run.specs.HasRun.{sinks};
 ghost use Rattle.golf_command.specs.Generating.{generated_options as options_of_generated, summary_of};
-ghost use Rattle.golf_command.specs.Surveys.{HasSurveyed, IsSurvey, WroteBoth};
+ghost use Rattle.golf_command.specs.Ways.{Way};
+ghost use Rattle.golf_command.specs.Written.{AreTextsOf};
 ghost use Rattle.golf_command.specs.Means.{FileTells};
 ghost use Rattle.golf_words.specs.declared.line.Line.{Line};
 
 use crate::ends::end;
-use golf_base::{Gate, List, Memory, Sink, write_all};
+use crate::texts::{RunTexts, write_texts};
+use golf_base::{Gate, List, Memory, Sink};
 use golf_data::Code;
 use golf_generate::{Summary, file_lines, generate, summary_line};
 use golf_reader::{Refusal, read};
@@ -20,14 +22,6 @@ use golf_schedules::{Options, Schedule};
 use golf_texts::{NO_MEMORY, Status, Totals};
 use std::alloc::Global;
 use std::thread::Threads;
-
-/// What is written of the run of a generated file, and how the program ends.
-#[derive(Debug, Drop)]
-pub(crate) struct Survey {
-    pub status: Status,
-    pub summary: List<u8>,
-    pub line: List<u8>,
-}
 
 // In rotation, by four markers, with recovery.
 fn generated_options() -> Options
@@ -62,7 +56,7 @@ fn summary(alloc: Global, parts: u32, totals: Totals) -> Result<List<u8>, Memory
     summary_line(alloc, of)
 }
 
-// Runs the code of the generated file of so many parts.
+// The texts of the run of the code of the generated file of so many parts.
 #[tactic(auto, unfolding(crate::specs::Generating::generated_summary))]
 fn surveyed<R: Threads + Sync, G: Gate + Sync>(
     rt: &R,
@@ -70,60 +64,18 @@ fn surveyed<R: Threads + Sync, G: Gate + Sync>(
     parts: u32,
     code: &Code,
     gate: &G,
-) -> Result<Survey, Memory>
+) -> Result<RunTexts, Memory>
     requires places { HasPlaces code.now }
     requires parts { parts ≤ 5000 }
-    ensures { IfOk result (λ of. IsSurvey of parts code.now) }
+    ensures { IfOk result (λ of. AreTextsOf of (Way.Generated parts) code.now) }
 {
     let outcome = survey(rt, alloc, code, generated_options(), gate)?;
     let text = summary(alloc, parts, outcome.totals)?;
-    Ok(Survey {
+    Ok(RunTexts {
         status: outcome.status,
-        summary: text,
-        line: outcome.line,
+        out: text,
+        err: outcome.line,
     })
-}
-
-// Writes a text to each sink. It answers whether both are whole.
-fn write_both<O: Sink, E: Sink>(out: &mut O, err: &mut E, text: &[u8], line: &[u8]) -> bool
-    ensures { WroteBoth result text.now line.now
-        (sinks (O.written out.old) (O.faults out.old) (E.written err.old) (E.faults err.old))
-        (sinks (O.written out.new) (O.faults out.new) (E.written err.new) (E.faults err.new)) }
-{
-    match write_all(out, text) {
-        Ok(()) => match write_all(err, line) {
-            Ok(()) => true,
-            Err(_) => false,
-        },
-        Err(_) => false,
-    }
-}
-
-// Runs the code, and writes what its run came to.
-fn run_code<R: Threads + Sync, O: Sink, E: Sink, G: Gate + Sync>(
-    rt: &R,
-    alloc: Global,
-    parts: u32,
-    code: &Code,
-    out: &mut O,
-    err: &mut E,
-    gate: &G,
-) -> Status
-    requires places { HasPlaces code.now }
-    requires parts { parts ≤ 5000 }
-    ensures { HasSurveyed result parts code.now
-        (sinks (O.written out.old) (O.faults out.old) (E.written err.old) (E.faults err.old))
-        (sinks (O.written out.new) (O.faults out.new) (E.written err.new) (E.faults err.new)) }
-{
-    let of = match surveyed(rt, alloc, parts, code, gate) {
-        Ok(of) => of,
-        Err(_) => return end(err, NO_MEMORY, Status::Memory),
-    };
-    if write_both(out, err, of.summary.as_slice(), of.line.as_slice()) {
-        of.status
-    } else {
-        Status::WriteFault
-    }
 }
 
 /// Makes the file of so many parts, reads it and runs it, and writes what its run came to. Every such file
@@ -147,7 +99,7 @@ pub(crate) fn run_generated<R: Threads + Sync, O: Sink, E: Sink, G: Gate + Sync>
         Err(_) => return end(err, NO_MEMORY, Status::Memory),
     };
     match read(alloc, bytes.as_slice()) {
-        Ok(code) => run_code(rt, alloc, parts, &code, out, err, gate),
+        Ok(code) => write_texts(out, err, surveyed(rt, alloc, parts, &code, gate)),
         Err(Refusal::Memory) => end(err, NO_MEMORY, Status::Memory),
         Err(Refusal::Lexical { .. }) => unreachable!(),
         Err(Refusal::Syntax { .. }) => unreachable!(),

@@ -6,6 +6,9 @@
 
 mod ends;
 mod generated;
+mod loading;
+mod texts;
+mod threads;
 mod top;
 
 pub use ends::end;

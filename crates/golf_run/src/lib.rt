@@ -7,5 +7,5 @@ mod surveying;
 mod turns;
 
 pub use fault::RunFault;
-pub use running::run;
+pub use running::{last_line, run, status_by};
 pub use surveying::{Outcome, survey};

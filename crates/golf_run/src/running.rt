@@ -16,8 +16,8 @@ use golf_texts::{Status, ending_line, stopped_line};
 use std::alloc::Global;
 use std::thread::Threads;
 
-// The last line of a run of so many turns.
-pub(crate) fn last_line(
+/// The last line of a run of so many turns. It is empty if the program returned.
+pub fn last_line(
     alloc: Global,
     texts: &[List<u8>],
     turns: u32,
@@ -31,7 +31,8 @@ pub(crate) fn last_line(
     }
 }
 
-pub(crate) fn status_by(reported: bool, ending: Option<Ending>) -> Status
+/// How a run ends: whether goroutines were reported tells one that returned clean from one that found some.
+pub fn status_by(reported: bool, ending: Option<Ending>) -> Status
     ensures { result ≡ status_when reported ending }
 {
     match ending {

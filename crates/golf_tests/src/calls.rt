@@ -5,6 +5,7 @@ use golf_command::golf;
 use golf_texts::Status;
 use std::alloc::Global;
 use std::process::Abort;
+use std::sync::Wait;
 use std::test::Fail;
 use std::thread::Threads;
 
@@ -56,7 +57,7 @@ fn owned(alloc: Global, words: &[&str]) -> Result<Vec<String>, Fail> {
 }
 
 /// The program by these words over a file in memory, with these ends, whose markers pass the gate.
-pub fn call<R: AllocGlobal + Threads + Sync, G: Gate + Sync>(
+pub fn call<R: AllocGlobal + Threads + Wait + Sync, G: Gate + Sync>(
     rt: &R,
     words: &[&str],
     file: &[u8],
@@ -76,7 +77,7 @@ pub fn call<R: AllocGlobal + Threads + Sync, G: Gate + Sync>(
 }
 
 /// The program by these words over this file, with ends that take four bytes a call and do not fail.
-pub fn run_with<R: AllocGlobal + Threads + Sync, G: Gate + Sync>(
+pub fn run_with<R: AllocGlobal + Threads + Wait + Sync, G: Gate + Sync>(
     rt: &R,
     words: &[&str],
     file: &[u8],
@@ -86,12 +87,12 @@ pub fn run_with<R: AllocGlobal + Threads + Sync, G: Gate + Sync>(
 }
 
 /// A run of this file.
-pub fn run<R: AllocGlobal + Threads + Sync>(rt: &R, file: &[u8]) -> Result<Outcome, Fail> {
+pub fn run<R: AllocGlobal + Threads + Wait + Sync>(rt: &R, file: &[u8]) -> Result<Outcome, Fail> {
     run_with(rt, &["run"], file, &OpenGate)
 }
 
 /// The program by these words over this file, with these ends, ends so and writes these texts.
-pub fn expect_ends<R: AllocGlobal + Abort + Threads + Sync>(
+pub fn expect_ends<R: AllocGlobal + Abort + Threads + Wait + Sync>(
     rt: &R,
     words: &[&str],
     file: &[u8],
@@ -108,7 +109,7 @@ pub fn expect_ends<R: AllocGlobal + Abort + Threads + Sync>(
 }
 
 /// The program by these words over this file ends so, and writes these texts.
-pub fn expect_with<R: AllocGlobal + Abort + Threads + Sync>(
+pub fn expect_with<R: AllocGlobal + Abort + Threads + Wait + Sync>(
     rt: &R,
     words: &[&str],
     file: &[u8],
@@ -120,7 +121,7 @@ pub fn expect_with<R: AllocGlobal + Abort + Threads + Sync>(
 }
 
 /// A run of this file ends so, and writes this output and these errors.
-pub fn expect<R: AllocGlobal + Abort + Threads + Sync>(
+pub fn expect<R: AllocGlobal + Abort + Threads + Wait + Sync>(
     rt: &R,
     file: &[u8],
     status: Status,
@@ -132,7 +133,7 @@ pub fn expect<R: AllocGlobal + Abort + Threads + Sync>(
 
 /// A run of this file ends so and writes this output, with recovery and without; the first errors
 /// are those without, the others those with it.
-pub fn expect_both<R: AllocGlobal + Abort + Threads + Sync>(
+pub fn expect_both<R: AllocGlobal + Abort + Threads + Wait + Sync>(
     rt: &R,
     file: &[u8],
     status: Status,
@@ -145,7 +146,7 @@ pub fn expect_both<R: AllocGlobal + Abort + Threads + Sync>(
 }
 
 /// A run of this file is refused with this line.
-pub fn refuses<R: AllocGlobal + Abort + Threads + Sync>(
+pub fn refuses<R: AllocGlobal + Abort + Threads + Wait + Sync>(
     rt: &R,
     file: &[u8],
     line: &[u8],

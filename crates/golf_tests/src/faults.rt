@@ -5,6 +5,7 @@ use crate::runs::{EMPTY_MAIN, LEAK};
 use crate::worked::{POOL, POOL_ERRORS, POOL_OUT, POOL_RECOVERED};
 use golf_texts::{READ_FAULT, Status, USAGE};
 use std::process::Abort;
+use std::sync::Wait;
 use std::test::Fail;
 use std::thread::Threads;
 
@@ -15,7 +16,7 @@ fn prefix(text: &[u8], length: usize) -> &[u8] {
 }
 
 // The pool has 753 bytes, which come in 12 pieces and an end.
-fn fails_to_read<R: AllocGlobal + Abort + Threads + Sync>(
+fn fails_to_read<R: AllocGlobal + Abort + Threads + Wait + Sync>(
     rt: &R,
     words: &[&str],
 ) -> Result<(), Fail> {
@@ -44,7 +45,7 @@ fn with_recovery_each_call_of_the_source_that_fails_is_a_read_fault(
 }
 
 // The pool prints after its collection: 7 bytes, which go in 3 pieces.
-fn fails_to_print<R: AllocGlobal + Abort + Threads + Sync>(
+fn fails_to_print<R: AllocGlobal + Abort + Threads + Wait + Sync>(
     rt: &R,
     words: &[&str],
     errors: &[u8],
@@ -63,7 +64,7 @@ fn fails_to_print<R: AllocGlobal + Abort + Threads + Sync>(
 }
 
 // Its errors have 121 bytes, which go in 41 pieces.
-fn fails_to_report<R: AllocGlobal + Abort + Threads + Sync>(
+fn fails_to_report<R: AllocGlobal + Abort + Threads + Wait + Sync>(
     rt: &R,
     words: &[&str],
     errors: &[u8],
@@ -125,7 +126,7 @@ fn nothing_is_written_after_a_write_that_failed(rt: HostRuntime) -> Result<(), F
 
 #[test]
 fn words_that_are_no_line_are_refused_and_nothing_is_read(rt: HostRuntime) -> Result<(), Fail> {
-    let lines: [&[&str]; 9] = [
+    let lines: [&[&str]; 14] = [
         &[],
         &["Run"],
         &["run", "run"],
@@ -135,6 +136,11 @@ fn words_that_are_no_line_are_refused_and_nothing_is_read(rt: HostRuntime) -> Re
         &["run", "--turns", "--"],
         &["run", "--turns=000000000000000000003"],
         &["generate", "0"],
+        &["run", "--threads"],
+        &["run", "--threads", "0"],
+        &["run", "--threads=17"],
+        &["run", "--threads=2", "--threads=2"],
+        &["run", "--threads=2", "--recover"],
     ];
     for words in lines {
         let ends = Ends {

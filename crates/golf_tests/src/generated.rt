@@ -4,11 +4,12 @@ use crate::calls::{Outcome, expect_with, run_with};
 use golf_generate::generate;
 use golf_texts::Status;
 use golf_trials::CountingGate;
+use std::sync::Wait;
 use std::test::Fail;
 use std::thread::Threads;
 
 // How often the gate is passed where the program gets these words over this file, and finds something.
-fn passes<R: AllocGlobal + Threads + Sync>(
+fn passes<R: AllocGlobal + Threads + Wait + Sync>(
     rt: &R,
     words: &[&str],
     file: &[u8],

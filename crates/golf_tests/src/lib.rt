@@ -26,4 +26,6 @@ mod runs;
 #[cfg(test)]
 mod slots;
 #[cfg(test)]
+mod threads;
+#[cfg(test)]
 mod worked;

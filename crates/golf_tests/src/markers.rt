@@ -6,6 +6,7 @@ use crate::worked::{CYCLE, CYCLE_ERRORS};
 use golf_base::Gate;
 use golf_texts::Status;
 use golf_trials::{MeetingGate, StealingGate};
+use std::sync::Wait;
 use std::test::Fail;
 use std::thread::Threads;
 
@@ -14,7 +15,7 @@ const GLOBALS_IN_A_SLICE: &[u8] =
     b"package main\nimport \"runtime\"\nvar s = []chan int{make(chan int), make(chan int), make(chan int), make(chan int)}\nfunc main() {\n\truntime.GC()\n}\n";
 
 // Whether a run of this file is clean and writes these errors.
-fn is_clean<R: AllocGlobal + Threads + Sync, G: Gate + Sync>(
+fn is_clean<R: AllocGlobal + Threads + Wait + Sync, G: Gate + Sync>(
     rt: &R,
     file: &[u8],
     errors: &[u8],

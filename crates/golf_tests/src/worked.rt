@@ -16,6 +16,10 @@ pub const POOL_RECOVERED: &[u8] =
 
 pub const POOL_OUT: &[u8] = b"sum 55\n";
 
+/// A `select` with two cases that are both ready.
+pub const CHOICE: &[u8] =
+    b"package main\nimport \"fmt\"\nfunc main() {\n\tc := make(chan int, 1)\n\tc <- 1\n\tselect {\n\tcase v := <-c:\n\t\tfmt.Println(\"first\", v)\n\tcase v := <-c:\n\t\tfmt.Println(\"second\", v)\n\t}\n}\n";
+
 /// Two goroutines wait for each other, and two collections.
 pub const CYCLE: &[u8] =
     b"package main\nimport \"runtime\"\nfunc wait(x, y chan int) {\n\t<-x\n\ty <- 1\n}\nfunc start() {\n\tx := make(chan int)\n\ty := make(chan int)\n\tgo wait(x, y)\n\tgo wait(y, x)\n}\nfunc main() {\n\tstart()\n\tfor i := 0; i < 50; i++ {\n\t}\n\truntime.GC()\n\truntime.GC()\n}\n";
@@ -44,11 +48,9 @@ fn channel_whose_variable_is_read_no_more(rt: HostRuntime) -> Result<(), Fail> {
 
 #[test]
 fn choice_of_a_select_case(rt: HostRuntime) -> Result<(), Fail> {
-    let file =
-        b"package main\nimport \"fmt\"\nfunc main() {\n\tc := make(chan int, 1)\n\tc <- 1\n\tselect {\n\tcase v := <-c:\n\t\tfmt.Println(\"first\", v)\n\tcase v := <-c:\n\t\tfmt.Println(\"second\", v)\n\t}\n}\n";
     let out = b"second 1\n";
     let err = b"";
-    expect(&rt, file, Status::Clean, out, err)
+    expect(&rt, CHOICE, Status::Clean, out, err)
 }
 
 #[test]

@@ -1,4 +1,4 @@
--- The writes of a small run, worked out by hand.
+-- Texts and the writes of a small run, worked out by hand.
 use Rattle.std.proofs.Common.{◌≡◌, refl, ℕ, true, List, [], ◌∷◌, ◌++◌, replicate, None}
 use Rattle.std.specs.Prelude.{codes}
 use Rattle.std.specs.Fmt.{digits}
@@ -10,6 +10,7 @@ use Rattle.golf_model.proofs.Examples.Writing.{function, push, new_channel, code
 use Rattle.golf_schedules.specs.declared.options.Options.{Options}
 use Rattle.golf_schedules.specs.declared.schedule.Schedule.{Schedule}
 use Rattle.golf_texts.specs.Meaning.{events_of, last_of, end_of}
+use Rattle.golf_texts.specs.Texts.{history_line}
 use Rattle.golf_texts.specs.Writes.{Write, event_writes_of, writes_of}
 
 -- it prints, leaves a goroutine behind, collects and prints again
@@ -34,3 +35,11 @@ pub leak_writes : writes_of leak choices
     ++ (Write.ToErr [] ∷ []))))
 unfolding event_writes_of writes_of events_of last_of end_of reach live_list digits
 leak_writes = refl
+
+pub three_turns : history_line (0 ∷ 10 ∷ 2 ∷ []) ≡ codes "history: 0,10,2\n"
+unfolding history_line digits
+three_turns = refl
+
+pub no_turn : history_line [] ≡ codes "history: \n"
+unfolding history_line
+no_turn = refl

@@ -1,17 +1,21 @@
--- One line more.
-use Rattle.std.proofs.Common.{◌≡◌, ℕ, suc, ◌+◌, ◌<◌, List, [], ◌∷◌, ◌++◌, length, take, get_or, refl, ap, ◌∙◌, append_assoc, append-nil, sym, arith}
+-- One text more of those that stand one after another.
+use Rattle.std.proofs.Common.{◌≡◌, ℕ, suc, ◌+◌, ◌<◌, List, [], ◌∷◌, ◌++◌, length, take, get_or, ap, ◌∙◌, append_assoc, append-nil, sym, arith}
 use Rattle.std.proofs.Math.Seq.{take-suc}
-use Rattle.golf_data.specs.declared.report.Entry.{Entry}
-use Rattle.golf_texts.specs.Texts.{entry_line, entry_lines}
 
-lines-append : (es fs : List Entry) → entry_lines (es ++ fs) ≡ entry_lines es ++ entry_lines fs
-lines-append [] fs = refl
-lines-append (e ∷ es) fs = ap (λ x. entry_line e ++ x) (lines-append es fs) ∙ sym (append_assoc (entry_line e) (entry_lines es) (entry_lines fs))
+-- the text of one, and of all
+module _ {A : Type 0} (one : A → List ℕ) (all : List A → List ℕ) (none : all [] ≡ []) (more : (x : A) (xs : List A) → all (x ∷ xs) ≡ one x ++ all xs) where
+  all-append : (xs ys : List A) → all (xs ++ ys) ≡ all xs ++ all ys
+  all-append [] ys = ap (λ t. t ++ all ys) (sym none)
+  all-append (x ∷ xs) ys =
+      more x (xs ++ ys) ∙ ap (λ t. one x ++ t) (all-append xs ys) ∙ sym (append_assoc (one x) (all xs) (all ys)) ∙ ap (λ t. t ++ all ys) (sym (more x xs))
 
-pub one-line : (es : List Entry) (i : ℕ) (d : Entry) (old text later line : List ℕ) → i < length es → text ≡ old ++ entry_lines (take i es) → line ≡ entry_line (get_or es i d) → later ≡ text ++ line
-    → later ≡ old ++ entry_lines (take (i + 1) es)
-one-line es i d old text later line within so is grown =
-    let next : i + 1 ≡ suc i = omega arith in
-    grown ∙ ap (λ x. x ++ line) so ∙ append_assoc old (entry_lines (take i es)) line
-    ∙ ap (λ x. old ++ (entry_lines (take i es) ++ x)) (is ∙ sym (append-nil (entry_line (get_or es i d))))
-    ∙ ap (λ x. old ++ x) (sym (lines-append (take i es) (get_or es i d ∷ [])) ∙ ap entry_lines (sym (ap (λ n. take n es) next ∙ take-suc es i d within)))
+  all-one : (x : A) → all (x ∷ []) ≡ one x
+  all-one x = more x [] ∙ ap (λ t. one x ++ t) none ∙ append-nil (one x)
+
+  pub one-more : (xs : List A) (i : ℕ) (d : A) (old text later new : List ℕ) → i < length xs → text ≡ old ++ all (take i xs) → new ≡ one (get_or xs i d) → later ≡ text ++ new
+      → later ≡ old ++ all (take (i + 1) xs)
+  one-more xs i d old text later new within so is grown =
+      let next : i + 1 ≡ suc i = omega arith in
+      grown ∙ ap (λ t. t ++ new) so ∙ append_assoc old (all (take i xs)) new
+      ∙ ap (λ t. old ++ (all (take i xs) ++ t)) (is ∙ sym (all-one (get_or xs i d)))
+      ∙ ap (λ t. old ++ t) (sym (all-append (take i xs) (get_or xs i d ∷ [])) ∙ ap all (sym (ap (λ n. take n xs) next ∙ take-suc xs i d within)))

@@ -97,6 +97,20 @@ abbrev pub last_line : List (List ℕ) → ℕ → Option Ending → List ℕ
 last_line texts turns (Some e) = ending_line texts e
 last_line texts turns None = stopped_line turns
 
+-- numbers, each after a comma
+abbrev pub more_numbers : List ℕ → List ℕ
+more_numbers [] = []
+more_numbers (n ∷ ns) = codes "," ++ (decimal n ++ more_numbers ns)
+
+-- numbers, with a comma between two of them
+abbrev pub numbers_text : List ℕ → List ℕ
+numbers_text [] = []
+numbers_text (n ∷ ns) = decimal n ++ more_numbers ns
+
+-- the line of the numbers of all turns of a run
+unfoldable pub history_line : List ℕ → List ℕ
+history_line ns = codes "history: " ++ (numbers_text ns ++ codes "\n")
+
 -- the line of a file whose bytes are no tokens from this byte on, which stands on this line
 abbrev pub lexical_line : ℕ → ℕ → List ℕ
 lexical_line line byte = codes "refused: line " ++ (decimal line ++ (codes ": byte " ++ (decimal byte ++ codes "\n")))

@@ -47,6 +47,20 @@ twenty_one_digits_are : line_of twenty_one_digits ≡ None
 unfolding uses_after
 twenty_one_digits_are = refl
 
+abbrev two_threads : List Text
+two_threads = codes "run" ∷ codes "--threads=002" ∷ codes "--" ∷ []
+
+two_threads_are : line_of two_threads ≡ Some (Line.Threads 2)
+unfolding uses_after
+two_threads_are = refl
+
+abbrev threads_and_markers : List Text
+threads_and_markers = codes "run" ∷ codes "--markers=2" ∷ codes "--threads" ∷ codes "2" ∷ []
+
+threads_and_markers_are : line_of threads_and_markers ≡ None
+unfolding uses_after
+threads_and_markers_are = refl
+
 abbrev generate_five : List Text
 generate_five = codes "generate" ∷ codes "--" ∷ codes "5" ∷ []
 

@@ -2,7 +2,7 @@ mod Cuts
 mod Examples
 mod Generates
 mod Law
-mod Limits
+pub mod Limits
 mod Numbers
 mod Outcomes
 mod Program

@@ -4,7 +4,7 @@ use Rattle.std.proofs.lemmas.Bool.{and_parts}
 use Rattle.std.proofs.lemmas.Bool.Decides.{nat_tests}
 use Rattle.golf_schedules.specs.declared.schedule.Schedule.{Schedule}
 use Rattle.golf_words.specs.Values.{Text, if_within, number_of, number_within}
-use Rattle.golf_words.specs.Words.{Use, schedule_in, setting, value_in, is_used, every_in, markers_in, turns_in, run_of, uses_after, number_word, generate_of, line_of, IsWithin}
+use Rattle.golf_words.specs.Words.{Use, schedule_in, setting, value_in, is_used, every_in, markers_in, turns_in, has_others, run_by_options, run_by_threads, run_of, threads_by, uses_after, number_word, generate_of, line_of, IsWithin}
 use Rattle.golf_words.specs.declared.line.Line.{Line}
 
 true-le : (a b : ℕ) → nat_le a b ≡ true → a ≤ b
@@ -35,11 +35,26 @@ run-by recover (Some s) (Some n) None markers t m = tt
 run-by recover (Some s) (Some n) (Some e) None t m = tt
 run-by recover (Some s) (Some n) (Some e) (Some k) t m = record { turns = t.1; some = m.0; few = m.1 }
 
-run-within : (o : Option (List Use)) → IfSome (option_and_then run_of o) IsWithin
-run-within None = tt
-run-within (Some us) = run-by (is_used us (codes "recover")) (schedule_in us) (turns_in us) (every_in us) (markers_in us)
+options-within : (us : List Use) → IfSome (run_by_options us) IsWithin
+options-within us = run-by (is_used us (codes "recover")) (schedule_in us) (turns_in us) (every_in us) (markers_in us)
     (set-within 1 10000000 1000000 (omega arith) (omega arith) (value_in us (codes "turns")))
     (set-within 1 16 1 (omega arith) (omega arith) (value_in us (codes "markers")))
+
+threads-within : (others : Bool) (text : Text) → IfSome (threads_by others text) IsWithin
+threads-within true text = tt
+threads-within false text = go (number_within 1 16 text) (within 1 16 (number_of text))
+  where
+    go : (o : Option ℕ) → Between 1 16 o → IfSome (option_map (λ n. Line.Threads n) o) IsWithin
+    go None h = tt
+    go (Some n) h = h
+
+run-by-threads : (threads : Option Text) (us : List Use) → IfSome (run_by_threads threads us) IsWithin
+run-by-threads None us = options-within us
+run-by-threads (Some text) us = threads-within (has_others us) text
+
+run-within : (o : Option (List Use)) → IfSome (option_and_then run_of o) IsWithin
+run-within None = tt
+run-within (Some us) = run-by-threads (value_in us (codes "threads")) us
 
 number-within : (o : Option ℕ) → Between 1 5000 o → IfSome (option_map (λ number. Line.Generate number) o) IsWithin
 number-within None h = tt

@@ -96,6 +96,9 @@ valued_every = record { rule = _; found = refl; kept = refl; id = refl; takes = 
 valued_markers : IsValued (codes "markers")
 valued_markers = record { rule = _; found = refl; kept = refl; id = refl; takes = refl; most = refl; fault = λ v rows. or_else-nil (repeat_fault false (codes "markers") rows); gives = λ v rows. refl; none = λ rows. refl; told = refl }
 
+valued_threads : IsValued (codes "threads")
+valued_threads = record { rule = _; found = refl; kept = refl; id = refl; takes = refl; most = refl; fault = λ v rows. or_else-nil (repeat_fault false (codes "threads") rows); gives = λ v rows. refl; none = λ rows. refl; told = refl }
+
 pub valued : (name : Text) → takes_value name ≡ true → IsValued name
 valued name e = elim (or_cases (bytes_eq (codes "schedule") name) _ e) [
   | inl is ↦ subst IsValued (same_text (codes "schedule") name is) valued_schedule
@@ -103,7 +106,10 @@ valued name e = elim (or_cases (bytes_eq (codes "schedule") name) _ e) [
     | inl is ↦ subst IsValued (same_text (codes "turns") name is) valued_turns
     | inr rest ↦ elim (or_cases (bytes_eq (codes "every") name) _ rest) [
       | inl is ↦ subst IsValued (same_text (codes "every") name is) valued_every
-      | inr last ↦ subst IsValued (same_text (codes "markers") name last) valued_markers
+      | inr later ↦ elim (or_cases (bytes_eq (codes "markers") name) _ later) [
+        | inl is ↦ subst IsValued (same_text (codes "markers") name is) valued_markers
+        | inr last ↦ subst IsValued (same_text (codes "threads") name last) valued_threads
+      ]
     ]
   ]
 ]
@@ -113,7 +119,8 @@ unknown name e other =
     let first = or_parts (bytes_eq (codes "schedule") name) _ e in
     let second = or_parts (bytes_eq (codes "turns") name) _ first.1 in
     let third = or_parts (bytes_eq (codes "every") name) _ second.1 in
-    rw (first.0, second.0, third.0, third.1, other) refl
+    let fourth = or_parts (bytes_eq (codes "markers") name) _ third.1 in
+    rw (first.0, second.0, third.0, fourth.0, fourth.1, other) refl
 
 -- ---- words
 

@@ -9,8 +9,8 @@ use Rattle.clap.specs.declared.parser.matches.ValueSource.TheVariants.{DefaultVa
 use Rattle.clap.specs.declared.builder.value_parser.Reading.TheVariants.{AsWritten}
 use Rattle.golf_schedules.specs.declared.schedule.Schedule.{Schedule}
 use Rattle.golf_words.specs.Values.{Text, number_within, schedule_of}
-use Rattle.golf_words.specs.Words.{Use, every_in, is_used, markers_in, run_of, schedule_in, setting, takes_value, turns_in, value_in}
-use Rattle.golf_words.specs.Splitting.{every_or_none, is_true, run_by}
+use Rattle.golf_words.specs.Words.{Use, every_in, has_others, is_used, markers_in, run_by_options, run_by_threads, run_of, schedule_in, setting, takes_value, threads_by, turns_in, value_in}
+use Rattle.golf_words.specs.Splitting.{every_or_none, is_true, options_by, others_in, run_by, with_threads}
 use Rattle.golf_words.specs.declared.line.Line.{Line}
 use Rattle.golf_words.proofs.Runs.{at_no_row, has_row-used, row, rules, same_text, value_of}
 
@@ -35,6 +35,7 @@ defaults_are rows =
     ∙ ap (λ (r : List Row). fold with_default r (drop 2 rules)) (kept (has_row (codes "turns") rows) rows)
     ∙ ap (λ (r : List Row). fold with_default r (drop 3 rules)) (kept (has_row (codes "every") rows) rows)
     ∙ ap (λ (r : List Row). fold with_default r (drop 4 rules)) (kept (has_row (codes "markers") rows) rows)
+    ∙ ap (λ (r : List Row). fold with_default r (drop 5 rules)) (kept (has_row (codes "threads") rows) rows)
 
 -- ---- what was found for an option
 
@@ -131,16 +132,43 @@ in_any_order (Some s) None e m recover = refl
 in_any_order (Some s) (Some t) None m recover = refl
 in_any_order (Some s) (Some t) (Some e) None recover = refl
 
+-- what the rows of uses have
+module _ (us : List Use) (told : AllByRecursion IsTold us) where
+  abbrev rows_of_uses : List Row
+  rows_of_uses = with_recover (map row us)
+
+  value : (name : Text) → takes_value name ≡ true → bytes_eq (codes "recover") name ≡ false → first_of name rows_of_uses ≡ value_in us name
+  value name takes other = other_first name (map row us) other ∙ found_value us name told takes
+
+  options_are : options_by rows_of_uses ≡ run_by_options us
+  options_are =
+      let rows = rows_of_uses in
+      ap (λ o. by_values o (first_of (codes "turns") rows) (first_of (codes "every") rows) (first_of (codes "markers") rows) (is_true (first_of (codes "recover") rows))) (value (codes "schedule") refl refl)
+      ∙ ap (λ o. by_values (value_in us (codes "schedule")) o (first_of (codes "every") rows) (first_of (codes "markers") rows) (is_true (first_of (codes "recover") rows))) (value (codes "turns") refl refl)
+      ∙ ap (λ o. by_values (value_in us (codes "schedule")) (value_in us (codes "turns")) o (first_of (codes "markers") rows) (is_true (first_of (codes "recover") rows))) (value (codes "every") refl refl)
+      ∙ ap (λ o. by_values (value_in us (codes "schedule")) (value_in us (codes "turns")) (value_in us (codes "every")) o (is_true (first_of (codes "recover") rows))) (value (codes "markers") refl refl)
+      ∙ ap (λ b. by_values (value_in us (codes "schedule")) (value_in us (codes "turns")) (value_in us (codes "every")) (value_in us (codes "markers")) b) (recover_first us told)
+      ∙ in_any_order (schedule_in us) (turns_in us) (every_in us) (markers_in us) (is_used us (codes "recover"))
+
+  abbrev any_other : Option Text → Option Text → Option Text → Option Text → Bool → Bool
+  any_other schedule turns every markers recover = is_some schedule || (is_some turns || (is_some every || (is_some markers || recover)))
+
+  others_are : others_in rows_of_uses ≡ has_others us
+  others_are =
+      let rows = rows_of_uses in
+      ap (λ o. any_other o (first_of (codes "turns") rows) (first_of (codes "every") rows) (first_of (codes "markers") rows) (is_true (first_of (codes "recover") rows))) (value (codes "schedule") refl refl)
+      ∙ ap (λ o. any_other (value_in us (codes "schedule")) o (first_of (codes "every") rows) (first_of (codes "markers") rows) (is_true (first_of (codes "recover") rows))) (value (codes "turns") refl refl)
+      ∙ ap (λ o. any_other (value_in us (codes "schedule")) (value_in us (codes "turns")) o (first_of (codes "markers") rows) (is_true (first_of (codes "recover") rows))) (value (codes "every") refl refl)
+      ∙ ap (λ o. any_other (value_in us (codes "schedule")) (value_in us (codes "turns")) (value_in us (codes "every")) o (is_true (first_of (codes "recover") rows))) (value (codes "markers") refl refl)
+      ∙ ap (λ b. any_other (value_in us (codes "schedule")) (value_in us (codes "turns")) (value_in us (codes "every")) (value_in us (codes "markers")) b) (recover_first us told)
+
+  threads_are : (threads : Option Text) → with_threads threads rows_of_uses ≡ run_by_threads threads us
+  threads_are None = options_are
+  threads_are (Some text) = ap (λ b. threads_by b text) others_are
+
 -- the rows of uses give the line of the uses
 pub run_is : (us : List Use) → AllByRecursion IsTold us → run_by (fold with_default (map row us) rules) ≡ run_of us
 run_is us told =
-    let rows = with_recover (map row us) in
-    let value : (name : Text) → takes_value name ≡ true → bytes_eq (codes "recover") name ≡ false → first_of name rows ≡ value_in us name
-    = λ name takes other. other_first name (map row us) other ∙ found_value us name told takes in
     ap run_by (defaults_are (map row us))
-    ∙ ap (λ o. by_values o (first_of (codes "turns") rows) (first_of (codes "every") rows) (first_of (codes "markers") rows) (is_true (first_of (codes "recover") rows))) (value (codes "schedule") refl refl)
-    ∙ ap (λ o. by_values (value_in us (codes "schedule")) o (first_of (codes "every") rows) (first_of (codes "markers") rows) (is_true (first_of (codes "recover") rows))) (value (codes "turns") refl refl)
-    ∙ ap (λ o. by_values (value_in us (codes "schedule")) (value_in us (codes "turns")) o (first_of (codes "markers") rows) (is_true (first_of (codes "recover") rows))) (value (codes "every") refl refl)
-    ∙ ap (λ o. by_values (value_in us (codes "schedule")) (value_in us (codes "turns")) (value_in us (codes "every")) o (is_true (first_of (codes "recover") rows))) (value (codes "markers") refl refl)
-    ∙ ap (λ b. by_values (value_in us (codes "schedule")) (value_in us (codes "turns")) (value_in us (codes "every")) (value_in us (codes "markers")) b) (recover_first us told)
-    ∙ in_any_order (schedule_in us) (turns_in us) (every_in us) (markers_in us) (is_used us (codes "recover"))
+    ∙ ap (λ o. with_threads o (with_recover (map row us))) (value us told (codes "threads") refl refl)
+    ∙ threads_are us told (value_in us (codes "threads"))

@@ -1,12 +1,12 @@
 -- What the words come to once they are split: the program's commands, as `clap` sees them.
-use Rattle.std.specs.Prelude.{ℕ, Bool, true, false, if◌then◌else◌, List, [], ◌∷◌, Option, Some, None, option_and_then, option_map, codes, bytes_eq}
+use Rattle.std.specs.Prelude.{ℕ, ◌||◌, Bool, true, false, if◌then◌else◌, List, [], ◌∷◌, Option, Some, None, is_some, option_and_then, option_map, codes, bytes_eq}
 use Rattle.clap.specs.Walk.{Row, Rule, first_of}
 use Rattle.clap.specs.Kinds.{Kinds}
 use Rattle.clap.specs.Simple.{App, new_app, new_rule, on_top, subcommand_of, with_rule, with_subcommand}
 use Rattle.clap.specs.Faults.{fault_of}
 use Rattle.clap.specs.declared.builder.ArgAction.TheVariants.{Set, SetTrue}
 use Rattle.golf_words.specs.Values.{Text, number_within, schedule_of}
-use Rattle.golf_words.specs.Words.{setting}
+use Rattle.golf_words.specs.Words.{setting, threads_by}
 use Rattle.golf_words.specs.declared.line.Line.{Line}
 use Rattle.golf_schedules.specs.declared.schedule.Schedule.{Schedule}
 
@@ -22,8 +22,8 @@ positional name = record (new_rule name) { action = Some Set }
 
 abbrev pub run_app : App
 run_app =
-    with_rule (with_rule (with_rule (with_rule (with_rule (new_app (codes "run"))
-    (valued (codes "schedule"))) (valued (codes "turns"))) (valued (codes "every"))) (valued (codes "markers"))) (flag (codes "recover"))
+    with_rule (with_rule (with_rule (with_rule (with_rule (with_rule (new_app (codes "run"))
+    (valued (codes "schedule"))) (valued (codes "turns"))) (valued (codes "every"))) (valued (codes "markers"))) (valued (codes "threads"))) (flag (codes "recover"))
 
 abbrev pub generate_app : App
 generate_app = with_rule (new_app (codes "generate")) (positional (codes "number"))
@@ -54,8 +54,8 @@ is_true (Some text) = bytes_eq text (codes "true")
 abbrev pub every_or_none : Option Text → Option (Option ℕ)
 every_or_none value = setting value None (λ text. option_map (λ n. Some n) (number_within 1 10000000 text))
 
-abbrev pub run_by : List Row → Option Line
-run_by rows =
+abbrev pub options_by : List Row → Option Line
+options_by rows =
     option_and_then (λ turns.
     option_and_then (λ every.
     option_and_then (λ markers.
@@ -64,6 +64,17 @@ run_by rows =
     (setting (first_of (codes "markers") rows) 1 (number_within 1 16)))
     (every_or_none (first_of (codes "every") rows)))
     (setting (first_of (codes "turns") rows) 1000000 (number_within 1 10000000))
+
+abbrev pub others_in : List Row → Bool
+others_in rows =
+    is_some (first_of (codes "schedule") rows) || (is_some (first_of (codes "turns") rows) || (is_some (first_of (codes "every") rows) || (is_some (first_of (codes "markers") rows) || is_true (first_of (codes "recover") rows))))
+
+abbrev pub with_threads : Option Text → List Row → Option Line
+with_threads None rows = options_by rows
+with_threads (Some text) rows = threads_by (others_in rows) text
+
+abbrev pub run_by : List Row → Option Line
+run_by rows = with_threads (first_of (codes "threads") rows) rows
 
 abbrev pub generate_by : List Row → Option Line
 generate_by rows =

@@ -1,5 +1,5 @@
 -- The words behind the program's name, and the line that they stand for (profile).
-use Rattle.std.specs.Prelude.{ℕ, ◌≤◌, ◌++◌, ◌&&◌, ◌||◌, ◌==◌, Bool, true, false, if◌then◌else◌, List, [], ◌∷◌, find, Option, Some, None, option_and_then, option_map, codes, bytes_eq}
+use Rattle.std.specs.Prelude.{ℕ, ◌≤◌, ◌++◌, ◌&&◌, ◌||◌, ◌==◌, Bool, true, false, if◌then◌else◌, List, [], ◌∷◌, find, Option, Some, None, is_some, option_and_then, option_map, codes, bytes_eq}
 use Rattle.std.specs.List.{list_any, before_first, after_first}
 use Rattle.golf_words.specs.Values.{Text, number_within, schedule_of}
 use Rattle.golf_schedules.specs.declared.schedule.Schedule.{Schedule}
@@ -13,7 +13,8 @@ abbrev pub Use : Type 0
 Use = Text × Option Text
 
 abbrev pub takes_value : Text → Bool
-takes_value name = bytes_eq (codes "schedule") name || (bytes_eq (codes "turns") name || (bytes_eq (codes "every") name || bytes_eq (codes "markers") name))
+takes_value name =
+    bytes_eq (codes "schedule") name || (bytes_eq (codes "turns") name || (bytes_eq (codes "every") name || (bytes_eq (codes "markers") name || bytes_eq (codes "threads") name)))
 
 abbrev pub is_used : List Use → Text → Bool
 is_used us name = list_any (λ u. bytes_eq u.0 name) us
@@ -87,13 +88,32 @@ every_in us = setting (value_in us (codes "every")) None (λ text. option_map So
 abbrev pub markers_in : List Use → Option ℕ
 markers_in us = setting (value_in us (codes "markers")) 1 (number_within 1 16)
 
-abbrev pub run_of : List Use → Option Line
-run_of us =
+abbrev pub run_by_options : List Use → Option Line
+run_by_options us =
     option_and_then (λ schedule.
     option_and_then (λ turns.
     option_and_then (λ every.
     option_map (λ markers. Line.Run (record { schedule = schedule; turns = turns; every = every; markers = markers; recover = is_used us (codes "recover") }))
     (markers_in us)) (every_in us)) (turns_in us)) (schedule_in us)
+
+-- ---- a run by threads
+
+-- an option other than `--threads` is used
+abbrev pub has_others : List Use → Bool
+has_others us =
+    is_some (value_in us (codes "schedule")) || (is_some (value_in us (codes "turns")) || (is_some (value_in us (codes "every")) || (is_some (value_in us (codes "markers")) || is_used us (codes "recover"))))
+
+-- so many threads, and no other option
+abbrev pub threads_by : Bool → Text → Option Line
+threads_by true text = None
+threads_by false text = option_map (λ n. Line.Threads n) (number_within 1 16 text)
+
+abbrev pub run_by_threads : Option Text → List Use → Option Line
+run_by_threads None us = run_by_options us
+run_by_threads (Some text) us = threads_by (has_others us) text
+
+abbrev pub run_of : List Use → Option Line
+run_of us = run_by_threads (value_in us (codes "threads")) us
 
 -- ---- lines
 
@@ -119,3 +139,4 @@ line_of (word ∷ rest) =
 abbrev pub IsWithin : Line → Type 0
 IsWithin (Line.Run options) = IsWithinLimits options
 IsWithin (Line.Generate n) = (1 ≤ n) × (n ≤ 5000)
+IsWithin (Line.Threads n) = (1 ≤ n) × (n ≤ 16)

@@ -9,4 +9,6 @@ pub enum Line {
     Run(Options),
     /// It makes a file of so many parts, from 1 to 5,000, and runs it.
     Generate(u32),
+    /// It runs the file on standard input by so many threads, from 1 to 16.
+    Threads(u32),
 }

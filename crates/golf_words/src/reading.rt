@@ -4,8 +4,8 @@ ghost use Rattle.std.specs.Prelude.{◌≡◌, IfOk, IfSome, map, option_map, st
 ghost use Rattle.clap.specs.Words.{found_of, rows_of};
 ghost use Rattle.clap.specs.Walk.{first_of};
 ghost use Rattle.golf_words.specs.Values.{number_within as number_between, schedule_of};
-ghost use Rattle.golf_words.specs.Words.{line_of, setting, IsWithin};
-ghost use Rattle.golf_words.specs.Splitting.{every_or_none, generate_by, is_true as is_text_true, line_by, run_by, split_of};
+ghost use Rattle.golf_words.specs.Words.{line_of, setting, threads_by, IsWithin};
+ghost use Rattle.golf_words.specs.Splitting.{every_or_none, generate_by, is_true as is_text_true, line_by, options_by, others_in, run_by, split_of};
 
 use crate::line::Line;
 use crate::splitting::split;
@@ -67,8 +67,8 @@ fn schedule_or_rotation(alloc: Global, value: Option<&str>) -> Result<Option<Sch
 }
 
 // A run line, by its options.
-fn run_line(alloc: Global, matches: &ArgMatches<'_>) -> Result<Option<Line>, Memory>
-    ensures { IfOk result (λ line. line ≡ run_by (rows_of (found_of matches.now))) }
+fn options_line(alloc: Global, matches: &ArgMatches<'_>) -> Result<Option<Line>, Memory>
+    ensures { IfOk result (λ line. line ≡ options_by (rows_of (found_of matches.now))) }
 {
     let Some(turns) = number_or(value(matches, "turns"), TURNS, 10_000_000) else {
         return Ok(None);
@@ -90,6 +90,38 @@ fn run_line(alloc: Global, matches: &ArgMatches<'_>) -> Result<Option<Line>, Mem
         markers,
         recover,
     })))
+}
+
+// Whether an option other than `--threads` was given.
+fn has_others(matches: &ArgMatches<'_>) -> bool
+    ensures { result ≡ others_in (rows_of (found_of matches.now)) }
+{
+    value(matches, "schedule").is_some()
+        || value(matches, "turns").is_some()
+        || value(matches, "every").is_some()
+        || value(matches, "markers").is_some()
+        || is_true(value(matches, "recover"))
+}
+
+// A run by so many threads, if no other option was given.
+fn threads_line(matches: &ArgMatches<'_>, text: &str) -> Option<Line>
+    ensures { result ≡ threads_by (others_in (rows_of (found_of matches.now))) text.now }
+{
+    if has_others(matches) {
+        return None;
+    }
+    let threads = number_within(1, 16, text)?;
+    Some(Line::Threads(threads))
+}
+
+// A run line: a run by threads, or one by its options.
+fn run_line(alloc: Global, matches: &ArgMatches<'_>) -> Result<Option<Line>, Memory>
+    ensures { IfOk result (λ line. line ≡ run_by (rows_of (found_of matches.now))) }
+{
+    match value(matches, "threads") {
+        Some(text) => Ok(threads_line(matches, text)),
+        None => options_line(alloc, matches),
+    }
 }
 
 fn generate_line(matches: &ArgMatches<'_>) -> Option<Line>

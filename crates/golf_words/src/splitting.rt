@@ -53,8 +53,9 @@ fn run_command<'a>(alloc: Global) -> Result<Command<'a>, AllocError>
     let two = with(one, option(alloc, "turns"))?;
     let three = with(two, option(alloc, "every"))?;
     let four = with(three, option(alloc, "markers"))?;
-    let five = with(four, flag(alloc, "recover"))?;
-    Ok(five)
+    let five = with(four, option(alloc, "threads"))?;
+    let six = with(five, flag(alloc, "recover"))?;
+    Ok(six)
 }
 
 // `generate`, with its number.

@@ -189,3 +189,34 @@ fn generate_has_one_number(rt: HostRuntime) -> Result<(), Fail> {
     );
     Ok(())
 }
+
+#[test]
+fn threads_are_so_many_with_the_number_in_the_next_word_or_after_an_equals_sign(
+    rt: HostRuntime,
+) -> Result<(), Fail> {
+    assert!(rt;
+        matches!(
+            line(&rt, &["run", "--threads", "1"])?,
+            Some(Line::Threads(1))
+        )
+    );
+    assert!(rt;
+        matches!(
+            line(&rt, &["run", "--threads=16"])?,
+            Some(Line::Threads(16))
+        )
+    );
+    assert!(rt;
+        matches!(
+            line(&rt, &["run", "--threads=002", "--"])?,
+            Some(Line::Threads(2))
+        )
+    );
+    assert!(rt;
+        matches!(
+            line(&rt, &["run", "--threads", "00000000000000000003", "--"])?,
+            Some(Line::Threads(3))
+        )
+    );
+    Ok(())
+}

@@ -161,3 +161,34 @@ fn a_generate_line_has_one_number_and_at_most_one_pair_of_hyphens(
     assert!(rt; is_refused(&rt, &["generate", "--help"])?);
     Ok(())
 }
+
+#[test]
+fn a_number_of_threads_is_1_to_16(rt: HostRuntime) -> Result<(), Fail> {
+    assert!(rt; is_refused(&rt, &["run", "--threads"])?);
+    assert!(rt; is_refused(&rt, &["run", "--threads="])?);
+    assert!(rt; is_refused(&rt, &["run", "--threads", "0"])?);
+    assert!(rt; is_refused(&rt, &["run", "--threads=17"])?);
+    assert!(rt; is_refused(&rt, &["run", "--threads", "000000000000000000002"])?);
+    assert!(rt; is_refused(&rt, &["run", "--threads", "two"])?);
+    assert!(rt; is_refused(&rt, &["run", "--threads", "--", "2"])?);
+    assert!(rt; is_refused(&rt, &["run", "--threads=2", "--", "--"])?);
+    assert!(rt; is_refused(&rt, &["run", "--threads=2", "2"])?);
+    Ok(())
+}
+
+#[test]
+fn threads_stand_once_and_with_no_other_option(rt: HostRuntime) -> Result<(), Fail> {
+    let others = [
+        "--threads=2",
+        "--schedule=rotate",
+        "--turns=1000000",
+        "--every=3",
+        "--markers=1",
+        "--recover",
+    ];
+    for other in others {
+        assert!(rt; is_refused(&rt, &["run", "--threads=2", other])?);
+        assert!(rt; is_refused(&rt, &["run", other, "--threads", "2", "--"])?);
+    }
+    Ok(())
+}

@@ -15,6 +15,7 @@ use Rattle.golf_model.specs.Reporting.{report, real_run, real_reports, new_book,
 use Rattle.golf_data.specs.Places.{HasPlaces}
 use Rattle.golf_model.specs.Futures.{Leads}
 use Rattle.golf_machine.proofs.Turns.{whose}
+use Rattle.golf_world.proofs.Spawning.{step-size, collect-size}
 use Rattle.golf_state_laws.proofs.Collecting.{collecting-goes}
 use Rattle.golf_world.specs.declared.history.HistoryEntry.{HistoryEntry}
 use Rattle.golf_world.specs.declared.history.Stepped.{Stepped}
@@ -104,6 +105,7 @@ module _ (code : Code) where
         leads = subst (Leads code) (sym e) Leads.Start;
         places = fit;
         none = ap (λ (x : Book). x.reclaimed) f;
+        narrow = omega (arith, ap (λ (x : State). length x.goroutines) e);
         counted = omega (arith, ap (λ (x : Book). x.collections) f);
         history = λ k x at. absurd cc;
         few = omega arith;
@@ -150,6 +152,7 @@ module _ (code : Code) where
           leads = subst (Leads code) (sym then) (Leads.Turn s n c.leads goes);
           places = c.places;
           none = ap (λ (x : Book). x.reclaimed) same ∙ c.none;
+          narrow = omega (arith, ap (λ (x : State). length x.goroutines) then, step-size code s n, c.narrow, length-append es (entry p n ∷ []));
           counted = omega (arith, ap (λ (x : Book). x.collections) same, c.counted, length-append es (entry p n ∷ []));
           history = history-more;
           few = omega (arith, few, length-append es (entry p n ∷ []));
@@ -167,6 +170,7 @@ module _ (code : Code) where
           leads = subst (Leads code) (sym then) (Leads.Collection u false (Leads.Turn s n c.leads goes) (collecting-goes code s n goes w));
           places = c.places;
           none = ap (λ (x : Book). x.reclaimed) noted ∙ append-nil b.reclaimed ∙ c.none;
+          narrow = omega (arith, ap (λ (x : State). length x.goroutines) then, collect-size u false (sets_finalisers code), step-size code s n, c.narrow, length-append es (entry p n ∷ []));
           counted = omega (arith, ap (λ (x : Book). x.collections) noted, c.counted, length-append es (entry p n ∷ []));
           history = history-more;
           few = omega (arith, few, length-append es (entry p n ∷ []));

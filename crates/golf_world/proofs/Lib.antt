@@ -4,4 +4,6 @@ pub mod Rules
 pub mod Advancing
 pub mod Executions
 pub mod PassSeats
-pub mod Rising
+pub mod SpawnWays
+pub mod Spawning
+pub mod Freeing

@@ -67,6 +67,7 @@ pub record IsExecution (code : Code) (passes : ℕ) (s : State) (b : Book) (es :
   pub counted : b.collections ≤ length es
   pub history : IsHistory code passes es
   pub few : length es ≤ 100000
+  pub narrow : length s.goroutines ≤ length es + 2
 
 -- the places and numbers of the entries of a pass, from a place on
 abbrev pub own_from : ℕ → ℕ → List HistoryEntry → List (ℕ × ℕ)

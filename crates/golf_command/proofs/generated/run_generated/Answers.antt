@@ -6,19 +6,24 @@ use Rattle.golf_texts.specs.declared.status.TheConstants.{LIMIT, NO_MEMORY}
 use Rattle.golf_command.proofs.Sinking.{says}
 use Rattle.golf_command.proofs.Filing.{wanting-tells}
 use Rattle.golf_command.proofs.NeverRefused.{short, not-lexical, not-syntax, not-untyped}
-use Rattle.golf_command.proofs.Surveying.{surveyed-tells, same-file}
+use Rattle.golf_command.proofs.Writing.{written-tells, made-of-parts, same-file}
 use Rattle.golf_command.proofs.generated.run_generated.Goals as goal
 
 pub returns-in-Err : goal.returns-in-Err
-returns-in-Err g c = wanting-tells (Line.Generate c.args.parts) (generated_file c.args.parts) _ _ c.end.result (says _ _ _ _ _ _ s.Memory c.end.result NO_MEMORY.now c.end.ensures)
+returns-in-Err g c =
+    wanting-tells (Line.Generate c.args.parts) (generated_file c.args.parts) (c.requires.some, c.requires.most) _ _ c.end.result (says _ _ _ _ _ _ s.Memory c.end.result NO_MEMORY.now c.end.ensures)
 
 pub returns-in-Ok-read : goal.returns-in-Ok-read
 returns-in-Ok-read g c =
+    let line = Line.Generate c.args.parts in
     let has = c.in-Ok-read.ensures.answer in
-    let same : c.as_slice.result.now ≡ generated_file c.args.parts = c.as_slice.ensures ∙ c.in-Ok.ensures in
-    let within : length c.as_slice.result.now ≤ LIMIT = subst (λ (bs : List ℕ). length bs ≤ LIMIT) (sym same) (short c.args.parts c.requires.some c.requires.most) in
-    same-file (Line.Generate c.args.parts) c.as_slice.result.now (generated_file c.args.parts) c.run_code.result _ _ same
-    (surveyed-tells c.args.parts c.as_slice.result.now has.file c.in-Ok-read.code (record { within = within; typed = has.typed }) has.is has.only _ _ c.run_code.result c.run_code.ensures)
+    let bytes = c.as_slice.result.now in
+    let code = c.in-Ok-read.code in
+    let made = c.surveyed.result in
+    let same : bytes ≡ generated_file c.args.parts = c.as_slice.ensures ∙ c.in-Ok.ensures in
+    let within : length bytes ≤ LIMIT = subst (λ (bs : List ℕ). length bs ≤ LIMIT) (sym same) (short c.args.parts c.requires.some c.requires.most) in
+    same-file line bytes (generated_file c.args.parts) c.write_texts.result _ _ same
+    (written-tells line bytes (c.requires.some, c.requires.most) has.file code (record { within = within; typed = has.typed }) has.is has.only made c.write_texts.result _ _ (made-of-parts c.args.parts code made c.surveyed.ensures) c.write_texts.ensures)
 
 pub read-requires : goal.read-requires
 read-requires g c =
@@ -28,7 +33,7 @@ read-requires g c =
 
 pub returns-in-Err-Memory : goal.returns-in-Err-Memory
 returns-in-Err-Memory g c =
-    wanting-tells (Line.Generate c.args.parts) (generated_file c.args.parts) _ _ c.end-in-Err-Memory.result (says _ _ _ _ _ _ s.Memory c.end-in-Err-Memory.result NO_MEMORY.now c.end-in-Err-Memory.ensures)
+    wanting-tells (Line.Generate c.args.parts) (generated_file c.args.parts) (c.requires.some, c.requires.most) _ _ c.end-in-Err-Memory.result (says _ _ _ _ _ _ s.Memory c.end-in-Err-Memory.result NO_MEMORY.now c.end-in-Err-Memory.ensures)
 
 pub unreachable-requires : goal.unreachable-requires
 unreachable-requires g c = not-lexical c.args.parts c.requires.some c.requires.most c.as_slice.result.now (c.as_slice.ensures ∙ c.in-Ok.ensures) c.in-Err-Lexical.field-0 c.in-Err-Lexical.ensures.answer _ _ c.in-Err-Lexical.field-0-is

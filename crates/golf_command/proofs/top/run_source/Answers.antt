@@ -1,25 +1,36 @@
-use Rattle.std.proofs.Common.{ap}
-use Rattle.std.specs.Prelude.{Err}
-use Rattle.golf_texts.specs.declared.status.Status.TheVariants as s
-use Rattle.golf_texts.specs.declared.status.TheConstants.{TOO_LONG, READ_FAULT, NO_MEMORY}
+use Rattle.std.proofs.Common.{refl}
 use Rattle.golf_words.specs.declared.line.Line.{Line}
-use Rattle.golf_command.proofs.Sinking.{says}
-use Rattle.golf_command.proofs.Calling.{file-tells, all-left, unread, too-long, wanting}
+use Rattle.golf_command.specs.Ways.{Way}
+use Rattle.golf_command.proofs.Filing.{ran-tells, failed-tells, stopped-tells}
+use Rattle.golf_command.proofs.Fetching.{loaded-tells}
 use Rattle.golf_command.proofs.top.run_source.Goals as goal
 
-pub returns-in-Ok : goal.returns-in-Ok
-returns-in-Ok g c = file-tells (Line.Run c.args.options) c.in-Ok.bytes _ _ _ _ c.judge.result _ _
-    (all-left _ _ c.in-Ok.bytes c.in-Ok.ensures.ok c.in-Ok.ensures.at_end) c.in-Ok.ensures.cause (λ o is ran. c.in-Ok.ensures.at_end) (rw c.as_slice.ensures at c.judge.ensures)
+pub returns-in-Err : goal.returns-in-Err
+returns-in-Err g c = c.in-Err.ensures.loads (Line.Run c.args.options) tt c.requires _ _
 
-pub returns-in-Err-ReadFault : goal.returns-in-Err-ReadFault
-returns-in-Err-ReadFault g c = unread c.args.options _ _ _ _ c.end.result _ _
-    (rw c.in-Err-ReadFault.field-0-is at c.in-Err-ReadFault.ensures.cause) c.read_file.ensures.later (says _ _ _ _ _ _ s.ReadFault c.end.result READ_FAULT.now c.end.ensures)
+pub returns-in-Ok-run : goal.returns-in-Ok-run
+returns-in-Ok-run g c =
+    let line = Line.Run c.args.options in
+    let loads = c.in-Ok.ensures.loads in
+    let l = loads.0 in
+    loaded-tells line tt c.in-Ok.code _ _ _ _ l _ _ _ _ _ _ _ c.in-Ok-run.status loads.1 loads.2
+    (ran-tells line l.bytes c.requires l.file c.in-Ok.code l.accepts l.is l.only (Way.ByOptions c.args.options) refl _ _ c.in-Ok-run.status c.in-Ok-run.ensures.0.status c.in-Ok-run.ensures.0.out c.in-Ok-run.ensures.0.err c.in-Ok-run.ensures.1)
 
-pub returns-in-Err-TooLong : goal.returns-in-Err-TooLong
-returns-in-Err-TooLong g c = too-long c.args.options _ _ _ _ c.end-in-Err-TooLong.result _ _
-    (c.in-Err-TooLong.ensures.too_long (ap (λ e. Err e) c.in-Err-TooLong.field-0-is)) (rw c.in-Err-TooLong.field-0-is at c.in-Err-TooLong.ensures.cause)
-    (says _ _ _ _ _ _ s.Refused c.end-in-Err-TooLong.result TOO_LONG.now c.end-in-Err-TooLong.ensures)
+pub returns-in-Err-Write : goal.returns-in-Err-Write
+returns-in-Err-Write g c =
+    let line = Line.Run c.args.options in
+    let loads = c.in-Ok.ensures.loads in
+    let l = loads.0 in
+    let was = rw c.in-Err-Write.field-0-is at c.in-Err-Write.ensures in
+    loaded-tells line tt c.in-Ok.code _ _ _ _ l _ _ _ _ _ _ _ _ loads.1 loads.2
+    (failed-tells line l.bytes c.requires l.file c.in-Ok.code l.accepts l.is l.only (Way.ByOptions c.args.options) refl _ _ was.done was.later was.cut was.order
+    (record { front = was.front; is_front = was.is_front; got = was.got; failed = was.failed }))
 
 pub returns : goal.returns
-returns g c = wanting (Line.Run c.args.options) _ _ _ _ c.end-in-Err-Memory.result _ _
-    (rw c.in-Err-Memory.field-0-is at c.in-Err-Memory.ensures.cause) (says _ _ _ _ _ _ s.Memory c.end-in-Err-Memory.result NO_MEMORY.now c.end-in-Err-Memory.ensures)
+returns g c =
+    let line = Line.Run c.args.options in
+    let loads = c.in-Ok.ensures.loads in
+    let l = loads.0 in
+    let was = rw c.in-Err-Memory.field-0-is at c.in-Err-Memory.ensures in
+    loaded-tells line tt c.in-Ok.code _ _ _ _ l _ _ _ _ _ _ _ c.end.result loads.1 loads.2
+    (stopped-tells line l.bytes c.requires l.file c.in-Ok.code l.accepts l.is l.only (Way.ByOptions c.args.options) refl _ _ _ _ _ _ _ _ _ _ was.done was.later was.order tt c.end.result was.got was.steady c.end.ensures)

@@ -1,0 +1,120 @@
+-- What it means that the texts of a run that is over were written, or could not be made.
+use Rattle.std.proofs.Common.{◌≡◌, ℕ, List, [], ◌∷◌, refl, sym, subst, ap, ◌∙◌, inl, inr, append-nil}
+use Rattle.std.specs.Prelude.{Option, Bool, true, false, Result, Ok, Err, IfOk}
+use Rattle.std.specs.Io.KnownBytes.{Appends}
+use Rattle.std.proofs.KnownBytes.{Appends-nil}
+use Rattle.golf_base.specs.Causes.{Rose, WritesFront}
+use Rattle.golf_base.specs.declared.Memory.{Memory}
+use Rattle.golf_data.specs.declared.code.Code.{Code}
+use Rattle.golf_grammar.specs.declared.declarations.File.{File}
+use Rattle.golf_code_of.specs.Files.{CodeOf}
+use Rattle.golf_reader.specs.Refusals.{HasTypedTree}
+use Rattle.golf_words.specs.declared.line.Line.{Line}
+use Rattle.golf_words.specs.Words.{IsWithin}
+use Rattle.golf_texts.specs.declared.status.Status.{Status}
+use Rattle.golf_texts.specs.declared.status.Status.TheVariants as s
+use Rattle.golf_texts.specs.declared.status.TheConstants.{NO_MEMORY}
+use Rattle.golf_texts.specs.Writes.{Write}
+use Rattle.golf_run.specs.HasRun.{Sinks, sinks, GotWrites, WasCut}
+use Rattle.golf_command.specs.declared.texts.RunTexts.{RunTexts}
+use Rattle.golf_command.specs.Generating.{generated_writes}
+use Rattle.golf_command.specs.Ways.{Way, IsWayOf, out_for, err_for, writes_for}
+use Rattle.golf_command.specs.Written.{AreTextsOf, AreTextsByThreads, text_writes, WroteBoth, HasWritten}
+use Rattle.golf_command.specs.Meaning.{Accepts}
+use Rattle.golf_command.specs.Means.{Says, FileTells}
+use Rattle.golf_command.proofs.Filing.{ran-tells, failed-tells, wanting-tells}
+
+-- ---- both texts
+
+module _ (out out' err err' : Option (List ℕ)) (of of' ef ef' : ℕ) (text line : List ℕ) where
+  pub both-written : Appends out out' text → of' ≡ of → Appends err err' line → ef' ≡ ef → WroteBoth true text line (sinks out of err ef) (sinks out' of' err' ef')
+  both-written a e b f = ((subst (Appends out out') (sym (append-nil text)) a, subst (Appends err err') (sym (append-nil line)) b), record { out = e; err = f })
+
+  -- the second one was cut
+  pub line-cut : Appends out out' text → of' ≡ of → WritesFront err err' line → Rose ef ef' → WroteBoth false text line (sinks out of err ef) (sinks out' of' err' ef')
+  line-cut a e f rose = record {
+    done = Write.ToOut text ∷ [];
+    cut = Write.ToErr line;
+    front = Write.ToErr f.0;
+    later = [];
+    order = refl;
+    is_front = (f.1, f.2);
+    got = (subst (Appends out out') (sym (append-nil text)) a, subst (Appends err err') (sym (append-nil f.0)) f.3);
+    failed = (e, rose);
+  }
+
+-- the first one was cut, and nothing was written after it
+pub text-cut : (out out' err : Option (List ℕ)) (of of' ef : ℕ) (text line : List ℕ) → WritesFront out out' text → Rose of of' → WroteBoth false text line (sinks out of err ef) (sinks out' of' err ef)
+text-cut out out' err of of' ef text line f rose = record {
+  done = [];
+  cut = Write.ToOut text;
+  front = Write.ToOut f.0;
+  later = Write.ToErr line ∷ [];
+  order = refl;
+  is_front = (f.1, f.2);
+  got = (subst (Appends out out') (sym (append-nil f.0)) f.3, Appends-nil err);
+  failed = (rose, refl);
+}
+
+-- ---- the texts of a run
+
+module _ (of : RunTexts) (old new : Sinks) (text line : List ℕ) (t : text ≡ of.out) (l : line ≡ of.err) where
+  same-writes : Write.ToOut text ∷ Write.ToErr line ∷ [] ≡ text_writes of
+  same-writes = ap (λ u. Write.ToOut u ∷ Write.ToErr line ∷ []) t ∙ ap (λ u. Write.ToOut of.out ∷ Write.ToErr u ∷ []) l
+
+  pub all-written : (both : Bool) → both ≡ true → WroteBoth both text line old new → HasWritten (Ok of) of.status old new
+  all-written true e w = inl (refl, subst (λ ws. GotWrites ws old new) same-writes w.0, w.1)
+  all-written false e w = absurd (cc)
+
+  pub one-cut : (both : Bool) → both ≡ false → WroteBoth both text line old new → HasWritten (Ok of) s.WriteFault old new
+  one-cut true e w = absurd (cc)
+  one-cut false e w = inr (refl, subst (λ ws. WasCut ws old new) same-writes w)
+
+-- a way in which all is written at the end
+abbrev pub WritesLast : Way → Code → Type 0
+WritesLast way code = writes_for way code ≡ Write.ToOut (out_for way code) ∷ Write.ToErr (err_for way code) ∷ []
+
+pub generated-last : (parts : ℕ) (code : Code) → WritesLast (Way.Generated parts) code
+unfolding generated_writes
+generated-last parts code = refl
+
+-- the file has this code, and its run goes in this way
+module _ (line : Line) (bytes : List ℕ) (within : IsWithin line) (file : File) (code : Code) (accepted : Accepts bytes file) (is : code ≡ CodeOf file) (all : (other : File) → HasTypedTree bytes other → code ≡ CodeOf other) where
+  module _ (way : Way) (is_way : IsWayOf line code way) (last : WritesLast way code) (of : RunTexts) (h : AreTextsOf of way code) (old new : Sinks) where
+    these : writes_for way code ≡ text_writes of
+    these = last ∙ ap (λ t. Write.ToOut t ∷ Write.ToErr (err_for way code) ∷ []) (sym h.out) ∙ ap (λ t. Write.ToOut of.out ∷ Write.ToErr t ∷ []) (sym h.err)
+
+    texts-tell : (r : Status) → HasWritten (Ok of) r old new → FileTells line bytes r old new
+    texts-tell r (inl w) = ran-tells line bytes within file code accepted is all way is_way old new r (w.0 ∙ h.status)
+        (subst (Appends old.out new.out) (append-nil of.out ∙ h.out) w.1.0)
+        (subst (Appends old.err new.err) (append-nil of.err ∙ h.err) w.1.1) w.2
+    texts-tell r (inr w) =
+        subst (λ t. FileTells line bytes t old new) (sym w.0)
+        (failed-tells line bytes within file code accepted is all way is_way old new w.1.done w.1.later w.1.cut (these ∙ w.1.order)
+        (record { front = w.1.front; is_front = w.1.is_front; got = w.1.got; failed = w.1.failed }))
+
+  -- texts of some way of the line, or none
+  abbrev MadeOf : RunTexts → Type 0
+  MadeOf of = (way : Way) × IsWayOf line code way × WritesLast way code × AreTextsOf of way code
+
+  pub written-tells : (made : Result RunTexts Memory) (r : Status) (old new : Sinks) → IfOk made MadeOf → HasWritten made r old new → FileTells line bytes r old new
+  written-tells (Ok of) r old new h w = texts-tell h.0 h.1 h.2 of h.3 old new r w
+  written-tells (Err m) r old new h w = wanting-tells line bytes within old new r w
+
+pub made-of-parts : (parts : ℕ) (code : Code) (made : Result RunTexts Memory) → IfOk made (λ of. AreTextsOf of (Way.Generated parts) code)
+    → IfOk made (λ of. (way : Way) × IsWayOf (Line.Generate parts) code way × WritesLast way code × AreTextsOf of way code)
+made-of-parts parts code (Ok of) h = (Way.Generated parts, refl, generated-last parts code, h)
+made-of-parts parts code (Err m) h = tt
+
+pub made-by-threads : (threads : ℕ) (code : Code) (made : Result RunTexts Memory) → IfOk made (λ of. AreTextsByThreads of threads code)
+    → IfOk made (λ of. (way : Way) × IsWayOf (Line.Threads threads) code way × WritesLast way code × AreTextsOf of way code)
+made-by-threads threads code (Ok of) h = (Way.ByThreads h.0, (h.0, refl, h.1), refl, h.2)
+made-by-threads threads code (Err m) h = tt
+
+-- there are none
+pub none-written : (made : Result RunTexts Memory) (m : Memory) (r : Status) (old new : Sinks) → made ≡ Err m → Says s.Memory NO_MEMORY.now r old new → HasWritten made r old new
+none-written made m r old new e said = subst (λ (x : Result RunTexts Memory). HasWritten x r old new) (sym e) said
+
+-- the file in other words
+pub same-file : (line : Line) (bytes other : List ℕ) (r : Status) (old new : Sinks) → bytes ≡ other → FileTells line bytes r old new → FileTells line other r old new
+same-file line bytes other r old new e h = subst (λ bs. FileTells line bs r old new) e h

@@ -1,0 +1,15 @@
+use Rattle.golf_words.specs.declared.line.Line.{Line}
+use Rattle.golf_command.proofs.Fetching.{loaded-tells}
+use Rattle.golf_command.proofs.Writing.{written-tells, made-by-threads}
+use Rattle.golf_command.proofs.threads.serve_threads.Goals as goal
+
+pub returns-in-Err : goal.returns-in-Err
+returns-in-Err g c = c.in-Err.ensures.loads (Line.Threads c.args.threads) tt (c.requires.some, c.requires.few) _ _
+
+pub returns : goal.returns
+returns g c =
+    let line = Line.Threads c.args.threads in
+    let loads = c.in-Ok.ensures.loads in
+    let l = loads.0 in
+    loaded-tells line tt c.in-Ok.code _ _ _ _ l _ _ _ _ _ _ _ c.write_texts.result loads.1 loads.2
+    (written-tells line l.bytes (c.requires.some, c.requires.few) l.file c.in-Ok.code l.accepts l.is l.only c.texts_by_threads.result c.write_texts.result _ _ (made-by-threads c.args.threads c.in-Ok.code c.texts_by_threads.result c.texts_by_threads.ensures) c.write_texts.ensures)

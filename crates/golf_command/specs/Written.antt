@@ -1,0 +1,37 @@
+-- The texts of a run that is over, and what was written of them.
+use Rattle.std.specs.Prelude.{◌≡◌, ℕ, ◌⊎◌, Bool, true, false, List, [], ◌∷◌, Result, Ok, Err}
+use Rattle.golf_base.specs.declared.Memory.{Memory}
+use Rattle.golf_data.specs.declared.code.Code.{Code}
+use Rattle.golf_texts.specs.declared.status.Status.{Status}
+use Rattle.golf_texts.specs.declared.status.Status.TheVariants as s
+use Rattle.golf_texts.specs.declared.status.TheConstants.{NO_MEMORY}
+use Rattle.golf_texts.specs.Meaning.{status_of}
+use Rattle.golf_texts.specs.Writes.{Write}
+use Rattle.golf_run.specs.HasRun.{Sinks, GotWrites, IsSteady, WasCut}
+use Rattle.golf_command.specs.declared.texts.RunTexts.{RunTexts}
+use Rattle.golf_command.specs.Ways.{Way, AreTurns, options_of, out_for, err_for}
+use Rattle.golf_command.specs.Means.{Says}
+
+-- they are what the run writes that goes in this way, with its status
+pub record AreTextsOf (of : RunTexts) (way : Way) (code : Code) : Type 0 where
+  pub status : of.status ≡ status_of code (options_of way)
+  pub out : of.out ≡ out_for way code
+  pub err : of.err ≡ err_for way code
+
+-- they are those of a run by so many threads
+abbrev pub AreTextsByThreads : RunTexts → ℕ → Code → Type 0
+AreTextsByThreads of threads code = (ns : List ℕ) × AreTurns code threads ns × AreTextsOf of (Way.ByThreads ns) code
+
+abbrev pub text_writes : RunTexts → List Write
+text_writes of = Write.ToOut of.out ∷ Write.ToErr of.err ∷ []
+
+-- both texts were written, or the write of one was cut
+abbrev pub WroteBoth : Bool → List ℕ → List ℕ → Sinks → Sinks → Type 0
+WroteBoth true text line old new = GotWrites (Write.ToOut text ∷ Write.ToErr line ∷ []) old new × IsSteady old new
+WroteBoth false text line old new = WasCut (Write.ToOut text ∷ Write.ToErr line ∷ []) old new
+
+-- all was written with the status of the run, or a write was cut; without texts the line that says so was written, and nothing else
+abbrev pub HasWritten : Result RunTexts Memory → Status → Sinks → Sinks → Type 0
+HasWritten (Ok of) answer old new =
+    ((answer ≡ of.status) × GotWrites (text_writes of) old new × IsSteady old new) ⊎ ((answer ≡ s.WriteFault) × WasCut (text_writes of) old new)
+HasWritten (Err m) answer old new = Says s.Memory NO_MEMORY.now answer old new

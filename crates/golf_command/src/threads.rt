@@ -1,0 +1,113 @@
+//! The run of a file by threads.
+
+ghost use Rattle.std.specs.Prelude.{◌≡◌, ◌≤◌, ◌++◌, IfOk, length, map};
+ghost use Rattle.golf_data.specs.Places.{HasPlaces};
+ghost use Rattle.golf_texts.specs.Texts.{history_line as history_bytes, last_line as last_bytes, reports_text as reports_bytes};
+ghost use Rattle.golf_run.specs.HasRun.{sinks};
+ghost use Rattle.golf_command.specs.Means.{seen, LineTells};
+ghost use Rattle.golf_command.specs.Written.{AreTextsByThreads};
+ghost use Rattle.golf_words.specs.declared.line.Line.{Line};
+
+use crate::loading::load;
+use crate::texts::{RunTexts, write_texts};
+use golf_base::{Gate, List, Memory, Sink, Source};
+use golf_data::{Code, Ending};
+use golf_run::{last_line, status_by};
+use golf_texts::{Status, anyone_reported, history_line, list_of, reports_text};
+use golf_world::{History, HistoryEntry, run_threads};
+use std::alloc::Global;
+use std::sync::Wait;
+use std::thread::Threads;
+
+// Texts that the caller owns.
+fn copied(alloc: Global, texts: &[List<u8>]) -> Result<List<List<u8>>, Memory>
+    ensures { IfOk result (λ copies. copies ≡ texts.now) }
+{
+    let mut copies = List::new(alloc);
+    for text in texts {
+        copies.push(list_of(alloc, text.as_slice())?)?;
+    }
+    Ok(copies)
+}
+
+// The numbers of the turns.
+fn numbers_of(alloc: Global, entries: &[HistoryEntry]) -> Result<List<u64>, Memory>
+    ensures { IfOk result (λ numbers. numbers ≡ map (λ e. e.number) entries.now) }
+{
+    let mut numbers = List::new(alloc);
+    for entry in entries {
+        numbers.push(entry.number)?;
+    }
+    Ok(numbers)
+}
+
+// The reports, the last line, and the line of the numbers of all turns.
+fn errors(
+    alloc: Global,
+    texts: &[List<u8>],
+    ending: Option<Ending>,
+    history: &History,
+) -> Result<List<u8>, Memory>
+    requires { length history.now.entries ≤ 100000 }
+    ensures { IfOk result (λ text. text ≡
+        (reports_bytes history.now.reports ++ last_bytes texts.now (length history.now.entries) ending) ++ history_bytes (map (λ e. e.number) history.now.entries)) }
+{
+    let mut text = reports_text(alloc, history.reports.as_slice())?;
+    let last = last_line(alloc, texts, history.entries.len() as u32, ending)?;
+    text.extend_from_slice(last.as_slice())?;
+    let numbers = numbers_of(alloc, history.entries.as_slice())?;
+    let line = history_line(alloc, numbers.as_slice())?;
+    text.extend_from_slice(line.as_slice())?;
+    Ok(text)
+}
+
+// The texts of a run of the code by so many threads.
+fn texts_by_threads<R: Threads + Wait + Sync, G: Gate + Sync>(
+    rt: &R,
+    alloc: Global,
+    threads: u32,
+    code: Code,
+    gate: &G,
+) -> Result<RunTexts, Memory>
+    requires places { HasPlaces code }
+    requires some { 1 ≤ threads }
+    requires few { threads ≤ 16 }
+    ensures { IfOk result (λ of. AreTextsByThreads of threads code) }
+{
+    let texts = copied(alloc, code.texts.as_slice())?;
+    let (state, history) = run_threads(rt, alloc, code, threads, gate)?;
+    let ending = state.ending();
+    let err = errors(alloc, texts.as_slice(), ending, &history)?;
+    let out = list_of(alloc, state.output())?;
+    Ok(RunTexts {
+        status: status_by(anyone_reported(history.reports.as_slice()), ending),
+        out,
+        err,
+    })
+}
+
+/// Reads the file of a threads line and runs it by so many threads, each of which passes the gate before
+/// each of its steps. Nothing is written before all turns are taken. It may wait for the lock of the program.
+pub(crate) fn serve_threads<
+    R: AllocGlobal + Threads + Wait + Sync,
+    S: Source,
+    O: Sink,
+    E: Sink,
+    G: Gate + Sync,
+>(rt: &R, threads: u32, source: &mut S, out: &mut O, err: &mut E, gate: &G) -> Status
+    requires some { 1 ≤ threads }
+    requires few { threads ≤ 16 }
+    ensures { LineTells (Line.Threads threads) result
+        (seen (S.left source.old) (S.faults source.old) (sinks (O.written out.old) (O.faults out.old) (E.written err.old) (E.faults err.old)))
+        (seen (S.left source.new) (S.faults source.new) (sinks (O.written out.new) (O.faults out.new) (E.written err.new) (E.faults err.new))) }
+{
+    let code = match load(rt.alloc(), source, err) {
+        Ok(code) => code,
+        Err(status) => return status,
+    };
+    write_texts(
+        out,
+        err,
+        texts_by_threads(rt, rt.alloc(), threads, code, gate),
+    )
+}
