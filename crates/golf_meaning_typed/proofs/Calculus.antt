@@ -1,10 +1,10 @@
 -- Sound meanings, put together.
-use Rattle.std.proofs.Common.{◌≡◌, ℕ, ◌==◌, ◌&&◌, Bool, true, false, List, [], ◌∷◌, ◌++◌, length, Option, Some, None, refl, ap, sym, ◌∙◌, subst}
+use Rattle.std.proofs.Common.{◌≡◌, ◌==◌, ◌&&◌, Bool, true, false, List, [], ◌∷◌, ◌++◌, length, Option, Some, refl, sym, subst}
 use Rattle.golf_data.specs.declared.value.Value.{Value}
 use Rattle.golf_data.specs.declared.code.Instr.{Instr}
 use Rattle.golf_types.specs.declared.types.GoType.{GoType}
 use Rattle.golf_layout.specs.Depth.{taken}
-use Rattle.golf_flat_meaning.specs.Worlds.{Answer, Misfit, Halt, World, Operation, Part, bind, asked, done}
+use Rattle.golf_flat_meaning.specs.Worlds.{Answer, Misfit, Halt, World, Part, bind, asked, done}
 use Rattle.golf_flat_meaning.specs.Doing.{unfit, misfit, chosen_by}
 use Rattle.golf_source_meaning.specs.Operations.{Gives, both, then_do, all_fit, answered, visible}
 use Rattle.golf_shapes.specs.Types.{ValueType}

@@ -2,3 +2,9 @@ pub mod ValueKinds
 pub mod Calculus
 pub mod Operators
 pub mod NameValues
+pub mod Counts
+pub mod Naming
+pub mod Selecting
+pub mod Making
+pub mod Calling
+pub mod Expressions

@@ -1,6 +1,6 @@
 -- A name that stands as a value gives one value of its type.
-use Rattle.std.proofs.Common.{◌≡◌, ℕ, Bool, true, false, cond, List, [], ◌∷◌, ◌++◌, Option, Some, None, refl, ap, sym, ◌∙◌, subst}
-use Rattle.std.specs.Prelude.{codes, ◌&&◌}
+use Rattle.std.proofs.Common.{◌≡◌, ℕ, Bool, true, false, cond, List, [], ◌∷◌, Option, Some, None, refl, sym, subst}
+use Rattle.std.specs.Prelude.{codes}
 use Rattle.std.specs.Option.{option_map}
 use Rattle.std.specs.Str.{bytes_eq}
 use Rattle.golf_data.specs.declared.value.Value.{Value}
@@ -19,24 +19,24 @@ use Rattle.golf_types.specs.declared.scopes.Scope.{Scope}
 use Rattle.golf_types.specs.Names.{is_blank, look}
 use Rattle.golf_types.specs.Types.{given, given_type}
 use Rattle.golf_types.specs.Scopes.{or_else, type_name, value_name, call_name, package_name, predeclared, file_operand, local_operand, meaning}
-use Rattle.golf_types.specs.Expressions.{leaf, used, given_by, value_faults, known_name, named}
+use Rattle.golf_types.specs.Expressions.{leaf, used, given_by, value_faults, known_name}
 use Rattle.golf_code_of.specs.declared.tables.Tables.{Tables}
 use Rattle.golf_code_of.specs.Values.{constant}
 use Rattle.golf_shapes.specs.Types.{ValueType, IsNilable, Types, ValueFits}
-use Rattle.golf_code_shapes.specs.Types.{base_type, value_type}
+use Rattle.golf_code_shapes.specs.Types.{base_type}
 use Rattle.golf_code_shapes.specs.Sound.{FileFits, NameFits}
-use Rattle.golf_source_meaning.specs.Names.{Env, Bound, find, first_some, here}
-use Rattle.golf_source_meaning.specs.Operations.{Gives, gives, visible}
-use Rattle.golf_source_meaning.specs.Exprs.{outer_value, value_of_name, name_does}
+use Rattle.golf_source_meaning.specs.Names.{Env, find, first_some, here}
+use Rattle.golf_source_meaning.specs.Operations.{gives}
+use Rattle.golf_source_meaning.specs.Exprs.{outer_value, value_of_name}
 use Rattle.golf_source_meaning.specs.Meaning.{outer}
 use Rattle.golf_source_meaning.proofs.Environments.{last, look-last}
-use Rattle.golf_meaning_typed.specs.Sound.{is_of, One, Yields, YieldsBy, Held, NamesFit}
+use Rattle.golf_meaning_typed.specs.Sound.{is_of, YieldsBy, Held, NamesFit}
 use Rattle.golf_meaning_typed.specs.Laws.{NamesGive}
 use Rattle.golf_meaning_typed.proofs.Calculus.{yields-visible}
 
 -- the last local and the last value of a name go together
 
-abbrev Paired : Option Local → Option Value → Type 0
+abbrev pub Paired : Option Local → Option Value → Type 0
 Paired None None = Unit {0}
 Paired None (Some v) = ⊥
 Paired (Some d) None = ⊥
@@ -49,7 +49,7 @@ one-paired b d v None (Some y) e h = absurd h
 one-paired b d v (Some x) None e h = absurd h
 one-paired b d v (Some x) (Some y) e h = h
 
-paired : (ds : List Local) (env : Env) (n : List ℕ) → NamesFit ds env → Paired (last ds n) (find env n)
+pub paired : (ds : List Local) (env : Env) (n : List ℕ) → NamesFit ds env → Paired (last ds n) (find env n)
 paired [] [] n h = tt
 paired [] (x ∷ xs) n h = absurd h
 paired (d ∷ ds) [] n h = absurd h
@@ -59,7 +59,7 @@ paired (d ∷ ds) (x ∷ xs) n h =
 
 -- values of tables
 
-nil-is : (u : ValueType) → IsNilable u → is_of u Value.Nil ≡ true
+pub nil-is : (u : ValueType) → IsNilable u → is_of u Value.Nil ≡ true
 nil-is (ValueType.Struct k) h = refl
 nil-is ValueType.Mutex h = refl
 nil-is ValueType.Group h = refl
@@ -69,7 +69,7 @@ nil-is (ValueType.Slice e) h = refl
 nil-is (ValueType.Chan e) h = refl
 nil-is _ h = absurd h
 
-zero-is : (types : Types) (v : Value) (u : ValueType) → ValueFits types [] v u → is_of u (zero_of v) ≡ true
+pub zero-is : (types : Types) (v : Value) (u : ValueType) → ValueFits types [] v u → is_of u (zero_of v) ≡ true
 zero-is types (Value.Int n) u h = subst (λ z. is_of z (Value.Int n) ≡ true) (sym h) refl
 zero-is types (Value.Bool b) u h = subst (λ z. is_of z (Value.Bool b) ≡ true) (sym h) refl
 zero-is types (Value.Text k) u h = subst (λ z. is_of z (Value.Text k) ≡ true) (sym h.0) refl

@@ -1,5 +1,5 @@
 -- Operators whose operands break no rule give values of their types.
-use Rattle.std.proofs.Common.{◌≡◌, inl, inr, ℕ, ℤ, Bool, true, false, not, ◌&&◌, ◌||◌, List, [], ◌∷◌, Option, Some, None, refl, ap, sym, ◌∙◌, subst}
+use Rattle.std.proofs.Common.{◌≡◌, inl, inr, ℕ, ℤ, Bool, true, false, not, ◌&&◌, ◌||◌, List, [], ◌∷◌, Some, refl, ap, sym, subst}
 use Rattle.std.proofs.lemmas.Bool.{and_parts, or_cases}
 use Rattle.std.specs.Prelude.{int_lt, int_le}
 use Rattle.golf_grammar.specs.declared.expressions.UnaryOperator.{UnaryOperator}
@@ -8,30 +8,28 @@ use Rattle.golf_grammar.specs.declared.expressions.BinaryOperator.{BinaryOperato
 use Rattle.golf_grammar.specs.declared.expressions.BinaryOperator.TheVariants as binary
 use Rattle.golf_data.specs.declared.value.Value.{Value}
 use Rattle.golf_data.specs.declared.code.Instr.{Instr}
-use Rattle.golf_model.specs.Values.{int_of, bool_of, equality, is_zero}
+use Rattle.golf_model.specs.Values.{is_zero}
 use Rattle.golf_model.specs.Calculating.{sum, difference, product, quotient, remainder}
 use Rattle.golf_types.specs.declared.types.Base.{Base}
 use Rattle.golf_types.specs.declared.types.Base.TheVariants as base
 use Rattle.golf_types.specs.declared.types.GoType.{GoType}
-use Rattle.golf_types.specs.declared.operands.Operand.{Operand}
 use Rattle.golf_types.specs.declared.operands.Operand.TheVariants as operand
 use Rattle.golf_types.specs.declared.operands.Given.{Given}
 use Rattle.golf_types.specs.declared.operands.Given.TheVariants as given_as
 use Rattle.golf_types.specs.declared.scopes.Scope.{Scope}
 use Rattle.golf_types.specs.Types.{has_base, has_layer, is_slice, gives, starts_with, element, comparable, assignable_type}
-use Rattle.golf_types.specs.Expressions.{Judged, used, given_by, unary_faults, unary_meaning, unary_judged, binary_fits, binary_judged, result_base, index_judged}
+use Rattle.golf_types.specs.Expressions.{used, given_by, unary_faults, unary_meaning, binary_fits, result_base}
 use Rattle.golf_flat_meaning.specs.Worlds.{Halt, World, Part, bind}
 use Rattle.golf_flat_meaning.specs.Doing.{on_some, chosen_by, negated, inverted, computed, divided, compared, equated}
 use Rattle.golf_source_meaning.specs.Operations.{Gives, gives as constant, both, then_do, visible, on_one, on_two, by_bool, if_true}
-use Rattle.golf_source_meaning.specs.Names.{Env}
-use Rattle.golf_source_meaning.specs.Exprs.{Place, unary_does, binary_does, calculation, element_type, read}
+use Rattle.golf_source_meaning.specs.Exprs.{unary_does, binary_does, calculation}
 use Rattle.golf_shapes.specs.Types.{ValueType}
 use Rattle.golf_code_shapes.specs.Types.{base_type, value_type}
 use Rattle.golf_code_shapes.proofs.Typings.{none-left, none-right, kept, same-value, assigned-value, nilable, carried-by, slice-of}
 use Rattle.golf_meaning_typed.specs.Sound.{Sound, is_of, One, Yields, YieldsBy, Shown}
-use Rattle.golf_meaning_typed.specs.Laws.{Fits, UnaryFits, BinaryFits, IndexFits, OperatorsFit, IsTruth, ConditionsDecide}
+use Rattle.golf_meaning_typed.specs.Laws.{UnaryFits, BinaryFits, IndexFits, OperatorsFit, IsTruth, ConditionsDecide}
 use Rattle.golf_meaning_typed.proofs.ValueKinds.{int-is, bool-is, same-compared}
-use Rattle.golf_meaning_typed.proofs.Calculus.{sound-as, sound-bind, yields-visible, yields-then, two-then}
+use Rattle.golf_meaning_typed.proofs.Calculus.{sound-as, yields-visible, yields-then, two-then}
 
 -- tests of types
 

@@ -1,14 +1,14 @@
 -- The kinds of values, by what the checker says of their types.
-use Rattle.std.proofs.Common.{◌≡◌, ℕ, Bool, true, false, ◌&&◌, List, [], ◌∷◌, Option, Some, None, ℤ, refl, ap, sym, ◌∙◌, subst}
+use Rattle.std.proofs.Common.{◌≡◌, Bool, true, false, ◌&&◌, List, [], ◌∷◌, Some, ℤ, refl, sym, ◌∙◌}
 use Rattle.std.proofs.lemmas.Bool.{false≢true}
 use Rattle.golf_data.specs.declared.value.Value.{Value}
-use Rattle.golf_model.specs.Values.{int_of, bool_of, equality}
+use Rattle.golf_model.specs.Values.{equality}
 use Rattle.golf_types.specs.declared.types.Layer.{Layer}
 use Rattle.golf_types.specs.declared.types.Layer.TheVariants as layer
 use Rattle.golf_types.specs.declared.types.Base.{Base}
 use Rattle.golf_types.specs.declared.types.Base.TheVariants as base
 use Rattle.golf_types.specs.declared.types.GoType.{GoType}
-use Rattle.golf_shapes.specs.Types.{ValueType, IsNilable}
+use Rattle.golf_shapes.specs.Types.{ValueType}
 use Rattle.golf_code_shapes.specs.Types.{base_type, layers_type, value_type}
 use Rattle.golf_source_meaning.specs.Operations.{fits_base, fits_layers, fits, all_fit}
 use Rattle.golf_meaning_typed.specs.Sound.{is_of, One}

@@ -1,5 +1,6 @@
 -- The laws of meanings that break no rule of types, as statements.
-use Rattle.std.specs.Prelude.{◌≡◌, ℕ, Bool, [], ◌∷◌, ◌++◌, Some, List}
+use Rattle.std.specs.Prelude.{◌≡◌, ℕ, Bool, [], ◌∷◌, ◌++◌, List}
+use Rattle.golf_grammar.specs.declared.expressions.Expr.{Expr}
 use Rattle.golf_grammar.specs.declared.expressions.UnaryOperator.{UnaryOperator}
 use Rattle.golf_grammar.specs.declared.expressions.BinaryOperator.{BinaryOperator}
 use Rattle.golf_data.specs.declared.value.Value.{Value}
@@ -9,15 +10,17 @@ use Rattle.golf_types.specs.declared.types.Base.TheVariants as base
 use Rattle.golf_types.specs.Faults.{broken}
 use Rattle.golf_types.specs.Types.{has_base}
 use Rattle.golf_types.specs.Names.{is_blank}
+use Rattle.golf_types.specs.Judging.{Judge, judge}
 use Rattle.golf_types.specs.Expressions.{Judged, used, given_by, named, unary_judged, binary_judged, index_judged}
 use Rattle.golf_shapes.specs.Types.{Types}
 use Rattle.golf_code_of.specs.declared.tables.Tables.{Tables}
 use Rattle.golf_code_shapes.specs.Sound.{FileFits}
-use Rattle.golf_source_meaning.specs.Operations.{Gives, both, then_do, visible}
+use Rattle.golf_source_meaning.specs.Operations.{Gives, both, then_do}
 use Rattle.golf_source_meaning.specs.Names.{Env}
-use Rattle.golf_source_meaning.specs.Meaning.{outer}
-use Rattle.golf_source_meaning.specs.Exprs.{Place, name_does, unary_does, binary_does, element_type, read}
+use Rattle.golf_source_meaning.specs.Meaning.{outer, meant}
+use Rattle.golf_source_meaning.specs.Exprs.{Does, Place, name_does, unary_does, binary_does, element_type, read}
 use Rattle.golf_meaning_typed.specs.Sound.{Sound, YieldsBy, Shown, NamesFit}
+use Rattle.golf_meaning_typed.specs.Meets.{Meets}
 
 -- what stands as a value gives a value
 abbrev pub Fits : ℕ → Judged → Gives → Type 0
@@ -46,3 +49,11 @@ IsTruth vs = (b : Bool) × (vs ≡ Value.Bool b ∷ [])
 
 abbrev pub ConditionsDecide : Type 0
 ConditionsDecide = (l : ℕ) (j : Judged) (f : Gives) → Fits l j f → used l j ++ broken l 8 (has_base base.Bool (given_by j)) ≡ [] → (w : World) → Sound IsTruth (f w)
+
+-- if names have values of their types, what an expression gives that breaks no rule is what it is
+abbrev pub ExpressionFits : Types → Tables → Judge → (ℕ → Scope → Does) → Type 0
+ExpressionFits types t j d =
+    (l : ℕ) (s : Scope) (env : Env) → FileFits types t s.file → NamesFit s.locals env → (j l s).faults ≡ [] → Meets types t s.locals s.file env (j l s).meaning ((d l s).value env) ((d l s).place env) ((d l s).parts env)
+
+abbrev pub ExpressionsFit : Type 0
+ExpressionsFit = (types : Types) (t : Tables) (e : Expr) → ExpressionFits types t (judge e) (meant t e).does

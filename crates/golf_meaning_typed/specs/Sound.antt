@@ -9,7 +9,7 @@ use Rattle.golf_types.specs.declared.operands.Operand.TheVariants as operand
 use Rattle.golf_types.specs.declared.operands.Given.{Given}
 use Rattle.golf_types.specs.declared.operands.Given.TheVariants as given_as
 use Rattle.golf_shapes.specs.Types.{ValueType, IsNilable}
-use Rattle.golf_code_shapes.specs.Types.{base_type, value_type}
+use Rattle.golf_code_shapes.specs.Types.{value_type}
 use Rattle.golf_flat_meaning.specs.Worlds.{Misfit, Halt, World, Part}
 use Rattle.golf_source_meaning.specs.Names.{Env}
 use Rattle.golf_source_meaning.specs.Operations.{Gives, is_unit, is_nilable}
