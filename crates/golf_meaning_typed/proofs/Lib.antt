@@ -8,3 +8,8 @@ pub mod Selecting
 pub mod Making
 pub mod Calling
 pub mod Expressions
+pub mod NamesKept
+pub mod Flows
+pub mod Given
+pub mod Simples
+pub mod Blocks

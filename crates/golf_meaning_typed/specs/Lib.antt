@@ -1,3 +1,4 @@
 pub mod Sound
 pub mod Meets
+pub mod Flowing
 pub mod Laws
