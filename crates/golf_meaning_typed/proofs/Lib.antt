@@ -13,3 +13,4 @@ pub mod Flows
 pub mod Given
 pub mod Simples
 pub mod Blocks
+pub mod Stores
