@@ -196,10 +196,10 @@ module _ (types : Types) (t : Tables) where
         (block-exact w e he (record { breaks = b; continues = c; functions = a.functions }) (record s { breaks = true; loops = true }) n env u file fit none) (λ z q. q) (λ z q. q.1) (λ z q. q.1) (λ z q. q)
 
     -- the names of before, behind a loop
-    abbrev Leaves : Scope → Flow → Type 0
+    abbrev pub Leaves : Scope → Flow → Type 0
     Leaves s f = Fitting (NamesFit s.locals) (Out s.breaks s.locals) (Out s.loops s.locals) Never f
 
-    left-fits : (s : Scope) (es : List Local) (f : Flow) → es ≡ [] → Leaves s f → FlowFits s (s.locals ++ es) f
+    pub left-fits : (s : Scope) (es : List Local) (f : Flow) → es ≡ [] → Leaves s f → FlowFits s (s.locals ++ es) f
     left-fits s es f is h = fitting-as (NamesFit s.locals) (Out s.breaks s.locals) (Out s.loops s.locals) Never (NamesFit (s.locals ++ es)) (Out s.breaks s.locals) (Out s.loops s.locals) Never f h
         (λ z q. quiet s.locals es z is q) (λ z q. q) (λ z q. q) (λ z q. q)
 

@@ -14,3 +14,8 @@ pub mod Given
 pub mod Simples
 pub mod Blocks
 pub mod Stores
+pub mod SimpleKinds
+pub mod Begins
+pub mod Ranges
+pub mod Choices
+pub mod Statements

@@ -1,8 +1,10 @@
 -- The laws of meanings that break no rule of types, as statements.
-use Rattle.std.specs.Prelude.{◌≡◌, ℕ, Bool, [], ◌∷◌, ◌++◌, List}
+use Rattle.std.specs.Prelude.{◌≡◌, ℕ, Bool, true, [], ◌∷◌, ◌++◌, List}
 use Rattle.golf_grammar.specs.declared.expressions.Expr.{Expr}
 use Rattle.golf_grammar.specs.declared.expressions.UnaryOperator.{UnaryOperator}
 use Rattle.golf_grammar.specs.declared.expressions.BinaryOperator.{BinaryOperator}
+use Rattle.golf_grammar.specs.declared.statements.Stmt.{Stmt}
+use Rattle.golf_grammar.specs.Statements.{stmt_form}
 use Rattle.golf_data.specs.declared.value.Value.{Value}
 use Rattle.golf_flat_meaning.specs.Worlds.{World}
 use Rattle.golf_types.specs.declared.scopes.Scope.{Scope}
@@ -11,6 +13,7 @@ use Rattle.golf_types.specs.Faults.{broken}
 use Rattle.golf_types.specs.Types.{has_base}
 use Rattle.golf_types.specs.Names.{is_blank}
 use Rattle.golf_types.specs.Judging.{Judge, judge}
+use Rattle.golf_types.specs.Statements.{walk}
 use Rattle.golf_types.specs.Expressions.{Judged, used, given_by, named, unary_judged, binary_judged, index_judged}
 use Rattle.golf_shapes.specs.Types.{Types}
 use Rattle.golf_code_of.specs.declared.tables.Tables.{Tables}
@@ -19,6 +22,8 @@ use Rattle.golf_source_meaning.specs.Operations.{Gives, both, then_do}
 use Rattle.golf_source_meaning.specs.Names.{Env}
 use Rattle.golf_source_meaning.specs.Meaning.{outer, meant}
 use Rattle.golf_source_meaning.specs.Exprs.{Does, Place, name_does, unary_does, binary_does, element_type, read}
+use Rattle.golf_statement_meaning.specs.Statements.{step}
+use Rattle.golf_meaning_typed.specs.Flowing.{StatementFits}
 use Rattle.golf_meaning_typed.specs.Sound.{Sound, YieldsBy, Shown, NamesFit}
 use Rattle.golf_meaning_typed.specs.Meets.{Meets}
 
@@ -57,3 +62,7 @@ ExpressionFits types t j d =
 
 abbrev pub ExpressionsFit : Type 0
 ExpressionsFit = (types : Types) (t : Tables) (e : Expr) → ExpressionFits types t (judge e) (meant t e).does
+
+-- what a well-formed statement does that breaks no rule is unfit by an answer alone
+abbrev pub StatementsFit : Type 0
+StatementsFit = (types : Types) (t : Tables) (x : Stmt) → (stmt_form x).good ≡ true → StatementFits types t (walk x) (step t x).deed
