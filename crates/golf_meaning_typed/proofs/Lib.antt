@@ -19,3 +19,4 @@ pub mod Begins
 pub mod Ranges
 pub mod Choices
 pub mod Statements
+pub mod Functions

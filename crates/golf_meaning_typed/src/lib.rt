@@ -1,7 +1,7 @@
-//! The meaning of a file that breaks no rule of types is unfit by an answer alone: of expressions, of conditions and of statements.
+//! The meaning of a file that breaks no rule of types is unfit by an answer alone: its expressions, conditions, statements and functions.
 #![tactic(auto)]
 
-ghost use Rattle.golf_meaning_typed.specs.Laws.{ConditionsDecide, ExpressionsFit, NamesGive, OperatorsFit, StatementsFit};
+ghost use Rattle.golf_meaning_typed.specs.Laws.{ConditionsDecide, ExpressionsFit, FunctionsFit, NamesGive, OperatorsFit, StatementsFit};
 
 /// An operator whose operands break no rule gives one value of its type, as long as each answer fits.
 pub fn operators_fit()
@@ -28,4 +28,10 @@ pub fn expressions_fit()
 /// world; after it the names have values of their types, and `break` and `continue` come only if the scope lets them.
 pub fn statements_fit()
     ensures { StatementsFit }
+{}
+
+/// With arguments of the types of its receiver and parameters, the meaning of a function or method that breaks no rule is unfit by
+/// an answer alone, for all answers and however many turns each loop may take: no rule is lacking at its end.
+pub fn functions_fit()
+    ensures { FunctionsFit }
 {}
