@@ -20,3 +20,4 @@ pub mod Ranges
 pub mod Choices
 pub mod Statements
 pub mod Functions
+pub mod Files

@@ -2,3 +2,4 @@ pub mod Sound
 pub mod Meets
 pub mod Flowing
 pub mod Laws
+pub mod FileLaws

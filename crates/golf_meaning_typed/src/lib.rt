@@ -2,6 +2,7 @@
 #![tactic(auto)]
 
 ghost use Rattle.golf_meaning_typed.specs.Laws.{ConditionsDecide, ExpressionsFit, FunctionsFit, NamesGive, OperatorsFit, StatementsFit};
+ghost use Rattle.golf_meaning_typed.specs.FileLaws.{FilesFit};
 
 /// An operator whose operands break no rule gives one value of its type, as long as each answer fits.
 pub fn operators_fit()
@@ -34,4 +35,9 @@ pub fn statements_fit()
 /// an answer alone, for all answers and however many turns each loop may take: no rule is lacking at its end.
 pub fn functions_fit()
     ensures { FunctionsFit }
+{}
+
+/// So it is for each function and method of a well-formed file that breaks no rule, and whose names fit.
+pub fn files_fit()
+    ensures { FilesFit }
 {}
