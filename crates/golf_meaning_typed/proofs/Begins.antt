@@ -1,12 +1,10 @@
 -- `go` and `defer`: receiver and arguments are evaluated, and a function begins with as many.
-use Rattle.std.proofs.Common.{◌≡◌, ℕ, suc, ◌+◌, Bool, true, List, [], ◌∷◌, ◌++◌, length, map, Option, Some, None, refl, sym, ap, ◌∙◌, subst, arith}
+use Rattle.std.proofs.Common.{◌≡◌, ℕ, suc, ◌+◌, true, List, [], ◌∷◌, ◌++◌, length, map, Option, Some, None, refl, sym, ap, ◌∙◌, subst, arith}
 use Rattle.std.proofs.lemmas.List.{length-map}
 use Rattle.std.specs.Prelude.{flat_map}
 use Rattle.golf_grammar.specs.declared.expressions.Expr.{Expr}
-use Rattle.golf_data.specs.declared.value.Value.{Value}
 use Rattle.golf_data.specs.declared.code.Instr.{Instr}
 use Rattle.golf_types.specs.declared.types.Base.{Base}
-use Rattle.golf_types.specs.declared.types.GoType.{GoType}
 use Rattle.golf_types.specs.declared.operands.BuiltIn.{BuiltIn}
 use Rattle.golf_types.specs.declared.operands.BuiltIn.TheVariants as built_in
 use Rattle.golf_types.specs.declared.operands.Operand.{Operand}
@@ -14,7 +12,7 @@ use Rattle.golf_types.specs.declared.operands.Operand.TheVariants as operand
 use Rattle.golf_types.specs.declared.scopes.Scope.{Scope}
 use Rattle.golf_types.specs.Expressions.{used, named_or_used}
 use Rattle.golf_types.specs.Calls.{called_with}
-use Rattle.golf_types.specs.Judging.{judge, judge_at}
+use Rattle.golf_types.specs.Judging.{judge_at}
 use Rattle.golf_types.specs.Types.{type_given, given}
 use Rattle.golf_types.specs.Statements as W
 use Rattle.golf_types.specs.Statements.{may_be_begun, done_faults}

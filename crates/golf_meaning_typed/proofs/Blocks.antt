@@ -1,12 +1,11 @@
 -- Statements one after the other, blocks, conditions and loops.
-use Rattle.std.proofs.Common.{◌≡◌, ℕ, ◌+◌, Bool, true, false, not, List, [], ◌∷◌, ◌++◌, length, map, Option, Some, None, refl, sym, ap, ◌∙◌, subst, arith, append_assoc, append-nil}
+use Rattle.std.proofs.Common.{◌≡◌, ℕ, Bool, true, List, [], ◌∷◌, ◌++◌, length, Option, Some, None, refl, sym, subst, arith, append_assoc, append-nil}
 use Rattle.golf_grammar.specs.declared.expressions.Expr.{Expr}
-use Rattle.golf_grammar.specs.declared.statements.Simple.{Simple}
 use Rattle.golf_data.specs.declared.value.Value.{Value}
 use Rattle.golf_types.specs.declared.locals.Local.{Local}
 use Rattle.golf_types.specs.declared.scopes.Scope.{Scope}
 use Rattle.golf_types.specs.Scopes.{begun}
-use Rattle.golf_types.specs.Expressions.{used, given_by}
+use Rattle.golf_types.specs.Expressions.{used}
 use Rattle.golf_types.specs.Judging.{judge}
 use Rattle.golf_types.specs.Statements as W
 use Rattle.golf_types.specs.Statements.{Walk, Walked, behind, result_faults}
@@ -20,13 +19,13 @@ use Rattle.golf_code_shapes.proofs.Typings.{none-left, none-right, kept}
 use Rattle.golf_flat_meaning.specs.Worlds.{World}
 use Rattle.golf_source_meaning.specs.Names.{Env}
 use Rattle.golf_statement_meaning.specs.Flows.{Course, Flow, on, cut, ends_here, or_else}
-use Rattle.golf_statement_meaning.specs.Steps.{Deed, Step, nothing, then_deed, in_order, in_block, parts, value_at, after_test, returned, return_deed, forever, while, in_loop, is_plain, after_optional, with_post, stepping}
+use Rattle.golf_statement_meaning.specs.Steps.{Deed, Step, nothing, then_deed, in_order, in_block, parts, value_at, after_test, returned, return_deed, forever, while, in_loop}
 use Rattle.golf_meaning_typed.specs.Sound.{NamesFit}
 use Rattle.golf_meaning_typed.specs.Laws.{IsTruth}
 use Rattle.golf_meaning_typed.specs.Flowing.{Fitting, Begins, Out, Never, FlowFits, StatementFits}
 use Rattle.golf_meaning_typed.proofs.Operators.{conditions-decide}
 use Rattle.golf_meaning_typed.proofs.NamesKept.{names-cut, begins-self, begins-on, begins-in}
-use Rattle.golf_meaning_typed.proofs.Flows.{fitting-on, fitting-after, fitting-tested, fitting-guarded, fitting-as, fitting-then, fitting-cut, fitting-ends, fitting-else, fitting-turns, fitting-post}
+use Rattle.golf_meaning_typed.proofs.Flows.{fitting-on, fitting-after, fitting-tested, fitting-as, fitting-then, fitting-cut, fitting-ends, fitting-else, fitting-turns}
 use Rattle.golf_meaning_typed.proofs.Simples.{DealsFit, value-of, one-of}
 use Rattle.golf_statement_meaning.specs.Steps.{Deals}
 
@@ -195,7 +194,7 @@ module _ (types : Types) (t : Tables) where
         fitting-as (NamesFit s.locals) (Exact true s.locals) (Exact true s.locals) Never (NamesFit s.locals) (NamesFit s.locals) (NamesFit s.locals) Never (in_loop b c (in_block e) a s n env u)
         (block-exact w e he (record { breaks = b; continues = c; functions = a.functions }) (record s { breaks = true; loops = true }) n env u file fit none) (λ z q. q) (λ z q. q.1) (λ z q. q.1) (λ z q. q)
 
-    -- the names of before, behind a loop
+    -- after a loop the names of before are there
     abbrev pub Leaves : Scope → Flow → Type 0
     Leaves s f = Fitting (NamesFit s.locals) (Out s.breaks s.locals) (Out s.loops s.locals) Never f
 

@@ -1,5 +1,5 @@
 -- `select`: the operands of all clauses, and the clause that is chosen.
-use Rattle.std.proofs.Common.{◌≡◌, ℕ, zero, suc, ◌+◌, ◌==◌, Bool, true, false, List, [], ◌∷◌, ◌++◌, length, map, Option, Some, None, refl, sym, ap, ◌∙◌, subst, arith, append_assoc, append-nil}
+use Rattle.std.proofs.Common.{◌≡◌, ℕ, zero, suc, ◌+◌, ◌==◌, true, List, [], ◌∷◌, ◌++◌, length, map, Option, Some, None, refl, sym, ap, ◌∙◌, subst, arith, append_assoc, append-nil}
 use Rattle.std.proofs.lemmas.Bool.{eq-eqb}
 use Rattle.std.specs.Prelude.{is_some}
 use Rattle.golf_grammar.specs.declared.expressions.Expr.{Expr}
@@ -10,11 +10,10 @@ use Rattle.golf_data.specs.declared.code.Instr.{Instr}
 use Rattle.golf_data.specs.declared.code.SelectCase.{SelectCase}
 use Rattle.golf_data.specs.declared.code.CaseKind.{CaseKind}
 use Rattle.golf_types.specs.declared.types.Base.TheVariants as base
-use Rattle.golf_types.specs.declared.types.GoType.{GoType}
 use Rattle.golf_types.specs.declared.locals.Local.{Local}
 use Rattle.golf_types.specs.declared.scopes.Scope.{Scope}
 use Rattle.golf_types.specs.Faults.{broken}
-use Rattle.golf_types.specs.Scopes.{begun, may_be_declared}
+use Rattle.golf_types.specs.Scopes.{begun}
 use Rattle.golf_types.specs.Types.{plain, element}
 use Rattle.golf_types.specs.Expressions.{Judged, used, given_by}
 use Rattle.golf_types.specs.Judging.{judge}
@@ -32,23 +31,23 @@ use Rattle.golf_code_shapes.specs.Types.{value_type}
 use Rattle.golf_code_shapes.specs.Sound.{FileFits}
 use Rattle.golf_code_shapes.proofs.Typings.{none-left, none-right, kept}
 use Rattle.golf_code_shapes.proofs.NamesAlone.{judged-by-names}
-use Rattle.golf_flat_meaning.specs.Worlds.{Answer, World, Part, asked, asks, done}
+use Rattle.golf_flat_meaning.specs.Worlds.{Answer, World, asked, asks, done}
 use Rattle.golf_source_meaning.specs.Names.{Env}
 use Rattle.golf_source_meaning.specs.Operations as O
 use Rattle.golf_source_meaning.specs.Operations.{Gives, all_fit}
 use Rattle.golf_source_meaning.specs.Exprs.{dropped, store}
-use Rattle.golf_statement_meaning.specs.Flows.{Flow, on, after, then_flow, cut}
-use Rattle.golf_statement_meaning.specs.Steps.{Step, declared, in_block, in_order, parts, then_deed, name_place, defines_pair, value_at}
+use Rattle.golf_statement_meaning.specs.Flows.{Flow, cut}
+use Rattle.golf_statement_meaning.specs.Steps.{Step, declared, in_order, parts, then_deed, name_place, defines_pair, value_at}
 use Rattle.golf_statement_meaning.specs.Selecting.{ClauseStep, operands_given, received_types, takes_in, communicates, breaking, case_step, default_step, clause_parts, many, one_default, out_of_select, chosen, chooses, select_deed}
-use Rattle.golf_meaning_typed.specs.Sound.{Sound, One, Yields, NamesFit}
+use Rattle.golf_meaning_typed.specs.Sound.{Sound, NamesFit}
 use Rattle.golf_meaning_typed.specs.Meets.{Many}
-use Rattle.golf_meaning_typed.specs.Flowing.{Fitting, Begins, Out, Never}
+use Rattle.golf_meaning_typed.specs.Flowing.{Fitting, Out, Never}
 use Rattle.golf_meaning_typed.proofs.ValueKinds.{one-fits}
-use Rattle.golf_meaning_typed.proofs.Counts.{many-one, many-both}
-use Rattle.golf_meaning_typed.proofs.NamesKept.{names-bound, names-cut, begins-on, begins-in}
+use Rattle.golf_meaning_typed.proofs.Counts.{many-both}
+use Rattle.golf_meaning_typed.proofs.NamesKept.{names-bound}
 use Rattle.golf_meaning_typed.proofs.Given.{at-one, at-two, two-fit}
 use Rattle.golf_meaning_typed.proofs.Flows.{fitting-on, fitting-after, fitting-if, fitting-guarded, fitting-as, fitting-then, fitting-select}
-use Rattle.golf_meaning_typed.proofs.Simples.{still, dropping, one-of}
+use Rattle.golf_meaning_typed.proofs.Simples.{still, one-of}
 use Rattle.golf_meaning_typed.proofs.Stores.{receives, stores-assigned, defines-both}
 use Rattle.golf_meaning_typed.proofs.Blocks.{out-in, out-self, quiet, loud, Exact, Exactly, block-cut, fits-begin, Fits, EachFits, order-fits}
 

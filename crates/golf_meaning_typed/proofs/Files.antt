@@ -1,5 +1,5 @@
 -- The functions of a whole file.
-use Rattle.std.proofs.Common.{◌≡◌, ℕ, zero, suc, ◌+◌, ◌<◌, true, ◌&&◌, List, [], ◌∷◌, length, map, arith}
+use Rattle.std.proofs.Common.{◌≡◌, ℕ, zero, suc, ◌+◌, ◌<◌, true, List, [], ◌∷◌, length, map, arith}
 use Rattle.std.proofs.lemmas.Bool.{and_parts}
 use Rattle.std.specs.List.{list_all}
 use Rattle.golf_grammar.specs.declared.declarations.Decl.{Decl}
@@ -11,7 +11,7 @@ use Rattle.golf_grammar.specs.Statements.{stmts_good, stmt_form}
 use Rattle.golf_grammar.specs.Declarations.{field_good, decl_good}
 use Rattle.golf_data.specs.declared.value.Value.{Value}
 use Rattle.golf_types.specs.declared.scopes.FileScope.{FileScope}
-use Rattle.golf_types.specs.Files.{outside, bare_file, no_imports, with_imports, import_faults, names_faults, none_above, type_faults, main_faults, decl_walked, globals_above, walk_faults, Broken}
+use Rattle.golf_types.specs.Files.{outside, bare_file, no_imports, with_imports, import_faults, names_faults, none_above, type_faults, main_faults, decl_walked, walk_faults, Broken}
 use Rattle.std.specs.Prelude.{flat_map}
 use Rattle.golf_shapes.specs.Types.{Types}
 use Rattle.golf_code_of.specs.declared.tables.Tables.{Tables}

@@ -1,5 +1,5 @@
 -- Flows that fit, put together.
-use Rattle.std.proofs.Common.{◌≡◌, ℕ, zero, suc, Bool, true, false, List, [], ◌∷◌, take, Some, refl, subst, sym}
+use Rattle.std.proofs.Common.{◌≡◌, ℕ, zero, suc, Bool, true, false, List, [], ◌∷◌, take, refl, subst, sym}
 use Rattle.golf_data.specs.declared.value.Value.{Value}
 use Rattle.golf_flat_meaning.specs.Worlds.{Misfit, Halt, World, Part}
 use Rattle.golf_source_meaning.specs.Names.{Env}
@@ -8,7 +8,6 @@ use Rattle.golf_statement_meaning.specs.Selecting.{out_of_select}
 use Rattle.golf_meaning_typed.specs.Sound.{Sound}
 use Rattle.golf_meaning_typed.specs.Laws.{IsTruth}
 use Rattle.golf_meaning_typed.specs.Flowing.{Fitting, Never}
-
 
 module _ (K B C S : Env → Type 0) where
   pub fitting-on : (p : Part Env) → Sound K p → Fitting K B C S (on p)

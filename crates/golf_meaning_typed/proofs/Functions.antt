@@ -1,5 +1,5 @@
 -- The functions of a file that break no rule are unfit by an answer alone.
-use Rattle.std.proofs.Common.{◌≡◌, ℕ, suc, Bool, true, false, List, [], ◌∷◌, ◌++◌, map, Option, Some, None, refl, sym, ap, ◌∙◌, subst}
+use Rattle.std.proofs.Common.{◌≡◌, ℕ, suc, true, false, List, [], ◌∷◌, ◌++◌, map, Option, Some, None, refl, sym, ap, ◌∙◌, subst}
 use Rattle.std.proofs.lemmas.Bool.{and_parts, false≢true}
 use Rattle.golf_grammar.specs.declared.declarations.Receiver.{Receiver}
 use Rattle.golf_grammar.specs.declared.statements.Stmt.{Stmt}
@@ -17,9 +17,8 @@ use Rattle.golf_code_of.specs.Statements.{Part}
 use Rattle.golf_code_of.specs.Statements as L
 use Rattle.golf_code_of.specs.Files.{body_scope}
 use Rattle.golf_code_of.proofs.Walks.{statement}
-use Rattle.golf_code_shapes.specs.FunctionLaws.{result_scope, parameter_slots}
+use Rattle.golf_code_shapes.specs.FunctionLaws.{result_scope}
 use Rattle.golf_code_shapes.proofs.Typings.{none-left, none-right}
-use Rattle.golf_source_meaning.specs.Names.{Env}
 use Rattle.golf_statement_meaning.specs.Flows.{Course, Flow}
 use Rattle.golf_statement_meaning.specs.Steps.{parts, in_order}
 use Rattle.golf_statement_meaning.specs.Statements.{step}

@@ -1,14 +1,13 @@
 -- Names with values of their types, put together and cut.
-use Rattle.std.proofs.Common.{◌≡◌, ℕ, zero, suc, List, [], ◌∷◌, ◌++◌, length, take, Option, Some, refl, sym, ap, subst, arith, append_assoc, append-nil}
+use Rattle.std.proofs.Common.{◌≡◌, ℕ, suc, List, [], ◌∷◌, ◌++◌, length, take, Option, refl, sym, ap, subst, append_assoc, append-nil}
 use Rattle.golf_data.specs.declared.value.Value.{Value}
 use Rattle.golf_types.specs.declared.types.GoType.{GoType}
 use Rattle.golf_types.specs.declared.locals.Local.{Local}
 use Rattle.golf_types.specs.declared.scopes.Scope.{Scope}
 use Rattle.golf_types.specs.Scopes.{variable}
-use Rattle.golf_code_shapes.specs.Types.{value_type}
 use Rattle.golf_source_meaning.specs.Names.{Env}
 use Rattle.golf_statement_meaning.specs.Steps.{bound}
-use Rattle.golf_meaning_typed.specs.Sound.{is_of, Held, NamesFit}
+use Rattle.golf_meaning_typed.specs.Sound.{Held, NamesFit}
 use Rattle.golf_meaning_typed.specs.Flowing.{Begins}
 
 pub names-append : (ds es : List Local) (xs ys : Env) → NamesFit ds xs → NamesFit es ys → NamesFit (ds ++ es) (xs ++ ys)

@@ -1,5 +1,5 @@
 -- Loops over a slice and over a channel.
-use Rattle.std.proofs.Common.{◌≡◌, ℕ, zero, suc, ℤ, pos, Bool, true, false, cond, not, ◌&&◌, List, [], ◌∷◌, ◌++◌, length, Option, Some, None, refl, sym, subst, append_assoc, append-nil}
+use Rattle.std.proofs.Common.{◌≡◌, ℕ, zero, suc, ℤ, pos, Bool, true, false, cond, not, ◌&&◌, List, [], ◌∷◌, ◌++◌, length, Option, Some, refl, sym, subst, append_assoc}
 use Rattle.std.specs.Prelude.{int_lt}
 use Rattle.golf_grammar.specs.declared.expressions.Expr.{Expr}
 use Rattle.golf_grammar.specs.declared.statements.RangeNames.{RangeNames}
@@ -28,7 +28,7 @@ use Rattle.golf_types.specs.Statements.{Walk, behind, one_new, int_type, bool_ty
 use Rattle.golf_shapes.specs.Types.{ValueType, Types}
 use Rattle.golf_code_of.specs.declared.tables.Tables.{Tables}
 use Rattle.golf_code_of.specs.declared.making.Around.{Around}
-use Rattle.golf_code_shapes.specs.Types.{layers_type, value_type}
+use Rattle.golf_code_shapes.specs.Types.{value_type}
 use Rattle.golf_code_shapes.specs.Sound.{FileFits}
 use Rattle.golf_code_shapes.proofs.Typings.{none-left, none-right, kept}
 use Rattle.golf_flat_meaning.specs.Worlds.{World, Part, bind}
@@ -38,7 +38,7 @@ use Rattle.golf_source_meaning.specs.Operations.{visible, all_fit}
 use Rattle.golf_source_meaning.specs.Exprs.{int_value}
 use Rattle.golf_statement_meaning.specs.Flows.{Course, Flow, cut, after, by_test, turned}
 use Rattle.golf_statement_meaning.specs.Steps.{Deed, bound, declared, value_at, in_block, in_loop, named_one, range_named, ranges, measured, range_step, over_slice, channel_named, received_two, receives, channel_step, by_channel, over, ranging}
-use Rattle.golf_meaning_typed.specs.Sound.{Sound, is_of, One, Yields, YieldsBy, Held, NamesFit}
+use Rattle.golf_meaning_typed.specs.Sound.{Sound, is_of, One, YieldsBy, Held, NamesFit}
 use Rattle.golf_meaning_typed.specs.Flowing.{Fitting, Out, Never}
 use Rattle.golf_meaning_typed.proofs.ValueKinds.{int-is, bool-is}
 use Rattle.golf_meaning_typed.proofs.Calculus.{sound-visible, yields-visible}

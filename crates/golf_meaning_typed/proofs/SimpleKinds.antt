@@ -1,5 +1,5 @@
 -- Each kind of simple statement, variables, and loops with steps.
-use Rattle.std.proofs.Common.{◌≡◌, ℕ, Bool, true, not, List, [], ◌∷◌, ◌++◌, Option, Some, None, refl, sym, ap, ◌∙◌, subst}
+use Rattle.std.proofs.Common.{◌≡◌, ℕ, true, not, List, [], ◌∷◌, ◌++◌, Option, Some, None, refl, sym, ap, ◌∙◌, subst}
 use Rattle.std.proofs.lemmas.Bool.{and_parts}
 use Rattle.golf_grammar.specs.declared.expressions.Expr.{Expr}
 use Rattle.golf_grammar.specs.declared.statements.UpdateOperator.TheVariants as update
@@ -8,10 +8,8 @@ use Rattle.golf_grammar.specs.declared.statements.SimpleKind.{SimpleKind}
 use Rattle.golf_grammar.specs.declared.statements.SimpleKind.TheVariants as simple
 use Rattle.golf_grammar.specs.declared.statements.VarContent.{VarContent}
 use Rattle.golf_grammar.specs.Simple.{simple_form, header_simple, post_simple, all_of}
-use Rattle.golf_data.specs.declared.value.Value.{Value}
 use Rattle.golf_data.specs.declared.code.Instr.{Instr}
 use Rattle.golf_types.specs.declared.types.GoType.{GoType}
-use Rattle.golf_types.specs.declared.locals.Local.{Local}
 use Rattle.golf_types.specs.declared.scopes.Scope.{Scope}
 use Rattle.golf_types.specs.Statements as W
 use Rattle.golf_types.specs.Statements.{Walk, behind, carried, received, pair, pair_faults, bool_type, assigned_name, assigned_pair_faults}
@@ -20,7 +18,6 @@ use Rattle.golf_code_of.specs.declared.tables.Tables.{Tables}
 use Rattle.golf_code_of.specs.declared.making.Around.{Around}
 use Rattle.golf_code_of.specs.Statements as L
 use Rattle.golf_code_of.specs.Statements.{past}
-use Rattle.golf_code_of.specs.Loops as O
 use Rattle.golf_code_shapes.specs.Types.{value_type}
 use Rattle.golf_code_shapes.specs.Sound.{FileFits}
 use Rattle.golf_code_shapes.proofs.Typings.{none-left, none-right}
@@ -29,7 +26,7 @@ use Rattle.golf_source_meaning.specs.Names.{Env}
 use Rattle.golf_source_meaning.specs.Operations.{visible}
 use Rattle.golf_statement_meaning.specs.Steps.{Deed, declared, first_value, var_deed, simple_deals, simple_deed, optional, value_at, stores_pair, defines_pair, in_block, in_loop, is_plain, is_plain_kind, after_optional, with_post, stepping}
 use Rattle.golf_meaning_typed.specs.Sound.{Sound, Yields, NamesFit}
-use Rattle.golf_meaning_typed.specs.Flowing.{Fitting, Out, Never, FlowFits, StatementFits}
+use Rattle.golf_meaning_typed.specs.Flowing.{Fitting, Out, Never}
 use Rattle.golf_meaning_typed.proofs.Flows.{fitting-guarded, fitting-as, fitting-turns, fitting-post}
 use Rattle.golf_meaning_typed.proofs.Simples.{DealsFit, still, acts, sends, assigns-to, steps-on, updates-by, defines, begins}
 use Rattle.golf_meaning_typed.proofs.Stores.{defines-both, assigns-both, receives, receiving}

@@ -1,7 +1,6 @@
 -- Simple statements without two names, variables, and what they store.
-use Rattle.std.proofs.Common.{◌≡◌, ℕ, ◌+◌, ◌&&◌, Bool, true, not, List, [], ◌∷◌, ◌++◌, length, length-append, Option, Some, None, refl, sym, subst, arith, append-nil}
+use Rattle.std.proofs.Common.{◌≡◌, ℕ, ◌&&◌, true, List, [], ◌∷◌, ◌++◌, length, length-append, Option, Some, None, refl, sym, subst, arith, append-nil}
 use Rattle.std.proofs.lemmas.Bool.{and_parts}
-use Rattle.golf_grammar.specs.declared.types.TypeExpr.{TypeExpr}
 use Rattle.golf_grammar.specs.declared.expressions.Expr.{Expr}
 use Rattle.golf_grammar.specs.declared.statements.UpdateOperator.{UpdateOperator}
 use Rattle.golf_grammar.specs.declared.statements.UpdateOperator.TheVariants as update
@@ -20,7 +19,7 @@ use Rattle.golf_types.specs.declared.operands.Operand.TheVariants as operand
 use Rattle.golf_types.specs.declared.locals.Local.{Local}
 use Rattle.golf_types.specs.declared.scopes.Scope.{Scope}
 use Rattle.golf_types.specs.Faults.{broken}
-use Rattle.golf_types.specs.Types.{given, type_of, type_given, is_nil, has_base, assignable}
+use Rattle.golf_types.specs.Types.{given, type_of, type_given, has_base, assignable}
 use Rattle.golf_types.specs.Scopes.{variable}
 use Rattle.golf_types.specs.Written.{write}
 use Rattle.golf_types.specs.Expressions.{used, named_or_used, given_by, value_faults}
@@ -38,11 +37,11 @@ use Rattle.golf_flat_meaning.specs.Worlds.{World, Part, bind}
 use Rattle.golf_flat_meaning.specs.Doing.{computed, divided}
 use Rattle.golf_source_meaning.specs.Names.{Env}
 use Rattle.golf_source_meaning.specs.Operations.{Gives, both, visible, on_two}
-use Rattle.golf_source_meaning.specs.Exprs.{Does, Place, if_none, read, store, dropped}
-use Rattle.golf_statement_meaning.specs.Steps.{Deals, does_at, value_at, declared, drops, update_operation, updates, assigns, one, simple_deals, first_value}
+use Rattle.golf_source_meaning.specs.Exprs.{Place, if_none, read, store, dropped}
+use Rattle.golf_statement_meaning.specs.Steps.{Deals, does_at, value_at, declared, drops, update_operation, updates, one, simple_deals, first_value}
 use Rattle.golf_meaning_typed.specs.Sound.{Sound, is_of, One, Yields, YieldsBy, Held, NamesFit}
 use Rattle.golf_meaning_typed.specs.Meets.{Many, Placed}
-use Rattle.golf_meaning_typed.proofs.Calculus.{sound-bind, sound-as}
+use Rattle.golf_meaning_typed.proofs.Calculus.{sound-bind}
 use Rattle.golf_meaning_typed.proofs.Counts.{many-one, many-both, stored}
 use Rattle.golf_meaning_typed.proofs.Naming.{Me, of-used}
 use Rattle.golf_meaning_typed.proofs.Operators.{based, on-ints, divides}

@@ -1,10 +1,9 @@
 -- Every well-formed statement that breaks no rule is unfit by an answer alone: one step for each kind of statement, and an induction.
-use Rattle.std.proofs.Common.{◌≡◌, ℕ, ◌+◌, Bool, true, false, not, ◌&&◌, cond, List, [], ◌∷◌, map, Option, Some, None, refl, sym, ap, ◌∙◌, subst, arith}
+use Rattle.std.proofs.Common.{◌≡◌, ℕ, ◌+◌, Bool, true, false, not, ◌&&◌, cond, List, [], ◌∷◌, map, refl, sym, ap, ◌∙◌, subst, arith}
 use Rattle.std.proofs.lemmas.Bool.{and_parts, leb-true}
 use Rattle.std.specs.Prelude.{nat_le, is_some}
 use Rattle.std.specs.List.{list_all}
 use Rattle.golf_data.specs.declared.code.Instr.{Instr}
-use Rattle.golf_grammar.specs.declared.statements.Simple.{Simple}
 use Rattle.golf_grammar.specs.declared.statements.Header.{Header}
 use Rattle.golf_grammar.specs.declared.statements.Header.TheVariants as header
 use Rattle.golf_grammar.specs.declared.statements.Stmt.{Stmt, roll-Stmt}
@@ -18,16 +17,13 @@ use Rattle.golf_types.specs.Statements as W
 use Rattle.golf_types.specs.Statements.{Walk}
 use Rattle.golf_shapes.specs.Types.{Types}
 use Rattle.golf_code_of.specs.declared.tables.Tables.{Tables}
-use Rattle.golf_code_of.specs.declared.making.Around.{Around}
 use Rattle.golf_code_of.specs.Statements as L
 use Rattle.golf_code_of.specs.Statements.{past, within}
 use Rattle.golf_code_of.specs.Loops as O
-use Rattle.golf_code_of.specs.Selects.{ClausePart}
-use Rattle.golf_code_of.specs.Laying.{stmt_part, stmt_part_step}
 use Rattle.golf_code_of.proofs.Walks.{statement}
-use Rattle.golf_statement_meaning.specs.Steps.{Step, parts, in_order, in_block, block, in_loop, optional, stepping, then_deed, for_deed, forever, while}
+use Rattle.golf_statement_meaning.specs.Steps.{Step, parts, in_order, block, in_loop, optional, stepping, then_deed, for_deed, forever, while}
 use Rattle.golf_statement_meaning.specs.Selecting.{ClauseStep, clause_parts, no_default, one_default}
-use Rattle.golf_statement_meaning.specs.Statements.{step, clause_step, step_step, clause_step_step, deed_step}
+use Rattle.golf_statement_meaning.specs.Statements.{step, clause_step, step_step, clause_step_step}
 use Rattle.golf_statement_meaning.proofs.Stmts.{all-mean}
 use Rattle.golf_meaning_typed.specs.Flowing.{StatementFits}
 use Rattle.golf_meaning_typed.specs.Laws.{StatementsFit}

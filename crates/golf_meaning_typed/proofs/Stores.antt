@@ -1,5 +1,5 @@
 -- The stores of what was received: names that are there, new names, and `_`.
-use Rattle.std.proofs.Common.{◌≡◌, ℕ, ◌==◌, Bool, true, false, cond, not, ◌&&◌, ◌||◌, List, [], ◌∷◌, ◌++◌, length, Option, Some, None, refl, sym, subst, append_assoc, append-nil}
+use Rattle.std.proofs.Common.{◌≡◌, ℕ, ◌==◌, Bool, true, false, cond, not, ◌&&◌, ◌||◌, List, [], ◌∷◌, ◌++◌, Option, Some, None, refl, sym, subst, append_assoc, append-nil}
 use Rattle.std.proofs.lemmas.Bool.{and_parts}
 use Rattle.std.proofs.lemmas.Slice.Eq.{bytes_eq-Decides}
 use Rattle.std.specs.Str.{bytes_eq}
@@ -15,12 +15,12 @@ use Rattle.golf_types.specs.declared.operands.Operand.TheVariants as operand
 use Rattle.golf_types.specs.declared.locals.Local.{Local}
 use Rattle.golf_types.specs.declared.scopes.Scope.{Scope}
 use Rattle.golf_types.specs.Faults.{broken}
-use Rattle.golf_types.specs.Types.{plain, type_of, assignable}
-use Rattle.golf_types.specs.Names.{look, is_blank}
+use Rattle.golf_types.specs.Types.{plain, assignable}
+use Rattle.golf_types.specs.Names.{is_blank}
 use Rattle.golf_types.specs.Scopes.{meaning, is_reserved, is_here, is_at_depth}
 use Rattle.golf_types.specs.Expressions.{leaf, known_name, used, given_by}
 use Rattle.golf_types.specs.Judging.{judge}
-use Rattle.golf_types.specs.Statements.{behind, is_new, kept_local, kept_faults, pair_differs, kept_pair_faults, pair_faults, one_new, pair, bool_type, assigned_name, put_in_faults, takes_value, is_place, assigned_pair_faults, received, carried}
+use Rattle.golf_types.specs.Statements.{behind, is_new, kept_local, kept_faults, pair_differs, kept_pair_faults, pair_faults, one_new, pair, bool_type, assigned_name, put_in_faults, takes_value, assigned_pair_faults, received, carried}
 use Rattle.golf_shapes.specs.Types.{ValueType, Types}
 use Rattle.golf_code_of.specs.declared.tables.Tables.{Tables}
 use Rattle.golf_code_shapes.specs.Types.{value_type}
@@ -29,13 +29,13 @@ use Rattle.golf_code_shapes.proofs.Typings.{none-left, none-right, kept, assigne
 use Rattle.golf_flat_meaning.specs.Worlds.{World, Part, bind}
 use Rattle.golf_source_meaning.specs.Names.{Env, find}
 use Rattle.golf_source_meaning.specs.Operations.{Gives, gives, visible, all_fit}
-use Rattle.golf_source_meaning.specs.Exprs.{Place, assigned, outer_place, place_of_name, value_of_name, store}
+use Rattle.golf_source_meaning.specs.Exprs.{Place, assigned, place_of_name, value_of_name, store}
 use Rattle.golf_source_meaning.specs.Meaning.{outer}
 use Rattle.golf_source_meaning.proofs.Environments.{last, look-last}
 use Rattle.golf_statement_meaning.specs.Steps.{name_place, stores_pair, stores_unless, with_new, defines_pair, value_at}
 use Rattle.golf_meaning_typed.specs.Sound.{Sound, is_of, One, Yields, Held, NamesFit}
 use Rattle.golf_meaning_typed.specs.Meets.{Placed}
-use Rattle.golf_meaning_typed.proofs.Calculus.{sound-bind, sound-as, sound-visible, Two, yields-then}
+use Rattle.golf_meaning_typed.proofs.Calculus.{sound-bind, sound-visible}
 use Rattle.golf_meaning_typed.proofs.NameValues.{Paired, paired}
 use Rattle.golf_meaning_typed.proofs.Counts.{held-known, Takes, kept-names}
 use Rattle.golf_meaning_typed.proofs.Naming.{Me, on-name}

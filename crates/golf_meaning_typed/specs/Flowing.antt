@@ -22,7 +22,7 @@ EndSound (End.Halts (Halt.Unfit Misfit.OfAnswer)) = Unit {0}
 EndSound (End.Halts (Halt.Unfit Misfit.OfRule)) = ⊥
 EndSound End.Short = Unit {0}
 
--- no rule is lacking; and where a flow goes, this holds of the names on the way on, on `break`, on `continue` and past what a condition guards
+-- no rule is lacking; and if a flow goes on, this holds of the names on the way on, on `break`, on `continue` and past what a condition guards
 abbrev pub Fitting : (Env → Type 0) → (Env → Type 0) → (Env → Type 0) → (Env → Type 0) → Flow → Type 0
 Fitting K B C S (Flow.Goes Course.On env w) = K env
 Fitting K B C S (Flow.Goes Course.Breaks env w) = B env
