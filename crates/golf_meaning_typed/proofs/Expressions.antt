@@ -58,7 +58,7 @@ element-meant-is : (t : Tables) (x : Element) → fold-Element Meant MeantPut (m
 unfolding meant
 element-meant-is t x = fold-roll-Element Meant MeantPut (meant_step t) element_meant_step (record { field = x.field; value = x.value })
 
-some-value : (g : Given) (f : Gives) → YieldsBy g f → Many 1 f
+pub some-value : (g : Given) (f : Gives) → YieldsBy g f → Many 1 f
 some-value (given_as.Typed e) f h = many-one (value_type e) f h
 some-value given_as.Nil f h = many-one ValueType.Mutex f (h ValueType.Mutex tt)
 some-value given_as.Unknown f h = absurd h

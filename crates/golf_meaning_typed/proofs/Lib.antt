@@ -8,3 +8,16 @@ pub mod Selecting
 pub mod Making
 pub mod Calling
 pub mod Expressions
+pub mod NamesKept
+pub mod Flows
+pub mod Given
+pub mod Simples
+pub mod Blocks
+pub mod Stores
+pub mod SimpleKinds
+pub mod Begins
+pub mod Ranges
+pub mod Choices
+pub mod Statements
+pub mod Functions
+pub mod Files

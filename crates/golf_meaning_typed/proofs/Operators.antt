@@ -38,12 +38,12 @@ based b (given_as.Typed e) f holds h = subst (λ u. Yields u f) (same-value e.la
 based b given_as.Nil f holds h = cc
 based b given_as.Unknown f holds h = absurd h
 
-giving : (g : Given) (f : Gives) → has_layer gives g ≡ true → YieldsBy g f → (e : GoType) × (element g ≡ Some e) × Yields (ValueType.Chan (value_type e)) f
+pub giving : (g : Given) (f : Gives) → has_layer gives g ≡ true → YieldsBy g f → (e : GoType) × (element g ≡ Some e) × Yields (ValueType.Chan (value_type e)) f
 giving (given_as.Typed a) f holds h = let c = carried-by a.layers a.base holds in (c.0, c.1, subst (λ u. Yields u f) c.2 h)
 giving given_as.Nil f holds h = cc
 giving given_as.Unknown f holds h = absurd h
 
-sliced : (g : Given) (f : Gives) → has_layer is_slice g ≡ true → YieldsBy g f → (e : GoType) × (element g ≡ Some e) × Yields (ValueType.Slice (value_type e)) f
+pub sliced : (g : Given) (f : Gives) → has_layer is_slice g ≡ true → YieldsBy g f → (e : GoType) × (element g ≡ Some e) × Yields (ValueType.Slice (value_type e)) f
 sliced (given_as.Typed a) f holds h = let c = slice-of a.layers a.base holds in (c.0, c.1, subst (λ u. Yields u f) c.2 h)
 sliced given_as.Nil f holds h = cc
 sliced given_as.Unknown f holds h = absurd h
@@ -56,13 +56,13 @@ negates v h w = let n = int-is v h in subst (λ x. Sound (One ValueType.Int) (on
 inverts : (v : Value) → is_of ValueType.Bool v ≡ true → (w : World) → Sound (One ValueType.Bool) (on_one inverted (v ∷ []) w)
 inverts v h w = let b = bool-is v h in subst (λ x. Sound (One ValueType.Bool) (on_one inverted (x ∷ []) w)) (sym b.1) refl
 
-on-ints : (f : World → Value → Value → Part Value) (u : ValueType) → ((m n : ℤ) (w : World) → Sound (One u) (on_two f (Value.Int m ∷ (Value.Int n ∷ [])) w)) → (v x : Value) → is_of ValueType.Int v ≡ true → is_of ValueType.Int x ≡ true → (w : World) → Sound (One u) (on_two f (v ∷ (x ∷ [])) w)
+pub on-ints : (f : World → Value → Value → Part Value) (u : ValueType) → ((m n : ℤ) (w : World) → Sound (One u) (on_two f (Value.Int m ∷ (Value.Int n ∷ [])) w)) → (v x : Value) → is_of ValueType.Int v ≡ true → is_of ValueType.Int x ≡ true → (w : World) → Sound (One u) (on_two f (v ∷ (x ∷ [])) w)
 on-ints f u k v x h i w =
     let m = int-is v h in
     let n = int-is x i in
     subst (λ z. Sound (One u) (on_two f (z ∷ (x ∷ [])) w)) (sym m.1) (subst (λ z. Sound (One u) (on_two f (Value.Int m.0 ∷ (z ∷ [])) w)) (sym n.1) (k m.0 n.0 w))
 
-divides : (f : ℤ → ℤ → ℤ) (m n : ℤ) (w : World) → Sound (One ValueType.Int) (on_two (divided f) (Value.Int m ∷ (Value.Int n ∷ [])) w)
+pub divides : (f : ℤ → ℤ → ℤ) (m n : ℤ) (w : World) → Sound (One ValueType.Int) (on_two (divided f) (Value.Int m ∷ (Value.Int n ∷ [])) w)
 divides f m n w = by (is_zero n)
   where
     by : (b : Bool) → Sound (One ValueType.Int) (bind (chosen_by b (Part.Stops Halt.Divided w.operations) (Part.Gives (Value.Int (f m n)) w)) (λ v u. Part.Gives (v ∷ []) u))

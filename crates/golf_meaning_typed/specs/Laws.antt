@@ -1,16 +1,24 @@
 -- The laws of meanings that break no rule of types, as statements.
-use Rattle.std.specs.Prelude.{◌≡◌, ℕ, Bool, [], ◌∷◌, ◌++◌, List}
+use Rattle.std.specs.Prelude.{◌≡◌, ℕ, Bool, true, [], ◌∷◌, ◌++◌, List, Option}
 use Rattle.golf_grammar.specs.declared.expressions.Expr.{Expr}
 use Rattle.golf_grammar.specs.declared.expressions.UnaryOperator.{UnaryOperator}
 use Rattle.golf_grammar.specs.declared.expressions.BinaryOperator.{BinaryOperator}
+use Rattle.golf_grammar.specs.declared.statements.Stmt.{Stmt}
+use Rattle.golf_grammar.specs.declared.declarations.Func.{Func}
+use Rattle.golf_grammar.specs.Statements.{stmt_form}
 use Rattle.golf_data.specs.declared.value.Value.{Value}
-use Rattle.golf_flat_meaning.specs.Worlds.{World}
+use Rattle.golf_code_shapes.specs.FunctionLaws.{FunctionIsFit, parameter_slots}
+use Rattle.golf_flat_meaning.specs.Worlds.{Answer, World}
 use Rattle.golf_types.specs.declared.scopes.Scope.{Scope}
 use Rattle.golf_types.specs.declared.types.Base.TheVariants as base
+use Rattle.golf_types.specs.declared.types.GoType.{GoType}
+use Rattle.golf_types.specs.declared.scopes.FileScope.{FileScope}
+use Rattle.golf_types.specs.Files.{outside}
 use Rattle.golf_types.specs.Faults.{broken}
 use Rattle.golf_types.specs.Types.{has_base}
 use Rattle.golf_types.specs.Names.{is_blank}
 use Rattle.golf_types.specs.Judging.{Judge, judge}
+use Rattle.golf_types.specs.Statements.{walk}
 use Rattle.golf_types.specs.Expressions.{Judged, used, given_by, named, unary_judged, binary_judged, index_judged}
 use Rattle.golf_shapes.specs.Types.{Types}
 use Rattle.golf_code_of.specs.declared.tables.Tables.{Tables}
@@ -19,7 +27,10 @@ use Rattle.golf_source_meaning.specs.Operations.{Gives, both, then_do}
 use Rattle.golf_source_meaning.specs.Names.{Env}
 use Rattle.golf_source_meaning.specs.Meaning.{outer, meant}
 use Rattle.golf_source_meaning.specs.Exprs.{Does, Place, name_does, unary_does, binary_does, element_type, read}
-use Rattle.golf_meaning_typed.specs.Sound.{Sound, YieldsBy, Shown, NamesFit}
+use Rattle.golf_statement_meaning.specs.Statements.{step}
+use Rattle.golf_function_meaning.specs.Functions.{Meaning}
+use Rattle.golf_meaning_typed.specs.Flowing.{EndSound, StatementFits}
+use Rattle.golf_meaning_typed.specs.Sound.{Sound, YieldsBy, Shown, Held, NamesFit}
 use Rattle.golf_meaning_typed.specs.Meets.{Meets}
 
 -- what stands as a value gives a value
@@ -57,3 +68,19 @@ ExpressionFits types t j d =
 
 abbrev pub ExpressionsFit : Type 0
 ExpressionsFit = (types : Types) (t : Tables) (e : Expr) → ExpressionFits types t (judge e) (meant t e).does
+
+-- what a well-formed statement does that breaks no rule is unfit by an answer alone
+abbrev pub StatementsFit : Type 0
+StatementsFit = (types : Types) (t : Tables) (x : Stmt) → (stmt_form x).good ≡ true → StatementFits types t (walk x) (step t x).deed
+
+-- one argument of the type of each receiver and parameter
+abbrev pub ArgumentsFit : List (Option GoType) → List Value → Type 0
+ArgumentsFit [] [] = Unit {0}
+ArgumentsFit [] (v ∷ vs) = ⊥
+ArgumentsFit (o ∷ os) [] = ⊥
+ArgumentsFit (o ∷ os) (v ∷ vs) = Held o v × ArgumentsFit os vs
+
+-- with such arguments, the meaning of a function that breaks no rule is unfit by an answer alone
+abbrev pub FunctionsFit : Type 0
+FunctionsFit = (types : Types) (t : Tables) (names : FileScope) (f : Func) (k : ℕ) (arguments : List Value) (answers : List Answer) (n : ℕ) → FileFits types t names → FunctionIsFit (outside names) f → ArgumentsFit (parameter_slots (outside names) f) arguments
+    → EndSound (Meaning t (outside names) k f arguments answers n).end

@@ -1,3 +1,5 @@
 pub mod Sound
 pub mod Meets
+pub mod Flowing
 pub mod Laws
+pub mod FileLaws
