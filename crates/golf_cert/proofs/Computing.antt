@@ -123,7 +123,7 @@ cases_option (Some k) = inr (k, refl)
 
 -- ---- rounds
 
-within-sound : (g : GraphParts) (n p : ℕ) → In p (within g n) → (level : ℕ) × HasWay g p level × (level ≤ n)
+pub within-sound : (g : GraphParts) (n p : ℕ) → In p (within g n) → (level : ℕ) × HasWay g p level × (level ≤ n)
 unfolding within
 within-sound g zero p h = absurd h
 within-sound g (suc n) p h = elim (next-sound g (within g n) p (In-filter (is_justified_next g (within g n)) p (range_with_len 0 (place_count g)) h).1) [
@@ -204,7 +204,7 @@ short_way g fit ys d once =
     omega (arith, counted, bits, size)
 
 -- a place of the least closed set is in one of the rounds
-in_round : (g : GraphParts) → IsInRange g → (p : ℕ) → Least g p → In p (within g (place_count g))
+pub in_round : (g : GraphParts) → IsInRange g → (p : ℕ) → Least g p → In p (within g (place_count g))
 in_round g fit p d =
     let s = single g (p ∷ d.0) d.1 in
     let r = way_to g s.0 s.1 p (s.2 p (inl refl)) in

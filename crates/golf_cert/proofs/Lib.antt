@@ -10,3 +10,4 @@ pub mod EdgeLaws
 pub mod VerdictLaws
 pub mod ReasonLaws
 pub mod Computing
+pub mod Counts

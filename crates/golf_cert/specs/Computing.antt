@@ -11,6 +11,10 @@ unfoldable pub within : GraphParts → ℕ → List ℕ
 within g zero = []
 within g (suc level) = filter (is_justified_next g (within g level)) (range_with_len 0 (place_count g))
 
+-- the places of the least closed set, in rising order: no level is above the count of places
+unfoldable pub least_in_order : GraphParts → List ℕ
+least_in_order g = within g (place_count g)
+
 -- whether the place is of this level: this round has it, and the one before does not
 abbrev pub is_at_level : GraphParts → ℕ → ℕ → Bool
 is_at_level g level p = is_in p (within g level) && not (is_in p (within g (level - 1)))

@@ -1,9 +1,11 @@
 -- What is promised of the definitions.
-use Rattle.std.specs.Prelude.{◌≡◌, ◌↔◌, ℕ, List, []}
+use Rattle.std.specs.Prelude.{◌≡◌, ◌≤◌, ◌↔◌, ℕ, List, []}
+use Rattle.golf_theory.specs.Membership.{In}
+use Rattle.golf_theory.specs.Counting.{times}
 use Rattle.golf_model.specs.declared.graph.GraphParts.{GraphParts}
 use Rattle.golf_model.specs.Graph.{Least, IsInRange}
 use Rattle.golf_cert.specs.Levels.{IsReason}
-use Rattle.golf_cert.specs.Computing.{reason_to}
+use Rattle.golf_cert.specs.Computing.{least_in_order, reason_to}
 
 -- a place has one reason at most
 abbrev pub OneReason : Type 0
@@ -12,3 +14,7 @@ OneReason = (g : GraphParts) (p : ℕ) (a b : List ℕ) → IsReason g p a → I
 -- the computed list is the one reason of each place of the least closed set, and empty for all others
 abbrev pub ReasonsComputed : Type 0
 ReasonsComputed = (g : GraphParts) → IsInRange g → (p : ℕ) → ((places : List ℕ) → IsReason g p places ↔ (Least g p × (places ≡ reason_to g p))) × ((Least g p → ⊥) → reason_to g p ≡ [])
+
+-- the computed list has the places of the least closed set, each once
+abbrev pub LeastComputed : Type 0
+LeastComputed = (g : GraphParts) → IsInRange g → (p : ℕ) → (In p (least_in_order g) ↔ Least g p) × (times p (least_in_order g) ≤ 1)

@@ -4,6 +4,7 @@ ghost use Rattle.std.specs.Prelude.{◌≡◌, ◌-◌, ◌<◌, ◌≤◌, ◌�
 ghost use Rattle.golf_theory.specs.Counting.{times};
 ghost use Rattle.golf_model.specs.Graph.{node_count, Least};
 ghost use Rattle.golf_marks.specs.Flags.{IsSet};
+ghost use Rattle.golf_cert.specs.Computing.{least_in_order};
 ghost use Rattle.golf_cert.specs.Links.{placed_by, places_of, AreJustified, IsClosed, CoversLeast};
 ghost use Rattle.golf_cert.specs.Parents.{HasParents, IsLinkTo, AddsLink};
 ghost use Rattle.golf_cert.specs.Steps.{place_count};
@@ -97,13 +98,14 @@ fn links_of(
 /// The certificate of a marking which has all places of the least closed set.
 ///
 /// Each place of that set is placed by exactly one link, each link is justified by those before it,
-/// and no place is missing, so that `verify` answers `Proved`. There are fewer than 2^32 links, by
-/// rising level of their places. The time is linear in the graph. The only error is `Memory`.
+/// and no place is missing, so that `verify` answers `Proved`. There are as many links as that set
+/// has places, fewer than 2^32, by rising level of their places. The time is linear in the graph. The only error is `Memory`.
 pub fn certify(alloc: Global, graph: &Graph, marked: &Marked) -> Result<Certificate, Memory>
     requires { CoversLeast graph.now marked.now }
     ensures justified { IfOk result (λ c. AreJustified graph.now c.links) }
     ensures placed { IfOk result (λ c. (p : ℕ) → Least graph.now p → times p (places_of graph.now c.links) ≡ 1) }
     ensures closed { IfOk result (λ c. IsClosed graph.now (places_of graph.now c.links)) }
+    ensures count { IfOk result (λ c. length c.links ≡ length (least_in_order graph.now)) }
     ensures few { IfOk result (λ c. length c.links < 4294967296) }
 {
     let _places = places_in(graph);

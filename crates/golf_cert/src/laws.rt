@@ -1,6 +1,6 @@
 //! Laws of the definitions.
 
-ghost use Rattle.golf_cert.specs.Laws.{OneReason, ReasonsComputed};
+ghost use Rattle.golf_cert.specs.Laws.{LeastComputed, OneReason, ReasonsComputed};
 
 /// A place has at most one reason.
 pub fn reasons_are_unique()
@@ -11,4 +11,9 @@ pub fn reasons_are_unique()
 /// every other place.
 pub fn reasons_are_computed()
     ensures computed { ReasonsComputed }
+{}
+
+/// The computed places are those of the least closed set, each once.
+pub fn least_is_computed()
+    ensures computed { LeastComputed }
 {}

@@ -14,7 +14,7 @@ mod verdicts;
 mod walk;
 
 pub use certificates::certify;
-pub use laws::{reasons_are_computed, reasons_are_unique};
+pub use laws::{least_is_computed, reasons_are_computed, reasons_are_unique};
 pub use links::{Certificate, Link, Verdict};
 pub use reasons::{Reasons, reason};
 pub use verdicts::verify;

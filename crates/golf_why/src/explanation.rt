@@ -1,0 +1,149 @@
+//! A certificate that was verified, and why each goroutine that waits is live.
+
+ghost use Rattle.std.specs.Prelude.{◌≡◌, ◌<◌, ◌≤◌, IfOk, length, slice_get, None, unwrap_or};
+ghost use Rattle.golf_theory.specs.Maps.{find};
+ghost use Rattle.golf_model.specs.Futures.{Numbered};
+ghost use Rattle.golf_model.specs.Graph.{sleeper_count};
+ghost use Rattle.golf_model.specs.Presence.{IsWhole};
+ghost use Rattle.golf_model.specs.Reporting.{entry_of};
+ghost use Rattle.golf_cert.specs.Computing.{least_in_order};
+ghost use Rattle.golf_cert.specs.Finding.{HasReasons};
+ghost use Rattle.golf_mark.specs.Marking.{MarksLeast};
+ghost use Rattle.golf_why.specs.Explaining.{asleep_in, listed, reached_at, Explains};
+
+use crate::members::{Member, before_last};
+use golf_base::{GoroutineId, List, Memory, OpenGate};
+use golf_cert::{Reasons, Verdict, certify, verify};
+use golf_data::{Entry, Mode, WaitKind};
+use golf_mark::mark_alone;
+use golf_model::{Graph, Marked};
+use golf_snapshot::live_graph;
+use golf_state::State;
+use std::alloc::Global;
+
+/// A goroutine that waits and is live.
+#[derive(Debug, Drop)]
+pub struct Reached {
+    pub goroutine: GoroutineId,
+    /// How it is blocked.
+    pub wait: WaitKind,
+    /// The line of the operation at which it is blocked.
+    pub line: u32,
+    /// The shortest way to it, from a root of the collection on: each refers to the next, or awakens
+    /// it, and the last one awakens the goroutine. Of those that are as near to the roots each is the
+    /// least that does so, objects before goroutines.
+    pub by: List<Member>,
+}
+
+/// What a collection can tell of the goroutines that wait and are live. It stays what it is while
+/// the collection changes the state: some 100 bytes an object and a blocked goroutine.
+#[derive(Drop)]
+pub struct Explanation {
+    graph: Graph,
+    asleep: List<Option<Entry>>,
+    reasons: Reasons,
+    places: u32,
+}
+
+// How many places the certificate of a marking has. It was verified.
+fn certified(alloc: Global, graph: &Graph, marked: &Marked) -> Result<u32, Memory>
+    requires { MarksLeast graph.now marked.now }
+    ensures { IfOk result (λ places. places ≡ length (least_in_order graph.now)) }
+{
+    let certificate = certify(alloc, graph, marked)?;
+    match verify(alloc, graph, &certificate)? {
+        Verdict::Proved => Ok(certificate.links.len() as u32),
+        Verdict::Refused(_) => unreachable!(),
+    }
+}
+
+// What a report would say of a goroutine; nothing of one that is not blocked.
+fn entry(state: &State, g: GoroutineId) -> Option<Entry>
+    ensures { result ≡ slice_get (entry_of g.0 (find g.0 state.now.goroutines)) 0 }
+{
+    let goroutine = state.goroutine(g)?;
+    match goroutine.mode {
+        Mode::Running => None,
+        Mode::Blocked { kind, line, .. } => Some(Entry {
+            goroutine: g,
+            wait: kind,
+            line,
+            started: goroutine.started,
+        }),
+    }
+}
+
+// How each sleeper of a graph is blocked.
+fn asleep(alloc: Global, state: &State, graph: &Graph) -> Result<List<Option<Entry>>, Memory>
+    ensures { IfOk result (λ entries. entries ≡ asleep_in state.now graph.now) }
+{
+    let mut entries = List::new(alloc);
+    for sleeper in 0..graph.sleepers() {
+        entries.push(entry(state, graph.goroutine_of(sleeper)))?;
+    }
+    Ok(entries)
+}
+
+impl Explanation {
+    /// Makes the live graph of a state, marks it, certifies the marking and verifies the certificate,
+    /// and finds the reasons of all sleepers, in time linear in the graph but for a binary search
+    /// for each sleeper.
+    ///
+    /// The only error is `Memory`, which also comes if objects and blocked goroutines together are too
+    /// many for a `u32`.
+    pub fn new(alloc: Global, state: &State) -> Result<Explanation, Memory>
+        requires numbered { Numbered state.now }
+        requires whole { IsWhole state.now }
+        ensures { IfOk result (Explains state.now) }
+    {
+        let graph = live_graph(alloc, state)?;
+        let marked = mark_alone(alloc, &graph, &OpenGate)?;
+        let places = certified(alloc, &graph, &marked)?;
+        let asleep = asleep(alloc, state, &graph)?;
+        let reasons = Reasons::new(alloc, &graph)?;
+        Ok(Explanation {
+            graph,
+            asleep,
+            reasons,
+            places,
+        })
+    }
+
+    /// How many objects and goroutines the certificate places: the live objects, and the live ones of
+    /// the blocked goroutines other than goroutine 0.
+    pub fn places(&self) -> u32
+        ensures { result ≡ self.now.places }
+    {
+        self.places
+    }
+
+    /// How many goroutines other than goroutine 0 are blocked. They are counted from 0, in rising
+    /// number.
+    pub fn sleepers(&self) -> u32
+        ensures { result ≡ sleeper_count self.now.graph }
+    {
+        self.graph.sleepers()
+    }
+
+    /// What leads to this blocked goroutine; none if it is dead. The time is linear in the length of
+    /// the way. The only error is `Memory`.
+    pub fn reached(&self, alloc: Global, sleeper: u32) -> Result<Option<Reached>, Memory>
+        requires reasons { HasReasons self.now.graph self.now.reasons }
+        requires sleeper { sleeper < sleeper_count self.now.graph }
+        ensures { IfOk result (λ found. listed found ≡ reached_at self.now.graph sleeper (unwrap_or (slice_get self.now.asleep sleeper) None)) }
+    {
+        let Some(links) = self.reasons.of(alloc, &self.graph, sleeper)? else {
+            return Ok(None);
+        };
+        let Some(Some(entry)) = self.asleep.get(sleeper as usize) else {
+            return Ok(None);
+        };
+        let by = before_last(alloc, &self.graph, links.as_slice())?;
+        Ok(Some(Reached {
+            goroutine: entry.goroutine,
+            wait: entry.wait,
+            line: entry.line,
+            by,
+        }))
+    }
+}

@@ -1,0 +1,9 @@
+//! Why goroutines that wait are live: before a collection a certificate of its marking is made and
+//! verified, and for each such goroutine the shortest way by which it is reached.
+#![tactic(auto)]
+
+mod explanation;
+mod members;
+
+pub use explanation::{Explanation, Reached};
+pub use members::Member;

@@ -1,0 +1,59 @@
+//! What a reason names.
+
+ghost use Rattle.std.specs.Prelude.{◌≡◌, ◌-◌, ◌<◌, ◌≤◌, IfOk, length, map, take};
+ghost use Rattle.golf_model.specs.Graph.{node_count, sleeper_count};
+ghost use Rattle.golf_cert.specs.Links.{placed_by, places_of, AreJustified};
+ghost use Rattle.golf_why.specs.Members.{member_at, members_before, IsWithin};
+
+use golf_base::{GoroutineId, List, Memory, ObjectId};
+use golf_cert::Link;
+use golf_model::Graph;
+use std::alloc::Global;
+
+/// An object or a goroutine of the live set.
+#[derive(Clone, Copy, Debug, PartialEq, Eq)]
+pub enum Member {
+    Object(ObjectId),
+    Goroutine(GoroutineId),
+}
+
+// The object of a node.
+fn object(graph: &Graph, node: u32) -> Member
+    requires { node < node_count graph.now }
+    ensures { result ≡ member_at graph.now node }
+{
+    Member::Object(graph.number_of(node))
+}
+
+// What a link places.
+fn placed(graph: &Graph, link: Link) -> Member
+    requires { IsWithin graph.now link }
+    ensures { result ≡ member_at graph.now (placed_by graph.now link) }
+{
+    match link {
+        Link::Root(node) => object(graph, node),
+        Link::Child { to, .. } => object(graph, to),
+        Link::Woken { sleeper, .. } => Member::Goroutine(graph.goroutine_of(sleeper)),
+        Link::Held { node, .. } => object(graph, node),
+    }
+}
+
+/// What the links of a reason place but for the last one, in their order.
+pub(crate) fn before_last(
+    alloc: Global,
+    graph: &Graph,
+    links: &[Link],
+) -> Result<List<Member>, Memory>
+    requires { AreJustified graph.now links.now }
+    ensures { IfOk result (λ members. members ≡ members_before graph.now (places_of graph.now links.now)) }
+{
+    let _nodes = graph.nodes();
+    let mut members = List::new(alloc);
+    let Some((_, before)) = links.split_last() else {
+        return Ok(members);
+    };
+    for link in before {
+        members.push(placed(graph, *link))?;
+    }
+    Ok(members)
+}
