@@ -1,6 +1,6 @@
 //! Why sleepers are awake.
 
-ghost use Rattle.std.specs.Prelude.{◌≡◌, ◌+◌, ◌<◌, ◌↔◌, [], ◌∷◌, IfOk, IsSome, IfSome, length, slice_index};
+ghost use Rattle.std.specs.Prelude.{◌≡◌, ◌+◌, ◌<◌, ◌↔◌, [], ◌∷◌, IfOk, IsSome, IfSome, MatchOption, length, slice_index};
 ghost use Rattle.golf_model.specs.Graph.{sleeper_count, sleeper_place, Justifies, Least};
 ghost use Rattle.golf_cert.specs.Computing.{reason_in};
 ghost use Rattle.golf_cert.specs.Levels.{IsReason, IsShortest};
@@ -105,7 +105,7 @@ impl Reasons {
         requires sleeper { sleeper < sleeper_count graph.now }
         ensures found { IfOk result (λ found. IsSome found ↔ Least graph.now (sleeper_place graph.now sleeper)) }
         ensures reason { IfOk result (λ found. IfSome found (λ links. IsReason graph.now (sleeper_place graph.now sleeper) (places_of graph.now links))) }
-        ensures computed { IfOk result (λ found. IfSome found (λ links. places_of graph.now links ≡ reason_in graph.now sleeper)) }
+        ensures computed { IfOk result (λ found. MatchOption found (reason_in graph.now sleeper ≡ []) (λ links. places_of graph.now links ≡ reason_in graph.now sleeper)) }
         ensures justified { IfOk result (λ found. IfSome found (AreJustified graph.now)) }
         ensures shortest { IfOk result (λ found. IfSome found (λ links. IsShortest graph.now (sleeper_place graph.now sleeper) (length links))) }
     {
@@ -125,7 +125,7 @@ pub fn reason(alloc: Global, graph: &Graph, sleeper: u32) -> Result<Option<List<
     requires { sleeper < sleeper_count graph.now }
     ensures found { IfOk result (λ found. IsSome found ↔ Least graph.now (sleeper_place graph.now sleeper)) }
     ensures reason { IfOk result (λ found. IfSome found (λ links. IsReason graph.now (sleeper_place graph.now sleeper) (places_of graph.now links))) }
-    ensures computed { IfOk result (λ found. IfSome found (λ links. places_of graph.now links ≡ reason_in graph.now sleeper)) }
+    ensures computed { IfOk result (λ found. MatchOption found (reason_in graph.now sleeper ≡ []) (λ links. places_of graph.now links ≡ reason_in graph.now sleeper)) }
     ensures justified { IfOk result (λ found. IfSome found (AreJustified graph.now)) }
     ensures shortest { IfOk result (λ found. IfSome found (λ links. IsShortest graph.now (sleeper_place graph.now sleeper) (length links))) }
 {

@@ -2,12 +2,10 @@
 use Rattle.std.proofs.Common.{◌≡◌, Bool, true, List, [], ◌∷◌, ◌++◌, refl, ap, sym, ◌∙◌, append_assoc}
 use Rattle.golf_data.specs.declared.code.Code.{Code}
 use Rattle.golf_data.specs.declared.report.Book.{Book}
-use Rattle.golf_data.specs.declared.report.Report.{Report}
 use Rattle.golf_model.specs.State.{State}
 use Rattle.golf_model.specs.Collecting.{plain_collect}
 use Rattle.golf_model.specs.Running.{Event, has_ended, happens, happens_by, happens_in, run, run_by, stop_in, stops_by}
 use Rattle.golf_model.specs.Reporting.{report, book_after, reports_from}
-use Rattle.golf_texts.specs.Texts.{report_text, reports_text}
 use Rattle.golf_texts.specs.Writes.{books}
 
 -- of any kind of collections
@@ -30,10 +28,6 @@ module _ (recover sets : Bool) where
   pub books-append : (ps qs : List State) (book : Book) → books recover sets book (ps ++ qs) ≡ books recover sets (books recover sets book ps) qs
   books-append [] qs book = refl
   books-append (p ∷ ps) qs book = books-append ps qs (book_after recover sets book p)
-
-pub texts-append : (rs qs : List Report) → reports_text (rs ++ qs) ≡ reports_text rs ++ reports_text qs
-texts-append [] qs = refl
-texts-append (r ∷ rs) qs = ap (λ t. report_text r ++ t) (texts-append rs qs) ∙ sym (append_assoc (report_text r) (reports_text rs) (reports_text qs))
 
 -- a state with an ending stays
 pub ended-run : (code : Code) (es : List Event) (s : State) → has_ended s ≡ true → run code s es ≡ s

@@ -1,66 +1,63 @@
 -- Where the writes of a run were cut, or stopped.
-use Rattle.std.proofs.Common.{◌≡◌, ℕ, Bool, true, false, List, [], ◌∷◌, ◌++◌, map, refl, sym, ap, subst, ◌∙◌, append_assoc, append-nil}
-use Rattle.std.proofs.lemmas.List.{append_cancel_left}
-use Rattle.std.specs.Prelude.{Option, None, is_some}
+use Rattle.std.proofs.Common.{◌≡◌, ℕ, Bool, true, false, List, [], ◌∷◌, ◌++◌, refl, sym, ap, subst, ◌∙◌, append_assoc, append-nil}
+use Rattle.std.specs.Prelude.{Option, None}
 use Rattle.std.specs.Io.KnownBytes.{Appends}
 use Rattle.std.proofs.KnownBytes.{Appends-trans}
 use Rattle.golf_base.specs.Causes.{Rose, WritesFront}
 use Rattle.golf_data.specs.declared.code.Code.{Code}
 use Rattle.golf_data.specs.declared.report.Book.{Book}
-use Rattle.golf_data.specs.declared.report.Report.{Report}
 use Rattle.golf_model.specs.State.{State, start, ending}
 use Rattle.golf_model.specs.Turn.{step}
-use Rattle.golf_model.specs.Collecting.{plain_collect, sets_finalisers}
-use Rattle.golf_model.specs.Running.{Event, has_ended, happens_in, run, stop_in, stops_by}
-use Rattle.golf_model.specs.Reporting.{new_book, reports_from}
+use Rattle.golf_model.specs.Collecting.{sets_finalisers}
+use Rattle.golf_model.specs.Running.{Event, has_ended, stop_in, stop_if}
+use Rattle.golf_model.specs.Reporting.{new_book, report}
 use Rattle.golf_schedules.specs.declared.options.Options.{Options}
-use Rattle.golf_texts.specs.Texts.{reports_text}
-use Rattle.golf_texts.specs.Meaning.{events_of, end_of}
-use Rattle.golf_texts.specs.Writes.{Write, out_bytes, err_bytes, emptied, tells, prints_in, writes_in, writes_from, event_writes_of, writes_of}
+use Rattle.golf_texts.specs.Meaning.{events_of, joined, end_of}
+use Rattle.golf_texts.specs.Writes.{Write, out_bytes, err_bytes, emptied, told_lines, line_writes, prints_in, collection_writes, writes_in, writes_from, event_writes_of, writes_of}
 use Rattle.golf_laws.specs.Printing.{prefixed}
-use Rattle.golf_run.specs.Told.{told_text}
+use Rattle.golf_run.specs.Lines.{IsCutIn, IsStoppedIn}
+use Rattle.golf_run.specs.Told.{told, told_by}
 use Rattle.golf_run.specs.Happening.{turned, prints, says, collects}
-use Rattle.golf_run.specs.HasRun.{Sinks, sinks, GotWrites, WasCut}
-use Rattle.golf_run.specs.UnderWay.{at, stops_to, reports_to, book_to, writes_to, real_at, real_book_to}
-use Rattle.golf_run.proofs.Appending.{run-append, stops-append, reports-append}
-use Rattle.golf_run.proofs.Writing.{out-append, err-append, happens-output, printed-by, writes-append, writes-out, writes-err}
-use Rattle.golf_run.proofs.Real.{same-ending}
-use Rattle.golf_run.proofs.Goings.{going, grown, spoken}
+use Rattle.golf_run.specs.HasRun.{Sinks, sinks, GotWrites, WasCut, WasStopped}
+use Rattle.golf_run.specs.UnderWay.{at, told_to, writes_to, collecting, real_at, real_stops_to, real_book_to}
+use Rattle.golf_run.proofs.Writing.{out-append, err-append, lines-out, lines-err, writes-append, writes-out, writes-err}
+use Rattle.golf_run.proofs.Printed.{told-prefixed}
+use Rattle.golf_run.proofs.Real.{same-output}
+use Rattle.golf_run.proofs.Goings.{placed, stopped, going}
 
 -- ---- what the events done write
 
-module _ (code : Code) (recover : Bool) (done : List Event) where
-  pub out-done : out_bytes (writes_to code recover done) ≡ (at code done).output
-  unfolding writes_to at
-  out-done = writes-out code recover (sets_finalisers code) done new_book (start code)
+module _ (code : Code) (recover why : Bool) (done : List Event) where
+  pub out-done : out_bytes (writes_to code recover why done) ≡ (at code done).output
+  unfolding writes_to real_at
+  out-done = writes-out code recover (sets_finalisers code) why done new_book (start code) ∙ sym (same-output code recover done)
 
-  pub err-done : err_bytes (writes_to code recover done) ≡ reports_text (reports_to code recover done)
-  unfolding writes_to reports_to stops_to
-  err-done = writes-err code recover (sets_finalisers code) done new_book (start code)
+  pub err-done : err_bytes (writes_to code recover why done) ≡ told_to code recover why done
+  unfolding writes_to told_to real_stops_to
+  err-done = writes-err code recover (sets_finalisers code) why done new_book (start code)
 
 module _ (code : Code) (options : Options) (done rest : List Event) (split : events_of options ≡ done ++ rest) where
-  -- the writes of those behind them
+  -- the writes of those after them
   abbrev pub later_writes : List Write
-  later_writes = writes_from code options.recover (sets_finalisers code) (book_to code options.recover done) (at code done) rest
+  later_writes = writes_from code options.recover (sets_finalisers code) options.why (real_book_to code options.recover done) (real_at code options.recover done) rest
 
   abbrev pub behind : List Write
   behind = later_writes ++ Write.ToErr (end_of code options) ∷ []
 
-  pub events-split : event_writes_of code options ≡ writes_to code options.recover done ++ later_writes
-  unfolding event_writes_of writes_to book_to stops_to at
+  pub events-split : event_writes_of code options ≡ writes_to code options.recover options.why done ++ later_writes
+  unfolding event_writes_of writes_to real_book_to real_stops_to real_at
   events-split =
       let sets = sets_finalisers code in
-      ap (λ es. writes_from code options.recover sets new_book (start code) es) split ∙ writes-append code options.recover sets done rest new_book (start code)
+      ap (λ es. writes_from code options.recover sets options.why new_book (start code) es) split ∙ writes-append code options.recover sets options.why done rest new_book (start code)
 
-  pub writes-split : writes_of code options ≡ writes_to code options.recover done ++ behind
+  pub writes-split : writes_of code options ≡ writes_to code options.recover options.why done ++ behind
   unfolding writes_of
-  writes-split = ap (λ ws. ws ++ Write.ToErr (end_of code options) ∷ []) events-split ∙ append_assoc (writes_to code options.recover done) later_writes (Write.ToErr (end_of code options) ∷ [])
+  writes-split = ap (λ ws. ws ++ Write.ToErr (end_of code options) ∷ []) events-split ∙ append_assoc (writes_to code options.recover options.why done) later_writes (Write.ToErr (end_of code options) ∷ [])
 
 -- ---- one event more
 
-said-by : (code : Code) (e : Event) (s t : State) → out_bytes (prints_in code s e) ≡ prints code e t → prints_in code s e ≡ says code e t
-said-by code (Event.Turn c) s t h = ap (λ b. Write.ToOut b ∷ []) (sym (append-nil (step code (emptied s) c).output) ∙ h)
-said-by code Event.Collect s t h = refl
+emptied-same : (s : State) → s.output ≡ [] → emptied s ≡ s
+emptied-same s h = ap (λ (o : List ℕ). record s { output = o }) (sym h)
 
 pub says-out : (code : Code) (e : Event) (s : State) → out_bytes (says code e s) ≡ prints code e s
 says-out code (Event.Turn c) s = append-nil (step code s c).output
@@ -70,51 +67,42 @@ pub says-err : (code : Code) (e : Event) (s : State) → err_bytes (says code e 
 says-err code (Event.Turn c) s = refl
 says-err code Event.Collect s = refl
 
-module _ (code : Code) (recover : Bool) (done : List Event) (e : Event) (state : State) (goes : ending state ≡ None) (same : real_at code recover done ≡ prefixed (real_at code recover done).output state) (taken : state.output ≡ []) where
-  plain-going : has_ended (at code done) ≡ false
-  plain-going = ap is_some (same-ending code recover done) ∙ going code recover done e state goes same taken
+said-by : (code : Code) (e : Event) (m s : State) → emptied m ≡ s → prints_in code m e ≡ says code e s
+said-by code (Event.Turn c) m s h = ap (λ t. Write.ToOut (step code t c).output ∷ []) h
+said-by code Event.Collect m s h = refl
 
-  abbrev stop : List State
-  stop = stop_in plain_collect code false (at code done) e
+module _ (code : Code) (recover why : Bool) (done : List Event) (e : Event) (state : State) (goes : ending state ≡ None) (same : real_at code recover done ≡ prefixed (real_at code recover done).output state) (taken : state.output ≡ []) where
+  abbrev machine : State
+  machine = real_at code recover done
 
-  -- the report of the collection that follows it
-  abbrev pub follows : List Report
-  follows = reports_from recover (sets_finalisers code) (book_to code recover done) stop
+  -- the writes of the collection that follows it
+  abbrev pub followed_by : Bool → List Write
+  followed_by b = collection_writes code recover (sets_finalisers code) why (real_book_to code recover done) (stop_if (collecting code recover) code b (placed code (collecting code recover) machine.output state machine same e))
 
-  stops-next : stops_to code (done ++ e ∷ []) ≡ stops_to code done ++ stop
-  unfolding stops_to at
-  stops-next =
-      stops-append plain_collect code done (e ∷ []) (start code)
-      ∙ ap (λ ps. stops_by plain_collect code (start code) done ++ ps) (append-nil _ ∙ ap (λ b. stop_in plain_collect code b (run code (start code) done) e) plain-going)
+  said : prints_in code machine e ≡ says code e state
+  said = said-by code e machine state (ap emptied same ∙ emptied-same state taken)
 
-  reports-grow : reports_to code recover (done ++ e ∷ []) ≡ reports_to code recover done ++ follows
-  unfolding reports_to book_to
-  reports-grow = ap (reports_from recover (sets_finalisers code) new_book) stops-next ∙ reports-append recover (sets_finalisers code) (stops_to code done) stop new_book
-
-  plain-prints : out_bytes (prints_in code (at code done) e) ≡ prints code e state
-  unfolding at
-  plain-prints =
-      let s = at code done in
-      append_cancel_left s.output _ _ (
-      ap (λ t. s.output ++ t) (printed-by code s e ∙ ap (λ b. (happens_in plain_collect code b (emptied s) e).output) (sym plain-going))
-      ∙ sym (happens-output code s e) ∙ ap (λ (t : State). t.output) (sym (run-append plain_collect code done (e ∷ []) (start code)))
-      ∙ grown code recover done e state goes same taken
-      )
-
-  pub writes-next : writes_to code recover (done ++ e ∷ []) ≡ (writes_to code recover done ++ says code e state) ++ map tells follows
-  unfolding writes_to book_to stops_to at
+  pub writes-next : writes_to code recover why (done ++ e ∷ []) ≡ (writes_to code recover why done ++ says code e state) ++ followed_by (collects code e state)
+  unfolding writes_to real_book_to real_stops_to real_at
   writes-next =
       let sets = sets_finalisers code in
-      let s = at code done in
-      let book = book_to code recover done in
-      writes-append code recover sets done (e ∷ []) new_book (start code)
-      ∙ ap (λ ws. writes_to code recover done ++ ws) (append-nil (writes_in code recover sets (has_ended s) book s e) ∙ ap (λ b. writes_in code recover sets b book s e) plain-going ∙ ap (λ ws. ws ++ map tells follows) (said-by code e s state plain-prints))
-      ∙ sym (append_assoc (writes_to code recover done) (says code e state) (map tells follows))
+      let m = real_at code recover done in
+      let book = real_book_to code recover done in
+      writes-append code recover sets why done (e ∷ []) new_book (start code)
+      ∙ ap (λ ws. writes_to code recover why done ++ ws) (append-nil (writes_in code recover sets why (has_ended m) book m e) ∙ ap (λ b. writes_in code recover sets why b book m e) (going code recover done e state goes same taken)
+        ∙ ap (λ ws. ws ++ collection_writes code recover sets why book (stop_in (collecting code recover) code false m e)) said
+        ∙ ap (λ ps. says code e state ++ collection_writes code recover sets why book ps) (stopped code (collecting code recover) m.output state m same e))
+      ∙ sym (append_assoc (writes_to code recover why done) (says code e state) (followed_by (collects code e state)))
 
-  -- the collection's report is that of the state in memory
-  pub follows-told : (book : Book) → book ≡ real_book_to code recover done → collects code e state ≡ true → map tells follows ≡ Write.ToErr (told_text recover (sets_finalisers code) book (turned code e state)) ∷ []
-  unfolding told_text
-  follows-told book is h = ap (λ rs. map tells rs) (append_cancel_left (reports_to code recover done) _ _ (sym reports-grow ∙ (spoken code recover done e state goes same taken book is h).0))
+  -- the collection's lines are those of the state in memory
+  pub follows-told : (book : Book) → book ≡ real_book_to code recover done → followed_by true ≡ line_writes (told_by recover (sets_finalisers code) why book (turned code e state))
+  unfolding told told_by
+  follows-told book is =
+      let sets = sets_finalisers code in
+      let t = turned code e state in
+      let w : List ℕ = machine.output ++ prints code e state in
+      append-nil (line_writes (told_lines why (report recover sets (real_book_to code recover done) (prefixed w t)) (prefixed w t)))
+      ∙ ap line_writes (ap (λ b. told_by recover sets why b (prefixed w t)) (sym is) ∙ told-prefixed w t recover sets book why)
 
 -- ---- writes that were cut
 
@@ -147,4 +135,50 @@ module _ (writes done later : List Write) (old now : Sinks) (got : GotWrites don
       subst (Appends old.err err) (ap (λ t. err_bytes done ++ t) (sym (append-nil f.0)) ∙ sym (err-append done (Write.ToErr f.0 ∷ []))) (Appends-trans _ _ _ _ _ got.1 f.3),
     );
     failed = (steady, rose);
+  }
+
+-- ---- lines that were cut, or stopped
+
+line-writes-append : (ls ms : List (List ℕ)) → line_writes (ls ++ ms) ≡ line_writes ls ++ line_writes ms
+line-writes-append [] ms = refl
+line-writes-append (l ∷ ls) ms = ap (λ ws. Write.ToErr l ∷ ws) (line-writes-append ls ms)
+
+module _ (writes done later : List Write) (lines : List (List ℕ)) (order : writes ≡ done ++ (line_writes lines ++ later)) (old now : Sinks) (got : GotWrites done old now) where
+  -- these lines too
+  pub got-lines : (ls : List (List ℕ)) (err : Option (List ℕ)) (of ef : ℕ) → Appends now.err err (joined ls) → GotWrites (done ++ line_writes ls) old (sinks now.out of err ef)
+  got-lines ls err of ef a = (
+    subst (Appends old.out now.out) (sym (append-nil (out_bytes done)) ∙ ap (λ t. out_bytes done ++ t) (sym (lines-out ls)) ∙ sym (out-append done (line_writes ls))) got.0,
+    subst (Appends old.err err) (ap (λ t. err_bytes done ++ t) (sym (lines-err ls)) ∙ sym (err-append done (line_writes ls))) (Appends-trans _ _ _ _ _ got.1 a),
+  )
+
+  reorder : (ls : List (List ℕ)) (more : List Write) → line_writes lines ≡ line_writes ls ++ more → writes ≡ (done ++ line_writes ls) ++ (more ++ later)
+  reorder ls more e = order ∙ ap (λ ws. done ++ (ws ++ later)) e ∙ ap (λ ws. done ++ ws) (append_assoc (line_writes ls) more later) ∙ sym (append_assoc done (line_writes ls) (more ++ later))
+
+  pub lines-cut : (err : Option (List ℕ)) (ef : ℕ) → IsCutIn lines now.err err → now.out_faults ≡ old.out_faults → Rose old.err_faults ef → WasCut writes old (sinks now.out now.out_faults err ef)
+  lines-cut err ef h steady rose =
+      let before = line_writes h.done in
+      record {
+        done = done ++ before;
+        cut = Write.ToErr h.cut;
+        front = Write.ToErr h.front;
+        later = line_writes h.later ++ later;
+        order = reorder h.done (Write.ToErr h.cut ∷ line_writes h.later) (ap line_writes h.order ∙ line-writes-append h.done (h.cut ∷ h.later));
+        is_front = (h.rest, h.is_front);
+        got = (
+          subst (Appends old.out now.out)
+              (sym (append-nil (out_bytes done)) ∙ ap (λ t. out_bytes done ++ t) (sym (lines-out h.done)) ∙ sym (out-append done before) ∙ sym (append-nil (out_bytes (done ++ before))) ∙ sym (out-append (done ++ before) (Write.ToErr h.front ∷ []))) got.0,
+          subst (Appends old.err err)
+              (sym (append_assoc (err_bytes done) (joined h.done) h.front) ∙ ap (λ t. (err_bytes done ++ t) ++ h.front) (sym (lines-err h.done)) ∙ ap (λ t. t ++ h.front) (sym (err-append done before))
+              ∙ ap (λ t. err_bytes (done ++ before) ++ t) (sym (append-nil h.front)) ∙ sym (err-append (done ++ before) (Write.ToErr h.front ∷ []))) (Appends-trans _ _ _ _ _ got.1 h.got),
+        );
+        failed = (steady, rose);
+      }
+
+  pub lines-stopped : (err : Option (List ℕ)) (ef : ℕ) → IsStoppedIn lines now.err err → now.out_faults ≡ old.out_faults → ef ≡ old.err_faults → WasStopped writes old (sinks now.out now.out_faults err ef)
+  lines-stopped err ef h out_steady err_steady = record {
+    done = done ++ line_writes h.done;
+    later = line_writes h.later ++ later;
+    order = reorder h.done (line_writes h.later) (ap line_writes h.order ∙ line-writes-append h.done h.later);
+    got = got-lines h.done err now.out_faults ef h.got;
+    steady = record { out = out_steady; err = err_steady };
   }

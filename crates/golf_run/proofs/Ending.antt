@@ -20,21 +20,22 @@ use Rattle.golf_texts.specs.declared.totals.Totals.{Totals}
 use Rattle.golf_texts.specs.Texts.{last_line}
 use Rattle.golf_texts.specs.Totals.{totals_of}
 use Rattle.golf_texts.specs.Meaning.{events_of, last_of, reports_of, end_of}
-use Rattle.golf_texts.specs.Writes.{Write, out_bytes, err_bytes, tells, writes_from, event_writes_of, writes_of}
+use Rattle.golf_texts.specs.Writes.{Write, out_bytes, err_bytes, line_writes, writes_from, event_writes_of, writes_of}
 use Rattle.golf_run.specs.declared.fault.RunFault.{RunFault}
 use Rattle.golf_run.specs.declared.fault.RunFault.TheVariants as faults
-use Rattle.golf_run.specs.Told.{told_text, HasTold}
+use Rattle.golf_run.specs.Lines.{IsCutIn, IsStoppedIn}
+use Rattle.golf_run.specs.Told.{told_by, HasTold}
 use Rattle.golf_run.specs.Happening.{turned, prints, says, collects, HasTurned}
 use Rattle.golf_run.specs.HasLeft.{HasLeft}
 use Rattle.golf_run.specs.declared.turns.Course.{Course}
 use Rattle.golf_run.specs.HasRun.{Sinks, sinks, GotWrites, IsSteady, WasCut, WasStopped}
 use Rattle.golf_run.specs.HasGone.{WentThrough, HasGone}
-use Rattle.golf_run.specs.UnderWay.{at, stops_to, reports_to, book_to, writes_to, real_at, real_stops_to, real_book_to, IsUnderWay}
+use Rattle.golf_run.specs.UnderWay.{at, stops_to, reports_to, book_to, told_to, writes_to, real_at, real_stops_to, real_book_to, IsUnderWay}
 use Rattle.golf_run.proofs.Appending.{run-append, stops-append, reports-append, ended-run, ended-stops}
 use Rattle.golf_run.proofs.Writing.{out-append, err-append, ended-writes}
 use Rattle.golf_run.proofs.Real.{same-ending}
 use Rattle.golf_run.proofs.Leaving.{start-left}
-use Rattle.golf_run.proofs.Cutting.{out-done, err-done, behind, events-split, writes-split, follows, writes-next, follows-told, says-out, says-err, out-cut, err-cut}
+use Rattle.golf_run.proofs.Cutting.{out-done, err-done, behind, events-split, writes-split, followed_by, writes-next, follows-told, says-out, says-err, out-cut, lines-cut, lines-stopped}
 
 -- the whole run, after some of its events
 module _ (code : Code) (options : Options) (done rest : List Event) (split : events_of options ≡ done ++ rest) where
@@ -64,37 +65,40 @@ not-none : (o : Option Ending) → is_some o ≡ true → o ≡ None → ⊥
 not-none None h e = cc
 not-none (Some x) h e = cc
 
-module _ (code : Code) (options : Options) (done rest : List Event) (split : events_of options ≡ done ++ rest) (state : State) (ledger : Book) (totals : Totals) (old now : Sinks) (w : IsUnderWay code options.recover done state ledger totals old now) where
+module _ (code : Code) (options : Options) (done rest : List Event) (split : events_of options ≡ done ++ rest) (state : State) (ledger : Book) (totals : Totals) (old now : Sinks) (w : IsUnderWay code options.recover options.why done state ledger totals old now) where
   -- what was written by then is whole
-  pub got-now : GotWrites (writes_to code options.recover done) old now
-  got-now = (subst (Appends old.out now.out) (sym (out-done code options.recover done)) w.out, subst (Appends old.err now.err) (sym (err-done code options.recover done)) w.err)
+  pub got-now : GotWrites (writes_to code options.recover options.why done) old now
+  got-now = (subst (Appends old.out now.out) (sym (out-done code options.recover options.why done)) w.out, subst (Appends old.err now.err) (sym (err-done code options.recover options.why done)) w.err)
 
   pub stopped : IsSteady old now → WasStopped (writes_of code options) old now
-  stopped steady = record { done = writes_to code options.recover done; later = behind code options done rest split; order = writes-split code options done rest split; got = got-now; steady = steady }
+  stopped steady = record { done = writes_to code options.recover options.why done; later = behind code options done rest split; order = writes-split code options done rest split; got = got-now; steady = steady }
 
   module _ (goes : ending state ≡ None) (e : Event) (rest' : List Event) (next : rest ≡ e ∷ rest') where
     abbrev pub split-next : events_of options ≡ (done ++ e ∷ []) ++ rest'
     split-next = split ∙ ap (λ es. done ++ es) next ∙ sym (append_assoc done (e ∷ []) rest')
 
     abbrev pub followed : List Write
-    followed = map tells (follows code options.recover done e state goes w.same w.taken)
+    followed = followed_by code options.recover options.why done e state goes w.same w.taken (collects code e state)
 
     abbrev pub behind-next : List Write
     behind-next = behind code options (done ++ e ∷ []) rest' split-next
 
-    -- what the event prints comes next, and then the report of the collection that follows
-    pub order-next : writes_of code options ≡ (writes_to code options.recover done ++ says code e state) ++ (followed ++ behind-next)
+    -- what the event prints comes next, and then what the collection that follows tells
+    pub order-next : writes_of code options ≡ (writes_to code options.recover options.why done ++ says code e state) ++ (followed ++ behind-next)
     order-next =
         writes-split code options (done ++ e ∷ []) rest' split-next
-        ∙ ap (λ ws. ws ++ behind-next) (writes-next code options.recover done e state goes w.same w.taken)
-        ∙ append_assoc (writes_to code options.recover done ++ says code e state) followed behind-next
+        ∙ ap (λ ws. ws ++ behind-next) (writes-next code options.recover options.why done e state goes w.same w.taken)
+        ∙ append_assoc (writes_to code options.recover options.why done ++ says code e state) followed behind-next
 
-    pub order-told : collects code e state ≡ true → writes_of code options ≡ (writes_to code options.recover done ++ says code e state) ++ Write.ToErr (told_text options.recover (sets_finalisers code) ledger (turned code e state)) ∷ behind-next
-    order-told c = order-next ∙ ap (λ ws. (writes_to code options.recover done ++ says code e state) ++ (ws ++ behind-next)) (follows-told code options.recover done e state goes w.same w.taken ledger w.book c)
+    pub order-told : collects code e state ≡ true → writes_of code options ≡ (writes_to code options.recover options.why done ++ says code e state) ++ (line_writes (told_by options.recover (sets_finalisers code) options.why ledger (turned code e state)) ++ behind-next)
+    order-told c =
+        order-next
+        ∙ ap (λ ws. (writes_to code options.recover options.why done ++ says code e state) ++ (ws ++ behind-next))
+            (ap (followed_by code options.recover options.why done e state goes w.same w.taken) c ∙ follows-told code options.recover options.why done e state goes w.same w.taken ledger w.book)
 
-    pub got-said : (out : Option (List ℕ)) (of ef : ℕ) → Appends now.out out (prints code e state) → GotWrites (writes_to code options.recover done ++ says code e state) old (sinks out of now.err ef)
+    pub got-said : (out : Option (List ℕ)) (of ef : ℕ) → Appends now.out out (prints code e state) → GotWrites (writes_to code options.recover options.why done ++ says code e state) old (sinks out of now.err ef)
     got-said out of ef a =
-        let before = writes_to code options.recover done in (
+        let before = writes_to code options.recover options.why done in (
           subst (Appends old.out out) (ap (λ t. out_bytes before ++ t) (sym (says-out code e state)) ∙ sym (out-append before (says code e state))) (Appends-trans _ _ _ _ _ got-now.0 a),
           subst (Appends old.err now.err) (sym (append-nil (err_bytes before)) ∙ ap (λ t. err_bytes before ++ t) (sym (says-err code e state)) ∙ sym (err-append before (says code e state))) got-now.1,
         )
@@ -128,14 +132,17 @@ module _ (code : Code) (options : Options) (done rest : List Event) (split : eve
       | inr e ↦ counted ∙ ap turns_among (sym (split ∙ ap (λ es. done ++ es) e ∙ append-nil done))
     ]
 
-    all-written : event_writes_of code options ≡ writes_to code options.recover done
+    real-ended : (is_some (ending state) ≡ true) → has_ended (real_at code options.recover done) ≡ true
+    real-ended e = ap has_ended w.same ∙ e
+
+    all-written : event_writes_of code options ≡ writes_to code options.recover options.why done
     all-written =
         events-split code options done rest split
-        ∙ ap (λ ws. writes_to code options.recover done ++ ws) (elim ended [
-          | inl e ↦ ended-writes code options.recover (sets_finalisers code) rest (book_to code options.recover done) (at code done) e
-          | inr e ↦ ap (writes_from code options.recover (sets_finalisers code) (book_to code options.recover done) (at code done)) e
+        ∙ ap (λ ws. writes_to code options.recover options.why done ++ ws) (elim over [
+          | inl e ↦ ended-writes code options.recover (sets_finalisers code) options.why rest (real_book_to code options.recover done) (real_at code options.recover done) (real-ended e)
+          | inr e ↦ ap (writes_from code options.recover (sets_finalisers code) options.why (real_book_to code options.recover done) (real_at code options.recover done)) e
         ])
-        ∙ append-nil (writes_to code options.recover done)
+        ∙ append-nil (writes_to code options.recover options.why done)
 
     -- all events came about
     pub went : (course : Course) → course.turns ≡ turns → course.ending ≡ ending state → course.totals ≡ totals → IsSteady old now → WentThrough course code options old now
@@ -165,10 +172,10 @@ pub never-began : (code : Code) (options : Options) (old : Sinks) → WasStopped
 never-began code options old = record { done = []; later = writes_of code options; order = refl; got = (Appends-nil old.out, Appends-nil old.err); steady = record { out = refl; err = refl } }
 
 -- the run before its first event
-pub begins : (code : Code) (recover : Bool) (state : State) (book : Book) (totals : Totals) (out err : Option (List ℕ)) (of ef : ℕ) → state ≡ start code → book ≡ new_book → totals ≡ totals_of []
-    → IsUnderWay code recover [] state book totals (record { out = out; out_faults = of; err = err; err_faults = ef }) (record { out = out; out_faults = of; err = err; err_faults = ef })
-unfolding at stops_to reports_to real_at real_stops_to real_book_to
-begins code recover state book totals out err of ef is none nothing = record {
+pub begins : (code : Code) (recover why : Bool) (state : State) (book : Book) (totals : Totals) (out err : Option (List ℕ)) (of ef : ℕ) → state ≡ start code → book ≡ new_book → totals ≡ totals_of []
+    → IsUnderWay code recover why [] state book totals (record { out = out; out_faults = of; err = err; err_faults = ef }) (record { out = out; out_faults = of; err = err; err_faults = ef })
+unfolding at stops_to reports_to real_at real_stops_to real_book_to told_to
+begins code recover why state book totals out err of ef is none nothing = record {
   same = sym is;
   leads = subst (Leads code) (sym is) Leads.Start;
   taken = ap (λ (s : State). s.output) is;
@@ -192,14 +199,15 @@ still writes done more old now new got steady order o of e ef = record {
 }
 
 -- a collection that did not go on stops the run
-pub tell-stopped : (recover sets : Bool) (e : RunFault) (r : Result Totals RunFault) (result : Result Course RunFault) (code : Code) (options : Options) (old now : Sinks) (s after : State) (book next : Book) (err : Option (List ℕ)) (ef : ℕ) → r ≡ Err e → HasTold recover sets r s after book next now.err err now.err_faults ef → IsErr result → IsErrAnd result (λ x. x ≡ e)
-    → IsSteady old now → (done more : List Write) → GotWrites done old now → (t : State) → s ≡ t → writes_of code options ≡ done ++ Write.ToErr (told_text recover sets book t) ∷ more → HasGone result code options old (sinks now.out now.out_faults err ef)
-tell-stopped recover sets faults.Write r result code options old now s after book next err ef is h i a steady done more got t stands order =
-    let told = subst (λ x. HasTold recover sets x s after book next now.err err now.err_faults ef) is h in
-    broken result code options old _ i a (err-cut (writes_of code options) done more old now got (told_text recover sets book t) order err now.out_faults ef (subst (λ x. WritesFront now.err err (told_text recover sets book x)) stands told.0) steady.out (subst (λ n. Rose n ef) steady.err told.1))
-tell-stopped recover sets faults.Memory r result code options old now s after book next err ef is h i a steady done more got t stands order =
-    let told = subst (λ x. HasTold recover sets x s after book next now.err err now.err_faults ef) is h in
-    wanting result code options old _ i a (still (writes_of code options) done (Write.ToErr (told_text recover sets book t) ∷ more) old now _ got steady order refl refl told.0 told.1)
+pub tell-stopped : (recover sets why : Bool) (e : RunFault) (r : Result Totals RunFault) (result : Result Course RunFault) (code : Code) (options : Options) (old now : Sinks) (s after : State) (book next : Book) (err : Option (List ℕ)) (ef : ℕ) → r ≡ Err e
+    → HasTold recover sets why r s after book next now.err err now.err_faults ef → IsErr result → IsErrAnd result (λ x. x ≡ e) → IsSteady old now → (done more : List Write) → GotWrites done old now → (t : State) → s ≡ t
+    → writes_of code options ≡ done ++ (line_writes (told_by recover sets why book t) ++ more) → HasGone result code options old (sinks now.out now.out_faults err ef)
+tell-stopped recover sets why faults.Write r result code options old now s after book next err ef is h i a steady done more got t stands order =
+    let told = subst (λ x. HasTold recover sets why x s after book next now.err err now.err_faults ef) is h in
+    broken result code options old _ i a (lines-cut (writes_of code options) done more (told_by recover sets why book t) order old now got err ef (subst (λ x. IsCutIn (told_by recover sets why book x) now.err err) stands told.0) steady.out (subst (λ n. Rose n ef) steady.err told.1))
+tell-stopped recover sets why faults.Memory r result code options old now s after book next err ef is h i a steady done more got t stands order =
+    let told = subst (λ x. HasTold recover sets why x s after book next now.err err now.err_faults ef) is h in
+    wanting result code options old _ i a (lines-stopped (writes_of code options) done more (told_by recover sets why book t) order old now got err ef (subst (λ x. IsStoppedIn (told_by recover sets why book x) now.err err) stands told.0) steady.out (told.1 ∙ steady.err))
 
 -- a turn that did not go on stops it too
 pub turn-stopped : (e : RunFault) (r : Result Bool RunFault) (result : Result Course RunFault) (code : Code) (options : Options) (old now : Sinks) (event : Event) (s after : State) (out : Option (List ℕ)) (of : ℕ) → r ≡ Err e → HasTurned r code event s after now.out out now.out_faults of → IsErr result → IsErrAnd result (λ x. x ≡ e)

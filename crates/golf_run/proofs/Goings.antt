@@ -10,23 +10,23 @@ use Rattle.golf_model.specs.State.{State, ending}
 use Rattle.golf_model.specs.Turn.{step, wants_collection}
 use Rattle.golf_model.specs.Collecting.{sets_finalisers}
 use Rattle.golf_model.specs.Running.{Event, has_ended, collected_if, happens_in, stop_in, stop_if}
-use Rattle.golf_model.specs.Reporting.{report, book_after, numbers}
+use Rattle.golf_model.specs.Reporting.{report, book_after, new_book, numbers}
 use Rattle.golf_model.specs.Futures.{Leads}
-use Rattle.golf_texts.specs.Texts.{report_text, reports_text}
+use Rattle.golf_texts.specs.Meaning.{joined}
 use Rattle.golf_texts.specs.declared.totals.Totals.{Totals}
 use Rattle.golf_texts.specs.Totals.{totals_of}
 use Rattle.golf_laws.specs.Printing.{prefixed}
 use Rattle.golf_laws.proofs.Printing.{step-prefixed}
 use Rattle.golf_laws.proofs.Leading.{leads-numbered}
-use Rattle.golf_run.specs.Told.{told, told_text, noted, collected, totalled}
-use Rattle.golf_texts.specs.Writes.{emptied}
+use Rattle.golf_run.specs.Told.{told, told_by, noted, collected, totalled}
+use Rattle.golf_texts.specs.Writes.{emptied, told_lines}
 use Rattle.golf_run.specs.Happening.{turned, prints, collects}
 use Rattle.golf_run.specs.HasLeft.{HasLeft}
 use Rattle.golf_run.specs.HasRun.{Sinks}
-use Rattle.golf_run.specs.UnderWay.{at, reports_to, collecting, real_at, real_stops_to, real_book_to, IsCounted, IsUnderWay}
-use Rattle.golf_run.proofs.Appending.{texts-append}
+use Rattle.golf_run.specs.UnderWay.{at, reports_to, collecting, real_at, real_stops_to, real_book_to, stops_text, told_to, IsCounted, IsUnderWay}
+use Rattle.golf_run.proofs.Writing.{stops-text-append}
 use Rattle.golf_run.proofs.Totalling.{counted-more, totals-are}
-use Rattle.golf_run.proofs.Printed.{collect-prefixed, report-prefixed, book-prefixed}
+use Rattle.golf_run.proofs.Printed.{collect-prefixed, report-prefixed, book-prefixed, told-prefixed}
 use Rattle.golf_run.proofs.Real.{same-output, real-next, real_stops-next, reports-next, real_book-next}
 use Rattle.golf_run.proofs.Leaving.{step-left, emptied-left, collect-left}
 use Rattle.golf_state_laws.proofs.Collecting.{collecting-goes}
@@ -141,6 +141,23 @@ module _ (code : Code) (recover : Bool) (done : List Event) (e : Event) (state :
             ∙ ap (λ b. book_after recover sets b p) (sym is) ∙ book-prefixed w t recover sets book,
       )
 
+  -- what the collections tell
+  pub told-silent : (why : Bool) → collects code e state ≡ false → told_to code recover why more ≡ told_to code recover why done
+  unfolding told_to
+  told-silent why h = ap (stops_text recover (sets_finalisers code) why new_book) (stops-are false h ∙ append-nil (real_stops_to code recover done))
+
+  pub told-grown : (why : Bool) (book : Book) → book ≡ real_book_to code recover done → collects code e state ≡ true
+      → told_to code recover why more ≡ told_to code recover why done ++ joined (told_by recover (sets_finalisers code) why book (turned code e state))
+  unfolding told_to real_book_to told told_by
+  told-grown why book is h =
+      let sets = sets_finalisers code in
+      let t = turned code e state in
+      let w : List ℕ = printed ++ prints code e state in
+      let p : State = prefixed w t in
+      ap (stops_text recover sets why new_book) (stops-are true h)
+      ∙ stops-text-append code recover sets why (real_stops_to code recover done) (p ∷ []) new_book
+      ∙ ap (λ t. told_to code recover why done ++ t) (append-nil (joined (told_lines why (report recover sets (real_book_to code recover done) p) p)) ∙ ap joined (ap (λ b. told_by recover sets why b p) (sym is) ∙ told-prefixed w t recover sets book why))
+
   -- turns, collections and the emptying of the output lead to it
   pub leads-next : Leads code state → (b : Bool) → collects code e state ≡ b → Leads code (after b)
   leads-next l true h = Leads.Collection (turned code e state) recover (turned-leads code e state goes l) (collects-goes code e state goes h)
@@ -150,13 +167,13 @@ module _ (code : Code) (recover : Bool) (done : List Event) (e : Event) (state :
   one-more = length-append done (e ∷ [])
 
 -- the run under way, one event on
-module _ (code : Code) (recover : Bool) (done : List Event) (e : Event) (state : State) (ledger : Book) (totals : Totals) (old now : Sinks) (goes : ending state ≡ None) (w : IsUnderWay code recover done state ledger totals old now) where
+module _ (code : Code) (recover why : Bool) (done : List Event) (e : Event) (state : State) (ledger : Book) (totals : Totals) (old now : Sinks) (goes : ending state ≡ None) (w : IsUnderWay code recover why done state ledger totals old now) where
   out-next : (out : Option (List ℕ)) → Appends now.out out (prints code e state) → Appends old.out out (at code (done ++ e ∷ [])).output
   out-next out a = subst (Appends old.out out) (sym (grown code recover done e state goes w.same w.taken)) (Appends-trans _ _ _ _ _ w.out a)
 
   -- without a collection
   pub quiet : (out : Option (List ℕ)) (of ef : ℕ) → Appends now.out out (prints code e state) → collects code e state ≡ false
-      → IsUnderWay code recover (done ++ e ∷ []) (turned code e state) ledger totals old (record { out = out; out_faults = of; err = now.err; err_faults = ef })
+      → IsUnderWay code recover why (done ++ e ∷ []) (turned code e state) ledger totals old (record { out = out; out_faults = of; err = now.err; err_faults = ef })
   quiet out of ef a h =
       let m = silent code recover done e state goes w.same w.taken h in
       record {
@@ -169,15 +186,15 @@ module _ (code : Code) (recover : Bool) (done : List Event) (e : Event) (state :
         few = (let n = one-more code recover done e state goes w.same w.taken in omega (arith, n, w.few));
         left = turned-left code e state (numbers ledger.reclaimed) w.left;
         out = out-next out a;
-        err = subst (λ rs. Appends old.err now.err (reports_text rs)) (sym m.0) w.err;
+        err = subst (Appends old.err now.err) (sym (told-silent code recover done e state goes w.same w.taken why h)) w.err;
       }
 
   -- with one
   pub loud : (out err : Option (List ℕ)) (of ef : ℕ) (sum : Totals) (later : State) (next : Book) → Appends now.out out (prints code e state) → collects code e state ≡ true
       → sum ≡ totalled recover (sets_finalisers code) ledger (turned code e state) → later ≡ collected recover (sets_finalisers code) (turned code e state) → next ≡ noted recover (sets_finalisers code) ledger (turned code e state)
-      → Appends now.err err (told_text recover (sets_finalisers code) ledger (turned code e state))
-      → IsUnderWay code recover (done ++ e ∷ []) later next sum old (record { out = out; out_faults = of; err = err; err_faults = ef })
-  unfolding told_text noted collected totalled
+      → Appends now.err err (joined (told_by recover (sets_finalisers code) why ledger (turned code e state)))
+      → IsUnderWay code recover why (done ++ e ∷ []) later next sum old (record { out = out; out_faults = of; err = err; err_faults = ef })
+  unfolding noted collected totalled
   loud out err of ef sum later next a h who left is t =
       let sets = sets_finalisers code in
       let stands : State = turned code e state in
@@ -197,6 +214,5 @@ module _ (code : Code) (recover : Bool) (done : List Event) (e : Event) (state :
             (subst (λ (s : State). HasLeft (numbers (book_after recover sets ledger stands).reclaimed) s) (sym left)
             (collect-left recover sets ledger stands (leads-numbered code stands leads) (turned-left code e state (numbers ledger.reclaimed) w.left)));
         out = out-next out a;
-        err = subst (λ rs. Appends old.err err (reports_text rs)) (sym m.0)
-            (subst (Appends old.err err) (ap (λ x. reports_text (reports_to code recover done) ++ x) (sym (append-nil (report_text (told recover sets ledger stands)))) ∙ sym (texts-append (reports_to code recover done) (told recover sets ledger stands ∷ []))) (Appends-trans _ _ _ _ _ w.err t));
+        err = subst (Appends old.err err) (sym (told-grown code recover done e state goes w.same w.taken why ledger w.book h)) (Appends-trans _ _ _ _ _ w.err t);
       }

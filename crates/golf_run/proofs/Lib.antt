@@ -6,6 +6,7 @@ mod Searching
 mod Leaving
 mod Totalling
 mod Goings
+mod Lines
 mod Telling
 mod Turning
 mod Cutting

@@ -7,7 +7,12 @@ use Rattle.golf_model.specs.Reaching.{reach}
 use Rattle.golf_model.specs.Living.{live_list, live_objects, dead}
 use Rattle.golf_model.specs.Collecting.{real_collect}
 use Rattle.golf_model.specs.Reporting.{entries, entry_of, new_dead, new_gone, all_gone, without, retained_objects, goroutine_id, report, book_after}
+use Rattle.golf_why.specs.Explaining.{certificate_size, reached_in}
+use Rattle.golf_texts.specs.Texts.{certificate_line, reached_line, report_lines}
+use Rattle.golf_texts.specs.Meaning.{why_lines}
+use Rattle.golf_texts.specs.Writes.{told_lines}
 use Rattle.golf_laws.specs.Printing.{prefixed}
+use Rattle.golf_run.specs.Told.{told, told_by}
 
 same-entries : (w : List ℕ) (s : State) (gs : List ℕ) → entries (prefixed w s) gs ≡ entries s gs
 same-entries w s [] = refl
@@ -36,6 +41,18 @@ module _ (w : List ℕ) (s : State) where
   same-gone true sets book = refl
   same-gone false sets book = refl
 
+  same-size : certificate_size (prefixed w s) ≡ certificate_size s
+  unfolding certificate_size
+  same-size = refl
+
+  same-reached : reached_in (prefixed w s) ≡ reached_in s
+  unfolding reached_in
+  same-reached = refl
+
+  why-prefixed : (why : Bool) (n : ℕ) → why_lines why n (prefixed w s) ≡ why_lines why n s
+  why-prefixed true n = ap (λ k. certificate_line n k ∷ map reached_line (reached_in (prefixed w s))) same-size ∙ ap (λ rs. certificate_line n (certificate_size s) ∷ map reached_line rs) same-reached
+  why-prefixed false n = refl
+
   module _ (recover sets : Bool) (book : Book) where
     same-new : new_dead book (prefixed w s) ≡ new_dead book s
     same-new = ap (λ gs. without gs (map (λ g. g.0) book.reported)) same-dead
@@ -57,3 +74,8 @@ module _ (w : List ℕ) (s : State) where
         let d = same-gone recover sets book in
         let e = ap (retained_objects (prefixed w s)) same-all ∙ same-objects (all_gone recover sets book s) in
         λ i. record { number = book.collections + 1; marked = length (a i); reported = b i; kept = length (c i); reclaimed = length (d i); objects = length (e i) }
+
+    -- what is told beside it
+    pub told-prefixed : (why : Bool) → told_by recover sets why book (prefixed w s) ≡ told_by recover sets why book s
+    unfolding told told_by
+    told-prefixed why = ap (λ r. told_lines why r (prefixed w s)) report-prefixed ∙ ap (λ ls. report_lines (report recover sets book s) ++ ls) (why-prefixed why (book.collections + 1))

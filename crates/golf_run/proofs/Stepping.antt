@@ -20,9 +20,9 @@ use Rattle.golf_schedules.specs.Options.{IsWithinLimits}
 use Rattle.golf_schedules.specs.Events.{rotation, congruence, congruent, numbers as numbers_by, is_due, collection_if, turns_from, events as events_by, event_of, events_left, turns_of, turns_among}
 use Rattle.golf_texts.specs.declared.totals.Totals.{Totals}
 use Rattle.golf_texts.specs.Totals.{totals_of}
-use Rattle.golf_texts.specs.Meaning.{events_of}
-use Rattle.golf_texts.specs.Writes.{Write, writes_of}
-use Rattle.golf_run.specs.Told.{told_text, noted, collected, totalled}
+use Rattle.golf_texts.specs.Meaning.{events_of, joined}
+use Rattle.golf_texts.specs.Writes.{Write, line_writes, writes_of}
+use Rattle.golf_run.specs.Told.{told_by, noted, collected, totalled}
 use Rattle.golf_run.specs.Happening.{turned, prints, says, collects}
 use Rattle.golf_run.specs.HasRun.{Sinks, sinks, GotWrites}
 use Rattle.golf_run.specs.UnderWay.{writes_to, IsGoing}
@@ -101,7 +101,7 @@ module _ (code : Code) (options : Options) (events next : Events) (given : Given
     done = going.done ++ event ∷ [];
     split = split-next;
     turns = turns-next;
-    under_way = quiet code options.recover going.done event state ledger totals old now goes going.under_way out of ef a h;
+    under_way = quiet code options.recover options.why going.done event state ledger totals old now goes going.under_way out of ef a h;
   }
 
   -- what the collection asks for
@@ -121,7 +121,7 @@ module _ (code : Code) (options : Options) (events next : Events) (given : Given
       omega (arith, a, b, going.under_way.few, limits.turns)
 
   -- what was written by then, what the event prints comes next, and then what follows it
-  pub got-before : GotWrites (writes_to code options.recover going.done) old now
+  pub got-before : GotWrites (writes_to code options.recover options.why going.done) old now
   got-before = got-now code options going.done (events_left events) going.split state ledger totals old now going.under_way
 
   pub written-after : List Write
@@ -129,39 +129,39 @@ module _ (code : Code) (options : Options) (events next : Events) (given : Given
       followed code options going.done (events_left events) going.split state ledger totals old now going.under_way goes event (events_left next) is
       ++ behind-next code options going.done (events_left events) going.split state ledger totals old now going.under_way goes event (events_left next) is
 
-  pub next-order : writes_of code options ≡ (writes_to code options.recover going.done ++ says code event state) ++ written-after
+  pub next-order : writes_of code options ≡ (writes_to code options.recover options.why going.done ++ says code event state) ++ written-after
   unfolding written-after
   next-order = order-next code options going.done (events_left events) going.split state ledger totals old now going.under_way goes event (events_left next) is
 
-  pub said-got : (out : Option (List ℕ)) (of ef : ℕ) → Appends now.out out (prints code event state) → GotWrites (writes_to code options.recover going.done ++ says code event state) old (sinks out of now.err ef)
+  pub said-got : (out : Option (List ℕ)) (of ef : ℕ) → Appends now.out out (prints code event state) → GotWrites (writes_to code options.recover options.why going.done ++ says code event state) old (sinks out of now.err ef)
   said-got = got-said code options going.done (events_left events) going.split state ledger totals old now going.under_way goes event (events_left next) is
 
   module _ (sets : Bool) (same : sets ≡ sets_finalisers code) where
     -- with a collection
     pub going-loud : (out err : Option (List ℕ)) (of ef : ℕ) (sum : Totals) (later : State) (book : Book) → Appends now.out out (prints code event state) → collects code event state ≡ true
         → sum ≡ totalled options.recover sets ledger (turned code event state) → later ≡ collected options.recover sets (turned code event state) → book ≡ noted options.recover sets ledger (turned code event state)
-        → Appends now.err err (told_text options.recover sets ledger (turned code event state))
+        → Appends now.err err (joined (told_by options.recover sets options.why ledger (turned code event state)))
         → IsGoing code options next later book sum old (record { out = out; out_faults = of; err = err; err_faults = ef })
     going-loud out err of ef sum later book a h who left noted-is t = record {
       done = going.done ++ event ∷ [];
       split = split-next;
       turns = turns-next;
-      under_way = loud code options.recover going.done event state ledger totals old now goes going.under_way out err of ef sum later book a h
+      under_way = loud code options.recover options.why going.done event state ledger totals old now goes going.under_way out err of ef sum later book a h
           (who ∙ ap (λ b. totalled options.recover b ledger (turned code event state)) same)
           (left ∙ ap (λ b. collected options.recover b (turned code event state)) same)
           (noted-is ∙ ap (λ b. noted options.recover b ledger (turned code event state)) same)
-          (subst (λ b. Appends now.err err (told_text options.recover b ledger (turned code event state))) same t);
+          (subst (λ b. Appends now.err err (joined (told_by options.recover b options.why ledger (turned code event state)))) same t);
     }
 
     -- and then its report
-    pub told-order : collects code event state ≡ true → writes_of code options ≡ (writes_to code options.recover going.done ++ says code event state) ++ Write.ToErr (told_text options.recover sets ledger (turned code event state))
-        ∷ behind-next code options going.done (events_left events) going.split state ledger totals old now going.under_way goes event (events_left next) is
+    pub told-order : collects code event state ≡ true → writes_of code options ≡ (writes_to code options.recover options.why going.done ++ says code event state) ++ (line_writes (told_by options.recover sets options.why ledger (turned code event state))
+        ++ behind-next code options going.done (events_left events) going.split state ledger totals old now going.under_way goes event (events_left next) is)
     told-order h =
         order-told code options going.done (events_left events) going.split state ledger totals old now going.under_way goes event (events_left next) is h
-        ∙ ap (λ b. (writes_to code options.recover going.done ++ says code event state) ++ Write.ToErr (told_text options.recover b ledger (turned code event state)) ∷ behind-next code options going.done (events_left events) going.split state ledger totals old now going.under_way goes event (events_left next) is) (sym same)
+        ∙ ap (λ b. (writes_to code options.recover options.why going.done ++ says code event state) ++ (line_writes (told_by options.recover b options.why ledger (turned code event state)) ++ behind-next code options going.done (events_left events) going.split state ledger totals old now going.under_way goes event (events_left next) is)) (sym same)
 
 -- before the first event
 pub starts : (code : Code) (options : Options) (events : Events) (state : State) (book : Book) (totals : Totals) (out err : Option (List ℕ)) (of ef : ℕ) → events_left events ≡ events_by options.schedule options.turns options.every → events.done ≡ 0 → state ≡ start code → book ≡ new_book → totals ≡ totals_of []
     → IsGoing code options events state book totals (record { out = out; out_faults = of; err = err; err_faults = ef }) (record { out = out; out_faults = of; err = err; err_faults = ef })
 unfolding events_of
-starts code options events state book totals out err of ef left none is empty nothing = record { done = []; split = sym left; turns = none; under_way = begins code options.recover state book totals out err of ef is empty nothing }
+starts code options events state book totals out err of ef left none is empty nothing = record { done = []; split = sym left; turns = none; under_way = begins code options.recover options.why state book totals out err of ef is empty nothing }

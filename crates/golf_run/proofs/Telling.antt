@@ -1,23 +1,42 @@
 -- What the parts of one collection come to.
-use Rattle.std.proofs.Common.{◌≡◌, ℕ, Bool, List, ap, ◌∙◌}
-use Rattle.std.specs.Prelude.{Option, Result, Ok, Err, IsErr, IsErrAnd}
-use Rattle.golf_base.specs.Causes.{Rose, WritesFront}
+use Rattle.std.proofs.Common.{◌≡◌, ℕ, Bool, true, false, List, ◌∷◌, ◌++◌, map, refl, ap, subst, ◌∙◌}
+use Rattle.std.specs.Prelude.{Option, Some, None, Result, Ok, Err, IsErr, IsErrAnd, IfSome}
 use Rattle.golf_data.specs.declared.report.Book.{Book}
 use Rattle.golf_data.specs.declared.report.Report.{Report}
 use Rattle.golf_model.specs.State.{State}
 use Rattle.golf_model.specs.Collecting.{real_collect}
 use Rattle.golf_model.specs.Reporting.{report, book_after}
-use Rattle.golf_texts.specs.Texts.{report_text}
+use Rattle.golf_why.specs.declared.explanation.Explanation.{Explanation}
+use Rattle.golf_why.specs.Explaining.{certificate_size, asleep_in, reached_from, reached_in, IsReady}
+use Rattle.golf_texts.specs.Texts.{certificate_line, reached_line, report_lines}
+use Rattle.golf_texts.specs.Meaning.{why_lines}
+use Rattle.golf_texts.specs.Writes.{told_lines}
 use Rattle.golf_texts.specs.declared.totals.Totals.{Totals}
 use Rattle.golf_run.specs.declared.fault.RunFault.{RunFault}
 use Rattle.golf_run.specs.declared.fault.RunFault.TheVariants as faults
-use Rattle.golf_run.specs.Told.{told, told_text, noted, collected, totals_by, totalled, HasTold}
+use Rattle.golf_run.specs.Lines.{HasWritten}
+use Rattle.golf_run.specs.Told.{told, told_by, noted, collected, totals_by, totalled, HasTold, ExplainsIf, explained_lines}
+use Rattle.golf_run.proofs.Lines.{passed, stopped-before}
+
+-- what was made of the state tells what is asked for
+explained : (why : Bool) (s : State) (o : Option Explanation) (n : ℕ) → ExplainsIf why s o → explained_lines n o ≡ why_lines why n s
+unfolding reached_in
+explained false s o n h = ap (explained_lines n) h
+explained true s None n h = absurd h
+explained true s (Some e) n h =
+    ap (λ k. certificate_line n k ∷ map reached_line (reached_from e.graph 0 e.asleep)) h.0.places
+    ∙ ap (λ rs. certificate_line n (certificate_size s) ∷ map reached_line rs) (ap (reached_from e.graph 0) h.0.asleep ∙ ap (λ g. reached_from g 0 (asleep_in s g)) h.0.graph)
+
+pub explained-ready : (why : Bool) (s : State) (o : Option Explanation) → ExplainsIf why s o → IfSome o IsReady
+explained-ready why s None h = tt
+explained-ready true s (Some e) h = h.1
+explained-ready false s (Some e) h = cc
 
 module _ (recover sets : Bool) (book : Book) (s : State) where
-  -- the text of a report that is the one told
-  pub text-told : (r : Report) (text : List ℕ) → r ≡ report recover sets book s → text ≡ report_text r → text ≡ told_text recover sets book s
-  unfolding told told_text
-  text-told r text is e = e ∙ ap report_text is
+  -- the lines of a report that is the one told, and of what was made of the state
+  pub lines-told : (why : Bool) (r : Report) (o : Option Explanation) → r ≡ report recover sets book s → ExplainsIf why s o → report_lines r ++ explained_lines r.number o ≡ told_by recover sets why book s
+  unfolding told told_by
+  lines-told why r o is h = ap (λ ls. report_lines r ++ ls) (explained why s o r.number h) ∙ ap (λ x. told_lines why x s) is
 
   pub totals-told : (now : Book) (r : Report) (t : Totals) → now ≡ book_after recover sets book s → r ≡ report recover sets book s → t ≡ totals_by now r → t ≡ totalled recover sets book s
   unfolding totalled noted told
@@ -31,7 +50,18 @@ module _ (recover sets : Bool) (book : Book) (s : State) where
   unfolding collected
   collected-told after e = e
 
-  pub told-broken : (r : Result Totals RunFault) (after : State) (now : Book) (err err' : Option (List ℕ)) (f f' : ℕ) → IsErr r → IsErrAnd r (λ e. e ≡ faults.Write) → WritesFront err err' (told_text recover sets book s) → Rose f f' → HasTold recover sets r s after book now err err' f f'
-  told-broken (Ok x) after now err err' f f' i a front rose = cc
-  told-broken (Err faults.Write) after now err err' f f' i a front rose = (front, rose)
-  told-broken (Err faults.Memory) after now err err' f f' i a front rose = cc
+  -- it did not go on
+  pub told-failed : (why : Bool) (e : RunFault) (w : Result Unit RunFault) (r : Result Totals RunFault) (after : State) (now : Book) (lines : List (List ℕ)) (err err' : Option (List ℕ)) (f f' : ℕ) → w ≡ Err e → HasWritten w lines err err' f f' → lines ≡ told_by recover sets why book s
+      → IsErr r → IsErrAnd r (λ x. x ≡ e) → HasTold recover sets why r s after book now err err' f f'
+  told-failed why e w r after now lines err err' f f' is h same i a =
+      by_error r i (passed e w r (told_by recover sets why book s) err err' f f' is (subst (λ ls. HasWritten w ls err err' f f') same h) i a)
+    where
+      by_error : (x : Result Totals RunFault) → IsErr x → HasWritten x (told_by recover sets why book s) err err' f f' → HasTold recover sets why x s after book now err err' f f'
+      by_error (Ok t) i t' = cc
+      by_error (Err faults.Write) i t' = t'
+      by_error (Err faults.Memory) i t' = t'
+
+  pub told-wanting : (why : Bool) (r : Result Totals RunFault) (after : State) (now : Book) (err : Option (List ℕ)) (f : ℕ) → IsErr r → IsErrAnd r (λ e. e ≡ faults.Memory) → HasTold recover sets why r s after book now err err f f
+  told-wanting why (Ok x) after now err f i a = cc
+  told-wanting why (Err faults.Write) after now err f i a = cc
+  told-wanting why (Err faults.Memory) after now err f i a = (stopped-before (told_by recover sets why book s) err, refl)

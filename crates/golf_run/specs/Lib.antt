@@ -1,3 +1,4 @@
+pub mod Lines
 pub mod Told
 pub mod Happening
 pub mod HasRun

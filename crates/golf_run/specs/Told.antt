@@ -1,24 +1,40 @@
 -- What one collection of a run tells, with recovery or without, of a code that sets finalisers or does not.
-use Rattle.std.specs.Prelude.{◌≡◌, ℕ, Bool, List, length, Option, Result, Ok, Err}
+use Rattle.std.specs.Prelude.{◌≡◌, ℕ, Bool, true, false, List, [], ◌∷◌, map, length, Option, Some, None, Result, Ok, Err}
 use Rattle.std.specs.Io.KnownBytes.{Appends}
-use Rattle.golf_base.specs.Causes.{Rose, WritesFront}
+use Rattle.golf_base.specs.Causes.{Rose}
 use Rattle.golf_data.specs.declared.report.Book.{Book}
 use Rattle.golf_data.specs.declared.report.Report.{Report}
 use Rattle.golf_model.specs.State.{State}
 use Rattle.golf_model.specs.Collecting.{real_collect}
 use Rattle.golf_model.specs.Reporting.{report, book_after}
-use Rattle.golf_texts.specs.Texts.{report_text}
+use Rattle.golf_why.specs.declared.explanation.Explanation.{Explanation}
+use Rattle.golf_why.specs.Explaining.{reached_from, Explains, IsReady}
+use Rattle.golf_texts.specs.Texts.{certificate_line, reached_line}
+use Rattle.golf_texts.specs.Meaning.{joined}
+use Rattle.golf_texts.specs.Writes.{told_lines}
 use Rattle.golf_texts.specs.declared.totals.Totals.{Totals}
 use Rattle.golf_run.specs.declared.fault.RunFault.{RunFault}
 use Rattle.golf_run.specs.declared.fault.RunFault.TheVariants as faults
+use Rattle.golf_run.specs.Lines.{IsCutIn, IsStoppedIn}
 
 -- the report of a collection on this state
 unfoldable pub told : Bool → Bool → Book → State → Report
 told recover sets book s = report recover sets book s
 
--- its text
-unfoldable pub told_text : Bool → Bool → Book → State → List ℕ
-told_text recover sets book s = report_text (told recover sets book s)
+-- its lines
+unfoldable pub told_by : Bool → Bool → Bool → Book → State → List (List ℕ)
+told_by recover sets why book s = told_lines why (told recover sets book s) s
+
+-- what was made of the state, if it was asked for
+abbrev pub ExplainsIf : Bool → State → Option Explanation → Type 0
+ExplainsIf false s o = o ≡ None
+ExplainsIf true s None = ⊥
+ExplainsIf true s (Some e) = Explains s e × IsReady e
+
+-- the lines of it
+abbrev pub explained_lines : ℕ → Option Explanation → List (List ℕ)
+explained_lines number None = []
+explained_lines number (Some e) = certificate_line number e.places ∷ map reached_line (reached_from e.graph 0 e.asleep)
 
 -- the book with that collection
 unfoldable pub noted : Bool → Bool → Book → State → Book
@@ -36,9 +52,9 @@ totalled recover sets book s = totals_by (noted recover sets book s) (told recov
 unfoldable pub collected : Bool → Bool → State → State
 collected recover sets s = real_collect s recover sets
 
--- the report was written, the book has it and the state is the one after; or a write failed in the middle of it; or memory was wanting, and nothing was written
-abbrev pub HasTold : Bool → Bool → Result Totals RunFault → State → State → Book → Book → Option (List ℕ) → Option (List ℕ) → ℕ → ℕ → Type 0
-HasTold recover sets (Ok totals) s after book book' err err' before now =
-    (totals ≡ totalled recover sets book s) × (after ≡ collected recover sets s) × (book' ≡ noted recover sets book s) × Appends err err' (told_text recover sets book s) × (now ≡ before)
-HasTold recover sets (Err faults.Write) s after book book' err err' before now = WritesFront err err' (told_text recover sets book s) × Rose before now
-HasTold recover sets (Err faults.Memory) s after book book' err err' before now = (err' ≡ err) × (now ≡ before)
+-- the lines were written, the book has the report and the state is the one after; or a write failed in the middle of one; or memory was wanting between two of them
+abbrev pub HasTold : Bool → Bool → Bool → Result Totals RunFault → State → State → Book → Book → Option (List ℕ) → Option (List ℕ) → ℕ → ℕ → Type 0
+HasTold recover sets why (Ok totals) s after book book' err err' before now =
+    (totals ≡ totalled recover sets book s) × (after ≡ collected recover sets s) × (book' ≡ noted recover sets book s) × Appends err err' (joined (told_by recover sets why book s)) × (now ≡ before)
+HasTold recover sets why (Err faults.Write) s after book book' err err' before now = IsCutIn (told_by recover sets why book s) err err' × Rose before now
+HasTold recover sets why (Err faults.Memory) s after book book' err err' before now = IsStoppedIn (told_by recover sets why book s) err err' × (now ≡ before)

@@ -1,5 +1,5 @@
 -- A run after some of its events.
-use Rattle.std.specs.Prelude.{◌≡◌, ◌≤◌, Bool, List, [], ◌++◌, length}
+use Rattle.std.specs.Prelude.{◌≡◌, ℕ, ◌≤◌, Bool, List, [], ◌∷◌, ◌++◌, length}
 use Rattle.std.specs.Io.KnownBytes.{Appends}
 use Rattle.golf_data.specs.declared.code.Code.{Code}
 use Rattle.golf_data.specs.declared.report.Book.{Book}
@@ -8,15 +8,14 @@ use Rattle.golf_model.specs.State.{State, start}
 use Rattle.golf_model.specs.Collecting.{sets_finalisers, real_collect}
 use Rattle.golf_model.specs.Running.{Event, run, stops, run_by, stops_by}
 use Rattle.golf_model.specs.Futures.{Leads}
-use Rattle.golf_model.specs.Reporting.{book_of, new_book, numbers}
+use Rattle.golf_model.specs.Reporting.{book_of, new_book, numbers, report, book_after}
 use Rattle.golf_schedules.specs.declared.events.Events.{Events}
 use Rattle.golf_schedules.specs.declared.options.Options.{Options}
 use Rattle.golf_schedules.specs.Events.{events_left, turns_among}
-use Rattle.golf_texts.specs.Texts.{reports_text}
 use Rattle.golf_texts.specs.declared.totals.Totals.{Totals}
 use Rattle.golf_texts.specs.Totals.{total_reported, total_reclaimed, totals_of}
-use Rattle.golf_texts.specs.Meaning.{events_of}
-use Rattle.golf_texts.specs.Writes.{Write, books, writes_from}
+use Rattle.golf_texts.specs.Meaning.{events_of, joined}
+use Rattle.golf_texts.specs.Writes.{Write, books, told_lines, writes_from}
 use Rattle.golf_laws.specs.Printing.{prefixed}
 use Rattle.golf_run.specs.HasRun.{Sinks}
 use Rattle.golf_run.specs.HasLeft.{HasLeft}
@@ -37,10 +36,6 @@ reports_to code recover es = book_of (stops_to code es) recover (sets_finalisers
 unfoldable pub book_to : Code → Bool → List Event → Book
 book_to code recover es = books recover (sets_finalisers code) new_book (stops_to code es)
 
--- what they write
-unfoldable pub writes_to : Code → Bool → List Event → List Write
-writes_to code recover es = writes_from code recover (sets_finalisers code) new_book (start code) es
-
 -- the collection of a run: it queues finalisers and frees, and with recovery it removes goroutines
 abbrev pub collecting : Code → Bool → State → State
 collecting code recover s = real_collect s recover (sets_finalisers code)
@@ -55,6 +50,19 @@ real_stops_to code recover es = stops_by (collecting code recover) code (start c
 unfoldable pub real_book_to : Code → Bool → List Event → Book
 real_book_to code recover es = books recover (sets_finalisers code) new_book (real_stops_to code recover es)
 
+-- what the events write
+unfoldable pub writes_to : Code → Bool → Bool → List Event → List Write
+writes_to code recover why es = writes_from code recover (sets_finalisers code) why new_book (start code) es
+
+-- the lines of the collections at these stops, one after another
+abbrev pub stops_text : Bool → Bool → Bool → Book → List State → List ℕ
+stops_text recover sets why book [] = []
+stops_text recover sets why book (p ∷ ps) = joined (told_lines why (report recover sets book p) p) ++ stops_text recover sets why (book_after recover sets book p) ps
+
+-- what the collections of the events tell
+unfoldable pub told_to : Code → Bool → Bool → List Event → List ℕ
+told_to code recover why es = stops_text recover (sets_finalisers code) why new_book (real_stops_to code recover es)
+
 -- the book counts these reports
 pub record IsCounted (ledger : Book) (rs : List Report) : Type 0 where
   pub collections : ledger.collections ≡ length rs
@@ -62,7 +70,7 @@ pub record IsCounted (ledger : Book) (rs : List Report) : Type 0 where
   pub reclaimed : length ledger.reclaimed ≡ total_reclaimed rs
 
 -- the state is that of this machine but for what was printed; what the plain machine prints and reports was written, and the book has its reports
-pub record IsUnderWay (code : Code) (recover : Bool) (done : List Event) (state : State) (ledger : Book) (totals : Totals) (old now : Sinks) : Type 0 where
+pub record IsUnderWay (code : Code) (recover why : Bool) (done : List Event) (state : State) (ledger : Book) (totals : Totals) (old now : Sinks) : Type 0 where
   pub same : real_at code recover done ≡ prefixed (real_at code recover done).output state
   pub leads : Leads code state
   pub taken : state.output ≡ []
@@ -72,11 +80,11 @@ pub record IsUnderWay (code : Code) (recover : Bool) (done : List Event) (state 
   pub few : ledger.collections ≤ length done
   pub left : HasLeft (numbers ledger.reclaimed) state
   pub out : Appends old.out now.out (at code done).output
-  pub err : Appends old.err now.err (reports_text (reports_to code recover done))
+  pub err : Appends old.err now.err (told_to code recover why done)
 
 -- these events of the run are done, and the others are still to come
 pub record IsGoing (code : Code) (options : Options) (events : Events) (state : State) (ledger : Book) (totals : Totals) (old now : Sinks) : Type 0 where
   pub done : List Event
   pub split : events_of options ≡ done ++ events_left events
   pub turns : events.done ≡ turns_among done
-  pub under_way : IsUnderWay code options.recover done state ledger totals old now
+  pub under_way : IsUnderWay code options.recover options.why done state ledger totals old now

@@ -4,6 +4,7 @@
 mod fault;
 mod running;
 mod surveying;
+mod telling;
 mod turns;
 
 pub use fault::RunFault;

@@ -44,9 +44,9 @@ pub fn status_by(reported: bool, ending: Option<Ending>) -> Status
 }
 
 /// Runs the code by the options, and answers how the program ends. What a turn prints is written to
-/// `out` after it, the report of a collection to `err` after that, and at the end the last line.
-/// Behind a write that failed nothing is written, and where memory is wanting no write is cut. The
-/// gate is handed to each marking.
+/// `out` after it, what is told of a collection to `err` after that, each line by a write of its own,
+/// and at the end the last line. After a write that failed nothing is written, and out of memory no
+/// write is cut. The gate is handed to the marking of each collection.
 pub fn run<R: Threads + Sync, O: Sink, E: Sink, G: Gate + Sync>(
     rt: &R,
     alloc: Global,

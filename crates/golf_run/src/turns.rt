@@ -14,13 +14,14 @@ ghost use Rattle.golf_run.specs.HasRun.{sinks};
 ghost use Rattle.golf_run.specs.HasGone.{HasGone};
 
 use crate::fault::RunFault;
+use crate::telling::{explanation, write_told};
 use golf_base::{Gate, Sink, write_all};
 use golf_data::{Code, Ending, Report};
 use golf_machine::{Turned, start, turn};
 use golf_reclaim::{Ledger, Options as Collecting, collect, sets_finalisers};
 use golf_schedules::{Event, Events, Options};
 use golf_state::State;
-use golf_texts::{Totals, report_text};
+use golf_texts::Totals;
 use std::alloc::Global;
 use std::thread::Threads;
 
@@ -46,11 +47,19 @@ fn totals_after(book: &Ledger, report: &Report) -> Totals
     }
 }
 
-// Collects, and writes the report. It answers what all reports so far come to.
+// How the collections of a run go about their work.
+#[derive(Clone, Copy)]
+struct Manner {
+    collecting: Collecting,
+    // Whether each tells its certificate, and what leads to those that wait and are live.
+    why: bool,
+}
+
+// Collects, and writes what is told of it. It answers what all reports so far come to.
 fn tell<R: Threads + Sync, E: Sink, G: Gate + Sync>(
     rt: &R,
     alloc: Global,
-    how: Collecting,
+    how: Manner,
     state: &mut State,
     book: &mut Ledger,
     err: &mut E,
@@ -60,13 +69,13 @@ fn tell<R: Threads + Sync, E: Sink, G: Gate + Sync>(
     requires whole { IsWhole state.old }
     requires gone { AreGone book.old state.old }
     requires count { book.old.collections < 2 ^ 32 - 1 }
-    requires some { 0 < how.markers }
-    requires few { how.markers ≤ 16 }
-    ensures { HasTold how.recover how.sets_finalisers result state.old state.new book.old book.new (E.written err.old) (E.written err.new) (E.faults err.old) (E.faults err.new) }
+    requires some { 0 < how.collecting.markers }
+    requires few { how.collecting.markers ≤ 16 }
+    ensures { HasTold how.collecting.recover how.collecting.sets_finalisers how.why result state.old state.new book.old book.new (E.written err.old) (E.written err.new) (E.faults err.old) (E.faults err.new) }
 {
-    let report = collect(rt, alloc, state, book, how, gate)?;
-    let text = report_text(alloc, &report)?;
-    write_all(err, text.as_slice())?;
+    let why = explanation(alloc, how.why, state)?;
+    let report = collect(rt, alloc, state, book, how.collecting, gate)?;
+    write_told(alloc, &report, &why, err)?;
     Ok(totals_after(book, &report))
 }
 
@@ -121,8 +130,8 @@ fn next_event(state: &State, events: &mut Events) -> Option<Event>
     events.next()
 }
 
-// Goes through the events of a run. What a turn prints is written to `out` after it, the report of a
-// collection to `err` after that.
+// Goes through the events of a run. What a turn prints is written to `out` after it, what is told of a
+// collection to `err` after that, line by line.
 pub(crate) fn go_through<R: Threads + Sync, O: Sink, E: Sink, G: Gate + Sync>(
     rt: &R,
     alloc: Global,
@@ -138,10 +147,13 @@ pub(crate) fn go_through<R: Threads + Sync, O: Sink, E: Sink, G: Gate + Sync>(
         (sinks (O.written out.old) (O.faults out.old) (E.written err.old) (E.faults err.old))
         (sinks (O.written out.new) (O.faults out.new) (E.written err.new) (E.faults err.new)) }
 {
-    let how = Collecting {
-        markers: options.markers,
-        recover: options.recover,
-        sets_finalisers: sets_finalisers(code),
+    let how = Manner {
+        collecting: Collecting {
+            markers: options.markers,
+            recover: options.recover,
+            sets_finalisers: sets_finalisers(code),
+        },
+        why: options.why,
     };
     let mut events = Events::new(options.schedule, options.turns, options.every);
     let mut state = start(alloc, code)?;

@@ -15,4 +15,7 @@ pub struct Options {
     pub markers: u32,
     /// Whether dead goroutines are taken back.
     pub recover: bool,
+    /// Whether each collection tells its certificate, and what leads to each goroutine that waits and
+    /// is live.
+    pub why: bool,
 }

@@ -23,14 +23,16 @@ leak =
 
 -- goroutine 2 comes to its wait before the collection
 abbrev choices : Options
-choices = record { schedule = Schedule.Choices (lowest 5 ++ (second 2 ++ lowest 4)); turns = 100; every = None; markers = 1; recover = true }
+choices = record { schedule = Schedule.Choices (lowest 5 ++ (second 2 ++ lowest 4)); turns = 100; every = None; markers = 1; recover = true; why = false }
 
 abbrev silent : ℕ → List Write
 silent n = replicate n (Write.ToOut [])
 
 pub leak_writes : writes_of leak choices
     ≡ silent 1 ++ (Write.ToOut (codes "1\n") ∷ silent 6
-    ++ (Write.ToErr (codes "collection 1: marked 0, reported 1, kept 0, reclaimed 1, objects 0\ngoroutine 2: chan receive at line 12, started at line 5\n") ∷ silent 1
+    ++ (Write.ToErr (codes "collection 1: marked 0, reported 1, kept 0, reclaimed 1, objects 0\n")
+    ∷ Write.ToErr (codes "goroutine 2: chan receive at line 12, started at line 5\n")
+    ∷ silent 1
     ++ (Write.ToOut (codes "2\n") ∷ silent 1
     ++ (Write.ToErr [] ∷ []))))
 unfolding event_writes_of writes_of events_of last_of end_of reach live_list digits

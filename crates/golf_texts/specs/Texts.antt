@@ -1,5 +1,5 @@
 -- The lines that a run writes to standard error (profile).
-use Rattle.std.specs.Prelude.{ℕ, Bool, true, false, List, [], ◌∷◌, ◌++◌, Option, Some, None, length, codes, decimal, slice_get, unwrap_or}
+use Rattle.std.specs.Prelude.{ℕ, Bool, true, false, List, [], ◌∷◌, ◌++◌, map, Option, Some, None, length, codes, decimal, slice_get, unwrap_or}
 use Rattle.std.specs.Fmt.{signed_decimal}
 use Rattle.golf_base.specs.declared.ids.GoroutineId.{GoroutineId}
 use Rattle.golf_data.specs.declared.goroutine.Ending.{Ending}
@@ -8,6 +8,8 @@ use Rattle.golf_data.specs.declared.goroutine.WaitKind.{WaitKind}
 use Rattle.golf_data.specs.declared.report.Entry.{Entry}
 use Rattle.golf_data.specs.declared.report.Report.{Report}
 use Rattle.golf_data.specs.Fatal.{is_fatal}
+use Rattle.golf_why.specs.declared.explanation.Reached.{Reached}
+use Rattle.golf_why.specs.declared.members.Member.{Member}
 
 -- how a goroutine is blocked (the words of Go's own traces, as far as they have them)
 abbrev pub wait_text : WaitKind → List ℕ
@@ -46,9 +48,39 @@ left_text r =
 abbrev pub report_text : Report → List ℕ
 report_text r = (found_text r ++ left_text r) ++ entry_lines r.reported
 
+-- the lines of it, one by one
+abbrev pub report_line : Report → List ℕ
+report_line r = found_text r ++ left_text r
+
+abbrev pub report_lines : Report → List (List ℕ)
+report_lines r = report_line r ∷ map entry_line r.reported
+
 abbrev pub reports_text : List Report → List ℕ
 reports_text [] = []
 reports_text (r ∷ rs) = report_text r ++ reports_text rs
+
+-- the line of the certificate of a collection, which has so many places
+abbrev pub certificate_line : ℕ → ℕ → List ℕ
+certificate_line number places = codes "certificate " ++ (decimal number ++ (codes ": " ++ (decimal places ++ codes " places\n")))
+
+abbrev pub member_text : Member → List ℕ
+member_text (Member.Object o) = codes "object " ++ decimal o.0
+member_text (Member.Goroutine g) = codes "goroutine " ++ decimal g.0
+
+-- what leads to a goroutine, each after a comma
+abbrev pub more_members : List Member → List ℕ
+more_members [] = []
+more_members (m ∷ ms) = codes ", " ++ (member_text m ++ more_members ms)
+
+-- the same, with a comma between two of them
+abbrev pub members_text : List Member → List ℕ
+members_text [] = []
+members_text (m ∷ ms) = member_text m ++ more_members ms
+
+-- the line of a goroutine that waits and is live
+abbrev pub reached_line : Reached → List ℕ
+reached_line r =
+    codes "goroutine " ++ (decimal r.goroutine.0 ++ (codes ": " ++ (wait_text r.wait ++ (codes " at line " ++ (decimal r.line ++ (codes ", reached by " ++ (members_text r.by ++ codes "\n")))))))
 
 -- why a goroutine panics (the words of Go's runtime and of package sync)
 abbrev pub panic_text : List (List ℕ) → PanicKind → List ℕ

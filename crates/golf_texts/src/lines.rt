@@ -8,6 +8,7 @@ ghost use Rattle.golf_texts.specs.Texts.{
   entry_lines as entries_bytes,
   found_text as found_bytes,
   left_text as left_bytes,
+  report_line as report_line_bytes,
   report_text as report_bytes,
   panic_text as panic_bytes,
   fault_word as fault_word_bytes,
@@ -22,8 +23,8 @@ use golf_base::{GoroutineId, List, Memory};
 use golf_data::{Ending, Entry, PanicKind, Report, WaitKind};
 use std::alloc::Global;
 
-// How a goroutine is blocked.
-fn wait_text(kind: WaitKind) -> &'static str
+/// How a goroutine is blocked.
+pub(crate) fn wait_text(kind: WaitKind) -> &'static str
     ensures { result.now ≡ wait_bytes kind }
 {
     match kind {
@@ -41,8 +42,8 @@ fn wait_text(kind: WaitKind) -> &'static str
     }
 }
 
-// The line of a goroutine that can never run again.
-fn entry_line(alloc: Global, entry: &Entry) -> Result<String, Memory>
+/// The line of a goroutine that can never run again.
+pub fn entry_line(alloc: Global, entry: &Entry) -> Result<String, Memory>
     ensures { IfOk result (λ line. string_bytes line ≡ entry_bytes entry.now) }
 {
     let goroutine = entry.goroutine.0;
@@ -74,6 +75,16 @@ fn left_text(alloc: Global, report: &Report) -> Result<String, Memory>
     Ok(format!(in alloc; ", kept {kept}, reclaimed {reclaimed}, objects {objects}\n")?)
 }
 
+/// The line of a collection.
+pub fn report_line(alloc: Global, report: &Report) -> Result<List<u8>, Memory>
+    ensures { IfOk result (λ line. line ≡ report_line_bytes report.now) }
+{
+    let mut line = List::new(alloc);
+    line.extend_from_slice(found_text(alloc, report)?.as_bytes())?;
+    line.extend_from_slice(left_text(alloc, report)?.as_bytes())?;
+    Ok(line)
+}
+
 // Adds a line for each goroutine.
 fn add_entries(alloc: Global, text: &mut List<u8>, entries: &[Entry]) -> Result<(), Memory>
     ensures { OnOk result (text.new ≡ text.old ++ entries_bytes entries.now) }
@@ -88,9 +99,7 @@ fn add_entries(alloc: Global, text: &mut List<u8>, entries: &[Entry]) -> Result<
 pub fn report_text(alloc: Global, report: &Report) -> Result<List<u8>, Memory>
     ensures { IfOk result (λ text. text ≡ report_bytes report.now) }
 {
-    let mut text = List::new(alloc);
-    text.extend_from_slice(found_text(alloc, report)?.as_bytes())?;
-    text.extend_from_slice(left_text(alloc, report)?.as_bytes())?;
+    let mut text = report_line(alloc, report)?;
     add_entries(alloc, &mut text, report.reported.as_slice())?;
     Ok(text)
 }

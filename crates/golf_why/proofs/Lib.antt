@@ -1,0 +1,3 @@
+mod Asleep
+mod Within
+mod Saying

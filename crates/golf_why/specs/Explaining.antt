@@ -3,6 +3,7 @@ use Rattle.std.specs.Prelude.{◌≡◌, ℕ, ◌+◌, List, [], ◌∷◌, ◌+
 use Rattle.golf_theory.specs.Maps.{find}
 use Rattle.golf_data.specs.declared.report.Entry.{Entry}
 use Rattle.golf_model.specs.declared.graph.GraphParts.{GraphParts}
+use Rattle.golf_model.specs.Graph.{sleeper_count}
 use Rattle.golf_model.specs.State.{State}
 use Rattle.golf_model.specs.Reporting.{entry_of}
 use Rattle.golf_snapshot.specs.Parts.{live_parts}
@@ -49,3 +50,8 @@ pub record Explains (s : State) (e : Explanation) : Type 0 where
   pub asleep : e.asleep ≡ asleep_in s e.graph
   pub reasons : HasReasons e.graph e.reasons
   pub places : e.places ≡ certificate_size s
+
+-- the reasons are those of its graph, and each sleeper has its entry
+pub record IsReady (e : Explanation) : Type 0 where
+  pub reasons : HasReasons e.graph e.reasons
+  pub entries : length e.asleep ≡ sleeper_count e.graph

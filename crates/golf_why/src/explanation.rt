@@ -7,9 +7,8 @@ ghost use Rattle.golf_model.specs.Graph.{sleeper_count};
 ghost use Rattle.golf_model.specs.Presence.{IsWhole};
 ghost use Rattle.golf_model.specs.Reporting.{entry_of};
 ghost use Rattle.golf_cert.specs.Computing.{least_in_order};
-ghost use Rattle.golf_cert.specs.Finding.{HasReasons};
 ghost use Rattle.golf_mark.specs.Marking.{MarksLeast};
-ghost use Rattle.golf_why.specs.Explaining.{asleep_in, listed, reached_at, Explains};
+ghost use Rattle.golf_why.specs.Explaining.{asleep_in, listed, reached_at, Explains, IsReady};
 
 use crate::members::{Member, before_last};
 use golf_base::{GoroutineId, List, Memory, OpenGate};
@@ -94,7 +93,8 @@ impl Explanation {
     pub fn new(alloc: Global, state: &State) -> Result<Explanation, Memory>
         requires numbered { Numbered state.now }
         requires whole { IsWhole state.now }
-        ensures { IfOk result (Explains state.now) }
+        ensures explains { IfOk result (Explains state.now) }
+        ensures ready { IfOk result IsReady }
     {
         let graph = live_graph(alloc, state)?;
         let marked = mark_alone(alloc, &graph, &OpenGate)?;
@@ -128,14 +128,14 @@ impl Explanation {
     /// What leads to this blocked goroutine; none if it is dead. The time is linear in the length of
     /// the way. The only error is `Memory`.
     pub fn reached(&self, alloc: Global, sleeper: u32) -> Result<Option<Reached>, Memory>
-        requires reasons { HasReasons self.now.graph self.now.reasons }
+        requires ready { IsReady self.now }
         requires sleeper { sleeper < sleeper_count self.now.graph }
         ensures { IfOk result (λ found. listed found ≡ reached_at self.now.graph sleeper (unwrap_or (slice_get self.now.asleep sleeper) None)) }
     {
         let Some(links) = self.reasons.of(alloc, &self.graph, sleeper)? else {
             return Ok(None);
         };
-        let Some(Some(entry)) = self.asleep.get(sleeper as usize) else {
+        let Some(entry) = self.asleep.as_slice()[sleeper as usize] else {
             return Ok(None);
         };
         let by = before_last(alloc, &self.graph, links.as_slice())?;

@@ -49,9 +49,7 @@ pub(crate) fn before_last(
 {
     let _nodes = graph.nodes();
     let mut members = List::new(alloc);
-    let Some((_, before)) = links.split_last() else {
-        return Ok(members);
-    };
+    let before = &links[..links.len().saturating_sub(1)];
     for link in before {
         members.push(placed(graph, *link))?;
     }

@@ -17,6 +17,15 @@ returns-then-as_slice-place-eq0-clause-found c = (
       absurd (omega (arith, c.requires.graph.levels.least (sleeper_place g c.args.sleeper) d, is, zero, c.if-as_slice-place-eq0.true)),
 )
 
+pub returns-then-as_slice-place-eq0-clause-computed : goal.returns-then-as_slice-place-eq0-clause-computed
+returns-then-as_slice-place-eq0-clause-computed c =
+    let g = c.args.graph.now in
+    let w = c.args.self.now.walk in
+    let is = ap (λ (n : ℕ). get_or w.levels (n + c.args.sleeper) 0) c.nodes.ensures.count in
+    let none = ap (λ (l : List ℕ). get_or l (c.nodes.result + c.args.sleeper) 0) c.as_slice.ensures in
+    (reasons_computed g c.nodes.ensures.in_range (sleeper_place g c.args.sleeper)).1
+    (λ d. omega (arith, c.requires.graph.levels.least (sleeper_place g c.args.sleeper) d, is, none, c.if-as_slice-place-eq0.true))
+
 pub returns-clause-found : goal.returns-clause-found
 returns-clause-found c = (
   λ _.

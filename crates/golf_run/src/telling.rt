@@ -1,0 +1,125 @@
+//! What a collection tells, written line by line.
+
+ghost use Rattle.std.specs.Prelude.{◌<◌, ◌++◌, [], ◌∷◌, IfOk, IfSome, None, map, slice_get, unwrap_or};
+ghost use Rattle.golf_model.specs.Futures.{Numbered};
+ghost use Rattle.golf_model.specs.Graph.{sleeper_count};
+ghost use Rattle.golf_model.specs.Presence.{IsWhole};
+ghost use Rattle.golf_why.specs.Explaining.{reached_at, reached_from, IsReady};
+ghost use Rattle.golf_texts.specs.Texts.{entry_line as entry_bytes, reached_line as reached_bytes, report_lines};
+ghost use Rattle.golf_run.specs.Lines.{HasWritten};
+ghost use Rattle.golf_run.specs.Told.{explained_lines, ExplainsIf};
+
+use crate::fault::RunFault;
+use golf_base::{List, Memory, Sink, write_all};
+use golf_data::{Entry, Report};
+use golf_state::State;
+use golf_texts::{certificate_line, entry_line, reached_line, report_line};
+use golf_why::Explanation;
+use std::alloc::Global;
+
+/// What is told of a state beside the report of its collection, if that is asked for.
+pub(crate) fn explanation(
+    alloc: Global,
+    why: bool,
+    state: &State,
+) -> Result<Option<Explanation>, Memory>
+    requires numbered { Numbered state.now }
+    requires whole { IsWhole state.now }
+    ensures { IfOk result (ExplainsIf why state.now) }
+{
+    if !why {
+        return Ok(None);
+    }
+    Ok(Some(Explanation::new(alloc, state)?))
+}
+
+// The line of a goroutine that is reported.
+fn write_entry<E: Sink>(alloc: Global, entry: &Entry, err: &mut E) -> Result<(), RunFault>
+    ensures { HasWritten result (entry_bytes entry.now ∷ []) (E.written err.old) (E.written err.new) (E.faults err.old) (E.faults err.new) }
+{
+    let line = entry_line(alloc, entry)?;
+    write_all(err, line.as_bytes())?;
+    Ok(())
+}
+
+// A line for each goroutine that is reported.
+fn write_entries<E: Sink>(alloc: Global, entries: &[Entry], err: &mut E) -> Result<(), RunFault>
+    ensures { HasWritten result (map entry_bytes entries.now) (E.written err.old) (E.written err.new) (E.faults err.old) (E.faults err.new) }
+{
+    for entry in entries {
+        write_entry(alloc, entry, err)?;
+    }
+    Ok(())
+}
+
+// The lines of a report.
+fn write_report<E: Sink>(alloc: Global, report: &Report, err: &mut E) -> Result<(), RunFault>
+    ensures { HasWritten result (report_lines report.now) (E.written err.old) (E.written err.new) (E.faults err.old) (E.faults err.new) }
+{
+    let line = report_line(alloc, report)?;
+    write_all(err, line.as_slice())?;
+    write_entries(alloc, report.reported.as_slice(), err)
+}
+
+// The line of this blocked goroutine, if it is live.
+fn write_sleeper<E: Sink>(
+    alloc: Global,
+    why: &Explanation,
+    sleeper: u32,
+    err: &mut E,
+) -> Result<(), RunFault>
+    requires ready { IsReady why.now }
+    requires sleeper { sleeper < sleeper_count why.now.graph }
+    ensures { HasWritten result (map reached_bytes (reached_at why.now.graph sleeper (unwrap_or (slice_get why.now.asleep sleeper) None))) (E.written err.old) (E.written err.new) (E.faults err.old) (E.faults err.new) }
+{
+    let Some(reached) = why.reached(alloc, sleeper)? else {
+        return Ok(());
+    };
+    let line = reached_line(alloc, &reached)?;
+    write_all(err, line.as_slice())?;
+    Ok(())
+}
+
+// A line for each goroutine that waits and is live.
+fn write_reached<E: Sink>(alloc: Global, why: &Explanation, err: &mut E) -> Result<(), RunFault>
+    requires { IsReady why.now }
+    ensures { HasWritten result (map reached_bytes (reached_from why.now.graph 0 why.now.asleep)) (E.written err.old) (E.written err.new) (E.faults err.old) (E.faults err.new) }
+{
+    for sleeper in 0..why.sleepers() {
+        write_sleeper(alloc, why, sleeper, err)?;
+    }
+    Ok(())
+}
+
+// The lines of what was made of the state, if it was asked for.
+fn write_why<E: Sink>(
+    alloc: Global,
+    number: u32,
+    why: Option<&Explanation>,
+    err: &mut E,
+) -> Result<(), RunFault>
+    requires { IfSome why IsReady }
+    ensures { HasWritten result (explained_lines number why) (E.written err.old) (E.written err.new) (E.faults err.old) (E.faults err.new) }
+{
+    let Some(why) = why else {
+        return Ok(());
+    };
+    let line = certificate_line(alloc, number, why.places())?;
+    write_all(err, line.as_slice())?;
+    write_reached(alloc, why, err)
+}
+
+/// Writes the lines of a collection: its report, and after it what was made of the state, if that
+/// was asked for.
+pub(crate) fn write_told<E: Sink>(
+    alloc: Global,
+    report: &Report,
+    why: &Option<Explanation>,
+    err: &mut E,
+) -> Result<(), RunFault>
+    requires { IfSome why.now IsReady }
+    ensures { HasWritten result (report_lines report.now ++ explained_lines report.now.number why.now) (E.written err.old) (E.written err.new) (E.faults err.old) (E.faults err.new) }
+{
+    write_report(alloc, report, err)?;
+    write_why(alloc, report.number, why.as_ref(), err)
+}
