@@ -77,10 +77,13 @@ abbrev pub members_text : List Member → List ℕ
 members_text [] = []
 members_text (m ∷ ms) = member_text m ++ more_members ms
 
--- the line of a goroutine that waits and is live
+-- how a goroutine that waits and is live is blocked
+abbrev pub blocked_text : Reached → List ℕ
+blocked_text r = codes "goroutine " ++ (decimal r.goroutine.0 ++ (codes ": " ++ (wait_text r.wait ++ (codes " at line " ++ (decimal r.line ++ codes ", reached by ")))))
+
+-- its line
 abbrev pub reached_line : Reached → List ℕ
-reached_line r =
-    codes "goroutine " ++ (decimal r.goroutine.0 ++ (codes ": " ++ (wait_text r.wait ++ (codes " at line " ++ (decimal r.line ++ (codes ", reached by " ++ (members_text r.by ++ codes "\n")))))))
+reached_line r = blocked_text r ++ (members_text r.by ++ codes "\n")
 
 -- why a goroutine panics (the words of Go's runtime and of package sync)
 abbrev pub panic_text : List (List ℕ) → PanicKind → List ℕ

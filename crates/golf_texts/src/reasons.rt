@@ -6,6 +6,7 @@ ghost use Rattle.golf_texts.specs.Texts.{
   member_text as member_bytes,
   more_members as more_bytes,
   members_text as members_bytes,
+  blocked_text as blocked_bytes,
   reached_line as reached_bytes,
 };
 
@@ -61,16 +62,22 @@ fn add_members(alloc: Global, line: &mut List<u8>, members: &[Member]) -> Result
     add_more(alloc, line, more)
 }
 
+// How it is blocked.
+fn blocked_text(alloc: Global, reached: &Reached) -> Result<String, Memory>
+    ensures { IfOk result (λ text. string_bytes text ≡ blocked_bytes reached.now) }
+{
+    let goroutine = reached.goroutine.0;
+    let wait = wait_text(reached.wait);
+    let line = reached.line;
+    Ok(format!(in alloc; "goroutine {goroutine}: {wait} at line {line}, reached by ")?)
+}
+
 /// The line of a goroutine that waits and is live.
 pub fn reached_line(alloc: Global, reached: &Reached) -> Result<List<u8>, Memory>
     ensures { IfOk result (λ line. line ≡ reached_bytes reached.now) }
 {
-    let goroutine = reached.goroutine.0;
-    let wait = wait_text(reached.wait);
-    let at = reached.line;
-    let blocked = format!(in alloc; "goroutine {goroutine}: {wait} at line {at}, reached by ")?;
     let mut line = List::new(alloc);
-    line.extend_from_slice(blocked.as_bytes())?;
+    line.extend_from_slice(blocked_text(alloc, reached)?.as_bytes())?;
     add_members(alloc, &mut line, reached.by.as_slice())?;
     line.extend_from_slice(b"\n")?;
     Ok(line)
