@@ -7,7 +7,7 @@ mod Leaving
 mod Totalling
 mod Goings
 mod Lines
-mod Telling
+mod Tellings
 mod Turning
 mod Cutting
 mod Ending

@@ -56,7 +56,7 @@ module _ {A : Type 0} where
   )
 
   -- lines of which the first ones did not come about
-  early : (e : RunFault) (a more : List (List ℕ)) (old new : Option (List ℕ)) (f h : ℕ) → HasWritten {A} (Err e) a old new f h → HasWritten {A} (Err e) (a ++ more) old new f h
+  early : (e : RunFault) (a more : List (List ℕ)) (old new : Option (List ℕ)) (f h : ℕ) → HasWritten {X = A} (Err e) a old new f h → HasWritten {X = A} (Err e) (a ++ more) old new f h
   early faults.Write a more old new f h w = (
     record {
       done = w.0.done;
@@ -73,15 +73,15 @@ module _ {A : Type 0} where
   early faults.Memory a more old new f h w = (record { done = w.0.done; later = w.0.later ++ more; order = ap (λ ls. ls ++ more) w.0.order ∙ append_assoc w.0.done w.0.later more; got = w.0.got }, w.1)
 
 -- the same error, of another call
-same-error : {A B : Type 0} (e : RunFault) (lines : List (List ℕ)) (old new : Option (List ℕ)) (f h : ℕ) → HasWritten {A} (Err e) lines old new f h → HasWritten {B} (Err e) lines old new f h
+same-error : {A B : Type 0} (e : RunFault) (lines : List (List ℕ)) (old new : Option (List ℕ)) (f h : ℕ) → HasWritten {X = A} (Err e) lines old new f h → HasWritten {X = B} (Err e) lines old new f h
 same-error faults.Write lines old new f h w = w
 same-error faults.Memory lines old new f h w = w
 
 pub passed : {A B : Type 0} (e : RunFault) (r : Result A RunFault) (r' : Result B RunFault) (lines : List (List ℕ)) (old new : Option (List ℕ)) (f h : ℕ) → r ≡ Err e → HasWritten r lines old new f h → IsErr r' → IsErrAnd r' (λ x. x ≡ e) → HasWritten r' lines old new f h
 passed e r (Ok x) lines old new f h is w i a = cc
-passed {A} e r (Err x) lines old new f h is w i a =
+passed {A = A} e r (Err x) lines old new f h is w i a =
     let there : r ≡ Err x = is ∙ ap (λ y. Err y) (sym a) in
-    same-error {A} x lines old new f h (subst (λ y. HasWritten y lines old new f h) there w)
+    same-error {A = A} x lines old new f h (subst (λ y. HasWritten y lines old new f h) there w)
 
 pub passed-early : {A B : Type 0} (e : RunFault) (r : Result A RunFault) (r' : Result B RunFault) (lines more : List (List ℕ)) (old new : Option (List ℕ)) (f h : ℕ) → r ≡ Err e → HasWritten r lines old new f h → IsErr r' → IsErrAnd r' (λ x. x ≡ e) → HasWritten r' (lines ++ more) old new f h
 passed-early e r r' lines more old new f h is w i a = passed e (Err e) r' (lines ++ more) old new f h refl (early e lines more old new f h (subst (λ y. HasWritten y lines old new f h) is w)) i a

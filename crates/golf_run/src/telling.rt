@@ -95,13 +95,13 @@ fn write_reached<E: Sink>(alloc: Global, why: &Explanation, err: &mut E) -> Resu
 fn write_why<E: Sink>(
     alloc: Global,
     number: u32,
-    why: Option<&Explanation>,
+    why: &Option<Explanation>,
     err: &mut E,
 ) -> Result<(), RunFault>
-    requires { IfSome why IsReady }
-    ensures { HasWritten result (explained_lines number why) (E.written err.old) (E.written err.new) (E.faults err.old) (E.faults err.new) }
+    requires { IfSome why.now IsReady }
+    ensures { HasWritten result (explained_lines number why.now) (E.written err.old) (E.written err.new) (E.faults err.old) (E.faults err.new) }
 {
-    let Some(why) = why else {
+    let Some(why) = why.as_ref() else {
         return Ok(());
     };
     let line = certificate_line(alloc, number, why.places())?;
@@ -121,5 +121,5 @@ pub(crate) fn write_told<E: Sink>(
     ensures { HasWritten result (report_lines report.now ++ explained_lines report.now.number why.now) (E.written err.old) (E.written err.new) (E.faults err.old) (E.faults err.new) }
 {
     write_report(alloc, report, err)?;
-    write_why(alloc, report.number, why.as_ref(), err)
+    write_why(alloc, report.number, why, err)
 }

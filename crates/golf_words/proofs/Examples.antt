@@ -8,16 +8,44 @@ use Rattle.golf_words.specs.declared.line.Line.{Line}
 abbrev run_alone : List Text
 run_alone = codes "run" ∷ []
 
-run_alone_is : line_of run_alone ≡ Some (Line.Run (record { schedule = Schedule.Rotate; turns = 1000000; every = None; markers = 1; recover = false }))
+run_alone_is : line_of run_alone ≡ Some (Line.Run (record { schedule = Schedule.Rotate; turns = 1000000; every = None; markers = 1; recover = false; why = false }))
 unfolding uses_after
 run_alone_is = refl
 
 abbrev seed_and_markers : List Text
 seed_and_markers = codes "run" ∷ codes "--schedule=seed:0" ∷ codes "--markers" ∷ codes "002" ∷ codes "--recover" ∷ codes "--" ∷ []
 
-seed_and_markers_is : line_of seed_and_markers ≡ Some (Line.Run (record { schedule = Schedule.Seed 0; turns = 1000000; every = None; markers = 2; recover = true }))
+seed_and_markers_is : line_of seed_and_markers ≡ Some (Line.Run (record { schedule = Schedule.Seed 0; turns = 1000000; every = None; markers = 2; recover = true; why = false }))
 unfolding uses_after
 seed_and_markers_is = refl
+
+abbrev why_first : List Text
+why_first = codes "run" ∷ codes "--why" ∷ codes "--turns=9" ∷ codes "--recover" ∷ []
+
+why_first_is : line_of why_first ≡ Some (Line.Run (record { schedule = Schedule.Rotate; turns = 9; every = None; markers = 1; recover = true; why = true }))
+unfolding uses_after
+why_first_is = refl
+
+abbrev why_twice : List Text
+why_twice = codes "run" ∷ codes "--why" ∷ codes "--why" ∷ []
+
+why_twice_is : line_of why_twice ≡ None
+unfolding uses_after
+why_twice_is = refl
+
+abbrev why_with_a_value : List Text
+why_with_a_value = codes "run" ∷ codes "--why=1" ∷ []
+
+why_with_a_value_is : line_of why_with_a_value ≡ None
+unfolding uses_after
+why_with_a_value_is = refl
+
+abbrev threads_and_why : List Text
+threads_and_why = codes "run" ∷ codes "--threads=2" ∷ codes "--why" ∷ []
+
+threads_and_why_are : line_of threads_and_why ≡ None
+unfolding uses_after
+threads_and_why_are = refl
 
 abbrev twice : List Text
 twice = codes "run" ∷ codes "--recover" ∷ codes "--recover" ∷ []
@@ -36,7 +64,7 @@ hyphens_as_value_is = refl
 abbrev twenty_digits : List Text
 twenty_digits = codes "run" ∷ codes "--turns" ∷ codes "00000000000000000007" ∷ []
 
-twenty_digits_are : line_of twenty_digits ≡ Some (Line.Run (record { schedule = Schedule.Rotate; turns = 7; every = None; markers = 1; recover = false }))
+twenty_digits_are : line_of twenty_digits ≡ Some (Line.Run (record { schedule = Schedule.Rotate; turns = 7; every = None; markers = 1; recover = false; why = false }))
 unfolding uses_after
 twenty_digits_are = refl
 

@@ -27,16 +27,16 @@ module _ (least most : ℕ) where
   set-within default low high None = (low, high)
   set-within default low high (Some text) = within (number_of text)
 
-run-by : (recover : Bool) (schedule : Option Schedule) (turns : Option ℕ) (every : Option (Option ℕ)) (markers : Option ℕ) → Between 1 10000000 turns → Between 1 16 markers
-    → IfSome (option_and_then (λ schedule. option_and_then (λ turns. option_and_then (λ every. option_map (λ markers. Line.Run (record { schedule = schedule; turns = turns; every = every; markers = markers; recover = recover })) markers) every) turns) schedule) IsWithin
-run-by recover None turns every markers t m = tt
-run-by recover (Some s) None every markers t m = tt
-run-by recover (Some s) (Some n) None markers t m = tt
-run-by recover (Some s) (Some n) (Some e) None t m = tt
-run-by recover (Some s) (Some n) (Some e) (Some k) t m = record { turns = t.1; some = m.0; few = m.1 }
+run-by : (recover why : Bool) (schedule : Option Schedule) (turns : Option ℕ) (every : Option (Option ℕ)) (markers : Option ℕ) → Between 1 10000000 turns → Between 1 16 markers
+    → IfSome (option_and_then (λ schedule. option_and_then (λ turns. option_and_then (λ every. option_map (λ markers. Line.Run (record { schedule = schedule; turns = turns; every = every; markers = markers; recover = recover; why = why })) markers) every) turns) schedule) IsWithin
+run-by recover why None turns every markers t m = tt
+run-by recover why (Some s) None every markers t m = tt
+run-by recover why (Some s) (Some n) None markers t m = tt
+run-by recover why (Some s) (Some n) (Some e) None t m = tt
+run-by recover why (Some s) (Some n) (Some e) (Some k) t m = record { turns = t.1; some = m.0; few = m.1 }
 
 options-within : (us : List Use) → IfSome (run_by_options us) IsWithin
-options-within us = run-by (is_used us (codes "recover")) (schedule_in us) (turns_in us) (every_in us) (markers_in us)
+options-within us = run-by (is_used us (codes "recover")) (is_used us (codes "why")) (schedule_in us) (turns_in us) (every_in us) (markers_in us)
     (set-within 1 10000000 1000000 (omega arith) (omega arith) (value_in us (codes "turns")))
     (set-within 1 16 1 (omega arith) (omega arith) (value_in us (codes "markers")))
 

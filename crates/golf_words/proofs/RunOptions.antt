@@ -4,15 +4,14 @@ use Rattle.std.specs.List.{AllByRecursion}
 use Rattle.clap.specs.Lexer.{long_of}
 use Rattle.clap.specs.Kinds.{Kinds, or_else}
 use Rattle.clap.specs.Walk.{Held, Row, Rule, idle, option, after_flag, arg_by_long, flag_met, option_met, settled, used}
-use Rattle.clap.specs.Simple.{filled, with_index}
 use Rattle.clap.specs.Faults.{option_fault, react_fault, repeat_fault, settle_fault, use_fault}
 use Rattle.clap.specs.declared.error.kind.ErrorKind.TheVariants.{ArgumentConflict, TooManyValues}
 use Rattle.golf_words.specs.Values.{Text}
-use Rattle.golf_words.specs.Words.{Use, is_last, is_used, option_in, run_of, takes_value, uses_after, with_use}
+use Rattle.golf_words.specs.Words.{Use, is_flag, is_last, is_used, option_in, run_of, takes_value, uses_after, with_use}
 use Rattle.golf_words.specs.Words.{option_met as option_told}
-use Rattle.golf_words.specs.Splitting.{flag, unless_fault}
+use Rattle.golf_words.specs.Splitting.{unless_fault}
 use Rattle.golf_words.proofs.Outcomes.{long_is, outcome, standing, turned, unless_then}
-use Rattle.golf_words.proofs.Runs.{IsValued, has_row-used, new_use, option_in-long, or_else-nil, row, rules, run_shape, same_text, unknown, used_rows, valued}
+use Rattle.golf_words.proofs.Runs.{IsFlag, IsValued, flagged, has_row-used, new_use, option_in-long, or_else-nil, row, rules, run_shape, same_text, unknown, used_rows, valued}
 use Rattle.golf_words.proofs.Settings.{IsTold}
 use Rattle.golf_words.proofs.RunWords.{AreTold, AtRest, AtValue, by_word, held, line_ends, line_from, none_then, read, seen, told_more}
 
@@ -106,7 +105,7 @@ rest_alone word rest name v e is later rows pending us told same =
     ∙ later now name t v
     ∙ sym (ap (option_and_then run_of) (at_long now word rest name None e is
     ∙ ap (λ b. cond b (uses_after now (Some name) rest)
-    (cond (bytes_eq (codes "recover") name) (option_and_then (λ more. uses_after more None rest) (with_use now name None)) None)) v.told)))
+    (cond (is_flag name) (option_and_then (λ more. uses_after more None rest) (with_use now name None)) None)) v.told)))
 
 -- a word that no line has there
 pub rest_none : (word : Text) (rest : List Text) (rows : List Row) (pending : Option (Text × List Text)) (us : Option (List Use))
@@ -114,36 +113,24 @@ pub rest_none : (word : Text) (rest : List Text) (rows : List Row) (pending : Op
     → read (outcome run_shape (standing run_shape (held rows pending) idle 1) (word ∷ rest)) ≡ line_from us (word ∷ rest)
 rest_none word rest rows pending us none each = ap read none ∙ sym (line_ends us word rest (λ now. None) each ∙ none_then us)
 
-abbrev recover_rule : Rule
-recover_rule = with_index 1 (filled (flag (codes "recover")))
-
-recover_found : (name : Text) → bytes_eq (codes "recover") name ≡ true → arg_by_long rules name ≡ Some recover_rule
-recover_found name e = ap (arg_by_long rules) (sym (same_text (codes "recover") name e))
-
-recover_takes : (name : Text) → bytes_eq (codes "recover") name ≡ true → false ≡ takes_value name
-recover_takes name e = ap takes_value (same_text (codes "recover") name e)
-
-recover_fault : (rows : List Row) → use_fault false recover_rule [] rows ≡ repeat_fault false (codes "recover") rows
-recover_fault rows = or_else-nil (repeat_fault false (codes "recover") rows)
-
--- `--recover`
-rest_recover : (word : Text) (rest : List Text) (name : Text) → bytes_eq (codes "recover") name ≡ true → bytes_eq word (45 ∷ 45 ∷ []) ≡ false
-    → long_of word ≡ Some (name, None) → AtRest rest → AtRest (word ∷ rest)
-rest_recover word rest name known e is later rows pending us told same =
+-- `--name` of an option without a value
+rest_flag : (word : Text) (rest : List Text) (name : Text) → IsFlag name → bytes_eq word (45 ∷ 45 ∷ []) ≡ false → long_of word ≡ Some (name, None) → AtRest rest → AtRest (word ∷ rest)
+rest_flag word rest name v e is later rows pending us told same =
     let h = held rows pending in
-    let is_name = same_text (codes "recover") name known in
-    ap read (long_is run_shape h idle 1 word rest name None (Some recover_rule) e is (recover_found name known)
-    ∙ reacts h recover_rule [] rest (λ now. outcome run_shape (standing run_shape (held (used recover_rule [] now) None) idle 1) rest))
-    ∙ seen_then us (used_then recover_rule [] rest) word rest (seen h) told same (λ now t.
-    use_then recover_rule [] name None rest (λ r. recover_fault r ∙ ap (λ n. repeat_fault false n r) is_name) (λ r. ap (λ n. used_rows n None r) is_name)
-    (recover_takes name known) later now t
+    ap read (long_is run_shape h idle 1 word rest name None (Some v.rule) e is v.found
+    ∙ ap (λ t. turned run_shape h idle 1 word rest (cond t (option_fault rules false v.rule None h) (react_fault rules false v.rule [] h))
+    (after_flag rules idle word (cond t (option_met rules v.rule None h) (flag_met rules v.rule None h)).0
+    (cond t (option_met rules v.rule None h) (flag_met rules v.rule None h)).1)) v.takes
+    ∙ reacts h v.rule [] rest (λ now. outcome run_shape (standing run_shape (held (used v.rule [] now) None) idle 1) rest))
+    ∙ seen_then us (used_then v.rule [] rest) word rest (seen h) told same (λ now t.
+    use_then v.rule [] name None rest v.fault v.gives (sym v.untold) later now t
     ∙ sym (ap (option_and_then run_of) (at_long now word rest name None e is
     ∙ ap₂ (λ b c. cond b (uses_after now (Some name) rest) (cond c (option_and_then (λ more. uses_after more None rest) (with_use now name None)) None))
-    (sym (recover_takes name known)) known)))
+    v.untold v.told)))
 
--- any other option, and a value that `--recover` does not take
+-- any other option, and a value that an option does not take
 rest_other : (word : Text) (rest : List Text) (name : Text) (value : Option Text) → bytes_eq word (45 ∷ 45 ∷ []) ≡ false → long_of word ≡ Some (name, value)
-    → takes_value name ≡ false → bytes_eq (codes "recover") name ≡ false → AtRest (word ∷ rest)
+    → takes_value name ≡ false → is_flag name ≡ false → AtRest (word ∷ rest)
 rest_other word rest name value e is takes other rows pending us told same =
     rest_none word rest rows pending us
     (long_is run_shape (held rows pending) idle 1 word rest name value None e is (unknown name takes other))
@@ -153,22 +140,25 @@ rest_other word rest name value e is takes other rows pending us told same =
     go now (Some text) = ap (λ b. cond b (option_and_then (λ more. uses_after more None rest) (with_use now name (Some text))) None) takes
     go now None = ap₂ (λ b c. cond b (uses_after now (Some name) rest) (cond c (option_and_then (λ more. uses_after more None rest) (with_use now name None)) None)) takes other
 
-rest_recover_value : (word : Text) (rest : List Text) (name text : Text) → bytes_eq (codes "recover") name ≡ true → bytes_eq word (45 ∷ 45 ∷ []) ≡ false
-    → long_of word ≡ Some (name, Some text) → AtRest (word ∷ rest)
-rest_recover_value word rest name text known e is rows pending us told same =
+rest_flag_value : (word : Text) (rest : List Text) (name text : Text) → IsFlag name → bytes_eq word (45 ∷ 45 ∷ []) ≡ false → long_of word ≡ Some (name, Some text) → AtRest (word ∷ rest)
+rest_flag_value word rest name text v e is rows pending us told same =
+    let h = held rows pending in
     rest_none word rest rows pending us
-    (long_is run_shape (held rows pending) idle 1 word rest name (Some text) (Some recover_rule) e is (recover_found name known))
+    (long_is run_shape h idle 1 word rest name (Some text) (Some v.rule) e is v.found
+    ∙ ap (λ t. turned run_shape h idle 1 word rest (cond t (option_fault rules false v.rule (Some text) h) (TooManyValues ∷ []))
+    (after_flag rules idle word (cond t (option_met rules v.rule (Some text) h) (flag_met rules v.rule (Some text) h)).0
+    (cond t (option_met rules v.rule (Some text) h) (flag_met rules v.rule (Some text) h)).1)) v.takes)
     (λ now. at_long now word rest name (Some text) e is
-    ∙ ap (λ b. cond b (option_and_then (λ more. uses_after more None rest) (with_use now name (Some text))) None) (sym (recover_takes name known)))
+    ∙ ap (λ b. cond b (option_and_then (λ more. uses_after more None rest) (with_use now name (Some text))) None) v.untold)
 
 -- a word `--name` or `--name=value`
 pub rest_long : (word : Text) (rest : List Text) (name : Text) (value : Option Text) → bytes_eq word (45 ∷ 45 ∷ []) ≡ false → long_of word ≡ Some (name, value)
     → AtRest rest → AtValue rest → AtRest (word ∷ rest)
-rest_long word rest name value e is at_rest at_value = go (takes_value name) (bytes_eq (codes "recover") name) value refl refl is
+rest_long word rest name value e is at_rest at_value = go (takes_value name) (is_flag name) value refl refl is
   where
-    go : (t r : Bool) (v : Option Text) → takes_value name ≡ t → bytes_eq (codes "recover") name ≡ r → long_of word ≡ Some (name, v) → AtRest (word ∷ rest)
+    go : (t r : Bool) (v : Option Text) → takes_value name ≡ t → is_flag name ≡ r → long_of word ≡ Some (name, v) → AtRest (word ∷ rest)
     go true r (Some text) takes known l = rest_attached word rest name text (valued name takes) e l at_rest
     go true r None takes known l = rest_alone word rest name (valued name takes) e l at_value
-    go false true (Some text) takes known l = rest_recover_value word rest name text known e l
-    go false true None takes known l = rest_recover word rest name known e l at_rest
+    go false true (Some text) takes known l = rest_flag_value word rest name text (flagged name known) e l
+    go false true None takes known l = rest_flag word rest name (flagged name known) e l at_rest
     go false false v takes known l = rest_other word rest name v e l takes known

@@ -38,7 +38,7 @@ with_defaults rows = fold with_default rows rules
 ended-seen : (h : Held) → ended run_shape h ≡ option_map with_defaults (seen h)
 ended-seen h =
     ap (λ k. unless_fault (settle_fault rules false h) (unless_fault k (Some (with_defaults (settled rules h).rows))))
-    (defaults_pass rules (settled rules h).rows (refl, (refl, (refl, (refl, (refl, (refl, tt)))))))
+    (defaults_pass rules (settled rules h).rows (refl, (refl, (refl, (refl, (refl, (refl, (refl, tt))))))))
     ∙ go (settle_fault rules false h)
   where
     go : (k : Kinds) → unless_fault k (Some (with_defaults (settled rules h).rows)) ≡ option_map with_defaults (unless_fault k (Some (settled rules h).rows))

@@ -12,7 +12,7 @@ use Rattle.clap.specs.declared.builder.value_parser.Reading.TheVariants.{AsWritt
 use Rattle.clap.specs.Simple.{Shape, built_leaf, inherited}
 use Rattle.clap.specs.Faults.{repeat_fault, use_fault}
 use Rattle.golf_words.specs.Values.{Text}
-use Rattle.golf_words.specs.Words.{Use, begins_with_hyphen, is_used, name_behind, option_in, takes_value, with_use}
+use Rattle.golf_words.specs.Words.{Use, begins_with_hyphen, is_used, name_behind, option_in, takes_value, with_use, is_flag}
 use Rattle.golf_words.specs.Splitting.{program_app, run_app, unless_fault}
 use Rattle.golf_words.proofs.Outcomes.{fails}
 
@@ -114,13 +114,36 @@ valued name e = elim (or_cases (bytes_eq (codes "schedule") name) _ e) [
   ]
 ]
 
-pub unknown : (name : Text) → takes_value name ≡ false → bytes_eq (codes "recover") name ≡ false → arg_by_long rules name ≡ None
+-- an option without a value, as the walk sees it
+pub record IsFlag (name : Text) : Type 0 where
+  pub rule : Rule
+  pub found : arg_by_long rules name ≡ Some rule
+  pub takes : takes_values rule ≡ false
+  pub fault : (rows : List Row) → use_fault false rule [] rows ≡ repeat_fault false name rows
+  pub gives : (rows : List Row) → used rule [] rows ≡ used_rows name None rows
+  pub untold : takes_value name ≡ false
+  pub told : is_flag name ≡ true
+
+flag_recover : IsFlag (codes "recover")
+flag_recover = record { rule = _; found = refl; takes = refl; fault = λ rows. or_else-nil (repeat_fault false (codes "recover") rows); gives = λ rows. refl; untold = refl; told = refl }
+
+flag_why : IsFlag (codes "why")
+flag_why = record { rule = _; found = refl; takes = refl; fault = λ rows. or_else-nil (repeat_fault false (codes "why") rows); gives = λ rows. refl; untold = refl; told = refl }
+
+pub flagged : (name : Text) → is_flag name ≡ true → IsFlag name
+flagged name e = elim (or_cases (bytes_eq (codes "recover") name) _ e) [
+  | inl is ↦ subst IsFlag (same_text (codes "recover") name is) flag_recover
+  | inr is ↦ subst IsFlag (same_text (codes "why") name is) flag_why
+]
+
+pub unknown : (name : Text) → takes_value name ≡ false → is_flag name ≡ false → arg_by_long rules name ≡ None
 unknown name e other =
     let first = or_parts (bytes_eq (codes "schedule") name) _ e in
     let second = or_parts (bytes_eq (codes "turns") name) _ first.1 in
     let third = or_parts (bytes_eq (codes "every") name) _ second.1 in
     let fourth = or_parts (bytes_eq (codes "markers") name) _ third.1 in
-    rw (first.0, second.0, third.0, fourth.0, fourth.1, other) refl
+    let flags = or_parts (bytes_eq (codes "recover") name) _ other in
+    rw (first.0, second.0, third.0, fourth.0, fourth.1, flags.0, flags.1) refl
 
 -- ---- words
 

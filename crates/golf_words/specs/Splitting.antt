@@ -22,8 +22,8 @@ positional name = record (new_rule name) { action = Some Set }
 
 abbrev pub run_app : App
 run_app =
-    with_rule (with_rule (with_rule (with_rule (with_rule (with_rule (new_app (codes "run"))
-    (valued (codes "schedule"))) (valued (codes "turns"))) (valued (codes "every"))) (valued (codes "markers"))) (valued (codes "threads"))) (flag (codes "recover"))
+    with_rule (with_rule (with_rule (with_rule (with_rule (with_rule (with_rule (new_app (codes "run"))
+    (valued (codes "schedule"))) (valued (codes "turns"))) (valued (codes "every"))) (valued (codes "markers"))) (valued (codes "threads"))) (flag (codes "recover"))) (flag (codes "why"))
 
 abbrev pub generate_app : App
 generate_app = with_rule (new_app (codes "generate")) (positional (codes "number"))
@@ -59,7 +59,7 @@ options_by rows =
     option_and_then (λ turns.
     option_and_then (λ every.
     option_and_then (λ markers.
-    option_map (λ schedule. Line.Run (record { schedule = schedule; turns = turns; every = every; markers = markers; recover = is_true (first_of (codes "recover") rows) }))
+    option_map (λ schedule. Line.Run (record { schedule = schedule; turns = turns; every = every; markers = markers; recover = is_true (first_of (codes "recover") rows); why = is_true (first_of (codes "why") rows) }))
     (setting (first_of (codes "schedule") rows) Schedule.Rotate schedule_of))
     (setting (first_of (codes "markers") rows) 1 (number_within 1 16)))
     (every_or_none (first_of (codes "every") rows)))
@@ -67,7 +67,7 @@ options_by rows =
 
 abbrev pub others_in : List Row → Bool
 others_in rows =
-    is_some (first_of (codes "schedule") rows) || (is_some (first_of (codes "turns") rows) || (is_some (first_of (codes "every") rows) || (is_some (first_of (codes "markers") rows) || is_true (first_of (codes "recover") rows))))
+    is_some (first_of (codes "schedule") rows) || (is_some (first_of (codes "turns") rows) || (is_some (first_of (codes "every") rows) || (is_some (first_of (codes "markers") rows) || (is_true (first_of (codes "recover") rows) || is_true (first_of (codes "why") rows)))))
 
 abbrev pub with_threads : Option Text → List Row → Option Line
 with_threads None rows = options_by rows

@@ -16,6 +16,10 @@ abbrev pub takes_value : Text → Bool
 takes_value name =
     bytes_eq (codes "schedule") name || (bytes_eq (codes "turns") name || (bytes_eq (codes "every") name || (bytes_eq (codes "markers") name || bytes_eq (codes "threads") name)))
 
+-- an option without a value
+abbrev pub is_flag : Text → Bool
+is_flag name = bytes_eq (codes "recover") name || bytes_eq (codes "why") name
+
 abbrev pub is_used : List Use → Text → Bool
 is_used us name = list_any (λ u. bytes_eq u.0 name) us
 
@@ -49,7 +53,7 @@ option_met us name (Some value) next =
     if takes_value name then option_and_then (λ now. next now None) (with_use us name (Some value)) else None
 option_met us name None next =
     if takes_value name then next us (Some name)
-    else (if bytes_eq (codes "recover") name then option_and_then (λ now. next now None) (with_use us name None) else None)
+    else (if is_flag name then option_and_then (λ now. next now None) (with_use us name None) else None)
 
 -- a word where an option may stand; one `--` may stand last
 abbrev pub word_met : List Use → Text → List Text → (List Use → Option Text → Option (List Use)) → Option (List Use)
@@ -93,7 +97,7 @@ run_by_options us =
     option_and_then (λ schedule.
     option_and_then (λ turns.
     option_and_then (λ every.
-    option_map (λ markers. Line.Run (record { schedule = schedule; turns = turns; every = every; markers = markers; recover = is_used us (codes "recover") }))
+    option_map (λ markers. Line.Run (record { schedule = schedule; turns = turns; every = every; markers = markers; recover = is_used us (codes "recover"); why = is_used us (codes "why") }))
     (markers_in us)) (every_in us)) (turns_in us)) (schedule_in us)
 
 -- ---- a run by threads
@@ -101,7 +105,7 @@ run_by_options us =
 -- an option other than `--threads` is used
 abbrev pub has_others : List Use → Bool
 has_others us =
-    is_some (value_in us (codes "schedule")) || (is_some (value_in us (codes "turns")) || (is_some (value_in us (codes "every")) || (is_some (value_in us (codes "markers")) || is_used us (codes "recover"))))
+    is_some (value_in us (codes "schedule")) || (is_some (value_in us (codes "turns")) || (is_some (value_in us (codes "every")) || (is_some (value_in us (codes "markers")) || (is_used us (codes "recover") || is_used us (codes "why")))))
 
 -- so many threads, and no other option
 abbrev pub threads_by : Bool → Text → Option Line

@@ -83,12 +83,14 @@ fn options_line(alloc: Global, matches: &ArgMatches<'_>) -> Result<Option<Line>,
         return Ok(None);
     };
     let recover = is_true(value(matches, "recover"));
+    let why = is_true(value(matches, "why"));
     Ok(Some(Line::Run(Options {
         schedule,
         turns,
         every,
         markers,
         recover,
+        why,
     })))
 }
 
@@ -101,6 +103,7 @@ fn has_others(matches: &ArgMatches<'_>) -> bool
         || value(matches, "every").is_some()
         || value(matches, "markers").is_some()
         || is_true(value(matches, "recover"))
+        || is_true(value(matches, "why"))
 }
 
 // A run by so many threads, if no other option was given.

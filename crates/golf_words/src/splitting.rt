@@ -55,7 +55,8 @@ fn run_command<'a>(alloc: Global) -> Result<Command<'a>, AllocError>
     let four = with(three, option(alloc, "markers"))?;
     let five = with(four, option(alloc, "threads"))?;
     let six = with(five, flag(alloc, "recover"))?;
-    Ok(six)
+    let seven = with(six, flag(alloc, "why"))?;
+    Ok(seven)
 }
 
 // `generate`, with its number.

@@ -4,7 +4,8 @@ use Rattle.golf_model.specs.Futures.{Numbered}
 use Rattle.golf_model.specs.Presence.{IsWhole}
 use Rattle.golf_reclaim.specs.Noting.{AreGone}
 use Rattle.golf_schedules.specs.Events.{event_of, events_left}
-use Rattle.golf_run.specs.Told.{told_text, totalled, noted, collected}
+use Rattle.golf_texts.specs.Meaning.{joined}
+use Rattle.golf_run.specs.Told.{told_by, totalled, noted, collected}
 use Rattle.golf_run.specs.HasRun.{sinks}
 use Rattle.golf_run.specs.UnderWay.{IsGoing}
 use Rattle.golf_run.proofs.Ending.{went, tell-stopped, turn-stopped}
@@ -39,7 +40,7 @@ tell-requires-clause-count g c = λ κs within. few-next c.args.code.now c.args.
 pub returns-in_err-totals : goal.returns-in_err-totals
 returns-in_err-totals g c =
     let stands = c.in_ok-happen.ensures.1 in
-    tell-stopped c.args.options.recover c.sets_finalisers.result c.in_err-totals.field-0.0 c.tell.result c.from_residual-in_err-totals.result c.args.code.now c.args.options _ _ c.happen.new.state c.tell.new.state c.loop-event.book c.tell.new.book (g.E.Sink.written c.tell.new.err) (g.E.Sink.faults c.tell.new.err)
+    tell-stopped c.args.options.recover c.sets_finalisers.result c.args.options.why c.in_err-totals.field-0.0 c.tell.result c.from_residual-in_err-totals.result c.args.code.now c.args.options _ _ c.happen.new.state c.tell.new.state c.loop-event.book c.tell.new.book (g.E.Sink.written c.tell.new.err) (g.E.Sink.faults c.tell.new.err)
     c.in_err-totals.was c.tell.ensures c.from_residual-in_err-totals.ensures.0 c.from_residual-in_err-totals.ensures.1
     (record { out = c.in_ok-happen.ensures.3 ∙ c.loop-event.invariant.steady.out; err = c.loop-event.invariant.steady.err }) _ _
     (said-got c.args.code.now c.args.options c.loop-event.events c.next_event.new.events c.in-Some.event c.loop-event.state c.loop-event.book c.loop-event.totals _ _ c.loop-event.invariant.going c.in-Some.ensures.0 c.in-Some.ensures.1 c.in-Some.ensures.2 (g.O.Sink.written c.happen.new.out) (g.O.Sink.faults c.happen.new.out) (g.E.Sink.faults c.loop-event.err) c.in_ok-happen.ensures.2)
@@ -55,7 +56,7 @@ loop-event-preserved-then-branch g c =
     record {
       going = going-loud c.args.code.now c.args.options c.loop-event.events c.next_event.new.events c.in-Some.event c.loop-event.state c.loop-event.book c.loop-event.totals _ _ c.loop-event.invariant.going c.in-Some.ensures.0 c.in-Some.ensures.1 c.in-Some.ensures.2 c.sets_finalisers.result c.sets_finalisers.ensures _ _ _ _ c.in_ok-totals.totals c.tell.new.state c.tell.new.book c.in_ok-happen.ensures.2 (sym c.in_ok-happen.ensures.0 ∙ c.if-branch.true)
           (told.0 ∙ ap (totalled recover sets c.loop-event.book) stands) (told.1 ∙ ap (collected recover sets) stands) (told.2 ∙ ap (noted recover sets c.loop-event.book) stands)
-          (subst (λ s. Appends (g.E.Sink.written c.loop-event.err) (g.E.Sink.written c.tell.new.err) (told_text recover sets c.loop-event.book s)) stands told.3);
+          (subst (λ s. Appends (g.E.Sink.written c.loop-event.err) (g.E.Sink.written c.tell.new.err) (joined (told_by recover sets c.args.options.why c.loop-event.book s))) stands told.3);
       steady = record { out = c.in_ok-happen.ensures.3 ∙ c.loop-event.invariant.steady.out; err = told.4 ∙ c.loop-event.invariant.steady.err };
     }
 
