@@ -90,8 +90,8 @@ module _ (code : Code) (recover why : Bool) (done : List Event) (e : Event) (sta
       let book = real_book_to code recover done in
       writes-append code recover sets why done (e ∷ []) new_book (start code)
       ∙ ap (λ ws. writes_to code recover why done ++ ws) (append-nil (writes_in code recover sets why (has_ended m) book m e) ∙ ap (λ b. writes_in code recover sets why b book m e) (going code recover done e state goes same taken)
-        ∙ ap (λ ws. ws ++ collection_writes code recover sets why book (stop_in (collecting code recover) code false m e)) said
-        ∙ ap (λ ps. says code e state ++ collection_writes code recover sets why book ps) (stopped code (collecting code recover) m.output state m same e))
+      ∙ ap (λ ws. ws ++ collection_writes code recover sets why book (stop_in (collecting code recover) code false m e)) said
+      ∙ ap (λ ps. says code e state ++ collection_writes code recover sets why book ps) (stopped code (collecting code recover) m.output state m same e))
       ∙ sym (append_assoc (writes_to code recover why done) (says code e state) (followed_by (collects code e state)))
 
   -- the collection's lines are those of the state in memory

@@ -1,9 +1,9 @@
 -- Where a run stops, and what it has written by then: at its end, all of it.
-use Rattle.std.proofs.Common.{◌≡◌, ℕ, Bool, true, List, [], ◌∷◌, ◌++◌, length, ◌⊎◌, inl, inr, map, refl, sym, ap, subst, ◌∙◌, append_assoc, append-nil, arith}
+use Rattle.std.proofs.Common.{◌≡◌, ℕ, Bool, true, List, [], ◌∷◌, ◌++◌, length, ◌⊎◌, inl, inr, refl, sym, ap, subst, ◌∙◌, append_assoc, append-nil, arith}
 use Rattle.std.specs.Prelude.{Option, Some, None, Result, Ok, Err, IsErr, IsErrAnd, is_some}
 use Rattle.std.specs.Io.KnownBytes.{Appends}
 use Rattle.std.proofs.KnownBytes.{Appends-trans, Appends-nil}
-use Rattle.golf_base.specs.Causes.{Rose, WritesFront}
+use Rattle.golf_base.specs.Causes.{Rose}
 use Rattle.golf_data.specs.declared.code.Code.{Code}
 use Rattle.golf_data.specs.declared.goroutine.Ending.{Ending}
 use Rattle.golf_data.specs.declared.report.Book.{Book}
@@ -94,7 +94,7 @@ module _ (code : Code) (options : Options) (done rest : List Event) (split : eve
     order-told c =
         order-next
         ∙ ap (λ ws. (writes_to code options.recover options.why done ++ says code e state) ++ (ws ++ behind-next))
-            (ap (followed_by code options.recover options.why done e state goes w.same w.taken) c ∙ follows-told code options.recover options.why done e state goes w.same w.taken ledger w.book)
+        (ap (followed_by code options.recover options.why done e state goes w.same w.taken) c ∙ follows-told code options.recover options.why done e state goes w.same w.taken ledger w.book)
 
     pub got-said : (out : Option (List ℕ)) (of ef : ℕ) → Appends now.out out (prints code e state) → GotWrites (writes_to code options.recover options.why done ++ says code e state) old (sinks out of now.err ef)
     got-said out of ef a =

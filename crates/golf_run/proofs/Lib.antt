@@ -7,6 +7,7 @@ mod Leaving
 mod Totalling
 mod Goings
 mod Lines
+mod Sleepers
 mod Tellings
 mod Turning
 mod Cutting

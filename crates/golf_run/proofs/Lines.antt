@@ -1,5 +1,5 @@
 -- Lines that are written one by one.
-use Rattle.std.proofs.Common.{◌≡◌, ℕ, zero, suc, ◌+◌, ◌<◌, ◌≤◌, List, [], ◌∷◌, ◌++◌, length, take, drop, get_or, refl, sym, ap, subst, ◌∙◌, append_assoc, append-nil, arith}
+use Rattle.std.proofs.Common.{◌≡◌, ℕ, zero, suc, ◌+◌, ◌<◌, List, [], ◌∷◌, ◌++◌, length, take, drop, get_or, refl, sym, ap, subst, ◌∙◌, append_assoc, append-nil, arith}
 use Rattle.std.specs.Prelude.{Option, Result, Ok, Err, IsErr, IsErrAnd}
 use Rattle.std.specs.Io.KnownBytes.{Appends}
 use Rattle.std.proofs.KnownBytes.{Appends-trans, Appends-nil}
@@ -7,7 +7,7 @@ use Rattle.golf_base.specs.Causes.{Rose, WritesFront}
 use Rattle.golf_texts.specs.Meaning.{joined}
 use Rattle.golf_run.specs.declared.fault.RunFault.{RunFault}
 use Rattle.golf_run.specs.declared.fault.RunFault.TheVariants as faults
-use Rattle.golf_run.specs.Lines.{IsCutIn, IsStoppedIn, HasWritten}
+use Rattle.golf_run.specs.Lines.{IsStoppedIn, HasWritten}
 use Rattle.golf_run.proofs.Writing.{joined-append}
 
 -- nothing yet
@@ -55,36 +55,36 @@ module _ {A : Type 0} where
     w.1 ∙ steady,
   )
 
-  -- lines of which the first ones did not come about
-  early : (e : RunFault) (a more : List (List ℕ)) (old new : Option (List ℕ)) (f h : ℕ) → HasWritten {X = A} (Err e) a old new f h → HasWritten {X = A} (Err e) (a ++ more) old new f h
-  early faults.Write a more old new f h w = (
-    record {
-      done = w.0.done;
-      cut = w.0.cut;
-      front = w.0.front;
-      rest = w.0.rest;
-      later = w.0.later ++ more;
-      order = ap (λ ls. ls ++ more) w.0.order ∙ append_assoc w.0.done (w.0.cut ∷ w.0.later) more;
-      is_front = w.0.is_front;
-      got = w.0.got;
-    },
-    w.1,
-  )
-  early faults.Memory a more old new f h w = (record { done = w.0.done; later = w.0.later ++ more; order = ap (λ ls. ls ++ more) w.0.order ∙ append_assoc w.0.done w.0.later more; got = w.0.got }, w.1)
+-- lines of which the first ones did not come about
+early : (A : Type 0) (e : RunFault) (a more : List (List ℕ)) (old new : Option (List ℕ)) (f h : ℕ) → HasWritten {X = A} (Err e) a old new f h → HasWritten {X = A} (Err e) (a ++ more) old new f h
+early A faults.Write a more old new f h w = (
+  record {
+    done = w.0.done;
+    cut = w.0.cut;
+    front = w.0.front;
+    rest = w.0.rest;
+    later = w.0.later ++ more;
+    order = ap (λ ls. ls ++ more) w.0.order ∙ append_assoc w.0.done (w.0.cut ∷ w.0.later) more;
+    is_front = w.0.is_front;
+    got = w.0.got;
+  },
+  w.1,
+)
+early A faults.Memory a more old new f h w = (record { done = w.0.done; later = w.0.later ++ more; order = ap (λ ls. ls ++ more) w.0.order ∙ append_assoc w.0.done w.0.later more; got = w.0.got }, w.1)
 
 -- the same error, of another call
-same-error : {A B : Type 0} (e : RunFault) (lines : List (List ℕ)) (old new : Option (List ℕ)) (f h : ℕ) → HasWritten {X = A} (Err e) lines old new f h → HasWritten {X = B} (Err e) lines old new f h
-same-error faults.Write lines old new f h w = w
-same-error faults.Memory lines old new f h w = w
+same-error : (A B : Type 0) (e : RunFault) (lines : List (List ℕ)) (old new : Option (List ℕ)) (f h : ℕ) → HasWritten {X = A} (Err e) lines old new f h → HasWritten {X = B} (Err e) lines old new f h
+same-error A B faults.Write lines old new f h w = w
+same-error A B faults.Memory lines old new f h w = w
 
 pub passed : {A B : Type 0} (e : RunFault) (r : Result A RunFault) (r' : Result B RunFault) (lines : List (List ℕ)) (old new : Option (List ℕ)) (f h : ℕ) → r ≡ Err e → HasWritten r lines old new f h → IsErr r' → IsErrAnd r' (λ x. x ≡ e) → HasWritten r' lines old new f h
 passed e r (Ok x) lines old new f h is w i a = cc
-passed {A = A} e r (Err x) lines old new f h is w i a =
+passed {A = A} {B = B} e r (Err x) lines old new f h is w i a =
     let there : r ≡ Err x = is ∙ ap (λ y. Err y) (sym a) in
-    same-error {A = A} x lines old new f h (subst (λ y. HasWritten y lines old new f h) there w)
+    same-error A B x lines old new f h (subst (λ y. HasWritten y lines old new f h) there w)
 
 pub passed-early : {A B : Type 0} (e : RunFault) (r : Result A RunFault) (r' : Result B RunFault) (lines more : List (List ℕ)) (old new : Option (List ℕ)) (f h : ℕ) → r ≡ Err e → HasWritten r lines old new f h → IsErr r' → IsErrAnd r' (λ x. x ≡ e) → HasWritten r' (lines ++ more) old new f h
-passed-early e r r' lines more old new f h is w i a = passed e (Err e) r' (lines ++ more) old new f h refl (early e lines more old new f h (subst (λ y. HasWritten y lines old new f h) is w)) i a
+passed-early {A = A} {B = B} e r r' lines more old new f h is w i a = passed {A = A} {B = B} e (Err e) r' (lines ++ more) old new f h refl (early A e lines more old new f h (subst (λ y. HasWritten y lines old new f h) is w)) i a
 
 -- ---- the lines of things that are counted from 0
 
@@ -120,3 +120,7 @@ module _ {X : Type 0} (one : ℕ → X → List (List ℕ)) (all : ℕ → List 
       let rest = all (i + 1) (drop (suc i) xs) in
       subst (λ ls. HasWritten r' ls old new f h) (sym (split xs 0 i i d (omega arith) l))
       (written-after r' (all 0 (take i xs)) (this ++ rest) old mid new f g h before steady (passed-early e r r' this rest mid new g h is w s a))
+
+-- what is told of each of them by number, one line or none
+pub one-line : (line : List ℕ) (old new : Option (List ℕ)) → Appends old new line → Appends old new (joined (line ∷ []))
+one-line line old new a = subst (Appends old new) (sym (append-nil line)) a

@@ -1,5 +1,29 @@
-use Rattle.std.proofs.Common.{subst, sym, ◌∙◌}
+use Rattle.std.proofs.Common.{◌++◌, subst}
 use Rattle.std.specs.Io.KnownBytes.{Appends}
+use Rattle.golf_texts.specs.Texts.{report_lines}
 use Rattle.golf_texts.specs.Meaning.{joined}
-use Rattle.golf_run.proofs.Tellings.{lines-told, explained-ready, totals-told, collected-told, noted-told, told-failed, told-wanting}
+use Rattle.golf_run.specs.Told.{explained_lines}
+use Rattle.golf_run.proofs.Tellings.{lines-told, totals-told, collected-told, noted-told, told-failed}
 use Rattle.golf_run.proofs.turns.tell.Goals as goal
+
+pub returns-in_err-write_told : goal.returns-in_err-write_told
+returns-in_err-write_told g c =
+    let recover = c.args.how.collecting.recover in
+    let sets = c.args.how.collecting.sets_finalisers in
+    let report = c.in_ok-report.report in
+    let lines = lines-told recover sets c.args.book.now c.args.state.now c.args.how.why report c.in_ok-why.why c.in_ok-report.ensures.report c.in_ok-why.ensures in
+    told-failed recover sets c.args.book.now c.args.state.now c.args.how.why c.in_err-write_told.field-0.0 c.write_told.result c.from_residual-in_err-write_told.result _ _ (report_lines report ++ explained_lines report.number c.in_ok-why.why) _ _ _ _
+    c.in_err-write_told.was c.write_told.ensures lines c.from_residual-in_err-write_told.ensures.0 c.from_residual-in_err-write_told.ensures.1
+
+pub returns : goal.returns
+returns g c =
+    let recover = c.args.how.collecting.recover in
+    let sets = c.args.how.collecting.sets_finalisers in
+    let report = c.in_ok-report.report in
+    let lines = lines-told recover sets c.args.book.now c.args.state.now c.args.how.why report c.in_ok-why.why c.in_ok-report.ensures.report c.in_ok-why.ensures in (
+      totals-told recover sets c.args.book.now c.args.state.now c.collect.new.book report c.totals_after.result c.in_ok-report.ensures.book c.in_ok-report.ensures.report c.totals_after.ensures,
+      collected-told recover sets c.args.book.now c.args.state.now c.collect.new.state c.in_ok-report.ensures.state,
+      noted-told recover sets c.args.book.now c.args.state.now c.collect.new.book c.in_ok-report.ensures.book,
+      subst (λ ls. Appends (g.E.Sink.written c.args.err.now) (g.E.Sink.written c.write_told.new.err) (joined ls)) lines c.in_ok-write_told.ensures.0,
+      c.in_ok-write_told.ensures.1,
+    )

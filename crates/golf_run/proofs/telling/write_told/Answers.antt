@@ -1,0 +1,14 @@
+use Rattle.golf_texts.specs.Texts.{report_lines}
+use Rattle.golf_run.specs.Told.{explained_lines}
+use Rattle.golf_run.proofs.Lines.{passed-early, written-after}
+use Rattle.golf_run.proofs.telling.write_told.Goals as goal
+
+pub returns-in_err-write_report : goal.returns-in_err-write_report
+returns-in_err-write_report g c =
+    let r = c.args.report.now in
+    passed-early c.in_err-write_report.field-0.0 c.write_report.result c.from_residual.result (report_lines r) (explained_lines r.number c.args.why.now) _ _ _ _ c.in_err-write_report.was c.write_report.ensures c.from_residual.ensures.0 c.from_residual.ensures.1
+
+pub returns : goal.returns
+returns g c =
+    let r = c.args.report.now in
+    written-after c.write_why.result (report_lines r) (explained_lines r.number c.args.why.now) _ _ _ _ _ _ c.in_ok-write_report.ensures.0 c.in_ok-write_report.ensures.1 c.write_why.ensures
