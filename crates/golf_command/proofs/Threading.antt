@@ -1,13 +1,14 @@
 -- The texts of a run by threads are those of the run of its numbers.
-use Rattle.std.proofs.Common.{◌≡◌, ℕ, false, List, ◌++◌, length, sym, ap, ◌∙◌}
+use Rattle.std.proofs.Common.{◌≡◌, ℕ, false, List, [], ◌∷◌, ◌++◌, length, refl, sym, ap, append-nil, ◌∙◌}
 use Rattle.golf_data.specs.declared.code.Code.{Code}
 use Rattle.golf_model.specs.State.{State, start, ending}
 use Rattle.golf_model.specs.Collecting.{sets_finalisers}
 use Rattle.golf_model.specs.Reporting.{book_of}
 use Rattle.golf_model.specs.Running.{run, stops}
 use Rattle.golf_schedules.specs.Events.{turns_among}
-use Rattle.golf_texts.specs.Texts.{reports_text, last_line, history_line}
-use Rattle.golf_texts.specs.Meaning.{events_of, last_of, out_of, reports_of, end_of, err_of, status_of, status_by, anyone_reported}
+use Rattle.golf_data.specs.declared.report.Report.{Report}
+use Rattle.golf_texts.specs.Texts.{report_text, reports_text, last_line, history_line}
+use Rattle.golf_texts.specs.Meaning.{events_of, last_of, out_of, reports_of, real_stops_of, collections_text, end_of, err_of, status_of, status_by, anyone_reported}
 use Rattle.golf_world.specs.declared.history.History.{History}
 use Rattle.golf_world.specs.History.{turns}
 use Rattle.golf_world.specs.Runs.{IsWholeRun}
@@ -15,6 +16,12 @@ use Rattle.golf_command.specs.declared.texts.RunTexts.{RunTexts}
 use Rattle.golf_command.specs.Ways.{history_options, AreTurns}
 use Rattle.golf_command.specs.Written.{AreTextsByThreads}
 use Rattle.golf_command.proofs.Turns.{numbers_in, turns-are, turns-counted, numbers-counted, history-turns}
+
+-- of collections that tell nothing beside their reports
+plain-texts : (rs : List Report) (ss : List State) → collections_text false rs ss ≡ reports_text rs
+plain-texts [] ss = refl
+plain-texts (r ∷ rs) [] = ap (λ t. report_text r ++ t) (plain-texts rs [])
+plain-texts (r ∷ rs) (s ∷ ss) = ap (λ t. t ++ collections_text false rs ss) (append-nil (report_text r)) ∙ ap (λ t. report_text r ++ t) (plain-texts rs ss)
 
 module _ (code : Code) (threads : ℕ) (s : State) (history : History) (w : IsWholeRun code threads s history) where
   abbrev ns : List ℕ
@@ -50,8 +57,8 @@ module _ (code : Code) (threads : ℕ) (s : State) (history : History) (w : IsWh
   end-is = (λ i. last_line code.texts (count-is i) (ending-is i))
 
   err-is : err_of code (history_options ns) ≡ reports_text history.reports ++ last_line code.texts (length history.entries) (ending s)
-  unfolding err_of
-  err-is = (λ i. reports_text (reports-are i) ++ end-is i)
+  unfolding err_of history_options
+  err-is = ap (λ t. t ++ end_of code (history_options ns)) (plain-texts (reports_of code (history_options ns)) (real_stops_of code (history_options ns))) ∙ (λ i. reports_text (reports-are i) ++ end-is i)
 
   status-is : status_of code (history_options ns) ≡ status_by (anyone_reported history.reports) (ending s)
   unfolding status_of

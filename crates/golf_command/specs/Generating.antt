@@ -13,7 +13,7 @@ use Rattle.golf_texts.specs.Writes.{Write}
 
 -- in rotation, by four markers, with recovery
 unfoldable pub generated_options : Options
-generated_options = record { schedule = Schedule.Rotate; turns = 10000000; every = None; markers = 4; recover = true }
+generated_options = record { schedule = Schedule.Rotate; turns = 10000000; every = None; markers = 4; recover = true; why = false }
 
 -- the numbers of the run of the generated file of n parts
 abbrev pub summary_of : ℕ → Totals → Summary

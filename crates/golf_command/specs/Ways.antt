@@ -31,7 +31,7 @@ pub record IsTurnAt (code : Code) (threads : ℕ) (ns : List ℕ) (t n : ℕ) : 
 
 -- how a run whose turns had these numbers is run again: by them as written choices, without recovery
 unfoldable pub history_options : List ℕ → Options
-history_options ns = record { schedule = Schedule.Choices ns; turns = 100000; every = None; markers = 1; recover = false }
+history_options ns = record { schedule = Schedule.Choices ns; turns = 100000; every = None; markers = 1; recover = false; why = false }
 
 -- these are the numbers of all turns of a run by so many threads: no proper prefix of them has an ending, and all together have one, or are 100,000
 pub record AreTurns (code : Code) (threads : ℕ) (ns : List ℕ) : Type 0 where

@@ -34,6 +34,7 @@ fn generated_options() -> Options
         every: None,
         markers: 4,
         recover: true,
+        why: false,
     }
 }
 

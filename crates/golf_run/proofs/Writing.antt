@@ -10,7 +10,7 @@ use Rattle.golf_model.specs.Collecting.{sets_finalisers}
 use Rattle.golf_model.specs.Running.{Event, has_ended, collected_if, happens_in, happens_by, run_by, stop_in, stops_by}
 use Rattle.golf_model.specs.Reporting.{report, reports_from, book_after, new_book}
 use Rattle.golf_schedules.specs.declared.options.Options.{Options}
-use Rattle.golf_texts.specs.Texts.{entry_line, entry_lines, report_line, report_lines, report_text, reports_text}
+use Rattle.golf_texts.specs.Texts.{entry_line, entry_lines, report_line, report_lines, report_text}
 use Rattle.golf_texts.specs.Meaning.{events_of, out_of, last_of, reports_of, real_stops_of, why_lines, joined, collections_text, end_of, err_of}
 use Rattle.golf_texts.specs.Writes.{Write, out_bytes, err_bytes, emptied, freeing, books, told_lines, line_writes, prints_in, collection_writes, writes_in, writes_from, event_writes_of, writes_of}
 use Rattle.golf_laws.specs.Printing.{prefixed}
@@ -189,12 +189,6 @@ module _ (code : Code) (recover sets : Bool) where
         let next = book_after recover sets book p in
         ap (λ t. t ++ stops_text recover sets why next ps) (joined-append (report_lines r) (why_lines why r.number p) ∙ ap (λ t. t ++ joined (why_lines why r.number p)) (report-joined r))
         ∙ ap (λ t. (report_text r ++ joined (why_lines why r.number p)) ++ t) (texts-are ps next)
-
--- of collections that tell nothing beside their reports
-pub plain-texts : (rs : List Report) (ss : List State) → collections_text false rs ss ≡ reports_text rs
-plain-texts [] ss = refl
-plain-texts (r ∷ rs) [] = ap (λ t. report_text r ++ t) (plain-texts rs [])
-plain-texts (r ∷ rs) (s ∷ ss) = ap (λ t. t ++ collections_text false rs ss) (append-nil (report_text r)) ∙ ap (λ t. report_text r ++ t) (plain-texts rs ss)
 
 -- ---- the whole run: the writes to each sink together are its text
 
