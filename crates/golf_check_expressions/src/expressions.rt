@@ -11,14 +11,14 @@ ghost use Rattle.golf_types.specs.Judging.{judge, judge_at, value_at, Judges, Ju
 use golf_base::List;
 use golf_check_calls::{call, finalises, keeps_steady, rule_unless, sets_finaliser};
 use golf_check_operands::{
-    all_fit, binary, elements_fit, field_place, fields_differ, index, int_value, is_name, is_value, made,
-    made_sized, made_struct, made_sync, named, plain_type, pointer_to, select, unary, value,
+    all_fit, binary, elements_fit, field_place, fields_differ, index, int_value, is_name, is_value,
+    made, made_sized, made_struct, made_sync, named, plain_type, pointer_to, select, unary, value,
     without_package, written,
 };
 use golf_grammar::{BinaryOperator, Element, Expr, TypeExpr, UnaryOperator};
 use golf_types::{
-    Base, Fact, Given, Layer, Operand, Scope, TypeFault, copy_operand, meaning_at, require, value_of,
-    with_layer,
+    Base, Fact, Given, Layer, Operand, Scope, TypeFault, copy_operand, meaning_at, require,
+    value_of, with_layer,
 };
 use std::alloc::Global;
 
