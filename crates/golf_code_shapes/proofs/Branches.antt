@@ -4,7 +4,6 @@ use Rattle.golf_theory.specs.Membership.{In, Every}
 use Rattle.golf_theory.proofs.Lists.{Every-append}
 use Rattle.golf_grammar.specs.declared.expressions.Expr.{Expr}
 use Rattle.golf_types.specs.declared.types.Base.TheVariants as base
-use Rattle.golf_types.specs.declared.types.GoType.{GoType}
 use Rattle.golf_types.specs.declared.scopes.Scope.{Scope}
 use Rattle.golf_types.specs.Expressions.{used, given_by}
 use Rattle.golf_types.specs.Scopes.{begun}
