@@ -4,6 +4,7 @@ use Rattle.std.specs.Prelude.{Option, Result}
 use Rattle.std.proofs.Math.Seq.{take-append_seam}
 use Rattle.golf_types.specs.declared.fault.TypeFault.{TypeFault}
 use Rattle.golf_types.specs.declared.types.GoType.{GoType}
+use Rattle.golf_types.specs.declared.facts.Fact.{Fact}
 use Rattle.golf_types.specs.declared.locals.Local.{Local}
 use Rattle.golf_types.specs.declared.scopes.Scope.{Scope}
 use Rattle.golf_types.specs.Faults.{Fault}
@@ -14,7 +15,7 @@ use Rattle.golf_types.proofs.Seams.{tells_behind}
 scope_at : Scope → List Local → ℕ → Scope
 scope_at s ds n = record s { locals = ds; next = n }
 
-pub behind-judges : (s : Scope) (fs : List Fault) (ts : List (Option GoType)) → behind s (judges fs ts) ≡ s
+pub behind-judges : (s : Scope) (fs : List Fault) (ts : List Fact) → behind s (judges fs ts) ≡ s
 unfolding scope_at
 behind-judges s fs ts = ap (λ ds. scope_at s ds (s.next + 0)) (append-nil s.locals) ∙ ap (λ n. scope_at s s.locals n) (let e : s.next + 0 ≡ s.next = omega arith in e)
 
@@ -41,11 +42,11 @@ new_breaks_none true n t s = refl
 new_breaks_none false n t s = refl
 
 -- Where the first walk breaks nothing, the answer of the second tells of both.
-pub then_tells : {A : Type 0} (r : Result A TypeFault) (a b : Walked) (s mid t : Scope) (old some new : List (Option GoType)) → a.faults ≡ [] → mid ≡ behind s a → some ≡ old ++ a.types → Walks r b mid t some new → Walks r (both a b) s t old new
+pub then_tells : {A : Type 0} (r : Result A TypeFault) (a b : Walked) (s mid t : Scope) (old some new : List Fact) → a.faults ≡ [] → mid ≡ behind s a → some ≡ old ++ a.facts → Walks r b mid t some new → Walks r (both a b) s t old new
 then_tells r a b s mid t old some new none at added h =
-    tells_behind r a.faults b.faults (λ _. (t ≡ behind mid b) × (new ≡ some ++ b.types)) (λ _. (t ≡ behind s (both a b)) × (new ≡ old ++ (a.types ++ b.types))) none
-    (λ _ k. (k.0 ∙ ap (λ m. behind m b) at ∙ behind-both s a b, k.1 ∙ (ap (λ ts. ts ++ b.types) added ∙ append_assoc old a.types b.types))) h
+    tells_behind r a.faults b.faults (λ _. (t ≡ behind mid b) × (new ≡ some ++ b.facts)) (λ _. (t ≡ behind s (both a b)) × (new ≡ old ++ (a.facts ++ b.facts))) none
+    (λ _ k. (k.0 ∙ ap (λ m. behind m b) at ∙ behind-both s a b, k.1 ∙ (ap (λ fs. fs ++ b.facts) added ∙ append_assoc old a.facts b.facts))) h
 
 -- A block's answer.
-pub block_tells : {A : Type 0} (r : Result A TypeFault) (w : Walked) (s mid t : Scope) (old new : List (Option GoType)) → t ≡ closed_to (length s.locals) mid → mid ≡ behind (begun s) w → t ≡ behind s (closed w)
+pub block_tells : {A : Type 0} (r : Result A TypeFault) (w : Walked) (s mid t : Scope) (old new : List Fact) → t ≡ closed_to (length s.locals) mid → mid ≡ behind (begun s) w → t ≡ behind s (closed w)
 block_tells r w s mid t old new end at = end ∙ ap (closed_to (length s.locals)) at ∙ behind-closed s w

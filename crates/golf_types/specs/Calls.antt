@@ -16,7 +16,7 @@ use Rattle.golf_types.specs.declared.scopes.FileScope.{FileScope}
 use Rattle.golf_types.specs.declared.scopes.Scope.{Scope}
 use Rattle.golf_types.specs.Faults.{Fault, broken}
 use Rattle.golf_types.specs.Types.{same_type, plain, type_given, has_base, has_layer, is_any, takes, assignable}
-use Rattle.golf_types.specs.Expressions.{Judged, types_of, used, named_or_used, given_by}
+use Rattle.golf_types.specs.Expressions.{Judged, facts_of, used, named_or_used, given_by}
 
 -- Rule 9 of the leading pairs.
 abbrev pub argument_faults : ℕ → List (Option GoType) → List Given → List Fault
@@ -158,7 +158,7 @@ abbrev pub plain_call : ℕ → Scope → Operand → List Judged → Judged
 plain_call l s f xs = record {
   meaning = called s.file f (map given_by xs);
   faults = flat_map (used l) xs ++ (steady_faults l s.initialises f ++ call_faults l s.file f (map given_by xs));
-  inner = flat_map types_of xs;
+  inner = flat_map facts_of xs;
 }
 
 -- `SetFinalizer`: the second argument may be a name of any kind
@@ -166,12 +166,12 @@ abbrev pub finaliser_call : ℕ → Scope → Operand → List Judged → Judged
 finaliser_call l s f (x ∷ (y ∷ ys)) = record {
   meaning = operand.Nothing (rule_unless 22 (finalises s.file (given_by x) y.meaning));
   faults = used l x ++ (named_or_used l y ++ (flat_map (used l) ys ++ (steady_faults l s.initialises f ++ broken l 11 (is_empty ys))));
-  inner = types_of x ++ (types_of y ++ flat_map types_of ys);
+  inner = facts_of x ++ (facts_of y ++ flat_map facts_of ys);
 }
 finaliser_call l s f xs = record {
   meaning = operand.Nothing None;
   faults = flat_map (used l) xs ++ (steady_faults l s.initialises f ++ broken l 11 false);
-  inner = flat_map types_of xs;
+  inner = flat_map facts_of xs;
 }
 
 abbrev pub sets_finaliser : Operand → Bool
@@ -185,5 +185,5 @@ abbrev pub call_judged : ℕ → Scope → Judged → List Judged → Judged
 call_judged l s f xs = record {
   meaning = (called_with l s f.meaning xs).meaning;
   faults = named_or_used l f ++ (called_with l s f.meaning xs).faults;
-  inner = types_of f ++ (called_with l s f.meaning xs).inner;
+  inner = facts_of f ++ (called_with l s f.meaning xs).inner;
 }

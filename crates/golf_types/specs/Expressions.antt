@@ -1,5 +1,5 @@
--- What expressions are, which rules they break, and the types of their parts (Go specification, "Expressions").
-use Rattle.std.specs.Prelude.{ℕ, ◌+◌, ◌*◌, ◌-◌, Bool, true, false, not, ◌&&◌, nat_le, cond, is_some, List, [], ◌∷◌, ◌++◌, map, flat_map, slice_get, Option, Some, None, codes}
+-- What expressions are, which rules they break, and the facts of their parts (Go specification, "Expressions").
+use Rattle.std.specs.Prelude.{ℕ, ◌+◌, ◌*◌, ◌-◌, Bool, true, false, not, ◌&&◌, nat_le, cond, is_some, List, [], ◌∷◌, ◌++◌, map, flat_map, slice_get, Option, Some, None, codes, pos}
 use Rattle.std.specs.List.{list_any}
 use Rattle.std.specs.Option.{option_map, option_and_then}
 use Rattle.std.specs.Str.{bytes_eq}
@@ -13,6 +13,8 @@ use Rattle.golf_types.specs.declared.types.Base.TheVariants as base
 use Rattle.golf_types.specs.declared.types.GoType.{GoType}
 use Rattle.golf_types.specs.declared.operands.Operand.{Operand}
 use Rattle.golf_types.specs.declared.operands.Operand.TheVariants as operand
+use Rattle.golf_types.specs.declared.facts.Fact.{Fact}
+use Rattle.golf_types.specs.declared.facts.Fact.TheVariants as fact
 use Rattle.golf_types.specs.declared.operands.Where.TheVariants as place
 use Rattle.golf_types.specs.declared.operands.BuiltIn.{BuiltIn}
 use Rattle.golf_types.specs.declared.operands.BuiltIn.TheVariants as built_in
@@ -25,20 +27,21 @@ use Rattle.golf_types.specs.declared.scopes.Member.TheVariants as members
 use Rattle.golf_types.specs.declared.scopes.FileScope.{FileScope}
 use Rattle.golf_types.specs.declared.scopes.Scope.{Scope}
 use Rattle.golf_types.specs.Faults.{Fault, broken}
-use Rattle.golf_types.specs.Types.{plain, given, type_of, has_base, has_layer, is_slice, is_channel, is_any, gives, element, assignable, comparable}
+use Rattle.golf_types.specs.Facts.{with_parts}
+use Rattle.golf_types.specs.Types.{plain, given, has_base, has_layer, is_slice, is_channel, is_any, gives, element, assignable, comparable}
 use Rattle.golf_types.specs.Names.{is_blank}
 use Rattle.golf_types.specs.Scopes.{meaning, type_at, member}
 use Rattle.golf_types.specs.Written.{Written, made_base, sync_base, of_sync}
 
--- What an expression is, the rules that it breaks, and the types of its parts in the order of their prints.
+-- What an expression is, the rules that it breaks, and the facts of its parts in the order of their prints.
 pub record Judged : Type 0 where
   pub meaning : Operand
   pub faults : List Fault
-  pub inner : List (Option GoType)
+  pub inner : List Fact
 
--- its type and those of its parts
-abbrev pub types_of : Judged → List (Option GoType)
-types_of j = type_of j.meaning ∷ j.inner
+-- its fact and those of its parts
+abbrev pub facts_of : Judged → List Fact
+facts_of j = with_parts j.meaning j.inner
 
 abbrev pub value : Base → Operand
 value b = operand.Value (Some (plain b))
@@ -116,7 +119,7 @@ without_package (operand.Package p) = operand.TypeName
 without_package m = m
 
 abbrev pub in_parens : Judged → Judged
-in_parens x = record { meaning = without_package x.meaning; faults = x.faults; inner = types_of x }
+in_parens x = record { meaning = without_package x.meaning; faults = x.faults; inner = facts_of x }
 
 -- Literals, `make` and `new`.
 
@@ -128,6 +131,10 @@ value_from n (d ∷ ds) = value_from (10 * n + (d - 48)) ds
 -- Rule 19: an `int` has 64 bits.
 unfoldable pub fits_int : List ℕ → Bool
 fits_int digits = nat_le (value_from 0 digits) 9223372036854775807
+
+-- a literal of an integer, after whose fact its value stands
+abbrev pub integer : ℕ → List ℕ → Judged
+integer l digits = record { meaning = value base.Int; faults = broken l 19 (fits_int digits); inner = fact.Number (pos (value_from 0 digits)) ∷ [] }
 
 -- `&sync.T{}` and `new(sync.T)`
 abbrev pub made_sync : ℕ → Scope → List ℕ → Judged
@@ -164,12 +171,30 @@ abbrev pub fields_differ : FileScope → Option Base → List (List ℕ) → Lis
 fields_differ f b seen [] = true
 fields_differ f b seen (n ∷ ns) = (is_some (field_type f b n) && not (list_any (bytes_eq n) seen)) && fields_differ f b (seen ++ n ∷ []) ns
 
+-- the number of a struct that a pointer leads to
+abbrev pub struct_of : Option Base → ℕ
+struct_of (Some (base.Pointer k)) = k
+struct_of _ = 0
+
+abbrev pub place_of : Option Member → ℕ
+place_of (Some (members.Field i)) = i
+place_of _ = 0
+
+-- the place of a field
+abbrev pub field_place : FileScope → Option Base → List ℕ → ℕ
+field_place f b n = place_of (member f (struct_of b) n)
+
+-- before the facts of what is put into a field, the place of the field
+abbrev pub put_facts : FileScope → Option Base → List (List ℕ) → List Judged → List Fact
+put_facts f b (n ∷ ns) (x ∷ xs) = fact.Field (field_place f b n) ∷ (facts_of x ++ put_facts f b ns xs)
+put_facts f b _ _ = []
+
 -- `&T{f: e, ..}`: the values from left to right, rule 9 of each, then rule 20
 abbrev pub struct_literal : ℕ → FileScope → Option Base → List (List ℕ) → List Judged → Judged
 struct_literal l f b names xs = record {
   meaning = pointer_value b;
   faults = flat_map (used l) xs ++ (all_put_faults l f b names (map given_by xs) ++ broken l 20 (is_some b && fields_differ f b [] names));
-  inner = flat_map types_of xs;
+  inner = put_facts f b names xs;
 }
 
 -- `[]T{e, ..}`: the type, the values from left to right, then rule 9 of each
@@ -177,7 +202,7 @@ abbrev pub slice_literal : ℕ → Written → Option GoType → List Judged →
 slice_literal l t slice xs = record {
   meaning = operand.Value slice;
   faults = t.faults ++ (flat_map (used l) xs ++ flat_map (λ v. broken l 9 (assignable v t.type)) (map given_by xs));
-  inner = flat_map types_of xs;
+  inner = flat_map facts_of xs;
 }
 
 -- Rule 11 of `make(T)`: a channel.
@@ -189,7 +214,7 @@ abbrev pub made_sized : ℕ → Written → Judged → Judged
 made_sized l t e = record {
   meaning = operand.Value t.type;
   faults = t.faults ++ (used l e ++ (broken l 8 (has_base base.Int (given_by e)) ++ broken l 11 (has_layer is_any (given (operand.Value t.type)))));
-  inner = types_of e;
+  inner = facts_of e;
 }
 
 -- Selectors.
@@ -288,7 +313,7 @@ abbrev pub selector : ℕ → Scope → List ℕ → Judged → Judged
 selector l s n e = record {
   meaning = (selected_from l s.file n e.meaning).meaning;
   faults = e.faults ++ (selected_from l s.file n e.meaning).faults;
-  inner = types_of e;
+  inner = facts_of e;
 }
 
 -- Operators.
@@ -308,7 +333,7 @@ abbrev pub unary_judged : ℕ → Scope → UnaryOperator → Judged → Judged
 unary_judged l s o x = record {
   meaning = unary_meaning o (given_by x);
   faults = used l x ++ unary_faults l s o (given_by x);
-  inner = types_of x;
+  inner = facts_of x;
 }
 
 abbrev pub result_base : BinaryOperator → Base
@@ -334,12 +359,12 @@ abbrev pub binary_judged : ℕ → BinaryOperator → Judged → Judged → Judg
 binary_judged l o x y = record {
   meaning = value (result_base o);
   faults = used l x ++ (used l y ++ broken l 8 (binary_fits o (given_by x) (given_by y)));
-  inner = types_of x ++ types_of y;
+  inner = facts_of x ++ facts_of y;
 }
 
 abbrev pub index_judged : ℕ → Judged → Judged → Judged
 index_judged l x i = record {
   meaning = operand.Element (element (given_by x));
   faults = used l x ++ (used l i ++ broken l 8 (has_layer is_slice (given_by x) && has_base base.Int (given_by i)));
-  inner = types_of x ++ types_of i;
+  inner = facts_of x ++ facts_of i;
 }

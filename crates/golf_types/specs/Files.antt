@@ -1,5 +1,5 @@
 -- Which rules a file breaks, in the order of the walk (Go specification, "Source file organization", "Declarations and scope", "Packages", "Program execution").
-use Rattle.std.specs.Prelude.{◌≡◌, ℕ, ◌+◌, ◌==◌, Bool, true, false, not, ◌&&◌, ◌||◌, nat_le, cond, is_none, fold, List, [], ◌∷◌, ◌++◌, length, map, flat_map, slice_get, slice_set, Option, Some, None, codes}
+use Rattle.std.specs.Prelude.{◌≡◌, ℕ, ◌+◌, ◌==◌, Bool, true, false, not, ◌&&◌, ◌||◌, nat_le, cond, is_none, fold, List, [], ◌∷◌, ◌++◌, length, map, flat_map, slice_get, slice_set, Option, Some, None, codes, pos, neg_ℤ}
 use Rattle.std.specs.Option.{option_and_then, option_map}
 use Rattle.std.specs.Str.{bytes_eq}
 use Rattle.golf_grammar.specs.declared.types.TypeExpr.{TypeExpr}
@@ -21,6 +21,8 @@ use Rattle.golf_types.specs.declared.types.GoType.{GoType}
 use Rattle.golf_types.specs.declared.operands.Package.{Package}
 use Rattle.golf_types.specs.declared.operands.Package.TheVariants as packages
 use Rattle.golf_types.specs.declared.operands.Signature.{Signature}
+use Rattle.golf_types.specs.declared.facts.Fact.{Fact}
+use Rattle.golf_types.specs.declared.facts.Fact.TheVariants as fact
 use Rattle.golf_types.specs.declared.scopes.Imports.{Imports}
 use Rattle.golf_types.specs.declared.scopes.Meaning.{Meaning}
 use Rattle.golf_types.specs.declared.scopes.Meaning.TheVariants as meant
@@ -31,13 +33,14 @@ use Rattle.golf_types.specs.declared.scopes.Naming.{Naming}
 use Rattle.golf_types.specs.declared.scopes.FileScope.{FileScope}
 use Rattle.golf_types.specs.declared.scopes.Scope.{Scope}
 use Rattle.golf_types.specs.Faults.{Fault, broken}
+use Rattle.golf_types.specs.Facts.{types_told}
 use Rattle.golf_types.specs.Types.{plain, type_given, is_nil, assignable}
 use Rattle.golf_types.specs.Names.{number_of, with_name, is_number, is_blank}
 use Rattle.golf_types.specs.Scopes.{is_reserved, may_be_declared, meaning, meaning_in, kind_in}
 use Rattle.golf_types.specs.Written.{write_at, pointer_to}
-use Rattle.golf_types.specs.Expressions.{types_of, used, given_by, fits_int}
+use Rattle.golf_types.specs.Expressions.{facts_of, used, given_by, value_from, fits_int}
 use Rattle.golf_types.specs.Judging.{judge_at}
-use Rattle.golf_types.specs.Statements.{Walk, Walked, nothing, breaks, judges, declares_one, in_order, walk}
+use Rattle.golf_types.specs.Statements.{Walk, Walked, nothing, breaks, judges, told, declares_one, behind, in_order, walk}
 use Rattle.golf_types.specs.Endings.{of_all, ending}
 
 -- Imports: rule 1.
@@ -365,11 +368,17 @@ const_faults l (const.Integer n) = broken l 19 (fits_int n)
 const_faults l (const.Negative n) = broken l 19 (fits_int n)
 const_faults l _ = []
 
+-- the value of an integer
+abbrev pub const_facts : Const → List Fact
+const_facts (const.Integer n) = fact.Number (pos (value_from 0 n)) ∷ []
+const_facts (const.Negative n) = fact.Number (neg_ℤ (pos (value_from 0 n))) ∷ []
+const_facts _ = []
+
 -- Rules 9 and 23 of the initialiser of a global.
 abbrev pub initial_walk : ℕ → VarContent → Scope → Walked
 initial_walk l (content.Zero t) s = nothing
-initial_walk l (content.Typed t e) s = judges (used l (judge_at l s e) ++ broken l 9 (assignable (given_by (judge_at l s e)) (write_at l s t).type)) (types_of (judge_at l s e))
-initial_walk l (content.Untyped e) s = judges (used l (judge_at l s e) ++ broken l 23 (not (is_nil (given_by (judge_at l s e))))) (types_of (judge_at l s e))
+initial_walk l (content.Typed t e) s = judges (used l (judge_at l s e) ++ broken l 9 (assignable (given_by (judge_at l s e)) (write_at l s t).type)) (facts_of (judge_at l s e))
+initial_walk l (content.Untyped e) s = judges (used l (judge_at l s e) ++ broken l 23 (not (is_nil (given_by (judge_at l s e))))) (facts_of (judge_at l s e))
 
 -- Rule 2 of receivers and parameters.
 abbrev pub parameter : ℕ → Option GoType → List ℕ → Walk
@@ -390,14 +399,32 @@ abbrev pub end_faults : Func → List Fault
 end_faults f = broken f.line 14 (is_none f.result || (of_all (map ending f.body)).ends)
 
 -- Receiver, parameters and result have the types of the file's scope.
-abbrev pub func_walk : Func → Scope → Walked
-func_walk f file = in_order
+
+-- what is known where receiver and parameters begin
+abbrev pub head_scope : Scope → Func → Scope
+head_scope file f = record file { result = result_type file f.result }
+
+abbrev pub parts_walk : Func → Scope → Walk
+parts_walk f file = in_order
     (receiver_walk f.line file f.receiver ∷ in_order (map (parameter_walk f.line) (all_typed_names file f.parameters)) ∷ in_order (map walk f.body) ∷ (λ s. breaks (end_faults f)) ∷ [])
-    (record file { result = result_type file f.result })
+
+-- the names that are known where the body begins: receiver and parameters
+abbrev pub body_scope : Scope → Func → Scope
+body_scope file f =
+    let s = head_scope file f in
+    let t = behind s (receiver_walk f.line file f.receiver s) in
+    behind t (in_order (map (parameter_walk f.line) (all_typed_names file f.parameters)) t)
+
+-- a function that begins in s, with so many arguments
+abbrev pub of_function : ℕ → Scope → Walked → Walked
+of_function arguments s w = told w (fact.Function arguments (behind s w).next (length w.facts) ∷ w.facts)
+
+abbrev pub func_walk : Func → Scope → Walked
+func_walk f file = of_function (body_scope file f).next (head_scope file f) (parts_walk f file (head_scope file f))
 
 -- a declaration where g globals stand above
 abbrev pub decl_walked : FileScope → ℕ → Decl → Walked
-decl_walked f g (d.Const l n c) = breaks (const_faults l c)
+decl_walked f g (d.Const l n c) = judges (const_faults l c) (const_facts c)
 decl_walked f g (d.Var v) = initial_walk v.line v.content (record (outside f) { initialises = Some g })
 decl_walked f g (d.Struct l n fields) = nothing
 decl_walked f g (d.Func x) = func_walk x (outside f)
@@ -410,9 +437,9 @@ abbrev pub walk_faults : FileScope → ℕ → List Decl → List Fault
 walk_faults f g [] = []
 walk_faults f g (x ∷ xs) = (decl_walked f g x).faults ++ walk_faults f (globals_above g x) xs
 
-abbrev pub walk_types : FileScope → ℕ → List Decl → List (Option GoType)
-walk_types f g [] = []
-walk_types f g (x ∷ xs) = (decl_walked f g x).types ++ walk_types f (globals_above g x) xs
+abbrev pub walk_facts : FileScope → ℕ → List Decl → List Fact
+walk_facts f g [] = []
+walk_facts f g (x ∷ xs) = (decl_walked f g x).facts ++ walk_facts f (globals_above g x) xs
 
 abbrev pub none_above : Above
 none_above = record { names = 0; structs = 0; functions = 0 }
@@ -426,9 +453,13 @@ decl_faults i xs =
 unfoldable pub Broken : File → List Fault
 Broken f = import_faults no_imports f.imports ++ decl_faults (with_imports no_imports f.imports) f.declarations
 
+-- what is written down of a file, in the order of its declarations
+unfoldable pub facts_in : File → List Fact
+facts_in f = walk_facts (file_scope (with_imports no_imports f.imports) f.declarations) 0 f.declarations
+
 -- the types of the expressions of a file, in the order in which their prints begin
-unfoldable pub types_in : File → List (Option GoType)
-types_in f = walk_types (file_scope (with_imports no_imports f.imports) f.declarations) 0 f.declarations
+abbrev pub types_in : File → List (Option GoType)
+types_in f = types_told (facts_in f)
 
 -- A file is typed where it breaks no rule.
 abbrev pub Typed : File → Type 0

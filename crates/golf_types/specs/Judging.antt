@@ -6,16 +6,18 @@ use Rattle.golf_grammar.specs.declared.expressions.Expr.TheOpen.{Expr-F, Element
 use Rattle.golf_grammar.specs.declared.expressions.Expr.TheFolds.{fold-Expr}
 use Rattle.golf_types.specs.declared.fault.TypeFault.{TypeFault}
 use Rattle.golf_types.specs.declared.types.Layer.TheVariants as layer
+use Rattle.golf_types.specs.declared.types.Base.{Base}
 use Rattle.golf_types.specs.declared.types.Base.TheVariants as base
-use Rattle.golf_types.specs.declared.types.GoType.{GoType}
+use Rattle.golf_types.specs.declared.facts.Fact.{Fact}
 use Rattle.golf_types.specs.declared.operands.Operand.{Operand}
 use Rattle.golf_types.specs.declared.operands.Given.{Given}
+use Rattle.golf_types.specs.declared.scopes.FileScope.{FileScope}
 use Rattle.golf_types.specs.declared.scopes.Scope.{Scope}
-use Rattle.golf_types.specs.Faults.{broken, Tells}
+use Rattle.golf_types.specs.Faults.{Tells}
 use Rattle.golf_types.specs.Types.{with_layer}
 use Rattle.golf_types.specs.Scopes.{meaning}
 use Rattle.golf_types.specs.Written.{write_at, pointer_to}
-use Rattle.golf_types.specs.Expressions.{Judged, types_of, used, named_or_used, given_by, value, leaf, named, in_parens, fits_int, made_sync, made_struct, struct_literal, slice_literal, made, made_sized, selector, unary_judged, binary_judged, index_judged}
+use Rattle.golf_types.specs.Expressions.{Judged, facts_of, put_facts, used, named_or_used, given_by, value, leaf, named, in_parens, integer, made_sync, made_struct, struct_literal, slice_literal, made, made_sized, selector, unary_judged, binary_judged, index_judged}
 use Rattle.golf_types.specs.Calls.{call_judged}
 
 abbrev pub Judge : Type 0
@@ -27,7 +29,7 @@ pub record Put : Type 0 where
   pub judge : Judge
 
 abbrev pub judge_step : Expr-F Judge Put → Judge
-judge_step (Integer digits) l s = leaf (value base.Int) (broken l 19 (fits_int digits))
+judge_step (Integer digits) l s = integer l digits
 judge_step (Text bytes) l s = leaf (value base.Text) []
 judge_step (Name n) l s = named l s n
 judge_step (Parens e) l s = in_parens (e l s)
@@ -58,27 +60,31 @@ judge_at l s e = judge e l s
 abbrev pub value_at : ℕ → Scope → Element → Judged
 value_at l s x = judge x.value l s
 
--- What the answers of the checker tell of an expression: they come where no rule is broken, and then these types were added.
+-- What the answers of the checker tell of an expression: they come where no rule is broken, and then these facts were added.
 
-abbrev pub Judges : Result Operand TypeFault → Judged → List (Option GoType) → List (Option GoType) → Type 0
+abbrev pub Judges : Result Operand TypeFault → Judged → List Fact → List Fact → Type 0
 Judges result j old new = Tells result j.faults (λ m. (m ≡ j.meaning) × (new ≡ old ++ j.inner))
 
--- the same, with its own type
-abbrev pub JudgesWhole : Result Operand TypeFault → Judged → List (Option GoType) → List (Option GoType) → Type 0
-JudgesWhole result j old new = Tells result j.faults (λ m. (m ≡ j.meaning) × (new ≡ old ++ types_of j))
+-- the same, with its own fact
+abbrev pub JudgesWhole : Result Operand TypeFault → Judged → List Fact → List Fact → Type 0
+JudgesWhole result j old new = Tells result j.faults (λ m. (m ≡ j.meaning) × (new ≡ old ++ facts_of j))
 
 -- what is made of operands that were judged
 abbrev pub Finds : Result Operand TypeFault → Judged → Type 0
 Finds result j = Tells result j.faults (λ m. m ≡ j.meaning)
 
 -- the same of an expression that stands as a value
-abbrev pub Gives : ℕ → Result Given TypeFault → Judged → List (Option GoType) → List (Option GoType) → Type 0
-Gives l result j old new = Tells result (used l j) (λ v. (v ≡ given_by j) × (new ≡ old ++ types_of j))
+abbrev pub Gives : ℕ → Result Given TypeFault → Judged → List Fact → List Fact → Type 0
+Gives l result j old new = Tells result (used l j) (λ v. (v ≡ given_by j) × (new ≡ old ++ facts_of j))
 
 -- the same of one that may be a name of any kind
-abbrev pub Takes : ℕ → Result Operand TypeFault → Judged → List (Option GoType) → List (Option GoType) → Type 0
-Takes l result j old new = Tells result (named_or_used l j) (λ m. (m ≡ j.meaning) × (new ≡ old ++ types_of j))
+abbrev pub Takes : ℕ → Result Operand TypeFault → Judged → List Fact → List Fact → Type 0
+Takes l result j old new = Tells result (named_or_used l j) (λ m. (m ≡ j.meaning) × (new ≡ old ++ facts_of j))
 
 -- the same of several that stand as values
-abbrev pub GivesAll : ℕ → Result (List Given) TypeFault → List Judged → List (Option GoType) → List (Option GoType) → Type 0
-GivesAll l result js old new = Tells result (flat_map (used l) js) (λ vs. (vs ≡ map given_by js) × (new ≡ old ++ flat_map types_of js))
+abbrev pub GivesAll : ℕ → Result (List Given) TypeFault → List Judged → List Fact → List Fact → Type 0
+GivesAll l result js old new = Tells result (flat_map (used l) js) (λ vs. (vs ≡ map given_by js) × (new ≡ old ++ flat_map facts_of js))
+
+-- the same of what is put into fields of these names, before each of which the place of its field stands
+abbrev pub Puts : ℕ → FileScope → Option Base → List (List ℕ) → Result (List Given) TypeFault → List Judged → List Fact → List Fact → Type 0
+Puts l f b names result js old new = Tells result (flat_map (used l) js) (λ vs. (vs ≡ map given_by js) × (new ≡ old ++ put_facts f b names js))

@@ -4,6 +4,7 @@ pub mod Names
 pub mod Places
 pub mod Scopes
 pub mod Written
+pub mod Facts
 pub mod Expressions
 pub mod Calls
 pub mod Judging

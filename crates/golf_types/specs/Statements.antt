@@ -1,5 +1,5 @@
--- What statements declare, which rules they break, and the types of their expressions (Go specification, "Statements", "Blocks", "Declarations and scope").
-use Rattle.std.specs.Prelude.{◌≡◌, ℕ, ◌==◌, length, Bool, true, false, not, ◌&&◌, ◌||◌, cond, is_some, is_none, List, [], ◌∷◌, ◌++◌, map, Option, Some, None, Result}
+-- What statements declare, which rules they break, and the facts of their parts (Go specification, "Statements", "Blocks", "Declarations and scope").
+use Rattle.std.specs.Prelude.{◌≡◌, ℕ, ◌==◌, length, Bool, true, false, not, ◌&&◌, ◌||◌, cond, is_some, is_none, List, [], ◌∷◌, ◌++◌, map, Option, Some, None, unwrap_or, Result}
 use Rattle.std.specs.Str.{bytes_eq}
 use Rattle.golf_grammar.specs.declared.types.TypeExpr.{TypeExpr}
 use Rattle.golf_grammar.specs.declared.expressions.Expr.{Expr}
@@ -29,44 +29,51 @@ use Rattle.golf_types.specs.declared.operands.Operand.TheVariants as operand
 use Rattle.golf_types.specs.declared.operands.BuiltIn.TheVariants as built_in
 use Rattle.golf_types.specs.declared.operands.Given.{Given}
 use Rattle.golf_types.specs.declared.operands.Given.TheVariants as given_as
+use Rattle.golf_types.specs.declared.facts.Fact.{Fact}
+use Rattle.golf_types.specs.declared.facts.Fact.TheVariants as fact
 use Rattle.golf_types.specs.declared.locals.Local.{Local}
 use Rattle.golf_types.specs.declared.scopes.Scope.{Scope}
 use Rattle.golf_types.specs.Faults.{Fault, broken, Tells}
+use Rattle.golf_types.specs.Facts.{part, new_target, target}
 use Rattle.golf_types.specs.Types.{plain, given, given_type, type_of, type_given, is_nil, has_base, has_layer, starts_with, is_slice, is_channel, is_any, gives, takes, element, assignable}
 use Rattle.golf_types.specs.Names.{is_blank, look}
 use Rattle.golf_types.specs.Scopes.{meaning, is_here, is_reserved, may_be_declared, declared, begun, variable}
 use Rattle.golf_types.specs.Written.{write_at}
-use Rattle.golf_types.specs.Expressions.{types_of, used, named_or_used, given_by, value_faults, late_faults, nothing_faults}
+use Rattle.golf_types.specs.Expressions.{facts_of, used, named_or_used, given_by, value_faults, late_faults, nothing_faults}
 use Rattle.golf_types.specs.Calls.{call_judged}
 use Rattle.golf_types.specs.Judging.{judge_at}
 
--- what a statement declares behind it, the types of the slots that it hands out, the rules that it breaks, and the types of its expressions
+-- what a statement declares behind it, the types of the slots that it hands out, the rules that it breaks, and the facts of its parts
 pub record Walked : Type 0 where
   pub declares : List Local
   pub slots : List (Option GoType)
   pub faults : List Fault
-  pub types : List (Option GoType)
+  pub facts : List Fact
 
 abbrev pub Walk : Type 0
 Walk = Scope → Walked
 
 abbrev pub nothing : Walked
-nothing = record { declares = []; slots = []; faults = []; types = [] }
+nothing = record { declares = []; slots = []; faults = []; facts = [] }
 
 -- what only breaks rules
 abbrev pub breaks : List Fault → Walked
-breaks faults = record { declares = []; slots = []; faults = faults; types = [] }
+breaks faults = record { declares = []; slots = []; faults = faults; facts = [] }
 
--- what breaks rules and has expressions
-abbrev pub judges : List Fault → List (Option GoType) → Walked
-judges faults types = record { declares = []; slots = []; faults = faults; types = types }
+-- what breaks rules and has facts
+abbrev pub judges : List Fault → List Fact → Walked
+judges faults facts = record { declares = []; slots = []; faults = faults; facts = facts }
 
 -- a variable of this name and type
-abbrev pub declares_one : Scope → List ℕ → Option GoType → List Fault → List (Option GoType) → Walked
-declares_one s n t faults types = record { declares = variable s n t ∷ []; slots = t ∷ []; faults = faults; types = types }
+abbrev pub declares_one : Scope → List ℕ → Option GoType → List Fault → List Fact → Walked
+declares_one s n t faults facts = record { declares = variable s n t ∷ []; slots = t ∷ []; faults = faults; facts = facts }
+
+-- what is walked, with these facts
+abbrev pub told : Walked → List Fact → Walked
+told w facts = record { declares = w.declares; slots = w.slots; faults = w.faults; facts = facts }
 
 abbrev pub both : Walked → Walked → Walked
-both a b = record { declares = a.declares ++ b.declares; slots = a.slots ++ b.slots; faults = a.faults ++ b.faults; types = a.types ++ b.types }
+both a b = record { declares = a.declares ++ b.declares; slots = a.slots ++ b.slots; faults = a.faults ++ b.faults; facts = a.facts ++ b.facts }
 
 -- the scope behind what was walked
 abbrev pub behind : Scope → Walked → Scope
@@ -82,13 +89,17 @@ in_order (w ∷ ws) s = both (w s) (in_order ws (behind s (w s)))
 
 -- in a block of its own: what it declares is not known behind
 abbrev pub closed : Walked → Walked
-closed w = record { declares = []; slots = w.slots; faults = w.faults; types = w.types }
+closed w = record { declares = []; slots = w.slots; faults = w.faults; facts = w.facts }
 
 abbrev pub in_block : Walk → Walk
 in_block w s = closed (w (begun s))
 
 abbrev pub block : List Walk → Walk
 block body = in_block (in_order body)
+
+-- a part that may be passed over, or come later: its facts are counted
+abbrev pub counted : Walk → Walk
+counted w s = told (w s) (part (w s).facts)
 
 -- Simple statements.
 
@@ -99,7 +110,7 @@ action_faults l (operand.Nothing late) = late_faults l late
 action_faults l m = value_faults l m ++ broken l 18 false
 
 abbrev pub action : ℕ → Expr → Walk
-action l e s = judges ((judge_at l s e).faults ++ action_faults l (judge_at l s e).meaning) (types_of (judge_at l s e))
+action l e s = judges ((judge_at l s e).faults ++ action_faults l (judge_at l s e).meaning) (facts_of (judge_at l s e))
 
 -- Whether a value is assignable to what a channel carries. What is no channel carries nothing.
 abbrev pub is_carried : Given → Given → Bool
@@ -112,7 +123,7 @@ send_faults l c v = broken l 9 (is_carried c v) ++ broken l 16 (has_layer takes 
 abbrev pub send : ℕ → Expr → Expr → Walk
 send l c e s = judges
     (used l (judge_at l s c) ++ (used l (judge_at l s e) ++ send_faults l (given_by (judge_at l s c)) (given_by (judge_at l s e))))
-    (types_of (judge_at l s c) ++ types_of (judge_at l s e))
+    (facts_of (judge_at l s c) ++ facts_of (judge_at l s e))
 
 -- a variable, field or element
 abbrev pub is_place : Operand → Bool
@@ -127,7 +138,7 @@ abbrev pub step_faults : ℕ → Operand → List Fault
 step_faults l p = broken l 8 (has_base base.Int (given p)) ++ broken l 10 (is_place p)
 
 abbrev pub step : ℕ → Expr → Walk
-step l p s = judges (named_or_used l (judge_at l s p) ++ step_faults l (judge_at l s p).meaning) (types_of (judge_at l s p))
+step l p s = judges (named_or_used l (judge_at l s p) ++ step_faults l (judge_at l s p).meaning) (facts_of (judge_at l s p))
 
 -- `p += e` and its like: rules 8 and 10
 abbrev pub update_faults : ℕ → Operand → Given → List Fault
@@ -136,7 +147,7 @@ update_faults l p v = broken l 8 (has_base base.Int (given p) && has_base base.I
 abbrev pub update : ℕ → Expr → Expr → Walk
 update l p e s = judges
     (named_or_used l (judge_at l s p) ++ (used l (judge_at l s e) ++ update_faults l (judge_at l s p).meaning (given_by (judge_at l s e))))
-    (types_of (judge_at l s p) ++ types_of (judge_at l s e))
+    (facts_of (judge_at l s p) ++ facts_of (judge_at l s e))
 
 -- A call without a result stands on no left side.
 abbrev pub left_faults : ℕ → Operand → List Fault
@@ -151,20 +162,20 @@ assign_faults l p v = broken l 9 (assignable v (type_of p)) ++ broken l 10 (is_p
 abbrev pub assignment : ℕ → Expr → Expr → Walk
 assignment l p e s = judges
     ((judge_at l s p).faults ++ (left_faults l (judge_at l s p).meaning ++ (used l (judge_at l s e) ++ assign_faults l (judge_at l s p).meaning (given_by (judge_at l s e)))))
-    (types_of (judge_at l s p) ++ types_of (judge_at l s e))
+    (facts_of (judge_at l s p) ++ facts_of (judge_at l s e))
 
 -- `n := e`: rules 2, 23 and 24
 abbrev pub definition : ℕ → List ℕ → Expr → Walk
 definition l n e s = declares_one s n (type_given (given_by (judge_at l s e)))
     (used l (judge_at l s e) ++ (broken l 2 (not (is_blank n) && not (is_reserved n)) ++ (broken l 23 (not (is_nil (given_by (judge_at l s e)))) ++ broken l 24 (not (is_here s n)))))
-    (types_of (judge_at l s e))
+    (facts_of (judge_at l s e) ++ new_target s (type_given (given_by (judge_at l s e))) ∷ [])
 
 -- Rule 16 of a receive.
 abbrev pub receive_faults : ℕ → Given → List Fault
 receive_faults l c = broken l 16 (has_layer gives c)
 
 abbrev pub received : ℕ → Expr → Walk
-received l e s = judges (used l (judge_at l s e) ++ receive_faults l (given_by (judge_at l s e))) (types_of (judge_at l s e))
+received l e s = judges (used l (judge_at l s e) ++ receive_faults l (given_by (judge_at l s e))) (facts_of (judge_at l s e))
 
 -- the type of what is received
 abbrev pub carried : ℕ → Expr → Scope → Option GoType
@@ -203,18 +214,25 @@ abbrev pub one_new : Bool → List ℕ → Option GoType → Walk
 one_new true n t s = declares_one s n t [] []
 one_new false n t s = nothing
 
+-- a name that is declared where it is new, and what is stored to
+abbrev pub new_or_kept : Bool → Operand → List ℕ → Option GoType → Walk
+new_or_kept new kept n t s = told (one_new new n t s) (target new kept s t ∷ [])
+
+-- what is assigned
+unfoldable pub assigned_name : Scope → List ℕ → Option Operand
+assigned_name s n = cond (is_blank n) (Some operand.Blank) (meaning s n)
+
+abbrev pub assigned : Scope → List ℕ → Operand
+assigned s n = unwrap_or (assigned_name s n) operand.Unknown
+
 -- `n, m := <-e` behind the receive
 abbrev pub pair : ℕ → List ℕ → List ℕ → Option GoType → Walk
-pair l n m t s = both (breaks (pair_faults l s n m t)) (then (one_new (is_new s n) n t) (one_new (is_new s m) m bool_type) s)
+pair l n m t s = both (breaks (pair_faults l s n m t)) (then (new_or_kept (is_new s n) (assigned s n) n t) (new_or_kept (is_new s m) (assigned s m) m bool_type) s)
 
 abbrev pub define_received : ℕ → ℕ → List ℕ → List ℕ → Expr → Walk
 define_received l k n m e s = both (received l e s) (pair k n m (carried l e s) s)
 
 -- Names left of `=`.
-
--- what is assigned
-unfoldable pub assigned_name : Scope → List ℕ → Option Operand
-assigned_name s n = cond (is_blank n) (Some operand.Blank) (meaning s n)
 
 unfoldable pub put_in_faults : ℕ → Option Operand → Option GoType → List Fault
 put_in_faults l None t = []
@@ -237,10 +255,10 @@ assigned_pair_faults l p q t = broken l 3 (is_some p && is_some q) ++ (put_in_fa
 -- `n = <-e` and `n, m = <-e` behind the receive
 
 abbrev pub assign_name : ℕ → List ℕ → Option GoType → Walk
-assign_name l n t s = breaks (assigned_faults l (assigned_name s n) t)
+assign_name l n t s = judges (assigned_faults l (assigned_name s n) t) (fact.Target (assigned s n) ∷ [])
 
 abbrev pub assign_pair : ℕ → List ℕ → List ℕ → Option GoType → Walk
-assign_pair l n m t s = breaks (assigned_pair_faults l (assigned_name s n) (assigned_name s m) t)
+assign_pair l n m t s = judges (assigned_pair_faults l (assigned_name s n) (assigned_name s m) t) (fact.Target (assigned s n) ∷ (fact.Target (assigned s m) ∷ []))
 
 abbrev pub assign_received : ℕ → List ℕ → List ℕ → Expr → Walk
 assign_received l n m e s = both (received l e s) (assign_pair l n m (carried l e s) s)
@@ -263,19 +281,19 @@ simple_walk x = simple_kind x.line x.kind
 
 -- `var n T`: the type, then rule 2
 abbrev pub zero : ℕ → List ℕ → TypeExpr → Walk
-zero l n t s = declares_one s n (write_at l s t).type ((write_at l s t).faults ++ broken l 2 (may_be_declared s n)) []
+zero l n t s = declares_one s n (write_at l s t).type ((write_at l s t).faults ++ broken l 2 (may_be_declared s n)) (new_target s (write_at l s t).type ∷ [])
 
 -- `var n T = e`: the type, the expression, then rules 2 and 9
 abbrev pub typed : ℕ → List ℕ → TypeExpr → Expr → Walk
 typed l n t e s = declares_one s n (write_at l s t).type
     ((write_at l s t).faults ++ (used l (judge_at l s e) ++ (broken l 2 (may_be_declared s n) ++ broken l 9 (assignable (given_by (judge_at l s e)) (write_at l s t).type))))
-    (types_of (judge_at l s e))
+    (facts_of (judge_at l s e) ++ new_target s (write_at l s t).type ∷ [])
 
 -- `var n = e`: the expression, then rules 2 and 23
 abbrev pub untyped : ℕ → List ℕ → Expr → Walk
 untyped l n e s = declares_one s n (type_given (given_by (judge_at l s e)))
     (used l (judge_at l s e) ++ (broken l 2 (may_be_declared s n) ++ broken l 23 (not (is_nil (given_by (judge_at l s e))))))
-    (types_of (judge_at l s e))
+    (facts_of (judge_at l s e) ++ new_target s (type_given (given_by (judge_at l s e))) ∷ [])
 
 abbrev pub var_content : ℕ → List ℕ → VarContent → Walk
 var_content l n (content.Zero t) = zero l n t
@@ -317,7 +335,7 @@ result_faults l (Some t) v = broken l 9 (assignable v (Some t))
 
 abbrev pub returned : ℕ → Option Expr → Walk
 returned l None s = breaks (broken l 13 (is_none s.result))
-returned l (Some e) s = judges (used l (judge_at l s e) ++ result_faults l s.result (given_by (judge_at l s e))) (types_of (judge_at l s e))
+returned l (Some e) s = judges (used l (judge_at l s e) ++ result_faults l s.result (given_by (judge_at l s e))) (facts_of (judge_at l s e))
 
 -- Rule 15.
 abbrev pub break_walk : ℕ → Walk
@@ -330,7 +348,7 @@ continue_walk l s = breaks (broken l 15 s.loops)
 
 -- Rule 8 of a condition.
 abbrev pub condition : ℕ → Expr → Walk
-condition l e s = judges (used l (judge_at l s e) ++ broken l 8 (has_base base.Bool (given_by (judge_at l s e)))) (types_of (judge_at l s e))
+condition l e s = judges (used l (judge_at l s e) ++ broken l 8 (has_base base.Bool (given_by (judge_at l s e)))) (facts_of (judge_at l s e))
 
 abbrev pub optional : Option Simple → Walk
 optional None s = nothing
@@ -366,7 +384,7 @@ abbrev pub behind_optional : ℕ → Option Expr → Walk → Walk
 behind_optional l test w s = both (optional_test l test s) (w s)
 
 abbrev pub steps : ℕ → Option Simple → Option Expr → Option Simple → List Walk → Walk
-steps l first test post body = then (optional first) (behind_optional l test (then (optional post) (loop_body body)))
+steps l first test post body = then (optional first) (behind_optional l test (then (counted (optional post)) (loop_body body)))
 
 -- Range.
 
@@ -403,10 +421,10 @@ hidden true t = t ∷ (int_type ∷ (int_type ∷ []))
 hidden false t = t ∷ []
 
 abbrev pub hides : List (Option GoType) → Walked
-hides ts = record { declares = []; slots = ts; faults = []; types = [] }
+hides ts = record { declares = []; slots = ts; faults = []; facts = [] }
 
 abbrev pub range_name : List ℕ → Option GoType → Walk
-range_name n t s = one_new (not (is_blank n)) n t s
+range_name n t s = new_or_kept (not (is_blank n)) operand.Blank n t s
 
 -- what the names of a `range` are: an index and an element of a slice, or what a channel carries
 abbrev pub first_type : Bool → Option GoType → Option GoType
@@ -419,7 +437,7 @@ range_names (range.One n) slice t s = range_name n (first_type slice t) s
 range_names (range.Two n m) slice t s = then (range_name n (first_type slice t)) (range_name m t) s
 
 abbrev pub range_head : ℕ → RangeNames → Expr → Walk
-range_head l names e s = judges (used l (judge_at l s e) ++ range_faults l names (given_by (judge_at l s e))) (types_of (judge_at l s e))
+range_head l names e s = judges (used l (judge_at l s e) ++ range_faults l names (given_by (judge_at l s e))) (facts_of (judge_at l s e) ++ fact.Hidden s.next ∷ [])
 
 abbrev pub range_slots : RangeNames → Given → Walk
 range_slots names v = then (λ s. hides (hidden (is_outer is_slice v) (type_given v))) (range_names names (is_outer is_slice v) (element v))
@@ -440,7 +458,7 @@ for_walk l h body = in_block (header_walk l h body)
 
 -- Rule 2 of the name of a received value.
 abbrev pub define_name : ℕ → List ℕ → Option GoType → Walk
-define_name k n t s = declares_one s n t (broken k 2 (may_be_declared s n)) []
+define_name k n t s = declares_one s n t (broken k 2 (may_be_declared s n)) (new_target s t ∷ [])
 
 abbrev pub communication : ℕ → ℕ → Communication → Walk
 communication l k (comm.Send c e) s = send l c e s
@@ -454,13 +472,16 @@ abbrev pub breaking : Walk → Walk
 breaking w s = w (record s { breaks = true })
 
 abbrev pub case_walk : ℕ → ℕ → Communication → List Walk → Walk
-case_walk l k c body = in_block (then (communication l k c) (breaking (in_order body)))
+case_walk l k c body = counted (in_block (then (communication l k c) (breaking (in_order body))))
+
+abbrev pub default_walk : List Walk → Walk
+default_walk body = counted (in_block (breaking (in_order body)))
 
 -- Statements.
 
 abbrev pub clause_step : Clause-F (ℕ → Walk) Walk → ℕ → Walk
 clause_step (S.Case k c body) l = case_walk l k c body
-clause_step (S.Default k body) l = in_block (breaking (in_order body))
+clause_step (S.Default k body) l = default_walk body
 
 abbrev pub stmt_step : Stmt-F (ℕ → Walk) Walk → Walk
 stmt_step (S.Var v) = var_content v.line v.name v.content
@@ -482,15 +503,15 @@ walk = fold-Stmt (ℕ → Walk) Walk clause_step stmt_step
 unfoldable pub walk_clause : Clause → ℕ → Walk
 walk_clause = fold-Clause (ℕ → Walk) Walk clause_step stmt_step
 
--- What the answers of the checker tell of a statement: they come where no rule is broken, and then the scope is that behind it, and these types were added.
-abbrev pub Walks : {A : Type 0} → Result A TypeFault → Walked → Scope → Scope → List (Option GoType) → List (Option GoType) → Type 0
-Walks result w s t old new = Tells result w.faults (λ _. (t ≡ behind s w) × (new ≡ old ++ w.types))
+-- What the answers of the checker tell of a statement: they come where no rule is broken, and then the scope is that behind it, and these facts were added.
+abbrev pub Walks : {A : Type 0} → Result A TypeFault → Walked → Scope → Scope → List Fact → List Fact → Type 0
+Walks result w s t old new = Tells result w.faults (λ _. (t ≡ behind s w) × (new ≡ old ++ w.facts))
 
 -- the same where the scope stays
-abbrev pub Adds : {A : Type 0} → Result A TypeFault → Walked → List (Option GoType) → List (Option GoType) → Type 0
-Adds result w old new = Tells result w.faults (λ _. new ≡ old ++ w.types)
+abbrev pub Adds : {A : Type 0} → Result A TypeFault → Walked → List Fact → List Fact → Type 0
+Adds result w old new = Tells result w.faults (λ _. new ≡ old ++ w.facts)
 
--- the same where there are no expressions
+-- the same where there are no facts
 abbrev pub Moves : {A : Type 0} → Result A TypeFault → Walked → Scope → Scope → Type 0
 Moves result w s t = Tells result w.faults (λ _. t ≡ behind s w)
 

@@ -4,6 +4,7 @@
 
 mod assigned;
 mod endings;
+mod facts;
 mod fault;
 mod locals;
 mod operands;
@@ -13,10 +14,11 @@ mod types;
 
 pub use assigned::{assigned_name, declare_new, is_new};
 pub use endings::{Ending, Panics};
+pub use facts::Fact;
 pub use fault::{TypeFault, require};
 pub use locals::{Local, Locals};
 pub use operands::{
-    BuiltIn, Given, Operand, Package, Signature, Where, given_type, type_of, value_of,
+    BuiltIn, Given, Operand, Package, Signature, Where, copy_operand, given_type, type_of, value_of,
 };
 pub use scopes::{
     FileScope, Imports, Meaning, Member, Members, Naming, Scope, begin, copy_name, declare, end,

@@ -246,3 +246,28 @@ pub fn type_of(alloc: Global, operand: &Operand) -> Result<Option<GoType>, Memor
         _ => Ok(None),
     }
 }
+
+/// The same operand.
+pub fn copy_operand(alloc: Global, operand: &Operand) -> Result<Operand, Memory>
+    ensures { IfOk result (λ m. m ≡ operand.now) }
+{
+    match operand {
+        Operand::Value(t) => Ok(Operand::Value(copy_optional(alloc, t)?)),
+        Operand::Outcome(t) => Ok(Operand::Outcome(copy_optional(alloc, t)?)),
+        Operand::Constant(number, base) => Ok(Operand::Constant(*number, *base)),
+        Operand::Truth(b) => Ok(Operand::Truth(*b)),
+        Operand::Variable(place, t) => Ok(Operand::Variable(*place, copy_optional(alloc, t)?)),
+        Operand::Field(place, t) => Ok(Operand::Field(*place, copy_optional(alloc, t)?)),
+        Operand::Element(t) => Ok(Operand::Element(copy_optional(alloc, t)?)),
+        Operand::Unknown => Ok(Operand::Unknown),
+        Operand::Nil => Ok(Operand::Nil),
+        Operand::Blank => Ok(Operand::Blank),
+        Operand::Nothing(late) => Ok(Operand::Nothing(*late)),
+        Operand::Function(number) => Ok(Operand::Function(*number)),
+        Operand::Method(number) => Ok(Operand::Method(*number)),
+        Operand::BuiltIn(built_in) => Ok(Operand::BuiltIn(*built_in)),
+        Operand::Package(package) => Ok(Operand::Package(*package)),
+        Operand::Struct(number) => Ok(Operand::Struct(*number)),
+        Operand::TypeName => Ok(Operand::TypeName),
+    }
+}
