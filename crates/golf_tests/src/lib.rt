@@ -18,6 +18,8 @@ mod options;
 #[cfg(test)]
 mod panics;
 #[cfg(test)]
+mod reasons;
+#[cfg(test)]
 mod refusals;
 #[cfg(test)]
 mod rules;

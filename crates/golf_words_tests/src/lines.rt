@@ -36,6 +36,7 @@ fn has<R: AllocGlobal>(
             && got.every == every
             && got.markers == markers
             && got.recover == recover
+            && !got.why
             && matches!(&got.schedule, Schedule::Rotate),
     )
 }
@@ -78,6 +79,20 @@ fn each_option_takes_its_value_from_the_next_word_or_behind_an_equals_sign(
         )?
     );
     assert!(rt; has(&rt, &["run", "--recover"], 1_000_000, None, 1, true)?);
+    Ok(())
+}
+
+#[test]
+fn why_stands_anywhere_among_the_options(rt: HostRuntime) -> Result<(), Fail> {
+    let lines: [&[&str]; 3] = [
+        &["run", "--why", "--turns", "7", "--recover"],
+        &["run", "--turns=7", "--why", "--recover"],
+        &["run", "--turns", "7", "--recover", "--why", "--"],
+    ];
+    for words in lines {
+        let got = options(&rt, words)?;
+        assert!(rt; got.why && got.recover && got.turns == 7);
+    }
     Ok(())
 }
 

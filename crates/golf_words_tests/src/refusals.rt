@@ -70,6 +70,10 @@ fn an_option_has_a_value_where_it_takes_one(rt: HostRuntime) -> Result<(), Fail>
     assert!(rt; is_refused(&rt, &["run", "--turns", ""])?);
     assert!(rt; is_refused(&rt, &["run", "--turns", "--recover"])?);
     assert!(rt; is_refused(&rt, &["run", "--turns", "-"])?);
+    assert!(rt; is_refused(&rt, &["run", "--why", "--why"])?);
+    assert!(rt; is_refused(&rt, &["run", "--why=1"])?);
+    assert!(rt; is_refused(&rt, &["run", "--threads=2", "--why"])?);
+    assert!(rt; is_refused(&rt, &["generate", "3", "--why"])?);
     assert!(rt; is_refused(&rt, &["run", "--recover="])?);
     assert!(rt; is_refused(&rt, &["run", "--recover=true"])?);
     assert!(rt; is_refused(&rt, &["run", "--recover", "true"])?);
