@@ -3,7 +3,7 @@
 
 use golf_base::{OpenGate, StdErrSink, StdSink, StdSource};
 use golf_command::{end, golf};
-use golf_texts::{NO_MEMORY, Status, USAGE};
+use golf_texts::{NO_MEMORY, Status, USAGE, code};
 use std::env;
 use std::io::ErrorKind;
 use std::process::ExitCode;
@@ -31,5 +31,5 @@ fn main(rt: HostRuntime) -> ExitCode {
         Err(Status::Memory) => end(&mut err, NO_MEMORY, Status::Memory),
         Err(status) => end(&mut err, USAGE, status),
     };
-    ExitCode::from(status as u8)
+    ExitCode::from(code(status))
 }

@@ -1,5 +1,8 @@
 //! How the program ends, and the lines that it writes to standard error.
 
+ghost use Rattle.std.specs.Prelude.{◌≡◌};
+ghost use Rattle.golf_texts.specs.Codes.{code_of};
+
 /// The most bytes of a file.
 pub const LIMIT: u32 = 1_048_576;
 
@@ -12,7 +15,7 @@ pub const TOO_LONG: &[u8; 33] = b"refused: more than 1048576 bytes\n";
 
 pub const NO_MEMORY: &[u8; 14] = b"out of memory\n";
 
-/// How the program ends. The number of a status is its place in this list, from 0.
+/// How the program ends.
 #[derive(Clone, Copy, Debug, PartialEq, Eq)]
 pub enum Status {
     /// The run returned, and nothing was reported.
@@ -31,6 +34,23 @@ pub enum Status {
     ReadFault,
     /// A sink failed.
     WriteFault,
-    /// Memory was wanting.
+    /// Memory has run out.
     Memory,
+}
+
+/// The number with which the program exits (profile).
+pub fn code(status: Status) -> u8
+    ensures { result ≡ code_of status }
+{
+    match status {
+        Status::Clean => 0,
+        Status::Found => 1,
+        Status::Crashed => 2,
+        Status::Spent => 3,
+        Status::Refused => 4,
+        Status::Usage => 5,
+        Status::ReadFault => 6,
+        Status::WriteFault => 7,
+        Status::Memory => 8,
+    }
 }

@@ -1,11 +1,12 @@
 //! The texts of the program, its limit of length and the numbers of its statuses, each as a literal.
 
-use golf_base::{GoroutineId, List};
+use golf_base::{GoroutineId, List, ObjectId};
 use golf_data::{Ending, Entry, PanicKind, Report, WaitKind};
 use golf_texts::{
-    LIMIT, NO_MEMORY, READ_FAULT, Status, TOO_LONG, ending_line, lexical_line, list_of,
-    report_text, rule_line, stopped_line, syntax_line,
+    LIMIT, NO_MEMORY, READ_FAULT, Status, TOO_LONG, USAGE, certificate_line, code, ending_line,
+    lexical_line, list_of, reached_line, report_text, rule_line, stopped_line, syntax_line,
 };
+use golf_why::{Member, Reached};
 use std::alloc::Global;
 use std::process::Abort;
 use std::test::Fail;
@@ -157,6 +158,10 @@ fn ends_are_written_so(rt: &impl Abort, alloc: Global) -> Result<(), Fail> {
         rule_line(alloc, 3, 24)?.as_slice(),
         b"refused: line 3: rule 24\n".as_slice()
     );
+    assert_eq!(rt;
+        USAGE.as_slice(),
+        b"usage: golf run [--schedule S] [--turns N] [--every N] [--markers N] [--recover] [--why]\n       golf run --threads N\n       golf generate N\n".as_slice()
+    );
     assert_eq!(rt; READ_FAULT.as_slice(), b"read fault\n".as_slice());
     assert_eq!(rt;
         TOO_LONG.as_slice(),
@@ -167,16 +172,38 @@ fn ends_are_written_so(rt: &impl Abort, alloc: Global) -> Result<(), Fail> {
     Ok(())
 }
 
+fn reasons_are_written_so(rt: &impl Abort, alloc: Global) -> Result<(), Fail> {
+    let mut by = List::new(alloc);
+    by.push(Member::Object(ObjectId(1)))?;
+    by.push(Member::Goroutine(GoroutineId(2)))?;
+    by.push(Member::Object(ObjectId(30)))?;
+    let reached = Reached {
+        goroutine: GoroutineId(9),
+        wait: WaitKind::Select,
+        line: 8,
+        by,
+    };
+    assert_eq!(rt;
+        reached_line(alloc, &reached)?.as_slice(),
+        b"goroutine 9: select at line 8, reached by object 1, goroutine 2, object 30\n".as_slice()
+    );
+    assert_eq!(rt;
+        certificate_line(alloc, 3, 14)?.as_slice(),
+        b"certificate 3: 14 places\n".as_slice()
+    );
+    Ok(())
+}
+
 fn statuses_have_these_numbers(rt: &impl Abort) {
-    assert_eq!(rt; Status::Clean as u8, 0);
-    assert_eq!(rt; Status::Found as u8, 1);
-    assert_eq!(rt; Status::Crashed as u8, 2);
-    assert_eq!(rt; Status::Spent as u8, 3);
-    assert_eq!(rt; Status::Refused as u8, 4);
-    assert_eq!(rt; Status::Usage as u8, 5);
-    assert_eq!(rt; Status::ReadFault as u8, 6);
-    assert_eq!(rt; Status::WriteFault as u8, 7);
-    assert_eq!(rt; Status::Memory as u8, 8);
+    assert_eq!(rt; code(Status::Clean), 0);
+    assert_eq!(rt; code(Status::Found), 1);
+    assert_eq!(rt; code(Status::Crashed), 2);
+    assert_eq!(rt; code(Status::Spent), 3);
+    assert_eq!(rt; code(Status::Refused), 4);
+    assert_eq!(rt; code(Status::Usage), 5);
+    assert_eq!(rt; code(Status::ReadFault), 6);
+    assert_eq!(rt; code(Status::WriteFault), 7);
+    assert_eq!(rt; code(Status::Memory), 8);
 }
 
 #[test]
@@ -184,6 +211,7 @@ fn each_text_the_limit_and_each_status_is_this_one(rt: HostRuntime) -> Result<()
     report_is_written_so(&rt, rt.alloc())?;
     faults_are_written_so(&rt, rt.alloc())?;
     ends_are_written_so(&rt, rt.alloc())?;
+    reasons_are_written_so(&rt, rt.alloc())?;
     statuses_have_these_numbers(&rt);
     Ok(())
 }
