@@ -1,5 +1,5 @@
 -- How a generated file is run, and what its run writes (profile).
-use Rattle.std.specs.Prelude.{ℕ, true, List, [], ◌∷◌, None}
+use Rattle.std.specs.Prelude.{ℕ, true, false, List, [], ◌∷◌, None}
 use Rattle.golf_data.specs.declared.code.Code.{Code}
 use Rattle.golf_schedules.specs.declared.schedule.Schedule.{Schedule}
 use Rattle.golf_schedules.specs.declared.options.Options.{Options}
