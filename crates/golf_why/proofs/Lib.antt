@@ -1,3 +1,4 @@
 mod Asleep
 mod Within
 mod Saying
+mod Living

@@ -3,7 +3,9 @@
 #![tactic(auto)]
 
 mod explanation;
+mod laws;
 mod members;
 
 pub use explanation::{Explanation, Reached};
+pub use laws::live_are_told;
 pub use members::Member;

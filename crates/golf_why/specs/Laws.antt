@@ -1,0 +1,37 @@
+-- What is promised of the definitions.
+use Rattle.std.specs.Prelude.{◌≡◌, ℕ, List, [], ◌∷◌, None, slice_get, unwrap_or}
+use Rattle.golf_theory.specs.Maps.{find}
+use Rattle.golf_data.specs.declared.report.Entry.{Entry}
+use Rattle.golf_model.specs.Futures.{Numbered}
+use Rattle.golf_model.specs.Graph.{sleeper_place, IsInRange}
+use Rattle.golf_model.specs.Living.{Node, Live}
+use Rattle.golf_model.specs.Presence.{IsWhole}
+use Rattle.golf_model.specs.Reporting.{entry_of}
+use Rattle.golf_model.specs.State.{State}
+use Rattle.golf_snapshot.specs.Parts.{live_parts}
+use Rattle.golf_snapshot.specs.Stands.{IsSleeper}
+use Rattle.golf_cert.specs.Levels.{IsReason}
+use Rattle.golf_why.specs.declared.explanation.Reached.{Reached}
+use Rattle.golf_why.specs.Members.{members_before}
+use Rattle.golf_why.specs.Explaining.{asleep_in, reached_at}
+
+-- what is told of the sleeper of this number
+abbrev pub told : State → ℕ → List Reached
+told s k = reached_at (live_parts s) k (unwrap_or (slice_get (asleep_in s (live_parts s)) k) None)
+
+-- how it is blocked, as a report would say it, and what its one reason has before it
+pub record IsToldOf (s : State) (k g : ℕ) : Type 0 where
+  pub entry : Entry
+  pub blocked : entry_of g (find g s.goroutines) ≡ entry ∷ []
+  pub places : List ℕ
+  pub reason : IsReason (live_parts s) (sleeper_place (live_parts s) k) places
+  pub is_told : told s k ≡ record { goroutine = entry.goroutine; wait = entry.wait; line = entry.line; by = members_before (live_parts s) places } ∷ []
+
+-- of a goroutine that is live, and of no other
+pub record TellsLive (s : State) (k g : ℕ) : Type 0 where
+  pub live : Live s (Node.AGoroutine g) → IsToldOf s k g
+  pub dead : (Live s (Node.AGoroutine g) → ⊥) → told s k ≡ []
+
+-- the sleepers of which something is told are the live ones
+abbrev pub LiveAreTold : Type 0
+LiveAreTold = (s : State) → Numbered s → IsWhole s → IsInRange (live_parts s) → (k g : ℕ) → IsSleeper s k g → TellsLive s k g
