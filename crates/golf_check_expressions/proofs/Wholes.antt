@@ -1,13 +1,13 @@
 -- What the answer for an expression with a list of parts tells.
 use Rattle.std.proofs.Common.{◌≡◌, ℕ, List, map, sym, ap, subst, ◌∙◌}
-use Rattle.std.specs.Prelude.{Option, Result}
+use Rattle.std.specs.Prelude.{Result}
 use Rattle.golf_grammar.specs.declared.types.TypeExpr.{TypeExpr}
 use Rattle.golf_grammar.specs.declared.expressions.Expr.{Expr}
 use Rattle.golf_grammar.specs.declared.expressions.Element.{Element}
 use Rattle.golf_grammar.specs.declared.expressions.Expr.TheVariants as ex
 use Rattle.golf_types.specs.declared.fault.TypeFault.{TypeFault}
 use Rattle.golf_types.specs.declared.types.Layer.TheVariants as layer
-use Rattle.golf_types.specs.declared.types.GoType.{GoType}
+use Rattle.golf_types.specs.declared.facts.Fact.{Fact}
 use Rattle.golf_types.specs.declared.operands.Operand.{Operand}
 use Rattle.golf_types.specs.declared.scopes.Scope.{Scope}
 use Rattle.golf_types.specs.Types.{with_layer}
@@ -18,7 +18,7 @@ use Rattle.golf_types.specs.Calls.{call_judged}
 use Rattle.golf_types.specs.Judging.{judge, judge_at, value_at, Judges}
 use Rattle.golf_types.proofs.JudgeLaws.{judge-Call, judge-SliceLiteral, judge-StructLiteral}
 
-module _ (r : Result Operand TypeFault) (l : ℕ) (s : Scope) (e : Expr) (old new : List (Option GoType)) where
+module _ (r : Result Operand TypeFault) (l : ℕ) (s : Scope) (e : Expr) (old new : List Fact) where
   same_judged : (i j : Judged) → i ≡ j → Judges r i old new → Judges r j old new
   same_judged i j p h = subst (λ k. Judges r k old new) p h
 

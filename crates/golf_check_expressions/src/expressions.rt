@@ -1,33 +1,38 @@
 //! What expressions are, and whether they keep the rules.
 
 ghost use Rattle.std.specs.Prelude.{◌≡◌, ◌∷◌, map};
-ghost use Rattle.golf_types.specs.Faults.{Tells, broken as broken_of};
 ghost use Rattle.golf_types.specs.Types.{with_layer as with_layer_of};
 ghost use Rattle.golf_types.specs.Scopes.{meaning as meaning_of};
 ghost use Rattle.golf_types.specs.Written.{write, pointer_to as pointer_to_of};
-ghost use Rattle.golf_types.specs.Expressions.{value as value_of_base, fits_int as fits_int_of, unary_judged, binary_judged, index_judged, selector, struct_literal, slice_literal, made as made_of, made_sized as made_sized_of};
+ghost use Rattle.golf_types.specs.Expressions.{integer as integer_of, unary_judged, binary_judged, index_judged, selector, struct_literal, slice_literal, made as made_of, made_sized as made_sized_of};
 ghost use Rattle.golf_types.specs.Calls.{plain_call, finaliser_call, called_with, call_judged};
-ghost use Rattle.golf_types.specs.Judging.{judge, judge_at, value_at, Judges, JudgesWhole, Finds, Gives, Takes, GivesAll};
+ghost use Rattle.golf_types.specs.Judging.{judge, judge_at, value_at, Judges, JudgesWhole, Finds, Gives, Takes, GivesAll, Puts};
 
 use golf_base::List;
 use golf_check_calls::{call, finalises, keeps_steady, rule_unless, sets_finaliser};
 use golf_check_operands::{
-    all_fit, binary, elements_fit, fields_differ, fits_int, index, is_name, is_value, made,
-    made_sized, made_struct, made_sync, named, plain_type, pointer_to, select, unary, value,
+    all_fit, binary, elements_fit, field_place, fields_differ, index, int_value, is_name, is_value,
+    made, made_sized, made_struct, made_sync, named, plain_type, pointer_to, select, unary, value,
     without_package, written,
 };
 use golf_grammar::{BinaryOperator, Element, Expr, TypeExpr, UnaryOperator};
 use golf_types::{
-    Base, Given, GoType, Layer, Operand, Scope, TypeFault, meaning_at, require, type_of, value_of,
-    with_layer,
+    Base, Fact, Given, Layer, Operand, Scope, TypeFault, copy_operand, meaning_at, require,
+    value_of, with_layer,
 };
 use std::alloc::Global;
 
-// A literal of an integer: rule 19.
-fn integer(alloc: Global, line: u32, digits: &[u8]) -> Result<Operand, TypeFault>
-    ensures { Tells result (broken_of line 19 (fits_int_of digits.now)) (λ m. m ≡ value_of_base Base.Int) }
+// A literal of an integer, and the fact of its value: rule 19.
+fn integer(
+    alloc: Global,
+    line: u32,
+    digits: &[u8],
+    facts: &mut List<Fact>,
+) -> Result<Operand, TypeFault>
+    ensures { Judges result (integer_of line digits.now) facts.old facts.new }
 {
-    require(line, 19, fits_int(digits))?;
+    let number = int_value(line, digits)?;
+    facts.push(Fact::Number(number))?;
     Ok(value(alloc, Base::Int))
 }
 
@@ -39,27 +44,34 @@ fn made_at(alloc: Global, line: u32, scope: &Scope, t: &TypeExpr) -> Result<Oper
     made(alloc, line, t)
 }
 
-/// What an expression is; its type and those of its parts are added.
+/// What an expression is; its fact and those of its parts are added.
 #[cycle(judging)]
-#[tactic(auto, using(golf_types::proofs::Seams::slot))]
+#[tactic(auto, using(golf_types::proofs::Seams::expression_filled))]
 pub fn operand(
     alloc: Global,
     line: u32,
     scope: &Scope,
     e: &Expr,
-    types: &mut List<Option<GoType>>,
+    facts: &mut List<Fact>,
 ) -> Result<Operand, TypeFault>
-    ensures { JudgesWhole result (judge e.now line scope.now) types.old types.new }
+    ensures { JudgesWhole result (judge e.now line scope.now) facts.old facts.new }
 {
-    let at = types.len();
-    types.push(None)?;
-    let operand = whole(alloc, line, scope, e, types)?;
-    let own = type_of(alloc, &operand)?;
-    types.set(at, own);
+    let at = facts.len();
+    facts.push(Fact::Part(0))?;
+    let operand = whole(alloc, line, scope, e, facts)?;
+    let own = copy_operand(alloc, &operand)?;
+    let parts = facts.len() - at - 1;
+    facts.set(
+        at,
+        Fact::Expression {
+            operand: own,
+            parts,
+        },
+    );
     Ok(operand)
 }
 
-// The same; the types of its parts alone are added.
+// The same; the facts of its parts alone are added.
 #[cycle(judging)]
 #[tactic(auto, unfolding(golf_types::specs::Judging::judge))]
 fn whole(
@@ -67,15 +79,15 @@ fn whole(
     line: u32,
     scope: &Scope,
     e: &Expr,
-    types: &mut List<Option<GoType>>,
+    facts: &mut List<Fact>,
 ) -> Result<Operand, TypeFault>
-    ensures { Judges result (judge e.now line scope.now) types.old types.new }
+    ensures { Judges result (judge e.now line scope.now) facts.old facts.new }
 {
     match e {
-        Expr::Integer(digits) => integer(alloc, line, digits.as_slice()),
+        Expr::Integer(digits) => integer(alloc, line, digits.as_slice(), facts),
         Expr::Text(_) => Ok(value(alloc, Base::Text)),
         Expr::Name(name) => named(alloc, line, scope, name.as_slice()),
-        Expr::Parens(e) => Ok(without_package(operand(alloc, line, scope, e.get(), types)?)),
+        Expr::Parens(e) => Ok(without_package(operand(alloc, line, scope, e.get(), facts)?)),
         Expr::StructLiteral(name, elements) => {
             struct_at(
                 alloc,
@@ -83,21 +95,21 @@ fn whole(
                 scope,
                 name.as_slice(),
                 elements.as_slice(),
-                types,
+                facts,
             )
         }
         Expr::SyncLiteral(name) => made_sync(alloc, line, scope, name.as_slice()),
-        Expr::SliceLiteral(t, es) => slice_at(alloc, line, scope, es.as_slice(), t.get(), types),
+        Expr::SliceLiteral(t, es) => slice_at(alloc, line, scope, es.as_slice(), t.get(), facts),
         Expr::EmptyLiteral => Ok(value(alloc, Base::Unit)),
         Expr::Make(t) => made_at(alloc, line, scope, t.get()),
-        Expr::MakeSized(t, e) => sized_at(alloc, line, scope, t.get(), e.get(), types),
+        Expr::MakeSized(t, e) => sized_at(alloc, line, scope, t.get(), e.get(), facts),
         Expr::New(name) => made_struct(alloc, line, scope, name.as_slice()),
         Expr::NewSync(name) => made_sync(alloc, line, scope, name.as_slice()),
-        Expr::Selector(e, name) => selector_at(alloc, line, scope, e.get(), name.as_slice(), types),
-        Expr::Index(a, i) => index_at(alloc, line, scope, a.get(), i.get(), types),
-        Expr::Call(f, xs) => call_at(alloc, line, scope, xs.as_slice(), f.get(), types),
-        Expr::Unary(o, e) => unary_at(alloc, line, scope, *o, e.get(), types),
-        Expr::Binary(o, a, b) => binary_at(alloc, line, scope, *o, a.get(), b.get(), types),
+        Expr::Selector(e, name) => selector_at(alloc, line, scope, e.get(), name.as_slice(), facts),
+        Expr::Index(a, i) => index_at(alloc, line, scope, a.get(), i.get(), facts),
+        Expr::Call(f, xs) => call_at(alloc, line, scope, xs.as_slice(), f.get(), facts),
+        Expr::Unary(o, e) => unary_at(alloc, line, scope, *o, e.get(), facts),
+        Expr::Binary(o, a, b) => binary_at(alloc, line, scope, *o, a.get(), b.get(), facts),
     }
 }
 
@@ -108,11 +120,11 @@ pub fn given(
     line: u32,
     scope: &Scope,
     e: &Expr,
-    types: &mut List<Option<GoType>>,
+    facts: &mut List<Fact>,
 ) -> Result<Given, TypeFault>
-    ensures { Gives line result (judge e.now line scope.now) types.old types.new }
+    ensures { Gives line result (judge e.now line scope.now) facts.old facts.new }
 {
-    let operand = operand(alloc, line, scope, e, types)?;
+    let operand = operand(alloc, line, scope, e, facts)?;
     is_value(line, &operand)?;
     Ok(value_of(alloc, operand))
 }
@@ -124,31 +136,34 @@ fn all_given(
     line: u32,
     scope: &Scope,
     es: &[Expr],
-    types: &mut List<Option<GoType>>,
+    facts: &mut List<Fact>,
 ) -> Result<List<Given>, TypeFault>
-    ensures { GivesAll line result (map (judge_at line scope.now) es.now) types.old types.new }
+    ensures { GivesAll line result (map (judge_at line scope.now) es.now) facts.old facts.new }
 {
     let mut values = List::new(alloc);
     for e in es {
-        values.push(given(alloc, line, scope, e, types)?)?;
+        values.push(given(alloc, line, scope, e, facts)?)?;
     }
     Ok(values)
 }
 
-// What is put into each field.
+// What is put into each field, before whose facts the place of the field is added.
 #[cycle(judging)]
 fn all_put(
     alloc: Global,
     line: u32,
     scope: &Scope,
+    base: Option<Base>,
     elements: &[Element],
-    types: &mut List<Option<GoType>>,
+    facts: &mut List<Fact>,
 ) -> Result<List<Given>, TypeFault>
-    ensures { GivesAll line result (map (value_at line scope.now) elements.now) types.old types.new }
+    ensures { Puts line scope.now.file base (map (λ e. e.field) elements.now) result (map (value_at line scope.now) elements.now) facts.old facts.new }
 {
     let mut values = List::new(alloc);
     for e in elements {
-        values.push(given(alloc, line, scope, &e.value, types)?)?;
+        let place = field_place(&scope.file, base, e.field.as_slice());
+        facts.push(Fact::Field(place))?;
+        values.push(given(alloc, line, scope, &e.value, facts)?)?;
     }
     Ok(values)
 }
@@ -160,12 +175,12 @@ fn struct_at(
     scope: &Scope,
     name: &[u8],
     elements: &[Element],
-    types: &mut List<Option<GoType>>,
+    facts: &mut List<Fact>,
 ) -> Result<Operand, TypeFault>
-    ensures { Judges result (struct_literal line scope.now.file (pointer_to_of (meaning_of scope.now name.now)) (map (λ e. e.field) elements.now) (map (value_at line scope.now) elements.now)) types.old types.new }
+    ensures { Judges result (struct_literal line scope.now.file (pointer_to_of (meaning_of scope.now name.now)) (map (λ e. e.field) elements.now) (map (value_at line scope.now) elements.now)) facts.old facts.new }
 {
-    let values = all_put(alloc, line, scope, elements, types)?;
     let base = pointer_to(meaning_at(alloc, scope, name)?);
+    let values = all_put(alloc, line, scope, base, elements, facts)?;
     all_fit(alloc, line, &scope.file, base, elements, values.as_slice())?;
     let differ = fields_differ(alloc, &scope.file, base, elements)?;
     require(line, 20, base.is_some() && differ)?;
@@ -179,12 +194,12 @@ fn slice_at(
     scope: &Scope,
     es: &[Expr],
     t: &TypeExpr,
-    types: &mut List<Option<GoType>>,
+    facts: &mut List<Fact>,
 ) -> Result<Operand, TypeFault>
-    ensures { Judges result (slice_literal line (write t.now line scope.now) (with_layer_of Layer.Slice (write t.now line scope.now).type) (map (judge_at line scope.now) es.now)) types.old types.new }
+    ensures { Judges result (slice_literal line (write t.now line scope.now) (with_layer_of Layer.Slice (write t.now line scope.now).type) (map (judge_at line scope.now) es.now)) facts.old facts.new }
 {
     let of_type = written(alloc, line, scope, t)?;
-    let values = all_given(alloc, line, scope, es, types)?;
+    let values = all_given(alloc, line, scope, es, facts)?;
     elements_fit(line, values.as_slice(), &of_type)?;
     Ok(Operand::Value(with_layer(alloc, Layer::Slice, of_type)?))
 }
@@ -196,12 +211,12 @@ fn sized_at(
     scope: &Scope,
     t: &TypeExpr,
     e: &Expr,
-    types: &mut List<Option<GoType>>,
+    facts: &mut List<Fact>,
 ) -> Result<Operand, TypeFault>
-    ensures { Judges result (made_sized_of line (write t.now line scope.now) (judge e.now line scope.now)) types.old types.new }
+    ensures { Judges result (made_sized_of line (write t.now line scope.now) (judge e.now line scope.now)) facts.old facts.new }
 {
     let of_type = written(alloc, line, scope, t)?;
-    let size = given(alloc, line, scope, e, types)?;
+    let size = given(alloc, line, scope, e, facts)?;
     made_sized(alloc, line, of_type, &size)
 }
 
@@ -212,11 +227,11 @@ fn selector_at(
     scope: &Scope,
     e: &Expr,
     name: &[u8],
-    types: &mut List<Option<GoType>>,
+    facts: &mut List<Fact>,
 ) -> Result<Operand, TypeFault>
-    ensures { Judges result (selector line scope.now name.now (judge e.now line scope.now)) types.old types.new }
+    ensures { Judges result (selector line scope.now name.now (judge e.now line scope.now)) facts.old facts.new }
 {
-    let operand = operand(alloc, line, scope, e, types)?;
+    let operand = operand(alloc, line, scope, e, facts)?;
     select(alloc, line, &scope.file, name, operand)
 }
 
@@ -227,12 +242,12 @@ fn index_at(
     scope: &Scope,
     a: &Expr,
     i: &Expr,
-    types: &mut List<Option<GoType>>,
+    facts: &mut List<Fact>,
 ) -> Result<Operand, TypeFault>
-    ensures { Judges result (index_judged line (judge a.now line scope.now) (judge i.now line scope.now)) types.old types.new }
+    ensures { Judges result (index_judged line (judge a.now line scope.now) (judge i.now line scope.now)) facts.old facts.new }
 {
-    let x = given(alloc, line, scope, a, types)?;
-    let y = given(alloc, line, scope, i, types)?;
+    let x = given(alloc, line, scope, a, facts)?;
+    let y = given(alloc, line, scope, i, facts)?;
     index(line, x, y)
 }
 
@@ -243,11 +258,11 @@ fn unary_at(
     scope: &Scope,
     operator: UnaryOperator,
     e: &Expr,
-    types: &mut List<Option<GoType>>,
+    facts: &mut List<Fact>,
 ) -> Result<Operand, TypeFault>
-    ensures { Judges result (unary_judged line scope.now operator (judge e.now line scope.now)) types.old types.new }
+    ensures { Judges result (unary_judged line scope.now operator (judge e.now line scope.now)) facts.old facts.new }
 {
-    let x = given(alloc, line, scope, e, types)?;
+    let x = given(alloc, line, scope, e, facts)?;
     unary(alloc, line, scope, operator, x)
 }
 
@@ -259,12 +274,12 @@ fn binary_at(
     operator: BinaryOperator,
     a: &Expr,
     b: &Expr,
-    types: &mut List<Option<GoType>>,
+    facts: &mut List<Fact>,
 ) -> Result<Operand, TypeFault>
-    ensures { Judges result (binary_judged line operator (judge a.now line scope.now) (judge b.now line scope.now)) types.old types.new }
+    ensures { Judges result (binary_judged line operator (judge a.now line scope.now) (judge b.now line scope.now)) facts.old facts.new }
 {
-    let x = given(alloc, line, scope, a, types)?;
-    let y = given(alloc, line, scope, b, types)?;
+    let x = given(alloc, line, scope, a, facts)?;
+    let y = given(alloc, line, scope, b, facts)?;
     binary(alloc, line, operator, x, y)
 }
 
@@ -275,11 +290,11 @@ pub fn callee(
     line: u32,
     scope: &Scope,
     e: &Expr,
-    types: &mut List<Option<GoType>>,
+    facts: &mut List<Fact>,
 ) -> Result<Operand, TypeFault>
-    ensures { Takes line result (judge e.now line scope.now) types.old types.new }
+    ensures { Takes line result (judge e.now line scope.now) facts.old facts.new }
 {
-    let operand = operand(alloc, line, scope, e, types)?;
+    let operand = operand(alloc, line, scope, e, facts)?;
     is_name(line, &operand)?;
     Ok(operand)
 }
@@ -291,12 +306,12 @@ fn call_at(
     scope: &Scope,
     xs: &[Expr],
     f: &Expr,
-    types: &mut List<Option<GoType>>,
+    facts: &mut List<Fact>,
 ) -> Result<Operand, TypeFault>
-    ensures { Judges result (call_judged line scope.now (judge f.now line scope.now) (map (judge_at line scope.now) xs.now)) types.old types.new }
+    ensures { Judges result (call_judged line scope.now (judge f.now line scope.now) (map (judge_at line scope.now) xs.now)) facts.old facts.new }
 {
-    let callee = callee(alloc, line, scope, f, types)?;
-    called(alloc, line, scope, &callee, xs, types)
+    let callee = callee(alloc, line, scope, f, facts)?;
+    called(alloc, line, scope, &callee, xs, facts)
 }
 
 /// A call of an operand, behind that.
@@ -307,14 +322,14 @@ pub fn called(
     scope: &Scope,
     f: &Operand,
     xs: &[Expr],
-    types: &mut List<Option<GoType>>,
+    facts: &mut List<Fact>,
 ) -> Result<Operand, TypeFault>
-    ensures { Judges result (called_with line scope.now f.now (map (judge_at line scope.now) xs.now)) types.old types.new }
+    ensures { Judges result (called_with line scope.now f.now (map (judge_at line scope.now) xs.now)) facts.old facts.new }
 {
     if sets_finaliser(f) {
-        finaliser_at(alloc, line, scope, f, xs, types)
+        finaliser_at(alloc, line, scope, f, xs, facts)
     } else {
-        plain_at(alloc, line, scope, f, xs, types)
+        plain_at(alloc, line, scope, f, xs, facts)
     }
 }
 
@@ -325,11 +340,11 @@ fn plain_at(
     scope: &Scope,
     f: &Operand,
     xs: &[Expr],
-    types: &mut List<Option<GoType>>,
+    facts: &mut List<Fact>,
 ) -> Result<Operand, TypeFault>
-    ensures { Judges result (plain_call line scope.now f.now (map (judge_at line scope.now) xs.now)) types.old types.new }
+    ensures { Judges result (plain_call line scope.now f.now (map (judge_at line scope.now) xs.now)) facts.old facts.new }
 {
-    let values = all_given(alloc, line, scope, xs, types)?;
+    let values = all_given(alloc, line, scope, xs, facts)?;
     keeps_steady(line, scope.initialises, f)?;
     call(alloc, line, &scope.file, f, values.as_slice())
 }
@@ -341,14 +356,14 @@ fn finaliser_at(
     scope: &Scope,
     f: &Operand,
     xs: &[Expr],
-    types: &mut List<Option<GoType>>,
+    facts: &mut List<Fact>,
 ) -> Result<Operand, TypeFault>
-    ensures { Judges result (finaliser_call line scope.now f.now (map (judge_at line scope.now) xs.now)) types.old types.new }
+    ensures { Judges result (finaliser_call line scope.now f.now (map (judge_at line scope.now) xs.now)) facts.old facts.new }
 {
     match xs {
-        [x, y, rest @ ..] => finaliser_with(alloc, line, scope, f, rest, x, y, types),
+        [x, y, rest @ ..] => finaliser_with(alloc, line, scope, f, rest, x, y, facts),
         _ => {
-            all_given(alloc, line, scope, xs, types)?;
+            all_given(alloc, line, scope, xs, facts)?;
             keeps_steady(line, scope.initialises, f)?;
             Err(TypeFault::At { line, rule: 11 })
         }
@@ -364,13 +379,13 @@ fn finaliser_with(
     rest: &[Expr],
     x: &Expr,
     y: &Expr,
-    types: &mut List<Option<GoType>>,
+    facts: &mut List<Fact>,
 ) -> Result<Operand, TypeFault>
-    ensures { Judges result (finaliser_call line scope.now f.now (judge_at line scope.now x.now ∷ (judge_at line scope.now y.now ∷ map (judge_at line scope.now) rest.now))) types.old types.new }
+    ensures { Judges result (finaliser_call line scope.now f.now (judge_at line scope.now x.now ∷ (judge_at line scope.now y.now ∷ map (judge_at line scope.now) rest.now))) facts.old facts.new }
 {
-    let value = given(alloc, line, scope, x, types)?;
-    let finaliser = callee(alloc, line, scope, y, types)?;
-    all_given(alloc, line, scope, rest, types)?;
+    let value = given(alloc, line, scope, x, facts)?;
+    let finaliser = callee(alloc, line, scope, y, facts)?;
+    all_given(alloc, line, scope, rest, facts)?;
     keeps_steady(line, scope.initialises, f)?;
     require(line, 11, rest.is_empty())?;
     Ok(Operand::Nothing(rule_unless(22, finalises(&scope.file, &value, &finaliser))))

@@ -1,4 +1,4 @@
-//! What expressions are, which rules they break, and their types.
+//! What expressions are, which rules they break, and their facts.
 #![tactic(auto)]
 
 mod expressions;

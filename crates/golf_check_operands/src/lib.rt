@@ -9,7 +9,8 @@ mod values;
 mod written_types;
 
 pub use literals::{
-    all_fit, elements_fit, fields_differ, fits_int, made, made_sized, made_struct, named,
+    all_fit, elements_fit, field_place, fields_differ, int_value, made, made_sized, made_struct,
+    named, struct_of,
 };
 pub use operators::{
     as_value, binary, index, is_name, is_value, late, result_base, unary, value, without_package,

@@ -1,11 +1,11 @@
 //! Names and literals, `make` and `new`.
 
-ghost use Rattle.std.specs.Prelude.{◌≡◌, ◌≤◌, ◌++◌, [], map, flat_map, SomeIff, IfOk, is_some, slice_get, option_and_then};
+ghost use Rattle.std.specs.Prelude.{◌≡◌, ◌≤◌, ◌++◌, [], pos, map, flat_map, SomeIff, IfOk, is_some, slice_get, option_and_then};
 ghost use Rattle.std.specs.List.{list_any};
 ghost use Rattle.std.specs.Str.{bytes_eq};
 ghost use Rattle.golf_types.specs.Faults.{Tells, broken as broken_of};
 ghost use Rattle.golf_types.specs.Types.{given as given_of, has_base as has_base_of, has_layer, is_any, is_channel, assignable as assignable_of};
-ghost use Rattle.golf_types.specs.Expressions.{named as named_of, known_name, found_name, reads_global as reads_global_of, is_above as is_above_of, value_from, fits_int as fits_int_of, made_struct as made_struct_of, field_type as field_type_of, field_of_member as field_of_member_of, put_faults, all_put_faults, fields_differ as fields_differ_of};
+ghost use Rattle.golf_types.specs.Expressions.{named as named_of, known_name, found_name, reads_global as reads_global_of, is_above as is_above_of, value_from, fits_int as fits_int_of, struct_of as struct_of_of, field_place as field_place_of, made_struct as made_struct_of, field_type as field_type_of, field_of_member as field_of_member_of, put_faults, all_put_faults, fields_differ as fields_differ_of};
 ghost use Rattle.golf_types.specs.Judging.{Finds};
 ghost use Rattle.golf_types.specs.Scopes.{meaning as meaning_of, type_at as type_at_of};
 ghost use Rattle.golf_types.specs.Written.{pointer_to as pointer_to_of};
@@ -94,12 +94,15 @@ fn small_value(digits: &[u8]) -> Option<u64>
     Some(value)
 }
 
-/// Whether an `int` can hold the number that digits stand for.
+/// The number that digits stand for: rule 19.
 #[tactic(auto, unfolding(golf_types::specs::Expressions::fits_int))]
-pub fn fits_int(digits: &[u8]) -> bool
-    ensures { result ≡ fits_int_of digits.now }
+pub fn int_value(line: u32, digits: &[u8]) -> Result<i64, TypeFault>
+    ensures { Tells result (broken_of line 19 (fits_int_of digits.now)) (λ n. n ≡ pos (value_from 0 digits.now)) }
 {
-    small_value(digits).is_some()
+    match small_value(digits) {
+        None => Err(TypeFault::At { line, rule: 19 }),
+        Some(value) => Ok(value as i64),
+    }
 }
 
 /// `new(T)`: rule 4.
@@ -165,6 +168,32 @@ fn field_type(
                 field_of_member(alloc, file, number, member_at(file, number, name))
             }
             _ => Ok(None),
+        },
+    }
+}
+
+/// The number of the struct that a pointer leads to, or 0.
+pub fn struct_of(base: Option<Base>) -> u32
+    ensures { result ≡ struct_of_of base }
+{
+    match base {
+        None => 0,
+        Some(base) => match base {
+            Base::Pointer(number) => number,
+            _ => 0,
+        },
+    }
+}
+
+/// The place of a field of the struct that a pointer leads to, or 0.
+pub fn field_place(file: &FileScope, base: Option<Base>, name: &[u8]) -> u32
+    ensures { result ≡ field_place_of file.now base name.now }
+{
+    match member_at(file, struct_of(base), name) {
+        None => 0,
+        Some(member) => match member {
+            Member::Field(place) => place,
+            Member::Method(_) => 0,
         },
     }
 }

@@ -1,14 +1,16 @@
 //! Names left of `:=` and `=` beside a receive.
 
-ghost use Rattle.std.specs.Prelude.{◌≡◌};
+ghost use Rattle.std.specs.Prelude.{◌≡◌, ◌∷◌, [], IfOk, unwrap_or};
 ghost use Rattle.golf_types.specs.Faults.{Tells};
-ghost use Rattle.golf_types.specs.Statements.{Moves, kept_local as kept_local_of, kept_faults, is_new as is_new_of, pair_differs as pair_differs_of, kept_pair_faults, pair_faults, one_new as one_new_of, then, pair as pair_of, bool_type, put_in_faults, takes_value as takes_value_of, assigned_faults, assigned_pair_faults, assign_name as assign_name_of, assign_pair as assign_pair_of, define_name as define_name_of};
+ghost use Rattle.golf_types.specs.Facts.{new_target as new_target_of};
+ghost use Rattle.golf_types.specs.Statements.{Adds, Walks, declares_one, kept_local as kept_local_of, kept_faults, is_new as is_new_of, pair_differs as pair_differs_of, kept_pair_faults, pair_faults, new_or_kept as new_or_kept_of, assigned as assigned_of, then, pair as pair_of, bool_type, put_in_faults, takes_value as takes_value_of, assigned_faults, assigned_pair_faults, assign_name as assign_name_of, assign_pair as assign_pair_of, define_name as define_name_of};
 
 use crate::simple_statements::is_place;
+use golf_base::{List, Memory};
 use golf_check_operands::assignable;
 use golf_types::{
-    Base, GoType, Local, Operand, Scope, TypeFault, assigned_name, copy_optional, declare,
-    declare_new, given_type, is_new, is_reserved, may_be_declared, plain, require, type_of,
+    Base, Fact, GoType, Local, Operand, Scope, TypeFault, Where, assigned_name, copy_optional,
+    declare, given_type, is_new, is_reserved, may_be_declared, plain, require, type_of,
 };
 use std::alloc::Global;
 
@@ -100,21 +102,80 @@ fn pair_fits(
     require(line, 24, is_new(scope, first) || is_new(scope, second))
 }
 
-#[tactic(auto, using(golf_types::proofs::WalkLaws::new_breaks_none))]
+// The variable that the next declaration gives a slot, as what is stored to.
+fn new_target(alloc: Global, scope: &Scope, t: &Option<GoType>) -> Result<Fact, Memory>
+    ensures { IfOk result (λ f. f ≡ new_target_of scope.now t.now) }
+{
+    let of_type = copy_optional(alloc, t)?;
+    Ok(Fact::Target(Operand::Variable(Where::Slot(scope.next), of_type)))
+}
+
+/// Declares a variable, and adds the fact of its slot. On an `Err` nothing is said of the scope.
+pub fn declare_told(
+    alloc: Global,
+    scope: &mut Scope,
+    name: &[u8],
+    t: Option<GoType>,
+    facts: &mut List<Fact>,
+) -> Result<(), TypeFault>
+    ensures { Walks result (declares_one scope.old name.now t [] (new_target_of scope.old t ∷ [])) scope.old scope.new facts.old facts.new }
+{
+    facts.push(new_target(alloc, scope, &t)?)?;
+    declare(alloc, scope, name, t)?;
+    Ok(())
+}
+
+/// Declares a variable where it is new, and adds the fact of what is stored to: its slot, or what
+/// was kept. On an `Err` nothing is said of the scope.
+#[tactic(auto, using(golf_types::proofs::WalkLaws::stays))]
+pub fn new_or_kept(
+    alloc: Global,
+    scope: &mut Scope,
+    new: bool,
+    kept: Operand,
+    name: &[u8],
+    t: Option<GoType>,
+    facts: &mut List<Fact>,
+) -> Result<(), TypeFault>
+    ensures { Walks result (new_or_kept_of new kept name.now t scope.old) scope.old scope.new facts.old facts.new }
+{
+    if new {
+        return declare_told(alloc, scope, name, t, facts);
+    }
+    facts.push(Fact::Target(kept))?;
+    Ok(())
+}
+
+// What is assigned.
+fn assigned(alloc: Global, scope: &Scope, name: &[u8]) -> Result<Operand, Memory>
+    ensures { IfOk result (λ m. m ≡ assigned_of scope.now name.now) }
+{
+    Ok(assigned_name(alloc, scope, name)?.unwrap_or(Operand::Unknown))
+}
+
+fn target(operand: Option<Operand>) -> Fact
+    ensures { result ≡ Fact.Target (unwrap_or operand Operand.Unknown) }
+{
+    Fact::Target(operand.unwrap_or(Operand::Unknown))
+}
+
 fn declare_both(
     alloc: Global,
     scope: &mut Scope,
     first: &[u8],
     second: &[u8],
     t: Option<GoType>,
+    facts: &mut List<Fact>,
 ) -> Result<(), TypeFault>
-    ensures { Moves result (then (one_new_of (is_new_of scope.old first.now) first.now t) (one_new_of (is_new_of scope.old second.now) second.now bool_type) scope.old) scope.old scope.new }
+    ensures { Walks result (then (new_or_kept_of (is_new_of scope.old first.now) (assigned_of scope.old first.now) first.now t) (new_or_kept_of (is_new_of scope.old second.now) (assigned_of scope.old second.now) second.now bool_type) scope.old) scope.old scope.new facts.old facts.new }
 {
     let first_new = is_new(scope, first);
     let second_new = is_new(scope, second);
-    declare_new(alloc, scope, first_new, first, t)?;
-    declare_new(alloc, scope, second_new, second, truth_type(alloc))?;
-    Ok(())
+    let first_kept = assigned(alloc, scope, first)?;
+    let second_kept = assigned(alloc, scope, second)?;
+    let truth = truth_type(alloc);
+    new_or_kept(alloc, scope, first_new, first_kept, first, t, facts)?;
+    new_or_kept(alloc, scope, second_new, second_kept, second, truth, facts)
 }
 
 /// `first, second := <-e`, behind the receive: rules 2, 9 and 24.
@@ -125,11 +186,12 @@ pub fn define_pair(
     first: &[u8],
     second: &[u8],
     t: Option<GoType>,
+    facts: &mut List<Fact>,
 ) -> Result<(), TypeFault>
-    ensures { Moves result (pair_of line first.now second.now t scope.old) scope.old scope.new }
+    ensures { Walks result (pair_of line first.now second.now t scope.old) scope.old scope.new facts.old facts.new }
 {
     pair_fits(alloc, line, scope, first, second, &t)?;
-    declare_both(alloc, scope, first, second, t)
+    declare_both(alloc, scope, first, second, t, facts)
 }
 
 #[tactic(auto, unfolding(golf_types::specs::Statements::put_in_faults))]
@@ -221,11 +283,14 @@ pub fn assign_name(
     scope: &Scope,
     name: &[u8],
     t: &Option<GoType>,
+    facts: &mut List<Fact>,
 ) -> Result<(), TypeFault>
-    ensures { Tells result (assign_name_of line name.now t.now scope.now).faults (λ _. Unit {0}) }
+    ensures { Adds result (assign_name_of line name.now t.now scope.now) facts.old facts.new }
 {
     let operand = assigned_name(alloc, scope, name)?;
-    is_assigned(alloc, line, &operand, t)
+    is_assigned(alloc, line, &operand, t)?;
+    facts.push(target(operand))?;
+    Ok(())
 }
 
 /// `first, second = <-e`, behind the receive: rules 3, 9 and 10.
@@ -236,12 +301,16 @@ pub fn assign_pair(
     first: &[u8],
     second: &[u8],
     t: Option<GoType>,
+    facts: &mut List<Fact>,
 ) -> Result<(), TypeFault>
-    ensures { Tells result (assign_pair_of line first.now second.now t scope.now).faults (λ _. Unit {0}) }
+    ensures { Adds result (assign_pair_of line first.now second.now t scope.now) facts.old facts.new }
 {
     let a = assigned_name(alloc, scope, first)?;
     let b = assigned_name(alloc, scope, second)?;
-    are_assigned(alloc, line, &a, &b, &t)
+    are_assigned(alloc, line, &a, &b, &t)?;
+    facts.push(target(a))?;
+    facts.push(target(b))?;
+    Ok(())
 }
 
 /// The name of a received value: rule 2.
@@ -251,10 +320,10 @@ pub fn define_name(
     scope: &mut Scope,
     name: &[u8],
     t: Option<GoType>,
+    facts: &mut List<Fact>,
 ) -> Result<(), TypeFault>
-    ensures { Moves result (define_name_of line name.now t scope.old) scope.old scope.new }
+    ensures { Walks result (define_name_of line name.now t scope.old) scope.old scope.new facts.old facts.new }
 {
     require(line, 2, may_be_declared(scope, name))?;
-    declare(alloc, scope, name, t)?;
-    Ok(())
+    declare_told(alloc, scope, name, t, facts)
 }

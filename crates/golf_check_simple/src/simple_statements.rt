@@ -5,7 +5,7 @@ ghost use Rattle.golf_types.specs.Faults.{Tells, broken as broken_of};
 ghost use Rattle.golf_types.specs.Types.{is_nil as is_nil_of, assignable as assignable_of, type_of as type_of_of};
 ghost use Rattle.golf_types.specs.Statements.{Adds, Walks, action_faults, action as action_of, send_faults, send as send_of, is_place as is_place_of, step_faults, step as step_of, update_faults, update as update_of, left_faults, assign_faults, assignment as assignment_of, definition as definition_of, received as received_of, carried, define_received as define_received_of, assign_received as assign_received_of, simple_walk};
 
-use crate::pairs::{assign_pair, define_pair};
+use crate::pairs::{assign_pair, declare_told, define_pair};
 use golf_base::List;
 use golf_check_expressions::{callee, given, operand};
 use golf_check_operands::{
@@ -13,8 +13,8 @@ use golf_check_operands::{
 };
 use golf_grammar::{Expr, Simple, SimpleKind};
 use golf_types::{
-    Base, Given, GoType, Operand, Scope, TypeFault, declare, is_blank, is_here, is_reserved,
-    require, type_of, value_of,
+    Base, Fact, Given, GoType, Operand, Scope, TypeFault, is_blank, is_here, is_reserved, require,
+    type_of, value_of,
 };
 use std::alloc::Global;
 
@@ -46,11 +46,11 @@ fn action(
     line: u32,
     scope: &Scope,
     e: &Expr,
-    types: &mut List<Option<GoType>>,
+    facts: &mut List<Fact>,
 ) -> Result<(), TypeFault>
-    ensures { Adds result (action_of line e.now scope.now) types.old types.new }
+    ensures { Adds result (action_of line e.now scope.now) facts.old facts.new }
 {
-    let operand = operand(alloc, line, scope, e, types)?;
+    let operand = operand(alloc, line, scope, e, facts)?;
     is_action(line, &operand)
 }
 
@@ -70,12 +70,12 @@ pub fn send(
     scope: &Scope,
     channel: &Expr,
     e: &Expr,
-    types: &mut List<Option<GoType>>,
+    facts: &mut List<Fact>,
 ) -> Result<(), TypeFault>
-    ensures { Adds result (send_of line channel.now e.now scope.now) types.old types.new }
+    ensures { Adds result (send_of line channel.now e.now scope.now) facts.old facts.new }
 {
-    let channel = given(alloc, line, scope, channel, types)?;
-    let value = given(alloc, line, scope, e, types)?;
+    let channel = given(alloc, line, scope, channel, facts)?;
+    let value = given(alloc, line, scope, e, facts)?;
     can_be_sent(line, channel, &value)
 }
 
@@ -105,11 +105,11 @@ fn step(
     line: u32,
     scope: &Scope,
     place: &Expr,
-    types: &mut List<Option<GoType>>,
+    facts: &mut List<Fact>,
 ) -> Result<(), TypeFault>
-    ensures { Adds result (step_of line place.now scope.now) types.old types.new }
+    ensures { Adds result (step_of line place.now scope.now) facts.old facts.new }
 {
-    let left = callee(alloc, line, scope, place, types)?;
+    let left = callee(alloc, line, scope, place, facts)?;
     can_step(alloc, line, left)
 }
 
@@ -131,12 +131,12 @@ fn update(
     scope: &Scope,
     place: &Expr,
     e: &Expr,
-    types: &mut List<Option<GoType>>,
+    facts: &mut List<Fact>,
 ) -> Result<(), TypeFault>
-    ensures { Adds result (update_of line place.now e.now scope.now) types.old types.new }
+    ensures { Adds result (update_of line place.now e.now scope.now) facts.old facts.new }
 {
-    let left = callee(alloc, line, scope, place, types)?;
-    let value = given(alloc, line, scope, e, types)?;
+    let left = callee(alloc, line, scope, place, facts)?;
+    let value = given(alloc, line, scope, e, facts)?;
     can_update(alloc, line, left, &value)
 }
 
@@ -183,13 +183,13 @@ fn assignment(
     scope: &Scope,
     place: &Expr,
     e: &Expr,
-    types: &mut List<Option<GoType>>,
+    facts: &mut List<Fact>,
 ) -> Result<(), TypeFault>
-    ensures { Adds result (assignment_of line place.now e.now scope.now) types.old types.new }
+    ensures { Adds result (assignment_of line place.now e.now scope.now) facts.old facts.new }
 {
-    let left = operand(alloc, line, scope, place, types)?;
+    let left = operand(alloc, line, scope, place, facts)?;
     is_left(line, &left)?;
-    let value = given(alloc, line, scope, e, types)?;
+    let value = given(alloc, line, scope, e, facts)?;
     can_be_assigned(alloc, line, &left, &value)
 }
 
@@ -199,16 +199,15 @@ fn definition(
     scope: &mut Scope,
     name: &[u8],
     e: &Expr,
-    types: &mut List<Option<GoType>>,
+    facts: &mut List<Fact>,
 ) -> Result<(), TypeFault>
-    ensures { Walks result (definition_of line name.now e.now scope.old) scope.old scope.new types.old types.new }
+    ensures { Walks result (definition_of line name.now e.now scope.old) scope.old scope.new facts.old facts.new }
 {
-    let value = given(alloc, line, scope, e, types)?;
+    let value = given(alloc, line, scope, e, facts)?;
     require(line, 2, !is_blank(name) && !is_reserved(name))?;
     require(line, 23, !is_nil(&value))?;
     require(line, 24, !is_here(scope, name))?;
-    declare(alloc, scope, name, value.into_type())?;
-    Ok(())
+    declare_told(alloc, scope, name, value.into_type(), facts)
 }
 
 /// A receive that is no expression: rule 16. The type of what it gives.
@@ -217,11 +216,11 @@ pub fn received(
     line: u32,
     scope: &Scope,
     e: &Expr,
-    types: &mut List<Option<GoType>>,
+    facts: &mut List<Fact>,
 ) -> Result<Option<GoType>, TypeFault>
-    ensures { Tells result (received_of line e.now scope.now).faults (λ t. (t ≡ carried line e.now scope.now) × (types.new ≡ types.old ++ (received_of line e.now scope.now).types)) }
+    ensures { Tells result (received_of line e.now scope.now).faults (λ t. (t ≡ carried line e.now scope.now) × (facts.new ≡ facts.old ++ (received_of line e.now scope.now).facts)) }
 {
-    let channel = given(alloc, line, scope, e, types)?;
+    let channel = given(alloc, line, scope, e, facts)?;
     require(line, 16, can_give(&channel))?;
     Ok(element(channel))
 }
@@ -235,12 +234,12 @@ pub fn define_received(
     first: &[u8],
     second: &[u8],
     e: &Expr,
-    types: &mut List<Option<GoType>>,
+    facts: &mut List<Fact>,
 ) -> Result<(), TypeFault>
-    ensures { Walks result (define_received_of line names_line first.now second.now e.now scope.old) scope.old scope.new types.old types.new }
+    ensures { Walks result (define_received_of line names_line first.now second.now e.now scope.old) scope.old scope.new facts.old facts.new }
 {
-    let t = received(alloc, line, scope, e, types)?;
-    define_pair(alloc, names_line, scope, first, second, t)
+    let t = received(alloc, line, scope, e, facts)?;
+    define_pair(alloc, names_line, scope, first, second, t, facts)
 }
 
 fn assign_received(
@@ -250,39 +249,39 @@ fn assign_received(
     first: &[u8],
     second: &[u8],
     e: &Expr,
-    types: &mut List<Option<GoType>>,
+    facts: &mut List<Fact>,
 ) -> Result<(), TypeFault>
-    ensures { Adds result (assign_received_of line first.now second.now e.now scope.now) types.old types.new }
+    ensures { Adds result (assign_received_of line first.now second.now e.now scope.now) facts.old facts.new }
 {
-    let t = received(alloc, line, scope, e, types)?;
-    assign_pair(alloc, line, scope, first, second, t)
+    let t = received(alloc, line, scope, e, facts)?;
+    assign_pair(alloc, line, scope, first, second, t, facts)
 }
 
-/// A simple statement: what it declares and its expressions' types are added.
+/// A simple statement: what it declares and its facts are added.
 #[tactic(auto, using(golf_types::proofs::WalkLaws::stays))]
 pub fn simple(
     alloc: Global,
     scope: &mut Scope,
     simple: &Simple,
-    types: &mut List<Option<GoType>>,
+    facts: &mut List<Fact>,
 ) -> Result<(), TypeFault>
-    ensures { Walks result (simple_walk simple.now scope.old) scope.old scope.new types.old types.new }
+    ensures { Walks result (simple_walk simple.now scope.old) scope.old scope.new facts.old facts.new }
 {
     let line = simple.line;
     match simple.kind.get() {
-        SimpleKind::Expression(e) => action(alloc, line, scope, e.get(), types),
-        SimpleKind::Send(channel, e) => send(alloc, line, scope, channel.get(), e.get(), types),
-        SimpleKind::Increment(place) => step(alloc, line, scope, place.get(), types),
-        SimpleKind::Decrement(place) => step(alloc, line, scope, place.get(), types),
-        SimpleKind::Assign(place, e) => assignment(alloc, line, scope, place.get(), e.get(), types),
-        SimpleKind::Update(place, _, e) => update(alloc, line, scope, place.get(), e.get(), types),
+        SimpleKind::Expression(e) => action(alloc, line, scope, e.get(), facts),
+        SimpleKind::Send(channel, e) => send(alloc, line, scope, channel.get(), e.get(), facts),
+        SimpleKind::Increment(place) => step(alloc, line, scope, place.get(), facts),
+        SimpleKind::Decrement(place) => step(alloc, line, scope, place.get(), facts),
+        SimpleKind::Assign(place, e) => assignment(alloc, line, scope, place.get(), e.get(), facts),
+        SimpleKind::Update(place, _, e) => update(alloc, line, scope, place.get(), e.get(), facts),
         SimpleKind::Define(name, e) => definition(
             alloc,
             line,
             scope,
             name.as_slice(),
             e.get(),
-            types,
+            facts,
         ),
         SimpleKind::DefineReceived(first, second, e) => define_received(
             alloc,
@@ -292,7 +291,7 @@ pub fn simple(
             first.as_slice(),
             second.as_slice(),
             e.get(),
-            types,
+            facts,
         ),
         SimpleKind::AssignReceived(first, second, e) => assign_received(
             alloc,
@@ -301,7 +300,7 @@ pub fn simple(
             first.as_slice(),
             second.as_slice(),
             e.get(),
-            types,
+            facts,
         ),
     }
 }

@@ -11,11 +11,11 @@ use Rattle.golf_types.specs.declared.types.GoType.{GoType}
 use Rattle.golf_types.specs.declared.scopes.Scope.{Scope}
 use Rattle.golf_types.specs.Statements as W
 use Rattle.golf_types.specs.Statements.{behind}
-use Rattle.golf_types.specs.Files.{receiver_walk, parameter_walk, all_typed_names, result_type, outside}
+use Rattle.golf_types.specs.Files.{receiver_walk, parameter_walk, all_typed_names, result_type, outside, body_scope}
 use Rattle.golf_types.proofs.WalkLaws.{stays, behind-both}
 use Rattle.golf_check.specs.Heads.{receiver_name, scope_of}
 use Rattle.golf_code_of.specs.declared.tables.Tables.{Tables}
-use Rattle.golf_code_of.specs.Files.{body_scope, functions_from, code_in, tables_of, CodeOf}
+use Rattle.golf_code_of.specs.Files.{functions_from, code_in, tables_of, CodeOf}
 use Rattle.golf_code.specs.Heads.{with_name, with_optional_name, with_names, decl_own, decl_made}
 
 -- The head of a function.

@@ -1,10 +1,10 @@
 //! The functions and methods of a file.
 
 ghost use Rattle.std.specs.Prelude.{◌≡◌, ◌+◌, ◌++◌, ◌∷◌, [], length, IfOk, OnOk};
-ghost use Rattle.golf_types.specs.Files.{outside, result_type};
+ghost use Rattle.golf_types.specs.Files.{outside, result_type, body_scope};
 ghost use Rattle.golf_emission.specs.Marks.{Adds, flat};
 ghost use Rattle.golf_layout.specs.Piece.{all};
-ghost use Rattle.golf_code_of.specs.Files.{body_scope, body_laid, slots_of, last_return as last_return_of, function_of, functions_from};
+ghost use Rattle.golf_code_of.specs.Files.{body_laid, slots_of, last_return as last_return_of, function_of, functions_from};
 ghost use Rattle.golf_code.specs.Heads.{decl_own, decl_made};
 
 use crate::heads::enter;

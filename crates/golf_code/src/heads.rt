@@ -1,7 +1,7 @@
 //! The names that are known where a body begins.
 
 ghost use Rattle.std.specs.Prelude.{◌≡◌, OnOk};
-ghost use Rattle.golf_code_of.specs.Files.{body_scope};
+ghost use Rattle.golf_types.specs.Files.{body_scope};
 ghost use Rattle.golf_code.specs.Heads.{with_name, with_optional_name, with_names};
 
 use golf_base::Memory;

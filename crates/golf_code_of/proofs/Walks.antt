@@ -55,8 +55,8 @@ module _ (t : Tables) where
   header-walk l header.Forever xs ws e = ap W.loop_body e
   header-walk l (header.While test) xs ws e = ap (λ b. W.behind_test l test (W.loop_body b)) e
   header-walk l (header.Steps first test post) xs ws e =
-      ap (λ w. W.then w (W.behind_optional l test (W.then (optional t post).walk (W.loop_body (map (λ (x : Part). x.walk) xs))))) (optional-walk first)
-      ∙ ap (λ w. W.then (W.optional first) (W.behind_optional l test (W.then w (W.loop_body (map (λ (x : Part). x.walk) xs))))) (optional-walk post)
+      ap (λ w. W.then w (W.behind_optional l test (W.then (W.counted (optional t post).walk) (W.loop_body (map (λ (x : Part). x.walk) xs))))) (optional-walk first)
+      ∙ ap (λ w. W.then (W.optional first) (W.behind_optional l test (W.then (W.counted w) (W.loop_body (map (λ (x : Part). x.walk) xs))))) (optional-walk post)
       ∙ ap (λ b. W.steps l first test post b) e
   header-walk l (header.Range names over) xs ws e = ap (λ b. W.range_walk l names over b) e
 
@@ -83,7 +83,7 @@ module _ (t : Tables) where
   same-clause : (y : Clause-F C S) → (clause_part_step t (map-Clause Clause Stmt ClausePart Part (clause_part t) (stmt_part t) (map-Clause C S Clause Stmt (λ p. p.0) (λ p. p.0) y))).walk
       ≡ clause_step (map-Clause Clause Stmt (ℕ → Walk) Walk walk_clause walk (map-Clause C S Clause Stmt (λ p. p.0) (λ p. p.0) y))
   same-clause (F.Case k c body) = ap {B = ℕ → Walk} (λ b l. W.case_walk l k c b) (all-walked body)
-  same-clause (F.Default k body) = ap {B = ℕ → Walk} (λ b l. W.in_block (W.breaking (W.in_order b))) (all-walked body)
+  same-clause (F.Default k body) = ap {B = ℕ → Walk} (λ b l. W.default_walk b) (all-walked body)
 
   rolled : (y : Stmt-F C S) → P (roll-Stmt (map-Stmt C S Clause Stmt (λ p. p.0) (λ p. p.0) y))
   unfolding stmt_part clause_part walk walk_clause

@@ -12,10 +12,8 @@ use Rattle.golf_types.specs.declared.operands.Operand.{Operand}
 use Rattle.golf_types.specs.declared.operands.Operand.TheVariants as operand
 use Rattle.golf_types.specs.declared.operands.Where.{Where}
 use Rattle.golf_types.specs.declared.operands.Where.TheVariants as place
-use Rattle.golf_types.specs.declared.scopes.Member.{Member}
-use Rattle.golf_types.specs.declared.scopes.Member.TheVariants as members
 use Rattle.golf_types.specs.declared.scopes.FileScope.{FileScope}
-use Rattle.golf_types.specs.Scopes.{member}
+use Rattle.golf_types.specs.Expressions.{struct_of, field_place}
 use Rattle.golf_layout.specs.Piece.{Piece, all, op}
 use Rattle.golf_code_of.specs.declared.tables.Tables.{Tables}
 use Rattle.golf_code_of.specs.Values.{push, constant, makes}
@@ -51,18 +49,6 @@ name l t operand.Blank = in_place Piece.Empty Piece.Empty Piece.Empty (op l Inst
 name l t _ = only Piece.Empty
 
 -- Literals, `make` and `new`.
-
-abbrev pub struct_of : Option Base → ℕ
-struct_of (Some (base.Pointer k)) = k
-struct_of _ = 0
-
-abbrev pub place_of : Option Member → ℕ
-place_of (Some (members.Field i)) = i
-place_of _ = 0
-
--- the place of a field
-abbrev pub field_place : FileScope → Option Base → List ℕ → ℕ
-field_place f b n = place_of (member f (struct_of b) n)
 
 -- a value is put into a field
 abbrev pub put : ℕ → ℕ → Piece → Piece

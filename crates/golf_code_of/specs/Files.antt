@@ -18,9 +18,8 @@ use Rattle.golf_types.specs.declared.scopes.Meaning.TheVariants as meant
 use Rattle.golf_types.specs.declared.scopes.FileScope.{FileScope}
 use Rattle.golf_types.specs.declared.scopes.Scope.{Scope}
 use Rattle.golf_types.specs.Scopes.{meaning_in}
-use Rattle.golf_types.specs.Statements as W
 use Rattle.golf_types.specs.Statements.{behind}
-use Rattle.golf_types.specs.Files.{result_type, outside, receiver_walk, parameter_walk, all_typed_names, file_scope, with_imports, no_imports, declares_main, line_of}
+use Rattle.golf_types.specs.Files.{result_type, outside, body_scope, file_scope, with_imports, no_imports, declares_main, line_of}
 use Rattle.golf_layout.specs.Piece.{Piece, all, op, placed}
 use Rattle.golf_layout.specs.Depth.{depth}
 use Rattle.golf_live.specs.Live.{live}
@@ -38,13 +37,6 @@ abbrev pub function : List Bool → ℕ → ℕ → ℕ → Piece → Function
 function gives params slots line body = record { params = params; slots = slots; depth = depth gives body; line = line; body = placed body 0 []; live = live slots (placed body 0 []) }
 
 -- Functions and methods of the file.
-
--- the names that are known where the body begins: receiver and parameters
-abbrev pub body_scope : Scope → Func → Scope
-body_scope file f =
-    let s = record file { result = result_type file f.result } in
-    let t = behind s (receiver_walk f.line file f.receiver s) in
-    behind t (W.in_order (map (parameter_walk f.line) (all_typed_names file f.parameters)) t)
 
 abbrev pub body_part : Tables → Func → Part
 body_part t f = in_order (map (stmt_part t) f.body)

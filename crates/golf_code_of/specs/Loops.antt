@@ -48,7 +48,7 @@ steps_lay t l test post body a s =
     wrapped (λ b. round (all (optional_test t l test s ∷ Piece.Block b ∷ p.piece ∷ Piece.Exit l 0 ∷ []))) (body.lay (past a p) (behind s (post.walk s)))
 
 abbrev pub stepping : Tables → ℕ → Option Expr → Part → Part → Part
-stepping t l test post body = record { walk = W.behind_optional l test (W.then post.walk body.walk); lay = steps_lay t l test post body }
+stepping t l test post body = record { walk = W.behind_optional l test (W.then (W.counted post.walk) body.walk); lay = steps_lay t l test post body }
 
 abbrev pub steps : Tables → ℕ → Option Simple → Option Expr → Option Simple → List Part → Part
 steps t l first test post body = then (optional t first) (stepping t l test (optional t post) (in_loop 2 0 (block body)))

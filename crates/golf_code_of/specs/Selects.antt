@@ -70,7 +70,7 @@ case_clause t k c body = record {
 
 abbrev pub default_clause : ℕ → List Part → ClausePart
 default_clause k body = record {
-  walk = λ l. W.in_block (W.breaking (W.in_order (map (λ (x : Part). x.walk) body)));
+  walk = λ l. W.default_walk (map (λ (x : Part). x.walk) body);
   kind = None;
   operands = λ l s. Piece.Empty;
   lay = λ l a s. (breaking (in_order body)).lay a (begun s);

@@ -22,14 +22,14 @@ use Rattle.golf_data.specs.Places.{IsShort}
 use Rattle.golf_types.specs.declared.types.GoType.{GoType}
 use Rattle.golf_types.specs.declared.scopes.FileScope.{FileScope}
 use Rattle.golf_types.specs.declared.scopes.Scope.{Scope}
-use Rattle.golf_types.specs.Files.{outside, result_type, file_scope, with_imports, no_imports}
+use Rattle.golf_types.specs.Files.{outside, result_type, file_scope, with_imports, no_imports, body_scope}
 use Rattle.golf_layout.specs.Piece.{size, all}
 use Rattle.golf_layout.proofs.Sizes.{placed-size}
 use Rattle.golf_code_of.specs.declared.tables.Tables.{Tables}
 use Rattle.golf_code_of.specs.declared.making.Making.{Making}
 use Rattle.golf_code_of.specs.Calls.{operation}
 use Rattle.golf_code_of.specs.Laying.{stmt_part}
-use Rattle.golf_code_of.specs.Files.{function, body_scope, body_laid, last_return, function_of, functions_from, loads, made_body, made_function, initial, initials, entry_body, giving, main_number, main_line, tables_of, code_in, CodeOf}
+use Rattle.golf_code_of.specs.Files.{function, body_laid, last_return, function_of, functions_from, loads, made_body, made_function, initial, initials, entry_body, giving, main_number, main_line, tables_of, code_in, CodeOf}
 use Rattle.golf_code_places.specs.Laws.{IsSmall, BodiesAreSmall, FilesHavePlaces}
 use Rattle.golf_code_places.proofs.Words.{total, line-length, closed-length}
 use Rattle.golf_code_places.proofs.Small.{operation-small}

@@ -25,14 +25,14 @@ use Rattle.golf_types.specs.Faults.{broken}
 use Rattle.golf_types.specs.Types.{plain, with_layer, given, has_layer, is_channel, is_any, starts_with, assignable}
 use Rattle.golf_types.specs.Scopes.{meaning, member}
 use Rattle.golf_types.specs.Written.{Written, Write, write, write_step, made_base, of_base, pointer_to}
-use Rattle.golf_types.specs.Expressions.{Judged, used, given_by, made_sync, made_struct, pointer_value, field_type, field_of_member, put_faults, all_put_faults, fields_differ, struct_literal, slice_literal, made, made_sized}
+use Rattle.golf_types.specs.Expressions.{Judged, used, given_by, made_sync, made_struct, pointer_value, field_type, field_of_member, put_faults, all_put_faults, fields_differ, struct_literal, slice_literal, made, made_sized, place_of, field_place}
 use Rattle.golf_model.specs.Values.{zero_of}
 use Rattle.golf_shapes.specs.Types.{ValueType, FunctionTypes, Types, ValueFits}
 use Rattle.golf_layout.specs.Piece.{Piece, all, op}
 use Rattle.golf_code_of.specs.declared.tables.Tables.{Tables}
 use Rattle.golf_code_of.specs.Values.{type_zero, new_container}
 use Rattle.golf_code_of.specs.Expressions as C
-use Rattle.golf_code_of.specs.Expressions.{Made, place_of, field_place, put, puts, elements, new_sync, new_struct}
+use Rattle.golf_code_of.specs.Expressions.{Made, put, puts, elements, new_sync, new_struct}
 use Rattle.golf_code_shapes.specs.Types.{layers_type, value_type}
 use Rattle.golf_code_shapes.specs.Sound.{IsKnown, type_of_field, FileFits, ScopeFits, MemberFits, Turns, Pushes}
 use Rattle.golf_code_shapes.proofs.Typings.{none-left, none-right, kept}

@@ -10,12 +10,12 @@ use Rattle.golf_types.specs.declared.scopes.FileScope.{FileScope}
 use Rattle.golf_types.specs.declared.scopes.Scope.{Scope}
 use Rattle.golf_types.specs.Statements as W
 use Rattle.golf_types.specs.Statements.{behind}
-use Rattle.golf_types.specs.Files.{outside, result_type, receiver_walk, receiver_type, parameter_walk, all_typed_names, func_walk}
+use Rattle.golf_types.specs.Files.{outside, result_type, receiver_walk, receiver_type, parameter_walk, all_typed_names, func_walk, body_scope}
 use Rattle.golf_shapes.specs.Types.{Shape, Signature, Types, with_shapes}
 use Rattle.golf_shapes.specs.Shapes.{FunctionFits}
 use Rattle.golf_code_of.specs.declared.tables.Tables.{Tables}
 use Rattle.golf_code_of.specs.declared.making.Making.{Making}
-use Rattle.golf_code_of.specs.Files.{body_scope, body_part, body_laid, function_of, made_function}
+use Rattle.golf_code_of.specs.Files.{body_part, body_laid, function_of, made_function}
 use Rattle.golf_code_shapes.specs.Types.{value_type, known_types}
 use Rattle.golf_code_shapes.specs.Sound.{IsKnown, FileFits}
 use Rattle.golf_code_shapes.specs.Flowing.{IsMaking, MadeFit}

@@ -15,13 +15,14 @@ ghost use Rattle.golf_code_of.specs.Coding.{piece_at, argument_at};
 ghost use Rattle.golf_emission.specs.Marks.{Adds, Makes};
 
 use crate::calls::{called, calling, finaliser};
-use crate::names::{field_place, name_at, new_sync, select_at, selected, struct_named, struct_of};
+use crate::names::{name_at, new_sync, select_at, selected, struct_named};
 use crate::operators::{combining, unary_instr, unary_meaning};
 use crate::values::{integer, makes, whole};
 use golf_base::{List, Memory};
 use golf_check_calls::{finalises, rule_unless, sets_finaliser};
 use golf_check_operands::{
-    element, made_base, plain_type, result_base, value, without_package, written_type,
+    element, field_place, made_base, plain_type, result_base, struct_of, value, without_package,
+    written_type,
 };
 use golf_code_of::Tables;
 use golf_data::Instr;

@@ -4,7 +4,7 @@ ghost use Rattle.std.specs.Prelude.{◌≡◌, IfOk};
 ghost use Rattle.golf_types.specs.Scopes.{meaning as meaning_of};
 ghost use Rattle.golf_types.specs.Written.{pointer_to as pointer_to_of};
 ghost use Rattle.golf_types.specs.Expressions.{named as named_of, selected_from};
-ghost use Rattle.golf_code_of.specs.Expressions.{name as name_of, variable as variable_of, struct_of as struct_of_of, field_place as field_place_of, new_sync as new_sync_of, selector};
+ghost use Rattle.golf_code_of.specs.Expressions.{name as name_of, variable as variable_of, new_sync as new_sync_of, selector};
 ghost use Rattle.golf_emit_expressions.specs.Taking.{Selects};
 ghost use Rattle.golf_emission.specs.Marks.{Adds, Makes};
 
@@ -14,7 +14,7 @@ use golf_check_operands::{pointer_to, select};
 use golf_code_of::Tables;
 use golf_data::Instr;
 use golf_emission::{Mark, op};
-use golf_types::{Base, FileScope, Member, Operand, Scope, Where, is_blank, meaning_at, member_at};
+use golf_types::{Base, FileScope, Operand, Scope, Where, is_blank, meaning_at};
 use std::alloc::Global;
 
 /// What a name is.
@@ -110,32 +110,6 @@ pub fn struct_named(alloc: Global, scope: &Scope, name: &[u8]) -> Result<Option<
     ensures { IfOk result (λ b. b ≡ pointer_to_of (meaning_of scope.now name.now)) }
 {
     Ok(pointer_to(meaning_at(alloc, scope, name)?))
-}
-
-/// The number of the struct that a pointer leads to, or 0.
-pub fn struct_of(base: Option<Base>) -> u32
-    ensures { result ≡ struct_of_of base }
-{
-    match base {
-        None => 0,
-        Some(base) => match base {
-            Base::Pointer(number) => number,
-            _ => 0,
-        },
-    }
-}
-
-/// The place of a field of the struct that a pointer leads to, or 0.
-pub fn field_place(file: &FileScope, base: Option<Base>, name: &[u8]) -> u32
-    ensures { result ≡ field_place_of file.now base name.now }
-{
-    match member_at(file, struct_of(base), name) {
-        None => 0,
-        Some(member) => match member {
-            Member::Field(place) => place,
-            Member::Method(_) => 0,
-        },
-    }
 }
 
 /// Makes what package sync has.

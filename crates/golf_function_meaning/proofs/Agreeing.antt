@@ -13,7 +13,7 @@ use Rattle.golf_types.specs.declared.locals.Local.{Local}
 use Rattle.golf_types.specs.declared.scopes.FileScope.{FileScope}
 use Rattle.golf_types.specs.declared.scopes.Scope.{Scope}
 use Rattle.golf_types.specs.Statements.{behind}
-use Rattle.golf_types.specs.Files.{outside, result_type}
+use Rattle.golf_types.specs.Files.{outside, result_type, body_scope}
 use Rattle.golf_layout.specs.Piece.{Piece, all, op, size, placed}
 use Rattle.golf_code_of.specs.declared.making.Around.{Around}
 use Rattle.golf_code_of.specs.declared.tables.Tables.{Tables}
@@ -21,7 +21,7 @@ use Rattle.golf_code_of.specs.Values.{push, zero_value}
 use Rattle.golf_code_of.specs.Statements as L
 use Rattle.golf_code_of.specs.Statements.{Part}
 use Rattle.golf_code_of.specs.Laying.{stmt_part}
-use Rattle.golf_code_of.specs.Files.{body_scope, body_part, body_laid, last_return, function_of}
+use Rattle.golf_code_of.specs.Files.{body_part, body_laid, last_return, function_of}
 use Rattle.golf_flat_meaning.specs.Worlds.{Answer, Halt, End, Told, World, halted}
 use Rattle.golf_flat_meaning.specs.Doing.{Frame}
 use Rattle.golf_flat_meaning.specs.Flat.{exec}

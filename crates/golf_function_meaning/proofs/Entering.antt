@@ -9,8 +9,7 @@ use Rattle.golf_types.specs.declared.scopes.FileScope.{FileScope}
 use Rattle.golf_types.specs.declared.scopes.Scope.{Scope}
 use Rattle.golf_types.specs.Statements as W
 use Rattle.golf_types.specs.Statements.{behind}
-use Rattle.golf_types.specs.Files.{outside, receiver_walk, parameter_walk, all_typed_names}
-use Rattle.golf_code_of.specs.Files.{body_scope}
+use Rattle.golf_types.specs.Files.{outside, receiver_walk, parameter_walk, all_typed_names, body_scope}
 use Rattle.golf_source_meaning.specs.Does.{Stored, Rising, Known}
 use Rattle.golf_function_meaning.specs.Functions.{named}
 

@@ -7,10 +7,9 @@ use Rattle.golf_model.specs.Values.{zero_of}
 use Rattle.golf_types.specs.declared.types.GoType.{GoType}
 use Rattle.golf_types.specs.declared.locals.Local.{Local}
 use Rattle.golf_types.specs.declared.scopes.Scope.{Scope}
-use Rattle.golf_types.specs.Files.{result_type}
+use Rattle.golf_types.specs.Files.{result_type, body_scope}
 use Rattle.golf_code_of.specs.declared.tables.Tables.{Tables}
 use Rattle.golf_code_of.specs.Values.{zero_value}
-use Rattle.golf_code_of.specs.Files.{body_scope}
 use Rattle.golf_flat_meaning.specs.Worlds.{Answer, Misfit, Halt, Told, World, halted}
 use Rattle.golf_flat_meaning.specs.Doing.{Frame}
 use Rattle.golf_flat_meaning.specs.Flat.{exec}

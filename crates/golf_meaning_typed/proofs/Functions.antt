@@ -10,12 +10,11 @@ use Rattle.golf_types.specs.declared.locals.Local.{Local}
 use Rattle.golf_types.specs.declared.scopes.Scope.{Scope}
 use Rattle.golf_types.specs.Statements as W
 use Rattle.golf_types.specs.Statements.{behind, walk}
-use Rattle.golf_types.specs.Files.{outside, result_type, receiver_walk, parameter_walk, all_typed_names}
+use Rattle.golf_types.specs.Files.{outside, result_type, receiver_walk, parameter_walk, all_typed_names, body_scope}
 use Rattle.golf_shapes.specs.Types.{Types}
 use Rattle.golf_code_of.specs.declared.tables.Tables.{Tables}
 use Rattle.golf_code_of.specs.Statements.{Part}
 use Rattle.golf_code_of.specs.Statements as L
-use Rattle.golf_code_of.specs.Files.{body_scope}
 use Rattle.golf_code_of.proofs.Walks.{statement}
 use Rattle.golf_code_shapes.specs.FunctionLaws.{result_scope}
 use Rattle.golf_code_shapes.proofs.Typings.{none-left, none-right}

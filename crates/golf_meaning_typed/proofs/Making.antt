@@ -16,7 +16,7 @@ use Rattle.golf_types.specs.Written.{made_base, pointer_to}
 use Rattle.golf_shapes.specs.Types.{ValueType}
 use Rattle.golf_layout.specs.Depth.{taken}
 use Rattle.golf_code_of.specs.Values.{type_zero}
-use Rattle.golf_code_of.specs.Expressions.{field_place}
+use Rattle.golf_types.specs.Expressions.{field_place}
 use Rattle.golf_code_shapes.specs.Types.{layers_type, value_type}
 use Rattle.golf_flat_meaning.specs.Worlds.{World, Part, bind}
 use Rattle.golf_source_meaning.specs.Operations.{Gives, gives, both, visible}

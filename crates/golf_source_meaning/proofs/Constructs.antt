@@ -22,12 +22,12 @@ use Rattle.golf_types.specs.declared.locals.Local.{Local}
 use Rattle.golf_types.specs.declared.scopes.FileScope.{FileScope}
 use Rattle.golf_types.specs.Names.{look}
 use Rattle.golf_types.specs.Scopes.{or_else, local_operand}
-use Rattle.golf_types.specs.Expressions.{leaf, known_name}
+use Rattle.golf_types.specs.Expressions.{leaf, known_name, field_place}
 use Rattle.golf_types.specs.Calls.{sets_finaliser}
 use Rattle.golf_layout.specs.Piece.{Piece, all, op}
 use Rattle.golf_code_of.specs.declared.tables.Tables.{Tables}
 use Rattle.golf_code_of.specs.Values.{push, constant, makes}
-use Rattle.golf_code_of.specs.Expressions.{Made, field_place}
+use Rattle.golf_code_of.specs.Expressions.{Made}
 use Rattle.golf_code_of.specs.Expressions as C
 use Rattle.golf_code_of.specs.Calls as K
 use Rattle.golf_flat_meaning.specs.Worlds.{Halt, World, Part, bind, pushed}

@@ -20,11 +20,10 @@ use Rattle.golf_types.specs.declared.operands.BuiltIn.{BuiltIn}
 use Rattle.golf_types.specs.declared.operands.BuiltIn.TheVariants as built_in
 use Rattle.golf_types.specs.declared.scopes.FileScope.{FileScope}
 use Rattle.golf_types.specs.Types.{plain}
-use Rattle.golf_types.specs.Expressions.{Judged}
+use Rattle.golf_types.specs.Expressions.{Judged, struct_of, field_place}
 use Rattle.golf_types.specs.Calls.{sets_finaliser}
 use Rattle.golf_code_of.specs.declared.tables.Tables.{Tables}
 use Rattle.golf_code_of.specs.Values.{constant, makes}
-use Rattle.golf_code_of.specs.Expressions.{struct_of, field_place}
 use Rattle.golf_flat_meaning.specs.Worlds.{World, Part, bind}
 use Rattle.golf_flat_meaning.specs.Doing.{unfit, negated, inverted, computed, divided, compared, equated}
 use Rattle.golf_source_meaning.specs.Names.{Env, find, assign}

@@ -16,13 +16,15 @@ use Rattle.golf_data.specs.declared.code.Instr.{Instr}
 use Rattle.golf_data.specs.declared.code.Line.{Line}
 use Rattle.golf_data.specs.declared.code.CaseKind.{CaseKind}
 use Rattle.golf_types.specs.declared.types.Base.TheVariants as base
+use Rattle.golf_types.specs.declared.facts.Fact.TheVariants as fact
 use Rattle.golf_types.specs.declared.scopes.Scope.{Scope}
 use Rattle.golf_types.specs.Faults.{broken}
+use Rattle.golf_types.specs.Facts.{new_target}
 use Rattle.golf_types.specs.Types.{has_base, type_given, is_nil, element, assignable}
 use Rattle.golf_types.specs.Names.{is_blank}
 use Rattle.golf_types.specs.Scopes.{is_here, is_reserved, may_be_declared, begun}
 use Rattle.golf_types.specs.Written.{Write}
-use Rattle.golf_types.specs.Expressions.{Judged, used, named_or_used, given_by, types_of}
+use Rattle.golf_types.specs.Expressions.{Judged, used, named_or_used, given_by, facts_of}
 use Rattle.golf_types.specs.Calls.{call_judged}
 use Rattle.golf_types.specs.Judging.{Judge, judge}
 use Rattle.golf_types.specs.Statements as W
@@ -52,14 +54,14 @@ simply l kind = record { line = l; kind = kind }
 
 -- a simple statement in terms of what its expressions are, and of their code
 abbrev action_of : ℕ → Judge → Coded → Part
-action_of l j c = record { walk = λ s. W.judges ((j l s).faults ++ W.action_faults l (j l s).meaning) (types_of (j l s)); lay = λ a s. laid (all ((c.code l s).piece ∷ C.drops l (j l s).meaning ∷ [])) }
+action_of l j c = record { walk = λ s. W.judges ((j l s).faults ++ W.action_faults l (j l s).meaning) (facts_of (j l s)); lay = λ a s. laid (all ((c.code l s).piece ∷ C.drops l (j l s).meaning ∷ [])) }
 
 abbrev pub action : ℕ → Sample → SimpleSample
 action l x = record { tree = simply l (simple.Expression x.tree); value = action_of l x.value.judge x.value; same = known x (action_of l) }
 
 abbrev send_of : ℕ → Judge → Coded → Judge → Coded → Part
 send_of l j c k d = record {
-  walk = λ s. W.judges (used l (j l s) ++ (used l (k l s) ++ W.send_faults l (given_by (j l s)) (given_by (k l s)))) (types_of (j l s) ++ types_of (k l s));
+  walk = λ s. W.judges (used l (j l s) ++ (used l (k l s) ++ W.send_faults l (given_by (j l s)) (given_by (k l s)))) (facts_of (j l s) ++ facts_of (k l s));
   lay = λ a s. laid (all ((c.code l s).piece ∷ (d.code l s).piece ∷ op l Instr.Send ∷ []));
 }
 
@@ -72,7 +74,7 @@ send l x y = record {
 
 abbrev step_of : ℕ → Instr → Judge → Coded → Part
 step_of l i j c = record {
-  walk = λ s. W.judges (named_or_used l (j l s) ++ W.step_faults l (j l s).meaning) (types_of (j l s));
+  walk = λ s. W.judges (named_or_used l (j l s) ++ W.step_faults l (j l s).meaning) (facts_of (j l s));
   lay = λ a s. laid (C.updates l (c.code l s) (op l (Instr.Int (pos 1))) i);
 }
 
@@ -84,7 +86,7 @@ decrement l x = record { tree = simply l (simple.Decrement x.tree); value = step
 
 abbrev assign_of : ℕ → Judge → Coded → Judge → Coded → Part
 assign_of l j c k d = record {
-  walk = λ s. W.judges ((j l s).faults ++ (W.left_faults l (j l s).meaning ++ (used l (k l s) ++ W.assign_faults l (j l s).meaning (given_by (k l s))))) (types_of (j l s) ++ types_of (k l s));
+  walk = λ s. W.judges ((j l s).faults ++ (W.left_faults l (j l s).meaning ++ (used l (k l s) ++ W.assign_faults l (j l s).meaning (given_by (k l s))))) (facts_of (j l s) ++ facts_of (k l s));
   lay = λ a s. laid (C.assigns (c.code l s) (d.code l s).piece);
 }
 
@@ -97,7 +99,7 @@ assign l x y = record {
 
 abbrev update_of : ℕ → UpdateOperator → Judge → Coded → Judge → Coded → Part
 update_of l o j c k d = record {
-  walk = λ s. W.judges (named_or_used l (j l s) ++ (used l (k l s) ++ W.update_faults l (j l s).meaning (given_by (k l s)))) (types_of (j l s) ++ types_of (k l s));
+  walk = λ s. W.judges (named_or_used l (j l s) ++ (used l (k l s) ++ W.update_faults l (j l s).meaning (given_by (k l s)))) (facts_of (j l s) ++ facts_of (k l s));
   lay = λ a s. laid (C.updates l (c.code l s) (d.code l s).piece (C.update_instr o));
 }
 
@@ -112,7 +114,7 @@ abbrev define_of : ℕ → List ℕ → Judge → Coded → Part
 define_of l n j c = record {
   walk = λ s. W.declares_one s n (type_given (given_by (j l s)))
       (used l (j l s) ++ (broken l 2 (not (is_blank n) && not (is_reserved n)) ++ (broken l 23 (not (is_nil (given_by (j l s)))) ++ broken l 24 (not (is_here s n)))))
-      (types_of (j l s));
+      (facts_of (j l s) ++ new_target s (type_given (given_by (j l s))) ∷ []);
   lay = λ a s. laid (all ((c.code l s).piece ∷ op l (Instr.Store s.next) ∷ []));
 }
 
@@ -120,7 +122,7 @@ abbrev pub define : ℕ → List ℕ → Sample → SimpleSample
 define l n x = record { tree = simply l (simple.Define n x.tree); value = define_of l n x.value.judge x.value; same = known x (define_of l n) }
 
 abbrev received_of : ℕ → Judge → Scope → W.Walked
-received_of l j s = W.judges (used l (j l s) ++ W.receive_faults l (given_by (j l s))) (types_of (j l s))
+received_of l j s = W.judges (used l (j l s) ++ W.receive_faults l (given_by (j l s))) (facts_of (j l s))
 
 abbrev define_received_of : ℕ → List ℕ → List ℕ → Judge → Coded → Part
 define_received_of l n m j c = record {
@@ -153,8 +155,8 @@ does x = record { tree = st.Simple x.tree; value = x.value; same = s.part-Simple
 abbrev pub return_value : ℕ → Sample → StmtSample
 return_value l x = record {
   tree = st.Return l (Some x.tree);
-  value = record { walk = λ s. W.judges (used l (x.value.judge l s) ++ W.result_faults l s.result (given_by (x.value.judge l s))) (types_of (x.value.judge l s)); lay = λ a s. laid (all ((x.value.code l s).piece ∷ op l Instr.ReturnValue ∷ [])) };
-  same = s.part-Return tables l (Some x.tree) ∙ known x (λ j c. record { walk = λ s. W.judges (used l (j l s) ++ W.result_faults l s.result (given_by (j l s))) (types_of (j l s)); lay = λ a s. laid (all ((c.code l s).piece ∷ op l Instr.ReturnValue ∷ [])) });
+  value = record { walk = λ s. W.judges (used l (x.value.judge l s) ++ W.result_faults l s.result (given_by (x.value.judge l s))) (facts_of (x.value.judge l s)); lay = λ a s. laid (all ((x.value.code l s).piece ∷ op l Instr.ReturnValue ∷ [])) };
+  same = s.part-Return tables l (Some x.tree) ∙ known x (λ j c. record { walk = λ s. W.judges (used l (j l s) ++ W.result_faults l s.result (given_by (j l s))) (facts_of (j l s)); lay = λ a s. laid (all ((c.code l s).piece ∷ op l Instr.ReturnValue ∷ [])) });
 }
 
 abbrev pub return_nothing : ℕ → StmtSample
@@ -182,7 +184,7 @@ block l xs = record { tree = st.Block l (trees xs); value = C.block (parts xs); 
 -- a test, and what stands behind it
 abbrev tested_of : ℕ → Part → Judge → Coded → Part
 tested_of l x j c = record {
-  walk = λ s. W.both (W.judges (used l (j l s) ++ broken l 8 (has_base base.Bool (given_by (j l s)))) (types_of (j l s))) (x.walk s);
+  walk = λ s. W.both (W.judges (used l (j l s) ++ broken l 8 (has_base base.Bool (given_by (j l s)))) (facts_of (j l s))) (x.walk s);
   lay = λ a s. wrapped (λ p. all ((c.code l s).piece ∷ Piece.Unless l 0 ∷ p ∷ [])) (x.lay a s);
 }
 
@@ -222,7 +224,7 @@ forever l xs = record {
 
 abbrev while_of : ℕ → Part → Judge → Coded → Part
 while_of l body j c = C.in_block (record {
-  walk = λ s. W.both (W.judges (used l (j l s) ++ broken l 8 (has_base base.Bool (given_by (j l s)))) (types_of (j l s))) (body.walk s);
+  walk = λ s. W.both (W.judges (used l (j l s) ++ broken l 8 (has_base base.Bool (given_by (j l s)))) (facts_of (j l s))) (body.walk s);
   lay = λ a s. wrapped (λ p. L.round (all ((c.code l s).piece ∷ Piece.Unless l 1 ∷ p ∷ Piece.Exit l 0 ∷ []))) (body.lay a s);
 })
 
@@ -242,7 +244,7 @@ steps_empty l xs = record {
 
 abbrev stepping_of : ℕ → Part → Part → Judge → Coded → Part
 stepping_of l post body j c = record {
-  walk = λ s. W.both (W.judges (used l (j l s) ++ broken l 8 (has_base base.Bool (given_by (j l s)))) (types_of (j l s))) (W.then post.walk body.walk s);
+  walk = λ s. W.both (W.judges (used l (j l s) ++ broken l 8 (has_base base.Bool (given_by (j l s)))) (facts_of (j l s))) (W.then (W.counted post.walk) body.walk s);
   lay = λ a s.
       let p = post.lay a s in
       wrapped (λ b. L.round (all (all ((c.code l s).piece ∷ Piece.Unless l 1 ∷ []) ∷ Piece.Block b ∷ p.piece ∷ Piece.Exit l 0 ∷ []))) (body.lay (C.past a p) (W.behind s (post.walk s)));
@@ -261,7 +263,7 @@ steps l i x p xs = record {
 
 abbrev range_of : ℕ → RangeNames → Part → Judge → Coded → Part
 range_of l names body j c = C.in_block (record {
-  walk = λ s. W.both (W.judges (used l (j l s) ++ W.range_faults l names (given_by (j l s))) (types_of (j l s))) (W.then (W.range_slots names (given_by (j l s))) body.walk s);
+  walk = λ s. W.both (W.judges (used l (j l s) ++ W.range_faults l names (given_by (j l s))) (facts_of (j l s) ++ fact.Hidden s.next ∷ [])) (W.then (W.range_slots names (given_by (j l s))) body.walk s);
   lay = λ a s. let v = given_by (j l s) in wrapped (L.range_piece l names v (c.code l s).piece s) (body.lay a (W.behind s (W.range_slots names v s)));
 })
 
@@ -319,7 +321,7 @@ pub record ClauseSample : Type 0 where
 -- a clause that communicates so, with this kind, these operands and this code behind the choice
 abbrev clause_of : ℕ → CaseKind → (ℕ → W.Walk) → (ℕ → Scope → Piece) → (ℕ → Scope → Piece) → List Part → ClausePart
 clause_of k kind w operands takes body = record {
-  walk = λ l. W.in_block (W.then (w l) (W.breaking (W.in_order (map (λ (x : Part). x.walk) body))));
+  walk = λ l. W.counted (W.in_block (W.then (w l) (W.breaking (W.in_order (map (λ (x : Part). x.walk) body)))));
   kind = Some kind;
   operands = operands;
   lay = λ l a s. C.then_lay (λ b r. laid (takes l r)) (w l) (S.breaking (C.in_order body)).lay a (begun s);
@@ -395,7 +397,7 @@ select l cs = record { tree = st.Select l (clauses cs); value = S.select_part l 
 
 abbrev zero_of : ℕ → List ℕ → Write → Part
 zero_of l n w = record {
-  walk = λ s. W.declares_one s n (w l s).type ((w l s).faults ++ broken l 2 (may_be_declared s n)) [];
+  walk = λ s. W.declares_one s n (w l s).type ((w l s).faults ++ broken l 2 (may_be_declared s n)) (new_target s (w l s).type ∷ []);
   lay = λ a s. laid (all (op l (push (zero_value (w l s).type)) ∷ op l (Instr.Store s.next) ∷ []));
 }
 
@@ -404,7 +406,7 @@ var_zero l n t = record { tree = st.Var (record { line = l; name = n; content = 
 
 abbrev typed_of : ℕ → List ℕ → Write → Judge → Coded → Part
 typed_of l n w j c = record {
-  walk = λ s. W.declares_one s n (w l s).type ((w l s).faults ++ (used l (j l s) ++ (broken l 2 (may_be_declared s n) ++ broken l 9 (assignable (given_by (j l s)) (w l s).type)))) (types_of (j l s));
+  walk = λ s. W.declares_one s n (w l s).type ((w l s).faults ++ (used l (j l s) ++ (broken l 2 (may_be_declared s n) ++ broken l 9 (assignable (given_by (j l s)) (w l s).type)))) (facts_of (j l s) ++ new_target s (w l s).type ∷ []);
   lay = λ a s. laid (all ((c.code l s).piece ∷ op l (Instr.Store s.next) ∷ []));
 }
 
@@ -417,7 +419,7 @@ var_typed l n t x = record {
 
 abbrev untyped_of : ℕ → List ℕ → Judge → Coded → Part
 untyped_of l n j c = record {
-  walk = λ s. W.declares_one s n (type_given (given_by (j l s))) (used l (j l s) ++ (broken l 2 (may_be_declared s n) ++ broken l 23 (not (is_nil (given_by (j l s)))))) (types_of (j l s));
+  walk = λ s. W.declares_one s n (type_given (given_by (j l s))) (used l (j l s) ++ (broken l 2 (may_be_declared s n) ++ broken l 23 (not (is_nil (given_by (j l s)))))) (facts_of (j l s) ++ new_target s (type_given (given_by (j l s))) ∷ []);
   lay = λ a s. laid (all ((c.code l s).piece ∷ op l (Instr.Store s.next) ∷ []));
 }
 

@@ -1,7 +1,7 @@
 use Rattle.std.proofs.Common.{◌≡◌, ◌++◌, ◌+◌, ◌*◌, max, map, drop}
 use Rattle.std.specs.Prelude.{flat_map}
 use Rattle.golf_grammar.specs.declared.expressions.Expr.{size-Expr}
-use Rattle.golf_types.specs.Expressions.{given_by, used, types_of}
+use Rattle.golf_types.specs.Expressions.{given_by, used, facts_of, put_facts}
 use Rattle.golf_types.specs.Judging.{judge_at, value_at}
 use Rattle.golf_check_expressions.proofs.expressions.+judging.Given as goal
 
@@ -12,17 +12,19 @@ invariant-all_given-loop-e l =
     record {
       faults : flat_map (used l.line) rest ≡ flat_map (used l.line) all;
       values : l.values ++ map given_by rest ≡ map given_by all;
-      types : l.types ++ flat_map types_of rest ≡ l.fn.types ++ flat_map types_of all;
+      facts : l.facts ++ flat_map facts_of rest ≡ l.fn.facts ++ flat_map facts_of all;
     }
 
 abbrev pub invariant-all_put-loop-e : goal.invariant-all_put-loop-e
 invariant-all_put-loop-e l =
     let all = map (value_at l.line l.scope) l.elements in
-    let rest = map (value_at l.line l.scope) (drop l.e-index l.elements) in
+    let left = drop l.e-index l.elements in
+    let rest = map (value_at l.line l.scope) left in
+    let puts = put_facts l.scope.file l.base in
     record {
       faults : flat_map (used l.line) rest ≡ flat_map (used l.line) all;
       values : l.values ++ map given_by rest ≡ map given_by all;
-      types : l.types ++ flat_map types_of rest ≡ l.fn.types ++ flat_map types_of all;
+      facts : l.facts ++ puts (map (λ e. e.field) left) rest ≡ l.fn.facts ++ puts (map (λ e. e.field) l.elements) all;
     }
 
 abbrev pub decreases-whole : goal.decreases-whole
