@@ -16,18 +16,19 @@ use Rattle.golf_types.specs.declared.scopes.Scope.{Scope}
 use Rattle.golf_types.specs.Scopes.{meaning}
 use Rattle.golf_types.specs.Types.{plain, with_layer}
 use Rattle.golf_types.specs.Written.{pointer_to, made_base, write_at}
-use Rattle.golf_types.specs.Expressions.{facts_of, field_place, put_facts, selected_from}
+use Rattle.golf_types.specs.Expressions.{facts_of, field_place, put_facts, named, selected_from}
 use Rattle.golf_types.specs.Judging.{Judge, Put, judge, judge_at, judge_step, element_step}
 use Rattle.golf_layout.specs.Piece.{Piece, all}
 use Rattle.golf_code_of.specs.declared.tables.Tables.{Tables}
-use Rattle.golf_code_of.specs.Expressions.{Made, only, index, unary_operator, binary_operator, made_sized, slice_literal, puts as puts_of, new_struct, new_sync, selector}
+use Rattle.golf_code_of.specs.Expressions.{Made, only, name, index, unary_operator, binary_operator, made_sized, slice_literal, puts as puts_of, new_struct, new_sync, selector}
 use Rattle.golf_code_of.specs.Coding.{Coded, CodedPut, coded, coded_step, element_coded_step, code_step, argument}
 use Rattle.golf_code_of.specs.Calls.{Argument, call}
 use Rattle.golf_code_of.proofs.Judgments.{judgments-agree}
 use Rattle.golf_facts.specs.Facts.{base_of}
 use Rattle.golf_facts.specs.Expressions.{Taken, Take, Arguments, taken, taking, taking_step, element_taking_step, arguments, pieces, puts, called}
 use Rattle.golf_facts.specs.Laws.{ExpressionsFollow}
-use Rattle.golf_facts.proofs.Steps.{two_parts, skipped, on_selector, One, takes, facts, args, all_taken, on_call, called_inner, fields, all_put, base_is}
+use Rattle.golf_facts.proofs.Steps.{two_parts, skipped, named_inner, on_selector, One, takes, facts, args, all_taken, on_call, called_inner, fields, all_put, base_is}
+use Rattle.golf_types.specs.declared.operands.Operand.{Operand}
 
 module _ (t : Tables) where
   abbrev P : Expr → Type 0
@@ -80,7 +81,7 @@ module _ (t : Tables) where
     args-are [] = refl
     args-are (x ∷ xs) = ap (λ (j : Judge). argument_of (j l s).meaning ∷ args l (map one xs)) (sym (judgments-agree t x.0)) ∙ ap (λ z. argument l s (coded t x.0) ∷ z) (args-are xs)
       where
-        argument_of : Rattle.golf_types.specs.declared.operands.Operand.Operand → Argument
+        argument_of : Operand → Argument
         argument_of m = record { meaning = m; piece = ((coded t x.0).code l s).piece }
 
     abbrev named_one : D → List ℕ × One l
@@ -131,7 +132,7 @@ module _ (t : Tables) where
     at : (y : Expr-F E D) (rest : List Fact) → taken-of (bare y) (facts_of (judge-of (bare y) l s) ++ rest) ≡ taken (code-of (bare y)) rest
     at (F.Integer digits) rest = refl
     at (F.Text bytes) rest = refl
-    at (F.Name n) rest = refl
+    at (F.Name n) rest = ap (λ fs. taken (name l t (named l s n).meaning) (fs ++ rest)) (named_inner l s n)
     at (F.Parens e) rest = e.1 l s rest
     at (F.StructLiteral n xs) rest =
         ap (λ fs. wide (puts l (map element_taking (map (λ (p : D). p.0) xs)) (fs ++ rest))) (put-facts-are b xs)

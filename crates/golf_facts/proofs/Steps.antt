@@ -1,5 +1,5 @@
 -- Each construct of expressions by facts, over plain variables.
-use Rattle.std.proofs.Common.{◌≡◌, ℕ, suc, ◌+◌, Bool, true, false, cond, List, [], ◌∷◌, ◌++◌, length, map, drop, refl, sym, ap, subst, ◌∙◌, append_assoc, arith}
+use Rattle.std.proofs.Common.{◌≡◌, ℕ, suc, Bool, true, false, cond, List, [], ◌∷◌, ◌++◌, length, map, refl, sym, ap, ◌∙◌, append_assoc, arith}
 use Rattle.std.specs.Prelude.{Option, Some, None, flat_map}
 use Rattle.std.specs.Option.{option_map}
 use Rattle.std.proofs.Math.Seq.{drop-append_seam}
@@ -12,7 +12,9 @@ use Rattle.golf_types.specs.declared.scopes.FileScope.{FileScope}
 use Rattle.golf_types.specs.declared.scopes.Scope.{Scope}
 use Rattle.golf_types.specs.Facts.{with_parts}
 use Rattle.golf_types.specs.Types.{plain}
-use Rattle.golf_types.specs.Expressions.{Judged, facts_of, field_place}
+use Rattle.golf_types.specs.Names.{is_blank}
+use Rattle.golf_types.specs.Scopes.{meaning}
+use Rattle.golf_types.specs.Expressions.{Judged, facts_of, field_place, leaf, known_name, named}
 use Rattle.golf_types.specs.Calls.{sets_finaliser, plain_call as plain_judged, finaliser_call, called_with}
 use Rattle.golf_layout.specs.Piece.{Piece, all}
 use Rattle.golf_code_of.specs.Expressions.{Made, only, selector, put, puts as puts_of}
@@ -176,6 +178,15 @@ either_inner false x y fs h i = i
 
 pub called_inner : (l : ℕ) (s : Scope) (m : Operand) (js : List Judged) → (called_with l s m js).inner ≡ flat_map facts_of js
 called_inner l s m js = either_inner (sets_finaliser m) (finaliser_call l s m js) (plain_judged l s m js) (flat_map facts_of js) (finaliser_inner l s m js) refl
+
+-- A name has no parts.
+
+known_inner : (l : ℕ) (g : Option ℕ) (m : Option Operand) → (known_name l g m).inner ≡ []
+known_inner l g None = refl
+known_inner l g (Some m) = refl
+
+pub named_inner : (l : ℕ) (s : Scope) (n : List ℕ) → (named l s n).inner ≡ []
+named_inner l s n = either_inner (is_blank n) (leaf operand.Blank []) (known_name l s.initialises (meaning s n)) [] refl (known_inner l s.initialises (meaning s n))
 
 -- a type of no layers has its base
 pub base_is : (b : Option Base) → base_of (option_map plain b) ≡ b

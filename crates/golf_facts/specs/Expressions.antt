@@ -1,5 +1,5 @@
 -- The code of an expression by its facts, which stand in front of others: one equation a construct.
-use Rattle.std.specs.Prelude.{ℕ, ◌+◌, pos, Bool, true, false, cond, List, [], ◌∷◌, length, map, Option, Some, None}
+use Rattle.std.specs.Prelude.{ℕ, Bool, true, false, cond, List, [], ◌∷◌, length, map}
 use Rattle.golf_grammar.specs.declared.expressions.Expr.{Expr}
 use Rattle.golf_grammar.specs.declared.expressions.Expr.TheOpen.{Expr-F, Element-F, Integer, Text, Name, Parens, StructLiteral, SyncLiteral, SliceLiteral, EmptyLiteral, Make, MakeSized, New, NewSync, Selector, Index, Call, Unary, Binary}
 use Rattle.golf_grammar.specs.declared.expressions.Expr.TheFolds.{fold-Expr}

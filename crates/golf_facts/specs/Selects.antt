@@ -1,5 +1,5 @@
 -- The code of `select` by its facts. The facts of each clause begin with their number, so that the operands of all clauses are found before any body.
-use Rattle.std.specs.Prelude.{ℕ, ◌+◌, List, [], ◌∷◌, ◌++◌, length, map, Option, Some, None}
+use Rattle.std.specs.Prelude.{ℕ, ◌+◌, List, [], ◌∷◌, ◌++◌, length, Option, Some, None}
 use Rattle.golf_grammar.specs.declared.statements.Communication.{Communication}
 use Rattle.golf_grammar.specs.declared.statements.Communication.TheVariants as comm
 use Rattle.golf_data.specs.declared.code.Instr.{Instr}
