@@ -1,5 +1,5 @@
 -- The code of every expression by its facts is its code: one step for each kind of expression, and an induction.
-use Rattle.std.proofs.Common.{◌≡◌, ℕ, List, [], ◌∷◌, ◌++◌, map, refl, sym, ap, subst, ◌∙◌}
+use Rattle.std.proofs.Common.{◌≡◌, ℕ, List, [], ◌∷◌, ◌++◌, map, refl, sym, ap, subst, ◌∙◌, append_assoc}
 use Rattle.std.specs.Prelude.{flat_map, Option}
 use Rattle.std.specs.Option.{option_map}
 use Rattle.golf_grammar.specs.declared.expressions.Expr.{Expr, roll-Expr}
@@ -16,23 +16,23 @@ use Rattle.golf_types.specs.declared.scopes.Scope.{Scope}
 use Rattle.golf_types.specs.Scopes.{meaning}
 use Rattle.golf_types.specs.Types.{plain, with_layer}
 use Rattle.golf_types.specs.Written.{pointer_to, made_base, write_at}
-use Rattle.golf_types.specs.Expressions.{facts_of, field_place, put_facts, named, selected_from}
+use Rattle.golf_types.specs.Expressions.{facts_of, field_place, put_facts, selected_from}
 use Rattle.golf_types.specs.Judging.{Judge, Put, judge, judge_at, judge_step, element_step}
 use Rattle.golf_layout.specs.Piece.{Piece, all}
 use Rattle.golf_code_of.specs.declared.tables.Tables.{Tables}
-use Rattle.golf_code_of.specs.Expressions.{Made, only, name, index, unary_operator, binary_operator, made_sized, slice_literal, puts as puts_of, new_struct, new_sync, selector}
-use Rattle.golf_code_of.specs.Coding.{Coded, CodedPut, coded, coded_step, element_coded_step, code_step, argument}
+use Rattle.golf_code_of.specs.Expressions.{Made, only, index, unary_operator, binary_operator, made_sized, slice_literal, puts as puts_of, new_struct, new_sync, selector}
+use Rattle.golf_code_of.specs.Coding.{Coded, CodedPut, coded, coded_step, element_coded_step, code_step, code_at, argument}
 use Rattle.golf_code_of.specs.Calls.{Argument, call}
 use Rattle.golf_code_of.proofs.Judgments.{judgments-agree}
-use Rattle.golf_facts.specs.Facts.{base_of}
-use Rattle.golf_facts.specs.Expressions.{Taken, Take, Arguments, taken, taking, taking_step, element_taking_step, arguments, pieces, puts, called}
+use Rattle.golf_facts.specs.Facts.{base_of, next_is, skip}
+use Rattle.golf_facts.specs.Expressions.{Take, taking, taking_step, element_taking_step, taken_at, arguments, pieces, puts}
 use Rattle.golf_facts.specs.Laws.{ExpressionsFollow}
-use Rattle.golf_facts.proofs.Steps.{two_parts, skipped, named_inner, on_selector, One, takes, facts, args, all_taken, on_call, called_inner, fields, all_put, base_is}
+use Rattle.golf_facts.proofs.Steps.{skipped, skipped-among, two_parts, One, takes, facts, args, all_taken, called_inner, fields, all_put, base_is}
 use Rattle.golf_types.specs.declared.operands.Operand.{Operand}
 
 module _ (t : Tables) where
   abbrev P : Expr → Type 0
-  P e = (l : ℕ) (s : Scope) (rest : List Fact) → taking t e l (facts_of (judge_at l s e) ++ rest) ≡ taken ((coded t e).code l s) rest
+  P e = (l : ℕ) (s : Scope) (rest : List Fact) → taking t e l (facts_of (judge_at l s e) ++ rest) ≡ (coded t e).code l s
 
   abbrev Q : Element → Type 0
   Q x = P x.value
@@ -120,7 +120,7 @@ module _ (t : Tables) where
     put-pieces-are [] = refl
     put-pieces-are (x ∷ xs) = ap (λ z. ((coded t x.0.value).code l s).piece ∷ z) (put-pieces-are xs) ∙ ap (λ (z : CodedPut). (z.value.code l s).piece ∷ map (λ (x : CodedPut). (x.value.code l s).piece) (map element_coded (map (λ (p : D). p.0) xs))) (sym (element-coded-is x.0))
 
-    abbrev taken-of : Expr-F Expr Element → List Fact → Taken
+    abbrev taken-of : Expr-F Expr Element → List Fact → Made
     taken-of z fs = taking_step t (map-Expr Expr Element Take Take (taking t) element_taking z) l fs
 
     abbrev judge-of : Expr-F Expr Element → Judge
@@ -129,58 +129,71 @@ module _ (t : Tables) where
     abbrev code-of : Expr-F Expr Element → Made
     code-of z = code_step t (map-Expr Expr Element Coded CodedPut (coded t) element_coded z) l s
 
-    at : (y : Expr-F E D) (rest : List Fact) → taken-of (bare y) (facts_of (judge-of (bare y) l s) ++ rest) ≡ taken (code-of (bare y)) rest
+    -- two expressions
+    both : (k : Piece → Piece → Made) (a b : E) (rest : List Fact)
+        → (let fs = (facts_of (judge_at l s a.0) ++ facts_of (judge_at l s b.0)) ++ rest in k (taking t a.0 l fs).piece (taking t b.0 l (skip fs)).piece) ≡ k ((coded t a.0).code l s).piece ((coded t b.0).code l s).piece
+    both k a b rest =
+        two_parts k (taking t a.0 l) (taking t b.0 l) (judge_at l s a.0).meaning (judge_at l s a.0).inner (facts_of (judge_at l s b.0)) rest ((coded t a.0).code l s) ((coded t b.0).code l s) (a.1 l s (facts_of (judge_at l s b.0) ++ rest)) (b.1 l s rest)
+
+    at : (y : Expr-F E D) (rest : List Fact) → taken-of (bare y) (facts_of (judge-of (bare y) l s) ++ rest) ≡ code-of (bare y)
     at (F.Integer digits) rest = refl
     at (F.Text bytes) rest = refl
-    at (F.Name n) rest = ap (λ fs. taken (name l t (named l s n).meaning) (fs ++ rest)) (named_inner l s n)
+    at (F.Name n) rest = refl
     at (F.Parens e) rest = e.1 l s rest
     at (F.StructLiteral n xs) rest =
-        ap (λ fs. wide (puts l (map element_taking (map (λ (p : D). p.0) xs)) (fs ++ rest))) (put-facts-are b xs)
-        ∙ ap (λ ts. wide (puts l ts (fields l s.file b (map named_one xs) ++ rest))) (put-takes-are xs)
-        ∙ ap wide (all_put l s.file b (map named_one xs) rest)
-        ∙ ap (λ k. literal k (map (λ (x : List ℕ × One l). x.0) (map named_one xs)) (map (λ (x : List ℕ × One l). x.1.code.piece) (map named_one xs))) (base_is b)
-        ∙ ap (λ ns. literal b ns (map (λ (x : List ℕ × One l). x.1.code.piece) (map named_one xs))) (put-names-are xs)
-        ∙ ap (λ ps. literal b (map (λ (x : CodedPut). x.name) (map element_coded (map (λ (p : D). p.0) xs))) ps) (put-pieces-are xs)
+        ap (λ fs. literal (base_of (option_map plain b)) (puts l (map element_taking (map (λ (p : D). p.0) xs)) (fs ++ rest))) (put-facts-are b xs)
+        ∙ ap (λ ts. literal (base_of (option_map plain b)) (puts l ts (fields l s.file b (map named_one xs) ++ rest))) (put-takes-are xs)
+        ∙ ap (literal (base_of (option_map plain b))) (all_put l s.file b (map named_one xs) rest)
+        ∙ ap (λ k. literal k (put_into (map (λ (x : List ℕ × One l). x.0) (map named_one xs)) (map (λ (x : List ℕ × One l). x.1.code.piece) (map named_one xs)))) (base_is b)
+        ∙ ap (λ ns. literal b (put_into ns (map (λ (x : List ℕ × One l). x.1.code.piece) (map named_one xs)))) (put-names-are xs)
+        ∙ ap (λ ps. literal b (put_into (map (λ (x : CodedPut). x.name) (map element_coded (map (λ (p : D). p.0) xs))) ps)) (put-pieces-are xs)
       where
         b : Option Base
         b = pointer_to (meaning s n)
 
-        wide : Taken → Taken
-        wide x = taken (only (all ((new_struct l (base_of (option_map plain b))).piece ∷ x.made.piece ∷ []))) x.left
+        put_into : List (List ℕ) → List Piece → Piece
+        put_into ns ps = puts_of l s.file b ns ps
 
-        literal : Option Base → List (List ℕ) → List Piece → Taken
-        literal k ns ps = taken (only (all ((new_struct l k).piece ∷ puts_of l s.file b ns ps ∷ []))) rest
-    at (F.SyncLiteral n) rest = ap (λ b. taken (new_sync l b) rest) (base_is (made_base n))
+        literal : Option Base → Piece → Made
+        literal k p = only (all ((new_struct l k).piece ∷ p ∷ []))
+    at (F.SyncLiteral n) rest = ap (λ b. new_sync l b) (base_is (made_base n))
     at (F.SliceLiteral w xs) rest =
-        ap (λ fs. wide (arguments l (map (taking t) (map (λ (p : E). p.0) xs)) (fs ++ rest))) (facts-are xs)
-        ∙ ap (λ ts. wide (arguments l ts (facts l (map one xs) ++ rest))) (takes-are xs)
-        ∙ ap wide (all_taken l (map one xs) rest)
-        ∙ ap (λ ps. taken (slice_literal l of_type ps) rest) (pieces-are xs)
+        ap (λ fs. slice_literal l of_type (pieces (arguments l (map (taking t) (map (λ (p : E). p.0) xs)) (fs ++ rest)))) (facts-are xs)
+        ∙ ap (λ ts. slice_literal l of_type (pieces (arguments l ts (facts l (map one xs) ++ rest)))) (takes-are xs)
+        ∙ ap (λ ys. slice_literal l of_type (pieces ys)) (all_taken l (map one xs) rest)
+        ∙ ap (λ ps. slice_literal l of_type ps) (pieces-are xs)
       where
         of_type : Option GoType
         of_type = with_layer layer.Slice (write_at l s w).type
-
-        wide : Arguments → Taken
-        wide x = taken (slice_literal l of_type (pieces x.all)) x.left
     at F.EmptyLiteral rest = refl
     at (F.Make w) rest = refl
-    at (F.MakeSized w e) rest = ap (λ (x : Taken). taken (made_sized l (write_at l s w).type x.made.piece) x.left) (e.1 l s rest)
-    at (F.New n) rest = ap (λ b. taken (new_struct l b) rest) (base_is (pointer_to (meaning s n)))
-    at (F.NewSync n) rest = ap (λ b. taken (new_sync l b) rest) (base_is (made_base n))
+    at (F.MakeSized w e) rest = ap (λ (x : Made). made_sized l (write_at l s w).type x.piece) (e.1 l s rest)
+    at (F.New n) rest = ap (λ b. new_struct l b) (base_is (pointer_to (meaning s n)))
+    at (F.NewSync n) rest = ap (λ b. new_sync l b) (base_is (made_base n))
     at (F.Selector e n) rest =
-        on_selector l (selected_from l s.file n (judge_at l s e.0).meaning).meaning (taking t e.0) (facts_of (judge_at l s e.0) ++ rest) rest ((coded t e.0).code l s) (e.1 l s rest) (skipped (judge_at l s e.0).meaning (judge_at l s e.0).inner rest)
-        ∙ ap (λ (j : Judge). taken (selector l (selected_from l s.file n (j l s).meaning).meaning ((coded t e.0).code l s).piece) rest) (sym (judgments-agree t e.0))
-    at (F.Index a i) rest =
-        two_parts (λ x y. index l x.piece y.piece) (λ fs. taking t a.0 l fs) (λ fs. taking t i.0 l fs) (facts_of (judge_at l s a.0)) (facts_of (judge_at l s i.0)) rest ((coded t a.0).code l s) ((coded t i.0).code l s) (a.1 l s (facts_of (judge_at l s i.0) ++ rest)) (i.1 l s rest)
+        ap (λ (x : Made). selector l (selected_from l s.file n (judge_at l s e.0).meaning).meaning x.piece) (e.1 l s rest)
+        ∙ ap (λ (j : Judge). selector l (selected_from l s.file n (j l s).meaning).meaning ((coded t e.0).code l s).piece) (sym (judgments-agree t e.0))
+    at (F.Index a i) rest = both (index l) a i rest
     at (F.Call f xs) rest =
-        ap (λ fs. called l (taking t f.0) (map (taking t) (map (λ (p : E). p.0) xs)) ((facts_of (judge_at l s f.0) ++ fs) ++ rest)) (called_inner l s (judge_at l s f.0).meaning (map (λ (j : Judge). j l s) (map judge (map (λ (p : E). p.0) xs))) ∙ facts-are xs)
-        ∙ ap (λ ts. called l (taking t f.0) ts ((facts_of (judge_at l s f.0) ++ facts l (map one xs)) ++ rest)) (takes-are xs)
-        ∙ on_call l (one f) (map one xs) rest
-        ∙ ap (λ (j : Judge). taken (call l (j l s).meaning ((coded t f.0).code l s).piece (args l (map one xs))) rest) (sym (judgments-agree t f.0))
-        ∙ ap (λ ys. taken (call l ((coded t f.0).judge l s).meaning ((coded t f.0).code l s).piece ys) rest) (args-are xs)
-    at (F.Unary o e) rest = ap (λ (x : Taken). taken (unary_operator l o x.made.piece) x.left) (e.1 l s rest)
-    at (F.Binary o a b) rest =
-        two_parts (λ x y. binary_operator l o x.piece y.piece) (λ fs. taking t a.0 l fs) (λ fs. taking t b.0 l fs) (facts_of (judge_at l s a.0)) (facts_of (judge_at l s b.0)) rest ((coded t a.0).code l s) ((coded t b.0).code l s) (a.1 l s (facts_of (judge_at l s b.0) ++ rest)) (b.1 l s rest)
+        ap (λ fs. called (taking t f.0) (map (taking t) (map (λ (p : E). p.0) xs)) ((F0 ++ fs) ++ rest)) (called_inner l s m (map (λ (j : Judge). j l s) (map judge (map (λ (p : E). p.0) xs))) ∙ facts-are xs)
+        ∙ ap (λ ts. called (taking t f.0) ts ((F0 ++ facts l (map one xs)) ++ rest)) (takes-are xs)
+        ∙ ap (called (taking t f.0) (takes l (map one xs))) (append_assoc F0 (facts l (map one xs)) rest)
+        ∙ ap (λ (c : Made). call l m c.piece (arguments l (takes l (map one xs)) (skip (F0 ++ (facts l (map one xs) ++ rest))))) (f.1 l s (facts l (map one xs) ++ rest))
+        ∙ ap (λ fs. call l m ((coded t f.0).code l s).piece (arguments l (takes l (map one xs)) fs)) (skipped m (judge_at l s f.0).inner (facts l (map one xs) ++ rest))
+        ∙ ap (call l m ((coded t f.0).code l s).piece) (all_taken l (map one xs) rest)
+        ∙ ap (λ (j : Judge). call l (j l s).meaning ((coded t f.0).code l s).piece (args l (map one xs))) (sym (judgments-agree t f.0))
+        ∙ ap (call l ((coded t f.0).judge l s).meaning ((coded t f.0).code l s).piece) (args-are xs)
+      where
+        m : Operand
+        m = (judge_at l s f.0).meaning
+
+        F0 : List Fact
+        F0 = facts_of (judge_at l s f.0)
+
+        called : Take → List Take → List Fact → Made
+        called g ts fs = call l (next_is fs) (g l fs).piece (arguments l ts (skip fs))
+    at (F.Unary o e) rest = ap (λ (x : Made). unary_operator l o x.piece) (e.1 l s rest)
+    at (F.Binary o a b) rest = both (binary_operator l o) a b rest
 
   rolled : (y : Expr-F E D) → P (roll-Expr (bare y))
   unfolding taking judge coded
@@ -188,7 +201,7 @@ module _ (t : Tables) where
       ap (λ (k : Take). k l (facts_of (judge_at l s (roll-Expr (bare y))) ++ rest)) (fold-roll-Expr Take Take (taking_step t) element_taking_step (bare y))
       ∙ ap (λ (j : Judge). taken-of l s (bare y) (facts_of (j l s) ++ rest)) (fold-roll-Expr Judge Put judge_step element_step (bare y))
       ∙ at l s y rest
-      ∙ ap (λ (c : Coded). taken (c.code l s) rest) (sym (fold-roll-Expr Coded CodedPut (coded_step t) element_coded_step (bare y)))
+      ∙ ap (λ (c : Coded). c.code l s) (sym (fold-roll-Expr Coded CodedPut (coded_step t) element_coded_step (bare y)))
 
   element-rolled : (y : Element-F E D) → Q (roll-Element (map-Element E D Expr Element (λ p. p.0) (λ p. p.0) y))
   element-rolled y = y.value.1
@@ -197,4 +210,18 @@ module _ (t : Tables) where
   all-follow = ind-Expr P Q (λ x y is. subst (λ z. P (roll-Expr z)) is (rolled y)) (λ x y is. subst (λ z. Q (roll-Element z)) is (element-rolled y))
 
 pub expressions-follow : ExpressionsFollow
-expressions-follow t l s e rest = all-follow t e l s rest
+expressions-follow t l s e rest = (all-follow t e l s rest, skipped (judge_at l s e).meaning (judge_at l s e).inner rest)
+
+-- an expression before other facts of the same statement
+module _ (t : Tables) (l : ℕ) (s : Scope) (e : Expr) where
+  pub made-alone : (rest : List Fact) → taken_at t l (facts_of (judge_at l s e) ++ rest) e ≡ code_at t l s e
+  made-alone rest = all-follow t e l s rest
+
+  pub past-alone : (rest : List Fact) → skip (facts_of (judge_at l s e) ++ rest) ≡ rest
+  past-alone rest = skipped (judge_at l s e).meaning (judge_at l s e).inner rest
+
+  pub made-among : (gs rest : List Fact) → taken_at t l ((facts_of (judge_at l s e) ++ gs) ++ rest) e ≡ code_at t l s e
+  made-among gs rest = ap (λ fs. taken_at t l fs e) (append_assoc (facts_of (judge_at l s e)) gs rest) ∙ made-alone (gs ++ rest)
+
+  pub past-among : (gs rest : List Fact) → skip ((facts_of (judge_at l s e) ++ gs) ++ rest) ≡ gs ++ rest
+  past-among gs rest = skipped-among (judge_at l s e).meaning (judge_at l s e).inner gs rest

@@ -3,6 +3,7 @@ use Rattle.std.proofs.Common.{◌≡◌, ℕ, ◌+◌, Bool, List, [], ◌∷◌
 use Rattle.std.specs.Prelude.{Option, Some, None, flat_map}
 use Rattle.std.proofs.Math.Seq.{drop-append_seam}
 use Rattle.golf_grammar.specs.declared.types.TypeExpr.{TypeExpr}
+use Rattle.golf_grammar.specs.declared.expressions.Expr.{Expr}
 use Rattle.golf_grammar.specs.declared.statements.Stmt.{Stmt}
 use Rattle.golf_grammar.specs.declared.statements.VarContent.{VarContent}
 use Rattle.golf_grammar.specs.declared.statements.VarContent.TheVariants as content
@@ -23,6 +24,7 @@ use Rattle.golf_types.specs.declared.operands.Signature.{Signature}
 use Rattle.golf_types.specs.declared.scopes.Imports.{Imports}
 use Rattle.golf_types.specs.declared.scopes.FileScope.{FileScope}
 use Rattle.golf_types.specs.declared.scopes.Scope.{Scope}
+use Rattle.golf_types.specs.Expressions.{facts_of}
 use Rattle.golf_types.specs.Judging.{judge_at}
 use Rattle.golf_types.specs.Statements as W
 use Rattle.golf_types.specs.Statements.{Walk, walk, behind}
@@ -35,16 +37,19 @@ use Rattle.golf_code_of.specs.declared.tables.Tables.{Tables}
 use Rattle.golf_code_of.specs.Table.{Texts}
 use Rattle.golf_code_of.specs.Texts.{texts_of}
 use Rattle.golf_code_of.specs.Values.{const_value, zero_value}
+use Rattle.golf_code_of.specs.Expressions.{Made}
+use Rattle.golf_code_of.specs.Coding.{piece_at}
 use Rattle.golf_code_of.specs.Statements.{Laid, Part}
 use Rattle.golf_code_of.specs.Laying.{stmt_part}
 use Rattle.golf_code_of.specs.Files.{Functions, function, function_of, body_part, body_laid, slots_of, last_return, functions_from, initial, initials, constants_in, tables_of, code_in, CodeOf, giving, main_number, main_line, made_function}
 use Rattle.golf_code_of.proofs.Walks.{walks-agree}
-use Rattle.golf_facts.specs.Expressions.{Taken}
+use Rattle.golf_facts.specs.Facts.{skip}
+use Rattle.golf_facts.specs.Expressions.{pushed_at}
 use Rattle.golf_facts.specs.Statements.{LaidBy, PieceBy, by, piece_by, in_order as in_order_by}
 use Rattle.golf_facts.specs.Files.{past_const, past_content, past_decl, const_by, constants_by, tables_by, body_by, function_by, functions_by, initial_by, initials_by, code_by, CodeBy}
 use Rattle.golf_facts.specs.Laws.{FilesFollow}
 use Rattle.golf_facts.proofs.Steps.{skipped}
-use Rattle.golf_facts.proofs.Expressions.{expressions-follow}
+use Rattle.golf_facts.proofs.Expressions.{made-alone, past-alone}
 use Rattle.golf_facts.proofs.Statements.{body}
 use Rattle.golf_facts.specs.Laying.{stmt_by}
 
@@ -90,11 +95,19 @@ constants-are texts f g (d.Func x ∷ xs) = ap (constants_by texts xs) (past-dec
 -- Initialisers.
 
 module _ (t : Tables) (f : FileScope) where
+  stored-global : (g l : ℕ) (e : Expr) (rest : List Fact)
+      → (let fs = facts_of (judge_at l (record (outside f) { initialises = Some g }) e) ++ rest in piece_by (all (pushed_at t l fs e ∷ op l (Instr.StoreGlobal g) ∷ [])) (skip fs))
+      ≡ piece_by (all (piece_at t l (record (outside f) { initialises = Some g }) e ∷ op l (Instr.StoreGlobal g) ∷ [])) rest
+  stored-global g l e rest =
+      let s = record (outside f) { initialises = Some g } in
+      ap (λ (x : Made). piece_by (all (x.piece ∷ op l (Instr.StoreGlobal g) ∷ [])) (skip (facts_of (judge_at l s e) ++ rest))) (made-alone t l s e rest)
+      ∙ ap (piece_by (all (piece_at t l s e ∷ op l (Instr.StoreGlobal g) ∷ []))) (past-alone t l s e rest)
+
   initial-is : (g l : ℕ) (x : VarContent) (rest : List Fact)
       → initial_by t g l x ((initial_walk l x (record (outside f) { initialises = Some g })).facts ++ rest) ≡ piece_by (initial t (record (outside f) { initialises = Some g }) g l x) rest
   initial-is g l (content.Zero w) rest = refl
-  initial-is g l (content.Typed w e) rest = ap (λ (x : Taken). piece_by (all (x.made.piece ∷ op l (Instr.StoreGlobal g) ∷ [])) x.left) (expressions-follow t l (record (outside f) { initialises = Some g }) e rest)
-  initial-is g l (content.Untyped e) rest = ap (λ (x : Taken). piece_by (all (x.made.piece ∷ op l (Instr.StoreGlobal g) ∷ [])) x.left) (expressions-follow t l (record (outside f) { initialises = Some g }) e rest)
+  initial-is g l (content.Typed w e) rest = stored-global g l e rest
+  initial-is g l (content.Untyped e) rest = stored-global g l e rest
 
   pub initials-are : (g : ℕ) (xs : List Decl) → initials_by t g xs (walk_facts f g xs) ≡ initials t f g xs
   initials-are g [] = refl

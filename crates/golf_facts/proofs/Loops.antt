@@ -25,16 +25,16 @@ use Rattle.golf_types.specs.Statements.{behind, is_outer}
 use Rattle.golf_layout.specs.Piece.{Piece, all, op}
 use Rattle.golf_code_of.specs.declared.making.Around.{Around}
 use Rattle.golf_code_of.specs.declared.tables.Tables.{Tables}
+use Rattle.golf_code_of.specs.Expressions.{Made}
 use Rattle.golf_code_of.specs.Coding.{piece_at}
 use Rattle.golf_code_of.specs.Statements.{Laid, Part, past, wrapped, in_order, block, optional}
 use Rattle.golf_code_of.specs.Loops as C
 use Rattle.golf_code_of.specs.Loops.{round, over_slice, over_channel, behind_hidden}
 use Rattle.golf_facts.specs.Facts.{operand_in, hidden_in, next, past_one, skip}
-use Rattle.golf_facts.specs.Expressions.{Taken}
 use Rattle.golf_facts.specs.Statements.{LaidBy, LayBy, PieceBy, by, piece_by, stores, in_order as in_order_by, optional_by}
 use Rattle.golf_facts.specs.Loops.{in_loop, forever, while, optional_test, stepping, past_names, slice_names, channel_name, range_piece, ranging, for_lay}
-use Rattle.golf_facts.proofs.Expressions.{expressions-follow}
-use Rattle.golf_facts.proofs.Simple.{among, named, optional_piece, optional-lay, on_optional}
+use Rattle.golf_facts.proofs.Expressions.{made-alone, past-alone, made-among, past-among}
+use Rattle.golf_facts.proofs.Simple.{named, optional_piece, optional-lay, on_optional}
 use Rattle.golf_facts.proofs.Parts.{Follows, none_made, on_after, on_block}
 
 module _ (x : Part) (k : LayBy) (fx : Follows x k) where
@@ -50,17 +50,20 @@ module _ (x : Part) (k : LayBy) (fx : Follows x k) where
       looped : Piece → Laid → Laid
       looped p q = wrapped (λ r. round (all (p ∷ Piece.Unless l 1 ∷ r ∷ Piece.Exit l 0 ∷ []))) q
 
-      step : Around → Taken → LaidBy
-      step a c = let g = k a c.left in by (looped c.made.piece g.laid) g.left
+      step : Piece → LaidBy → LaidBy
+      step p g = by (looped p g.laid) g.left
 
       at : (a : Around) (s : Scope) (rest : List Fact) → while t l e k a ((facts_of (judge_at l s e) ++ (x.walk s).facts) ++ rest) ≡ by ((C.while t l e x).lay a s) rest
       at a s rest =
-          ap (step a) (among t l s e (x.walk s).facts rest)
+          ap (λ (c : Made). step c.piece (k a (skip ((facts_of (judge_at l s e) ++ (x.walk s).facts) ++ rest)))) (made-among t l s e (x.walk s).facts rest)
+          ∙ ap (λ fs. step (piece_at t l s e) (k a fs)) (past-among t l s e (x.walk s).facts rest)
           ∙ ap (λ (g : LaidBy). by (looped (piece_at t l s e) g.laid) g.left) (fx.code a s rest)
 
   on_optional_test : (t : Tables) (l : ℕ) (s : Scope) (test : Option Expr) (rest : List Fact) → optional_test t l test ((W.optional_test l test s).facts ++ rest) ≡ piece_by (C.optional_test t l test s) rest
   on_optional_test t l s None rest = refl
-  on_optional_test t l s (Some e) rest = ap (λ (c : Taken). piece_by (all (c.made.piece ∷ Piece.Unless l 1 ∷ [])) c.left) (expressions-follow t l s e rest)
+  on_optional_test t l s (Some e) rest =
+      ap (λ (c : Made). piece_by (all (c.piece ∷ Piece.Unless l 1 ∷ [])) (skip (facts_of (judge_at l s e) ++ rest))) (made-alone t l s e rest)
+      ∙ ap (piece_by (all (piece_at t l s e ∷ Piece.Unless l 1 ∷ []))) (past-alone t l s e rest)
 
   -- the scope of the body
   abbrev in_body : Tables → Option Simple → Scope → Scope
@@ -142,7 +145,8 @@ module _ (t : Tables) (l : ℕ) where
         at : (a : Around) (s : Scope) (rest : List Fact) → ranging t l names e ks a (((C.ranging t l names e xs).walk s).facts ++ rest) ≡ by ((C.ranging t l names e xs).lay a s) rest
         at a s rest =
             ap (ranging t l names e ks a) (append_assoc (E ++ H ∷ []) (N ++ B) rest ∙ append_assoc E (H ∷ []) ((N ++ B) ++ rest))
-            ∙ ap first (expressions-follow t l s e (H ∷ ((N ++ B) ++ rest)))
+            ∙ ap (λ (c : Made). first c.piece (skip (E ++ (H ∷ ((N ++ B) ++ rest))))) (made-alone t l s e (H ∷ ((N ++ B) ++ rest)))
+            ∙ ap (first (piece_at t l s e)) (past-alone t l s e (H ∷ ((N ++ B) ++ rest)))
             ∙ ap second (append_assoc N B rest)
             ∙ ap (λ gs. third (N ++ (B ++ rest)) (in_loop 2 0 (in_order_by ks) a gs)) (past_them names slice of_type s0 (B ++ rest))
             ∙ ap (third (N ++ (B ++ rest))) (on_body.code a s1 rest)
@@ -184,11 +188,11 @@ module _ (t : Tables) (l : ℕ) where
             second : List Fact → LaidBy
             second ns = third ns (in_loop 2 0 (in_order_by ks) a (past_names names ns))
 
-            first : Taken → LaidBy
-            first x =
-                let ns = past_one x.left in
+            first : Piece → List Fact → LaidBy
+            first p fs =
+                let ns = past_one fs in
                 let g = in_loop 2 0 (in_order_by ks) a (past_names names ns) in
-                by (wrapped (range_piece t l names v (hidden_in (next x.left)) ns x.made.piece) g.laid) g.left
+                by (wrapped (range_piece t l names v (hidden_in (next fs)) ns p) g.laid) g.left
 
 -- Headers.
 

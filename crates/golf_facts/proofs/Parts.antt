@@ -1,9 +1,10 @@
 -- One law for each way of putting statements together, and `go` and `defer`.
-use Rattle.std.proofs.Common.{◌≡◌, ℕ, ◌+◌, List, [], ◌∷◌, ◌++◌, map, refl, sym, ap, ◌∙◌, append_assoc, arith}
+use Rattle.std.proofs.Common.{◌≡◌, ℕ, suc, ◌+◌, List, [], ◌∷◌, ◌++◌, length, map, refl, sym, ap, ◌∙◌, append_assoc, arith}
 use Rattle.std.specs.Prelude.{flat_map}
 use Rattle.golf_grammar.specs.declared.expressions.Expr.{Expr}
 use Rattle.golf_data.specs.declared.code.Instr.{Instr}
 use Rattle.golf_types.specs.declared.facts.Fact.{Fact}
+use Rattle.golf_types.specs.declared.operands.Operand.{Operand}
 use Rattle.golf_types.specs.declared.scopes.Scope.{Scope}
 use Rattle.golf_types.specs.Scopes.{begun}
 use Rattle.golf_types.specs.Expressions.{facts_of}
@@ -12,15 +13,17 @@ use Rattle.golf_types.specs.Statements.{Walk, behind}
 use Rattle.golf_layout.specs.Piece.{Piece, all}
 use Rattle.golf_code_of.specs.declared.making.Around.{Around}
 use Rattle.golf_code_of.specs.declared.tables.Tables.{Tables}
+use Rattle.golf_code_of.specs.Expressions.{Made}
 use Rattle.golf_code_of.specs.Coding.{piece_at, argument_at, coded}
 use Rattle.golf_code_of.specs.Calls.{Argument, pushes, makings, beginning}
 use Rattle.golf_code_of.proofs.Judgments.{judgments-agree}
 use Rattle.golf_code_of.specs.Statements.{Laid, Part, laid, follow, past, within, wrapped, then, in_block, behind_test, ends_here as ends_here_part, or_else as or_else_part, begin_part}
-use Rattle.golf_facts.specs.Expressions.{Taken, taking, Arguments, arguments}
+use Rattle.golf_facts.specs.Facts.{skip, skip_all}
+use Rattle.golf_facts.specs.Expressions.{taking, arguments}
 use Rattle.golf_facts.specs.Statements.{LaidBy, LayBy, PieceBy, by, by_piece, then as then_by, after, after_test, ends_here, branches, or_else, begin_lay}
-use Rattle.golf_facts.proofs.Steps.{One, takes, facts, args, all_taken, called_inner}
-use Rattle.golf_facts.proofs.Expressions.{expressions-follow}
-use Rattle.golf_facts.proofs.Simple.{PieceFollows, among}
+use Rattle.golf_facts.proofs.Steps.{One, takes, facts, args, all_taken, all_skipped, called_inner}
+use Rattle.golf_facts.proofs.Expressions.{made-alone, made-among, past-among}
+use Rattle.golf_facts.proofs.Simple.{PieceFollows}
 
 -- a statement: whatever names are known, its code is that by the facts in front, and those after them are left
 pub record Follows (x : Part) (k : LayBy) : Type 0 where
@@ -86,12 +89,13 @@ module _ (x : Part) (k : LayBy) (fx : Follows x k) where
       tested : Piece → Laid → Laid
       tested p q = wrapped (λ r. all (p ∷ Piece.Unless l 0 ∷ r ∷ [])) q
 
-      step : Around → Taken → LaidBy
-      step a c = let g = k a c.left in by (tested c.made.piece g.laid) g.left
+      step : Piece → LaidBy → LaidBy
+      step p g = by (tested p g.laid) g.left
 
       at : (a : Around) (s : Scope) (rest : List Fact) → after_test t l e k a ((facts_of (judge_at l s e) ++ (x.walk s).facts) ++ rest) ≡ by ((behind_test t l e x).lay a s) rest
       at a s rest =
-          ap (step a) (among t l s e (x.walk s).facts rest)
+          ap (λ (c : Made). step c.piece (k a (skip ((facts_of (judge_at l s e) ++ (x.walk s).facts) ++ rest)))) (made-among t l s e (x.walk s).facts rest)
+          ∙ ap (λ fs. step (piece_at t l s e) (k a fs)) (past-among t l s e (x.walk s).facts rest)
           ∙ ap (λ (g : LaidBy). by (tested (piece_at t l s e) g.laid) g.left) (fx.code a s rest)
 
 -- Go and defer statements.
@@ -103,7 +107,7 @@ module _ (t : Tables) (l : ℕ) (s : Scope) where
     meaning = (judge_at l s e).meaning;
     inner = (judge_at l s e).inner;
     code = (coded t e).code l s;
-    reads = record { code = expressions-follow t l s e };
+    reads = record { code = made-alone t l s e };
   }
 
   takes-are : (xs : List Expr) → map (taking t) xs ≡ takes l (map one xs)
@@ -122,30 +126,42 @@ module _ (t : Tables) (l : ℕ) (s : Scope) where
   args-are (x ∷ xs) = ap (λ j. known x j ∷ args l (map one xs)) (sym (judgments-agree t x)) ∙ ap (λ z. argument_at t l s x ∷ z) (args-are xs)
 
   -- the arguments of a call that is begun
-  pub all-pushed : (xs : List Expr) (rest : List Fact) → arguments l (map (taking t) xs) (flat_map facts_of (map (judge_at l s) xs) ++ rest) ≡ record { all = map (argument_at t l s) xs; left = rest }
+  pub all-pushed : (xs : List Expr) (rest : List Fact) → arguments l (map (taking t) xs) (flat_map facts_of (map (judge_at l s) xs) ++ rest) ≡ map (argument_at t l s) xs
   all-pushed xs rest =
       ap (λ fs. arguments l (map (taking t) xs) (fs ++ rest)) (facts-are xs)
       ∙ ap (λ ts. arguments l ts (facts l (map one xs) ++ rest)) (takes-are xs)
       ∙ all_taken l (map one xs) rest
-      ∙ ap with_all (args-are xs)
-    where
-      with_all : List Argument → Arguments
-      with_all ys = record { all = ys; left = rest }
+      ∙ args-are xs
+
+  as-many : (xs : List Expr) → length xs ≡ length (map one xs)
+  as-many [] = refl
+  as-many (x ∷ xs) = ap (λ n. suc n) (as-many xs)
+
+  pub all-past : (xs : List Expr) (rest : List Fact) → skip_all (length xs) (flat_map facts_of (map (judge_at l s) xs) ++ rest) ≡ rest
+  all-past xs rest =
+      ap (λ fs. skip_all (length xs) (fs ++ rest)) (facts-are xs)
+      ∙ ap (λ n. skip_all n (facts l (map one xs) ++ rest)) (as-many xs)
+      ∙ all_skipped l (map one xs) rest
 
 pub on_begin : (t : Tables) (l : ℕ) (begin : ℕ → ℕ → Instr) (f : Expr) (xs : List Expr) → Follows (begin_part t l begin f xs) (begin_lay t l begin f xs)
 on_begin t l begin f xs = record { code = at }
   where
     at : (a : Around) (s : Scope) (rest : List Fact) → begin_lay t l begin f xs a (((begin_part t l begin f xs).walk s).facts ++ rest) ≡ by ((begin_part t l begin f xs).lay a s) rest
     at a s rest =
-        ap (λ gs. begin_lay t l begin f xs a ((facts_of (judge_at l s f) ++ gs) ++ rest)) (called_inner l s (judge_at l s f).meaning (map (judge_at l s) xs))
-        ∙ ap step (among t l s f (flat_map facts_of (map (judge_at l s) xs)) rest)
-        ∙ ap (last (piece_at t l s f)) (all-pushed t l s xs rest)
+        ap (λ gs. begin_lay t l begin f xs a ((facts_of (judge_at l s f) ++ gs) ++ rest)) (called_inner l s m (map (judge_at l s) xs))
+        ∙ ap (λ (c : Made). begun c.piece (skip ((facts_of (judge_at l s f) ++ X) ++ rest))) (made-among t l s f X rest)
+        ∙ ap (begun (piece_at t l s f)) (past-among t l s f X rest)
+        ∙ ap (λ ys. last (piece_at t l s f) ys (skip_all (length xs) (X ++ rest))) (all-pushed t l s xs rest)
+        ∙ ap (last (piece_at t l s f) (map (argument_at t l s) xs)) (all-past t l s xs rest)
       where
-        last : Piece → Arguments → LaidBy
-        last p ys = by (record {
-          piece = all (p ∷ pushes ys.all ∷ beginning l begin a.functions (judge_at l s f).meaning ys.all ∷ []);
-          made = makings l (judge_at l s f).meaning ys.all;
-        }) ys.left
+        m : Operand
+        m = (judge_at l s f).meaning
 
-        step : Taken → LaidBy
-        step x = last x.made.piece (arguments l (map (taking t) xs) x.left)
+        X : List Fact
+        X = flat_map facts_of (map (judge_at l s) xs)
+
+        last : Piece → List Argument → List Fact → LaidBy
+        last p ys fs = by (record { piece = all (p ∷ pushes ys ∷ beginning l begin a.functions m ys ∷ []); made = makings l m ys }) fs
+
+        begun : Piece → List Fact → LaidBy
+        begun p fs = last p (arguments l (map (taking t) xs) fs) (skip_all (length xs) fs)

@@ -18,17 +18,17 @@ use Rattle.golf_types.proofs.NamesAlone.{judged-by-names}
 use Rattle.golf_layout.specs.Piece.{Piece, all, op}
 use Rattle.golf_code_of.specs.declared.making.Around.{Around}
 use Rattle.golf_code_of.specs.declared.tables.Tables.{Tables}
+use Rattle.golf_code_of.specs.Expressions.{Made}
 use Rattle.golf_code_of.specs.Coding.{piece_at}
 use Rattle.golf_code_of.specs.Statements.{Laid, Part, past, wrapped, in_order}
 use Rattle.golf_code_of.specs.Selects as C
 use Rattle.golf_code_of.specs.Selects.{ClausePart, case_to, default_or, in_clause, breaking}
 use Rattle.golf_facts.specs.Facts.{skip}
-use Rattle.golf_facts.specs.Expressions.{Taken, taken_at}
+use Rattle.golf_facts.specs.Expressions.{taken_at, pushed_at}
 use Rattle.golf_facts.specs.Statements.{LaidBy, LayBy, by, piece_by, stores_next, stores_two, past_two, in_order as in_order_by}
 use Rattle.golf_facts.specs.Selects.{ClauseBy, operands_by, takes_in, case_clause, default_clause, cases_from, default_from, operands_all, choice, clauses_lay, select_lay}
-use Rattle.golf_facts.proofs.Steps.{skipped}
-use Rattle.golf_facts.proofs.Expressions.{expressions-follow}
-use Rattle.golf_facts.proofs.Simple.{among, stored, first_fact, second_fact, pair_stored}
+use Rattle.golf_facts.proofs.Expressions.{made-alone, past-alone, made-among, past-among}
+use Rattle.golf_facts.proofs.Simple.{stored, first_fact, second_fact, pair_stored}
 use Rattle.golf_facts.proofs.Parts.{Follows, on_after}
 
 -- expressions are judged alike in two scopes
@@ -47,7 +47,7 @@ alike-behind r s w e h x l =
 
 -- the code of an expression is that of its facts, and so the same wherever it is judged alike
 pub coded-alike : (t : Tables) (l : ℕ) (r s : Scope) (e : Expr) → judge e l s ≡ judge e l r → piece_at t l s e ≡ piece_at t l r e
-coded-alike t l r s e h = ap (λ (x : Taken). x.made.piece) (sym (expressions-follow t l s e []) ∙ ap (λ (j : Judged). taken_at t l (facts_of j ++ []) e) h ∙ expressions-follow t l r e [])
+coded-alike t l r s e h = ap (λ (x : Made). x.piece) (sym (made-alone t l s e []) ∙ ap (λ (j : Judged). taken_at t l (facts_of j ++ []) e) h ∙ made-alone t l r e [])
 
 -- what a clause is by its facts
 pub record ClauseFollows (c : ClausePart) (k : ClauseBy) : Type 0 where
@@ -66,12 +66,14 @@ module _ (t : Tables) (l k : ℕ) where
 
   operands-coded : (c : Communication) (s : Scope) (rest : List Fact) → operands_by t c l (comm_facts c s ++ rest) ≡ C.operands_of t c l s
   operands-coded (comm.Send c e) s rest =
-      ap (λ (x : Taken). let y = taken_at t l x.left e in all (x.made.piece ∷ y.made.piece ∷ [])) (among t l s c (facts_of (judge_at l s e)) rest)
-      ∙ ap (λ (y : Taken). all (piece_at t l s c ∷ y.made.piece ∷ [])) (expressions-follow t l s e rest)
-  operands-coded (comm.Receive e) s rest = ap (λ (x : Taken). x.made.piece) (expressions-follow t l s e rest)
-  operands-coded (comm.Define n e) s rest = ap (λ (x : Taken). x.made.piece) (among t l s e (new_target s (carried l e s) ∷ []) rest)
-  operands-coded (comm.Assign n e) s rest = ap (λ (x : Taken). x.made.piece) (among t l s e (fact.Target (assigned s n) ∷ []) rest)
-  operands-coded (comm.DefineReceived n m e) s rest = ap (λ (x : Taken). x.made.piece) (among t l s e (first_fact l t s n (carried l e s) ∷ (second_fact l t s n m (carried l e s) ∷ [])) rest)
+      let fs = comm_facts (comm.Send c e) s ++ rest in
+      ap (λ (x : Made). all (x.piece ∷ pushed_at t l (skip fs) e ∷ [])) (made-among t l s c (facts_of (judge_at l s e)) rest)
+      ∙ ap (λ gs. all (piece_at t l s c ∷ pushed_at t l gs e ∷ [])) (past-among t l s c (facts_of (judge_at l s e)) rest)
+      ∙ ap (λ (y : Made). all (piece_at t l s c ∷ y.piece ∷ [])) (made-alone t l s e rest)
+  operands-coded (comm.Receive e) s rest = ap (λ (x : Made). x.piece) (made-alone t l s e rest)
+  operands-coded (comm.Define n e) s rest = ap (λ (x : Made). x.piece) (made-among t l s e (new_target s (carried l e s) ∷ []) rest)
+  operands-coded (comm.Assign n e) s rest = ap (λ (x : Made). x.piece) (made-among t l s e (fact.Target (assigned s n) ∷ []) rest)
+  operands-coded (comm.DefineReceived n m e) s rest = ap (λ (x : Made). x.piece) (made-among t l s e (first_fact l t s n (carried l e s) ∷ (second_fact l t s n m (carried l e s) ∷ [])) rest)
 
   operands-alike : (c : Communication) (r s : Scope) → Alike r s → C.operands_of t c l s ≡ C.operands_of t c l r
   operands-alike (comm.Send c e) r s h = ap (λ p. all (p ∷ piece_at t l s e ∷ [])) (coded-alike t l r s c (h c l)) ∙ ap (λ p. all (piece_at t l r c ∷ p ∷ [])) (coded-alike t l r s e (h e l))
@@ -80,21 +82,17 @@ module _ (t : Tables) (l k : ℕ) where
   operands-alike (comm.Assign n e) r s h = coded-alike t l r s e (h e l)
   operands-alike (comm.DefineReceived n m e) r s h = coded-alike t l r s e (h e l)
 
-  -- past an expression
-  past-one : (s : Scope) (e : Expr) (gs rest : List Fact) → skip ((facts_of (judge_at l s e) ++ gs) ++ rest) ≡ gs ++ rest
-  past-one s e gs rest = ap skip (append_assoc (facts_of (judge_at l s e)) gs rest) ∙ skipped (judge_at l s e).meaning (judge_at l s e).inner (gs ++ rest)
-
   taken-in : (c : Communication) (s : Scope) (rest : List Fact) → takes_in t k c (comm_facts c s ++ rest) ≡ piece_by (C.takes_in t l k c s) rest
   taken-in (comm.Send c e) s rest =
-      ap (λ fs. piece_by Piece.Empty (skip fs)) (past-one s c (facts_of (judge_at l s e)) rest)
-      ∙ ap (piece_by Piece.Empty) (skipped (judge_at l s e).meaning (judge_at l s e).inner rest)
-  taken-in (comm.Receive e) s rest = ap (piece_by (op k Instr.Drop)) (skipped (judge_at l s e).meaning (judge_at l s e).inner rest)
-  taken-in (comm.Define n e) s rest = ap (stores_next k t) (past-one s e (new_target s (carried l e s) ∷ []) rest)
+      ap (λ fs. piece_by Piece.Empty (skip fs)) (past-among t l s c (facts_of (judge_at l s e)) rest)
+      ∙ ap (piece_by Piece.Empty) (past-alone t l s e rest)
+  taken-in (comm.Receive e) s rest = ap (piece_by (op k Instr.Drop)) (past-alone t l s e rest)
+  taken-in (comm.Define n e) s rest = ap (stores_next k t) (past-among t l s e (new_target s (carried l e s) ∷ []) rest)
   taken-in (comm.Assign n e) s rest =
-      ap (stores_next k t) (past-one s e (fact.Target (assigned s n) ∷ []) rest)
+      ap (stores_next k t) (past-among t l s e (fact.Target (assigned s n) ∷ []) rest)
       ∙ ap (λ p. piece_by p rest) (stored k t (assigned_name s n))
   taken-in (comm.DefineReceived n m e) s rest =
-      ap (λ fs. piece_by (stores_two k t fs) (past_two fs)) (past-one s e (first_fact k t s n (carried l e s) ∷ (second_fact k t s n m (carried l e s) ∷ [])) rest)
+      ap (λ fs. piece_by (stores_two k t fs) (past_two fs)) (past-among t l s e (first_fact k t s n (carried l e s) ∷ (second_fact k t s n m (carried l e s) ∷ [])) rest)
       ∙ ap (λ p. piece_by p rest) (pair_stored k t s n m (carried l e s) rest)
 
 -- Clauses.

@@ -1,5 +1,5 @@
 -- Expressions among others, names that are stored to, variables and simple statements by their facts.
-use Rattle.std.proofs.Common.{◌≡◌, ℕ, Bool, true, false, cond, List, [], ◌∷◌, ◌++◌, refl, ap, ◌∙◌, append_assoc}
+use Rattle.std.proofs.Common.{◌≡◌, ℕ, Bool, true, false, cond, List, [], ◌∷◌, ◌++◌, refl, ap, ◌∙◌}
 use Rattle.std.specs.Prelude.{Option, Some, None, unwrap_or, pos, not}
 use Rattle.golf_grammar.specs.declared.expressions.Expr.{Expr}
 use Rattle.golf_grammar.specs.declared.statements.Simple.{Simple}
@@ -15,7 +15,7 @@ use Rattle.golf_types.specs.declared.operands.Operand.{Operand}
 use Rattle.golf_types.specs.declared.operands.Operand.TheVariants as operand
 use Rattle.golf_types.specs.declared.scopes.Scope.{Scope}
 use Rattle.golf_types.specs.Facts.{new_target, target}
-use Rattle.golf_types.specs.Expressions.{facts_of, given_by}
+use Rattle.golf_types.specs.Expressions.{facts_of}
 use Rattle.golf_types.specs.Judging.{judge_at}
 use Rattle.golf_types.specs.Statements as W
 use Rattle.golf_types.specs.Statements.{Walk, behind, carried, bool_type, is_new, new_or_kept, assigned_name, assigned}
@@ -25,19 +25,14 @@ use Rattle.golf_code_of.specs.declared.tables.Tables.{Tables}
 use Rattle.golf_code_of.specs.Expressions.{Made}
 use Rattle.golf_code_of.specs.Coding.{code_at, piece_at}
 use Rattle.golf_code_of.specs.Statements.{laid, drops, updates, assigns, update_instr, stores_to, stores_pair, simple_piece, returns, first_value, optional}
-use Rattle.golf_facts.specs.Facts.{operand_in, next_is, past_one}
-use Rattle.golf_facts.specs.Expressions.{Taken, taken, taken_at}
-use Rattle.golf_facts.specs.Statements.{PieceBy, piece_by, stores, stores_next, stores_two, past_two, steps_by, simple_by, optional_by, var_by, return_by}
-use Rattle.golf_facts.proofs.Expressions.{expressions-follow}
-use Rattle.golf_types.specs.Types.{type_given}
+use Rattle.golf_facts.specs.Facts.{operand_in, next_is, past_one, skip}
+use Rattle.golf_facts.specs.Expressions.{taken_at, pushed_at}
+use Rattle.golf_facts.specs.Statements.{PieceBy, piece_by, stores, stores_next, stores_two, past_two, steps_by, defines_by, simple_by, optional_by, var_by, return_by}
+use Rattle.golf_facts.proofs.Expressions.{made-alone, past-alone, made-among, past-among}
 
 -- code for which no function is made: whatever names are known, it is that by the facts in front
 pub record PieceFollows (w : Walk) (p : Scope → Piece) (k : List Fact → PieceBy) : Type 0 where
   pub code : (s : Scope) (rest : List Fact) → k ((w s).facts ++ rest) ≡ piece_by (p s) rest
-
--- an expression before other facts of the same statement
-pub among : (t : Tables) (l : ℕ) (s : Scope) (e : Expr) (gs rest : List Fact) → taken_at t l ((facts_of (judge_at l s e) ++ gs) ++ rest) e ≡ taken (code_at t l s e) (gs ++ rest)
-among t l s e gs rest = ap (λ fs. taken_at t l fs e) (append_assoc (facts_of (judge_at l s e)) gs rest) ∙ expressions-follow t l s e (gs ++ rest)
 
 -- Names.
 
@@ -79,44 +74,49 @@ module _ (t : Tables) (l : ℕ) where
   Law k = (s : Scope) (rest : List Fact) → simple_by t l k ((W.simple_kind l k s).facts ++ rest) ≡ piece_by (simple_piece t l k s) rest
 
   on_expression : (e : Expr) → Law (simple.Expression e)
-  on_expression e s rest = ap (λ (x : Taken). piece_by (all (x.made.piece ∷ drops l (judge_at l s e).meaning ∷ [])) x.left) (expressions-follow t l s e rest)
+  on_expression e s rest =
+      ap (λ (x : Made). piece_by (all (x.piece ∷ drops l (judge_at l s e).meaning ∷ [])) (skip (facts_of (judge_at l s e) ++ rest))) (made-alone t l s e rest)
+      ∙ ap (piece_by (all (piece_at t l s e ∷ drops l (judge_at l s e).meaning ∷ []))) (past-alone t l s e rest)
 
   -- two expressions
   both : (k : Made → Made → Piece) (s : Scope) (c e : Expr) (rest : List Fact)
-      → (let x = taken_at t l ((facts_of (judge_at l s c) ++ facts_of (judge_at l s e)) ++ rest) c in let y = taken_at t l x.left e in piece_by (k x.made y.made) y.left) ≡ piece_by (k (code_at t l s c) (code_at t l s e)) rest
-  both k s c e rest = ap first (among t l s c (facts_of (judge_at l s e)) rest) ∙ ap (λ (y : Taken). piece_by (k (code_at t l s c) y.made) y.left) (expressions-follow t l s e rest)
-    where
-      first : Taken → PieceBy
-      first x = let y = taken_at t l x.left e in piece_by (k x.made y.made) y.left
+      → (let fs = (facts_of (judge_at l s c) ++ facts_of (judge_at l s e)) ++ rest in piece_by (k (taken_at t l fs c) (taken_at t l (skip fs) e)) (skip (skip fs))) ≡ piece_by (k (code_at t l s c) (code_at t l s e)) rest
+  both k s c e rest =
+      let E = facts_of (judge_at l s e) in
+      let fs = (facts_of (judge_at l s c) ++ E) ++ rest in
+      ap (λ x. piece_by (k x (taken_at t l (skip fs) e)) (skip (skip fs))) (made-among t l s c E rest)
+      ∙ ap (λ gs. piece_by (k (code_at t l s c) (taken_at t l gs e)) (skip gs)) (past-among t l s c E rest)
+      ∙ ap (λ y. piece_by (k (code_at t l s c) y) (skip (E ++ rest))) (made-alone t l s e rest)
+      ∙ ap (piece_by (k (code_at t l s c) (code_at t l s e))) (past-alone t l s e rest)
 
   on_send : (c e : Expr) → Law (simple.Send c e)
   on_send c e s rest = both (λ x y. all (x.piece ∷ y.piece ∷ op l Instr.Send ∷ [])) s c e rest
 
   on_step : (p : Expr) (i : Instr) (s : Scope) (rest : List Fact) → steps_by t l p i (facts_of (judge_at l s p) ++ rest) ≡ piece_by (updates l (code_at t l s p) (op l (Instr.Int (pos 1))) i) rest
-  on_step p i s rest = ap (λ (x : Taken). piece_by (updates l x.made (op l (Instr.Int (pos 1))) i) x.left) (expressions-follow t l s p rest)
+  on_step p i s rest =
+      ap (λ (x : Made). piece_by (updates l x (op l (Instr.Int (pos 1))) i) (skip (facts_of (judge_at l s p) ++ rest))) (made-alone t l s p rest)
+      ∙ ap (piece_by (updates l (code_at t l s p) (op l (Instr.Int (pos 1))) i)) (past-alone t l s p rest)
 
-  on_define : (n : List ℕ) (e : Expr) → Law (simple.Define n e)
-  on_define n e s rest = ap step (among t l s e (new_target s (type_given (given_by (judge_at l s e))) ∷ []) rest)
-    where
-      step : Taken → PieceBy
-      step x = let y = stores_next l t x.left in piece_by (all (x.made.piece ∷ y.piece ∷ [])) y.left
+  -- an expression, and what is done with the facts after it
+  with_others : (k : Piece → List Fact → PieceBy) (s : Scope) (e : Expr) (gs rest : List Fact)
+      → (let fs = (facts_of (judge_at l s e) ++ gs) ++ rest in k (pushed_at t l fs e) (skip fs)) ≡ k (piece_at t l s e) (gs ++ rest)
+  with_others k s e gs rest =
+      ap (λ (x : Made). k x.piece (skip ((facts_of (judge_at l s e) ++ gs) ++ rest))) (made-among t l s e gs rest)
+      ∙ ap (k (piece_at t l s e)) (past-among t l s e gs rest)
+
+  on_defines : (s : Scope) (e : Expr) (of_type : Option GoType) (rest : List Fact) → defines_by t l e ((facts_of (judge_at l s e) ++ new_target s of_type ∷ []) ++ rest) ≡ piece_by (all (piece_at t l s e ∷ op l (Instr.Store s.next) ∷ [])) rest
+  on_defines s e of_type rest = with_others (λ p gs. let y = stores_next l t gs in piece_by (all (p ∷ y.piece ∷ [])) y.left) s e (new_target s of_type ∷ []) rest
 
   on_define_received : (n m : List ℕ) (e : Expr) → Law (simple.DefineReceived n m e)
   on_define_received n m e s rest =
-      ap step (among t l s e (first_fact l t s n (carried l e s) ∷ (second_fact l t s n m (carried l e s) ∷ [])) rest)
+      with_others (λ p gs. piece_by (all (p ∷ op l Instr.ReceiveOk ∷ stores_two l t gs ∷ [])) (past_two gs)) s e (first_fact l t s n (carried l e s) ∷ (second_fact l t s n m (carried l e s) ∷ [])) rest
       ∙ ap (λ p. piece_by (all (piece_at t l s e ∷ op l Instr.ReceiveOk ∷ p ∷ [])) rest) (pair_stored l t s n m (carried l e s) rest)
-    where
-      step : Taken → PieceBy
-      step x = piece_by (all (x.made.piece ∷ op l Instr.ReceiveOk ∷ stores_two l t x.left ∷ [])) (past_two x.left)
 
   on_assign_received : (n m : List ℕ) (e : Expr) → Law (simple.AssignReceived n m e)
   on_assign_received n m e s rest =
-      ap step (among t l s e (fact.Target (assigned s n) ∷ (fact.Target (assigned s m) ∷ [])) rest)
+      with_others (λ p gs. piece_by (all (p ∷ op l Instr.ReceiveOk ∷ stores l t (next_is (past_one gs)) ∷ stores l t (next_is gs) ∷ [])) (past_two gs)) s e (fact.Target (assigned s n) ∷ (fact.Target (assigned s m) ∷ [])) rest
       ∙ ap (λ p. piece_by (all (piece_at t l s e ∷ op l Instr.ReceiveOk ∷ p ∷ stores l t (assigned s n) ∷ [])) rest) (stored l t (assigned_name s m))
       ∙ ap (λ p. piece_by (all (piece_at t l s e ∷ op l Instr.ReceiveOk ∷ stores_to l t (assigned_name s m) ∷ p ∷ [])) rest) (stored l t (assigned_name s n))
-    where
-      step : Taken → PieceBy
-      step x = piece_by (all (x.made.piece ∷ op l Instr.ReceiveOk ∷ stores l t (next_is (past_one x.left)) ∷ stores l t (next_is x.left) ∷ [])) (past_two x.left)
 
   pub on_kind : (k : SimpleKind) → Law k
   on_kind (simple.Expression e) = on_expression e
@@ -125,7 +125,7 @@ module _ (t : Tables) (l : ℕ) where
   on_kind (simple.Decrement p) = on_step p Instr.Sub
   on_kind (simple.Assign p e) = λ s rest. both (λ x y. assigns x y.piece) s p e rest
   on_kind (simple.Update p o e) = λ s rest. both (λ x y. updates l x y.piece (update_instr o)) s p e rest
-  on_kind (simple.Define n e) = on_define n e
+  on_kind (simple.Define n e) = λ s rest. on_defines s e _ rest
   on_kind (simple.DefineReceived n m e) = on_define_received n m e
   on_kind (simple.AssignReceived n m e) = on_assign_received n m e
 
@@ -151,19 +151,15 @@ module _ (t : Tables) (l : ℕ) where
   abbrev var_piece : VarContent → Scope → Piece
   var_piece x s = all (first_value t l x s ∷ op l (Instr.Store s.next) ∷ [])
 
-  begun_with : (s : Scope) (e : Expr) (of_type : Option GoType) (rest : List Fact)
-      → (let x = taken_at t l ((facts_of (judge_at l s e) ++ new_target s of_type ∷ []) ++ rest) e in let y = stores_next l t x.left in piece_by (all (x.made.piece ∷ y.piece ∷ [])) y.left)
-      ≡ piece_by (all (piece_at t l s e ∷ op l (Instr.Store s.next) ∷ [])) rest
-  begun_with s e of_type rest = ap step (among t l s e (new_target s of_type ∷ []) rest)
-    where
-      step : Taken → PieceBy
-      step x = let y = stores_next l t x.left in piece_by (all (x.made.piece ∷ y.piece ∷ [])) y.left
-
   pub on_var : (n : List ℕ) (x : VarContent) → PieceFollows (W.var_content l n x) (var_piece x) (var_by t l x)
   on_var n (content.Zero w) = record { code = λ s rest. refl }
-  on_var n (content.Typed w e) = record { code = λ s rest. begun_with s e _ rest }
-  on_var n (content.Untyped e) = record { code = λ s rest. begun_with s e _ rest }
+  on_var n (content.Typed w e) = record { code = λ s rest. on_defines t l s e _ rest }
+  on_var n (content.Untyped e) = record { code = λ s rest. on_defines t l s e _ rest }
 
   pub on_return : (e : Option Expr) → PieceFollows (W.returned l e) (returns t l e) (return_by t l e)
   on_return None = record { code = λ s rest. refl }
-  on_return (Some e) = record { code = λ s rest. ap (λ (x : Taken). piece_by (all (x.made.piece ∷ op l Instr.ReturnValue ∷ [])) x.left) (expressions-follow t l s e rest) }
+  on_return (Some e) = record {
+    code = λ s rest.
+        ap (λ (x : Made). piece_by (all (x.piece ∷ op l Instr.ReturnValue ∷ [])) (skip (facts_of (judge_at l s e) ++ rest))) (made-alone t l s e rest)
+        ∙ ap (piece_by (all (piece_at t l s e ∷ op l Instr.ReturnValue ∷ []))) (past-alone t l s e rest);
+  }

@@ -44,15 +44,20 @@ abbrev pub slots_in : Fact → ℕ
 slots_in (fact.Function a s n) = s
 slots_in _ = 0
 
--- What operands say.
-
-abbrev pub value_type : Operand → Option GoType
-value_type (operand.Value t) = t
-value_type _ = None
+abbrev pub type_of_value : Operand → Option GoType
+type_of_value (operand.Value t) = t
+type_of_value _ = None
 
 abbrev pub base_of : Option GoType → Option Base
 base_of None = None
 base_of (Some t) = Some t.base
+
+-- the type of what is made, and its base
+abbrev pub type_in : Fact → Option GoType
+type_in f = type_of_value (operand_in f)
+
+abbrev pub base_in : Fact → Option Base
+base_in f = base_of (type_in f)
 
 -- Facts in front of others.
 

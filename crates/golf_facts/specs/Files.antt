@@ -24,7 +24,7 @@ use Rattle.golf_code_of.specs.Texts.{texts_of}
 use Rattle.golf_code_of.specs.Values.{zero_value, const_value}
 use Rattle.golf_code_of.specs.Files.{Functions, no_functions, function, last_return, made_function, main_number, main_line, giving}
 use Rattle.golf_facts.specs.Facts.{number_in, arguments_in, slots_in, next, past_one, skip}
-use Rattle.golf_facts.specs.Expressions.{taken_at}
+use Rattle.golf_facts.specs.Expressions.{pushed_at}
 use Rattle.golf_facts.specs.Statements.{LaidBy, PieceBy, piece_by, in_order}
 use Rattle.golf_facts.specs.Laying.{stmt_by}
 
@@ -91,8 +91,8 @@ functions_by t gives ss n (x ∷ xs) fs = functions_by t gives ss n xs (past_dec
 
 abbrev pub initial_by : Tables → ℕ → ℕ → VarContent → List Fact → PieceBy
 initial_by t g l (content.Zero w) fs = piece_by Piece.Empty fs
-initial_by t g l (content.Typed w e) fs = let x = taken_at t l fs e in piece_by (all (x.made.piece ∷ op l (Instr.StoreGlobal g) ∷ [])) x.left
-initial_by t g l (content.Untyped e) fs = let x = taken_at t l fs e in piece_by (all (x.made.piece ∷ op l (Instr.StoreGlobal g) ∷ [])) x.left
+initial_by t g l (content.Typed w e) fs = piece_by (all (pushed_at t l fs e ∷ op l (Instr.StoreGlobal g) ∷ [])) (skip fs)
+initial_by t g l (content.Untyped e) fs = piece_by (all (pushed_at t l fs e ∷ op l (Instr.StoreGlobal g) ∷ [])) (skip fs)
 
 -- the initialisers in source order, if so many globals stand above
 abbrev pub initials_by : Tables → ℕ → List Decl → List Fact → Piece

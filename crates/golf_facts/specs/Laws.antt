@@ -14,13 +14,15 @@ use Rattle.golf_code_of.specs.declared.tables.Tables.{Tables}
 use Rattle.golf_code_of.specs.Coding.{code_at}
 use Rattle.golf_code_of.specs.Laying.{stmt_part}
 use Rattle.golf_code_of.specs.Files.{CodeOf}
-use Rattle.golf_facts.specs.Expressions.{taken, taken_at}
+use Rattle.golf_facts.specs.Facts.{skip}
+use Rattle.golf_facts.specs.Expressions.{taken_at}
 use Rattle.golf_facts.specs.Statements.{by}
 use Rattle.golf_facts.specs.Laying.{stmt_by}
 use Rattle.golf_facts.specs.Files.{CodeBy}
 
 abbrev pub ExpressionsFollow : Type 0
-ExpressionsFollow = (t : Tables) (l : ℕ) (s : Scope) (e : Expr) (rest : List Fact) → taken_at t l (facts_of (judge_at l s e) ++ rest) e ≡ taken (code_at t l s e) rest
+ExpressionsFollow = (t : Tables) (l : ℕ) (s : Scope) (e : Expr) (rest : List Fact) →
+    (taken_at t l (facts_of (judge_at l s e) ++ rest) e ≡ code_at t l s e) × (skip (facts_of (judge_at l s e) ++ rest) ≡ rest)
 
 abbrev pub StatementsFollow : Type 0
 StatementsFollow = (t : Tables) (x : Stmt) (a : Around) (s : Scope) (rest : List Fact) → stmt_by t x a ((walk x s).facts ++ rest) ≡ by ((stmt_part t x).lay a s) rest

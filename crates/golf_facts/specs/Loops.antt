@@ -17,7 +17,7 @@ use Rattle.golf_code_of.specs.declared.tables.Tables.{Tables}
 use Rattle.golf_code_of.specs.Statements.{wrapped}
 use Rattle.golf_code_of.specs.Loops.{round, over_slice, over_channel}
 use Rattle.golf_facts.specs.Facts.{hidden_in, next, next_is, past_one, skip}
-use Rattle.golf_facts.specs.Expressions.{taken_at}
+use Rattle.golf_facts.specs.Expressions.{pushed_at}
 use Rattle.golf_facts.specs.Statements.{LayBy, PieceBy, by, piece_by, stores, past_two, after, in_order, optional_by}
 
 -- inside of a loop, which `break` and `continue` leave by these targets
@@ -31,15 +31,14 @@ forever l x a fs = let g = x a fs in by (wrapped (λ p. round (all (p ∷ Piece.
 -- `for test { }`
 abbrev pub while : Tables → ℕ → Expr → LayBy → LayBy
 while t l test x a fs =
-    let c = taken_at t l fs test in
-    let g = x a c.left in
-    by (wrapped (λ p. round (all (c.made.piece ∷ Piece.Unless l 1 ∷ p ∷ Piece.Exit l 0 ∷ []))) g.laid) g.left
+    let g = x a (skip fs) in
+    by (wrapped (λ p. round (all (pushed_at t l fs test ∷ Piece.Unless l 1 ∷ p ∷ Piece.Exit l 0 ∷ []))) g.laid) g.left
 
 -- `for first; test; post { }`: the facts of the post statement stand before those of the body, after their number
 
 abbrev pub optional_test : Tables → ℕ → Option Expr → List Fact → PieceBy
 optional_test t l None fs = piece_by Piece.Empty fs
-optional_test t l (Some e) fs = let c = taken_at t l fs e in piece_by (all (c.made.piece ∷ Piece.Unless l 1 ∷ [])) c.left
+optional_test t l (Some e) fs = piece_by (all (pushed_at t l fs e ∷ Piece.Unless l 1 ∷ [])) (skip fs)
 
 abbrev pub stepping : Tables → ℕ → Option Expr → Option Simple → LayBy → LayBy
 stepping t l test post body a fs =
@@ -81,10 +80,9 @@ range_piece t l names v h fs e body = cond (is_outer is_slice v) (over_slice l h
 
 abbrev pub ranging : Tables → ℕ → RangeNames → Expr → List LayBy → LayBy
 ranging t l names e body a fs =
-    let x = taken_at t l fs e in
-    let ns = past_one x.left in
+    let ns = past_one (skip fs) in
     let g = in_loop 2 0 (in_order body) a (past_names names ns) in
-    by (wrapped (range_piece t l names (given (next_is fs)) (hidden_in (next x.left)) ns x.made.piece) g.laid) g.left
+    by (wrapped (range_piece t l names (given (next_is fs)) (hidden_in (next (skip fs))) ns (pushed_at t l fs e)) g.laid) g.left
 
 abbrev pub for_lay : Tables → ℕ → Header → List LayBy → LayBy
 for_lay t l header.Forever body = forever l (in_loop 1 0 (in_order body))

@@ -11,7 +11,7 @@ use Rattle.golf_code_of.specs.declared.tables.Tables.{Tables}
 use Rattle.golf_code_of.specs.Statements.{laid, wrapped, past}
 use Rattle.golf_code_of.specs.Selects.{kind_of, case_to, default_or, in_clause}
 use Rattle.golf_facts.specs.Facts.{past_one, skip}
-use Rattle.golf_facts.specs.Expressions.{taken_at}
+use Rattle.golf_facts.specs.Expressions.{pushed_at}
 use Rattle.golf_facts.specs.Statements.{LayBy, PieceBy, by, piece_by, stores_next, stores_two, past_two, after, in_order}
 
 -- A clause: what it communicates, none for `default`, what pushes its operands, on the line of `select`, the code after the choice, and its own line.
@@ -24,11 +24,11 @@ pub record ClauseBy : Type 0 where
 -- Communications.
 
 abbrev pub operands_by : Tables → Communication → ℕ → List Fact → Piece
-operands_by t (comm.Send c e) l fs = let x = taken_at t l fs c in let y = taken_at t l x.left e in all (x.made.piece ∷ y.made.piece ∷ [])
-operands_by t (comm.Receive e) l fs = (taken_at t l fs e).made.piece
-operands_by t (comm.Define n e) l fs = (taken_at t l fs e).made.piece
-operands_by t (comm.Assign n e) l fs = (taken_at t l fs e).made.piece
-operands_by t (comm.DefineReceived n m e) l fs = (taken_at t l fs e).made.piece
+operands_by t (comm.Send c e) l fs = all (pushed_at t l fs c ∷ pushed_at t l (skip fs) e ∷ [])
+operands_by t (comm.Receive e) l fs = pushed_at t l fs e
+operands_by t (comm.Define n e) l fs = pushed_at t l fs e
+operands_by t (comm.Assign n e) l fs = pushed_at t l fs e
+operands_by t (comm.DefineReceived n m e) l fs = pushed_at t l fs e
 
 -- past its operands: what a chosen receive does with what it was given
 abbrev pub takes_in : Tables → ℕ → Communication → List Fact → PieceBy

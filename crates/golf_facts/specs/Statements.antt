@@ -1,5 +1,5 @@
 -- The code of statements by their facts, beside `golf_code_of`.
-use Rattle.std.specs.Prelude.{ℕ, pos, List, [], ◌∷◌, ◌++◌, map, Option, Some, None}
+use Rattle.std.specs.Prelude.{ℕ, pos, List, [], ◌∷◌, ◌++◌, length, map, Option, Some, None}
 use Rattle.golf_grammar.specs.declared.expressions.Expr.{Expr}
 use Rattle.golf_grammar.specs.declared.statements.Simple.{Simple}
 use Rattle.golf_grammar.specs.declared.statements.SimpleKind.{SimpleKind}
@@ -17,8 +17,8 @@ use Rattle.golf_code_of.specs.Values.{push, zero_value}
 use Rattle.golf_code_of.specs.Expressions.{name}
 use Rattle.golf_code_of.specs.Calls.{pushes, makings, beginning}
 use Rattle.golf_code_of.specs.Statements.{Laid, no_code, laid, wrapped, follow, past, within, drops, update_instr, updates, assigns}
-use Rattle.golf_facts.specs.Facts.{next_is, past_one}
-use Rattle.golf_facts.specs.Expressions.{taking, taken_at, arguments}
+use Rattle.golf_facts.specs.Facts.{next_is, past_one, skip, skip_all}
+use Rattle.golf_facts.specs.Expressions.{taking, taken_at, pushed_at, arguments}
 
 -- the code of a statement and what is made for it, and the facts after those that it was made by
 pub record LaidBy : Type 0 where
@@ -57,50 +57,37 @@ in_order (x ∷ xs) a fs = then x (in_order xs) a fs
 
 -- Simple statements.
 
--- what is on top is stored to a name, or dropped if the name is `_`
+-- what is on top is stored under a name that is this, or dropped if it is `_`
 abbrev pub stores : ℕ → Tables → Operand → Piece
 stores l t m = (name l t m).store
 
--- it is stored to the name whose fact is the next one
+-- under the name whose fact is the next one
 abbrev pub stores_next : ℕ → Tables → List Fact → PieceBy
 stores_next l t fs = piece_by (stores l t (next_is fs)) (past_one fs)
-
--- two values are stored to the next two names; that of the second stands on top
-abbrev pub stores_two : ℕ → Tables → List Fact → Piece
-stores_two l t fs = all (stores l t (next_is (past_one fs)) ∷ stores l t (next_is fs) ∷ [])
 
 abbrev pub past_two : List Fact → List Fact
 past_two fs = past_one (past_one fs)
 
+-- two values under the next two names; that of the second stands on top
+abbrev pub stores_two : ℕ → Tables → List Fact → Piece
+stores_two l t fs = all (stores l t (next_is (past_one fs)) ∷ stores l t (next_is fs) ∷ [])
+
 abbrev pub steps_by : Tables → ℕ → Expr → Instr → List Fact → PieceBy
-steps_by t l p i fs = let x = taken_at t l fs p in piece_by (updates l x.made (op l (Instr.Int (pos 1))) i) x.left
+steps_by t l p i fs = piece_by (updates l (taken_at t l fs p) (op l (Instr.Int (pos 1))) i) (skip fs)
+
+abbrev pub defines_by : Tables → ℕ → Expr → List Fact → PieceBy
+defines_by t l e fs = let y = stores_next l t (skip fs) in piece_by (all (pushed_at t l fs e ∷ y.piece ∷ [])) y.left
 
 abbrev pub simple_by : Tables → ℕ → SimpleKind → List Fact → PieceBy
-simple_by t l (simple.Expression e) fs = let x = taken_at t l fs e in piece_by (all (x.made.piece ∷ drops l (next_is fs) ∷ [])) x.left
-simple_by t l (simple.Send c e) fs =
-    let x = taken_at t l fs c in
-    let y = taken_at t l x.left e in
-    piece_by (all (x.made.piece ∷ y.made.piece ∷ op l Instr.Send ∷ [])) y.left
+simple_by t l (simple.Expression e) fs = piece_by (all (pushed_at t l fs e ∷ drops l (next_is fs) ∷ [])) (skip fs)
+simple_by t l (simple.Send c e) fs = piece_by (all (pushed_at t l fs c ∷ pushed_at t l (skip fs) e ∷ op l Instr.Send ∷ [])) (skip (skip fs))
 simple_by t l (simple.Increment p) fs = steps_by t l p Instr.Add fs
 simple_by t l (simple.Decrement p) fs = steps_by t l p Instr.Sub fs
-simple_by t l (simple.Assign p e) fs =
-    let x = taken_at t l fs p in
-    let y = taken_at t l x.left e in
-    piece_by (assigns x.made y.made.piece) y.left
-simple_by t l (simple.Update p o e) fs =
-    let x = taken_at t l fs p in
-    let y = taken_at t l x.left e in
-    piece_by (updates l x.made y.made.piece (update_instr o)) y.left
-simple_by t l (simple.Define n e) fs =
-    let x = taken_at t l fs e in
-    let y = stores_next l t x.left in
-    piece_by (all (x.made.piece ∷ y.piece ∷ [])) y.left
-simple_by t l (simple.DefineReceived n m e) fs =
-    let x = taken_at t l fs e in
-    piece_by (all (x.made.piece ∷ op l Instr.ReceiveOk ∷ stores_two l t x.left ∷ [])) (past_two x.left)
-simple_by t l (simple.AssignReceived n m e) fs =
-    let x = taken_at t l fs e in
-    piece_by (all (x.made.piece ∷ op l Instr.ReceiveOk ∷ stores l t (next_is (past_one x.left)) ∷ stores l t (next_is x.left) ∷ [])) (past_two x.left)
+simple_by t l (simple.Assign p e) fs = piece_by (assigns (taken_at t l fs p) (pushed_at t l (skip fs) e)) (skip (skip fs))
+simple_by t l (simple.Update p o e) fs = piece_by (updates l (taken_at t l fs p) (pushed_at t l (skip fs) e) (update_instr o)) (skip (skip fs))
+simple_by t l (simple.Define n e) fs = defines_by t l e fs
+simple_by t l (simple.DefineReceived n m e) fs = piece_by (all (pushed_at t l fs e ∷ op l Instr.ReceiveOk ∷ stores_two l t (skip fs) ∷ [])) (past_two (skip fs))
+simple_by t l (simple.AssignReceived n m e) fs = piece_by (all (pushed_at t l fs e ∷ op l Instr.ReceiveOk ∷ stores l t (next_is (past_one (skip fs))) ∷ stores l t (next_is (skip fs)) ∷ [])) (past_two (skip fs))
 
 abbrev pub optional_by : Tables → Option Simple → List Fact → PieceBy
 optional_by t None fs = piece_by Piece.Empty fs
@@ -108,33 +95,26 @@ optional_by t (Some x) fs = simple_by t x.line x.kind fs
 
 -- Variables: without a value, the zero value of the type.
 
-abbrev pub first_value : Tables → ℕ → VarContent → List Fact → PieceBy
-first_value t l (content.Zero w) fs = piece_by (op l (push (zero_value (type_of (next_is fs))))) fs
-first_value t l (content.Typed w e) fs = let x = taken_at t l fs e in piece_by x.made.piece x.left
-first_value t l (content.Untyped e) fs = let x = taken_at t l fs e in piece_by x.made.piece x.left
-
 abbrev pub var_by : Tables → ℕ → VarContent → List Fact → PieceBy
-var_by t l x fs =
-    let v = first_value t l x fs in
-    let y = stores_next l t v.left in
-    piece_by (all (v.piece ∷ y.piece ∷ [])) y.left
+var_by t l (content.Zero w) fs = piece_by (all (op l (push (zero_value (type_of (next_is fs)))) ∷ stores l t (next_is fs) ∷ [])) (past_one fs)
+var_by t l (content.Typed w e) fs = defines_by t l e fs
+var_by t l (content.Untyped e) fs = defines_by t l e fs
 
 -- Go and defer statements: receiver and arguments are evaluated now.
 
 abbrev pub begin_lay : Tables → ℕ → (ℕ → ℕ → Instr) → Expr → List Expr → LayBy
 begin_lay t l begin f xs a fs =
-    let x = taken_at t l fs f in
-    let ys = arguments l (map (taking t) xs) x.left in
+    let ys = arguments l (map (taking t) xs) (skip fs) in
     by (record {
-      piece = all (x.made.piece ∷ pushes ys.all ∷ beginning l begin a.functions (next_is fs) ys.all ∷ []);
-      made = makings l (next_is fs) ys.all;
-    }) ys.left
+      piece = all (pushed_at t l fs f ∷ pushes ys ∷ beginning l begin a.functions (next_is fs) ys ∷ []);
+      made = makings l (next_is fs) ys;
+    }) (skip_all (length xs) (skip fs))
 
 -- Return, break, continue.
 
 abbrev pub return_by : Tables → ℕ → Option Expr → List Fact → PieceBy
 return_by t l None fs = piece_by (op l Instr.Return) fs
-return_by t l (Some e) fs = let x = taken_at t l fs e in piece_by (all (x.made.piece ∷ op l Instr.ReturnValue ∷ [])) x.left
+return_by t l (Some e) fs = piece_by (all (pushed_at t l fs e ∷ op l Instr.ReturnValue ∷ [])) (skip fs)
 
 abbrev pub break_lay : ℕ → LayBy
 break_lay l a fs = by (laid (Piece.Exit l a.breaks)) fs
@@ -147,9 +127,8 @@ continue_lay l a fs = by (laid (Piece.Exit l a.continues)) fs
 -- a condition, and what stands after it; if it is false, it goes on at target 0
 abbrev pub after_test : Tables → ℕ → Expr → LayBy → LayBy
 after_test t l test x a fs =
-    let c = taken_at t l fs test in
-    let g = x a c.left in
-    by (wrapped (λ p. all (c.made.piece ∷ Piece.Unless l 0 ∷ p ∷ [])) g.laid) g.left
+    let g = x a (skip fs) in
+    by (wrapped (λ p. all (pushed_at t l fs test ∷ Piece.Unless l 0 ∷ p ∷ [])) g.laid) g.left
 
 abbrev pub then_lay : Tables → ℕ → Option Simple → Expr → List LayBy → LayBy
 then_lay t l first test body = after (optional_by t first) (after_test t l test (in_order body))
