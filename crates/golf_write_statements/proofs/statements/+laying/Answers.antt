@@ -37,7 +37,7 @@ clauses_at-loop-clause-preserved t c =
     let counted : later ≡ length others = simp (length-map, length-drop) (omega arith) in
     let ended = written w.facts (record w.draft { marks = c.end.new.marks }) in
     let one_more : c.clause_at.new.writer ≡ after ended ((by one).lay (around ended c.in_ok-inner.inner) w.facts) =
-        c.in_ok-clause_at.ensures ∙ ap (λ (b : Bor Tables). after ended ((clause_by b.now one).lay (around ended c.in_ok-inner.inner) w.facts)) v.invariant.tables in
+    c.in_ok-clause_at.ensures ∙ ap (λ (b : Bor Tables). after ended ((clause_by b.now one).lay (around ended c.in_ok-inner.inner) w.facts)) v.invariant.tables in
     record {
       left = omega arith;
       tables = ap (λ (x : Writer). x.draft.tables) c.in_ok-clause_at.ensures ∙ v.invariant.tables;
