@@ -10,31 +10,41 @@ use Rattle.golf_grammar.specs.declared.statements.Var.{Var}
 use Rattle.golf_types.specs.declared.fault.TypeFault.{TypeFault}
 use Rattle.golf_types.specs.declared.types.GoType.{GoType}
 use Rattle.golf_types.specs.declared.operands.Signature.{Signature}
+use Rattle.golf_types.specs.declared.facts.Fact.{Fact}
 use Rattle.golf_types.specs.declared.scopes.FileScope.{FileScope}
 use Rattle.golf_types.specs.declared.scopes.Imports.{Imports}
 use Rattle.golf_types.specs.declared.scopes.Scope.{Scope}
 use Rattle.golf_types.specs.Faults.{Tells}
 use Rattle.golf_types.specs.Statements.{Walk, Walked, Walks, in_order, behind}
-use Rattle.golf_types.specs.Files.{receiver_walk, parameter_walk, all_typed_names, result_type, func_walk, initial_walk, outside, struct_types, global_types, function_types, with_types, bare_file, file_scope, import_faults, no_imports, with_imports, walk_faults, walk_types, decl_faults, Broken, types_in}
+use Rattle.golf_types.specs.Files.{receiver_walk, parameter_walk, all_typed_names, result_type, head_scope, of_function, func_walk, initial_walk, outside, struct_types, global_types, function_types, with_types, bare_file, file_scope, import_faults, no_imports, with_imports, walk_faults, walk_facts, decl_faults, Broken, facts_in}
 use Rattle.golf_types.proofs.Seams.{tells_behind}
 use Rattle.golf_types.proofs.WalkLaws.{then_tells}
 use Rattle.golf_check.specs.declared.files.Found.{Found}
-use Rattle.golf_check.specs.Heads.{receiver_name, optional_parameter, inner_walks, head_walks, Stays, scope_of, typed_file, named_faults}
+use Rattle.golf_check.specs.Heads.{receiver_name, optional_parameter, inner_walks, function_walked, Stays, scope_of, typed_file, named_faults}
 
 receiver_walks : (l : ℕ) (file : Scope) (r : Option Receiver) → optional_parameter l (receiver_name file r) ≡ receiver_walk l file r
 receiver_walks l file None = refl
 receiver_walks l file (Some r) = refl
 
-func_walks : (f : Func) (file : Scope) → in_order (head_walks f (receiver_name file f.receiver) (all_typed_names file f.parameters)) (record file { result = result_type file f.result }) ≡ func_walk f file
-func_walks f file = ap (λ w. in_order (w ∷ inner_walks f (all_typed_names file f.parameters)) (record file { result = result_type file f.result })) (receiver_walks f.line file f.receiver)
+-- a function whose receiver declares so
+walked_with : Func → Scope → Walk → Walked
+walked_with f file w =
+    let ps = all_typed_names file f.parameters in
+    let s = head_scope file f in
+    let t = behind s (w s) in
+    of_function (behind t (in_order (map (parameter_walk f.line) ps) t)).next s (in_order (w ∷ inner_walks f ps) s)
+
+func_walks : (f : Func) (file : Scope) → function_walked f (receiver_name file f.receiver) (all_typed_names file f.parameters) (head_scope file f) ≡ func_walk f file
+unfolding walked_with
+func_walks f file = ap (walked_with f file) (receiver_walks f.line file f.receiver)
 
 -- the answer for a head and its body is that for the function
-pub func_tells : {A : Type 0} (a : Result A TypeFault) (f : Func) (file t : Scope) (r : Option (List ℕ × Option GoType)) (ps : List (List ℕ × Option GoType)) (result : Option GoType) (old new : List (Option GoType)) → r ≡ receiver_name file f.receiver → ps ≡ all_typed_names file f.parameters → result ≡ result_type file f.result → Stays a (in_order (head_walks f r ps) (record file { result = result })) file t old new → Stays a (func_walk f file) file t old new
+pub func_tells : {A : Type 0} (a : Result A TypeFault) (f : Func) (file t : Scope) (r : Option (List ℕ × Option GoType)) (ps : List (List ℕ × Option GoType)) (result : Option GoType) (old new : List Fact) → r ≡ receiver_name file f.receiver → ps ≡ all_typed_names file f.parameters → result ≡ result_type file f.result → Stays a (function_walked f r ps (record file { result = result })) file t old new → Stays a (func_walk f file) file t old new
 func_tells a f file t r ps result old new head names gives h =
     subst (λ w. Stays a w file t old new)
-    (ap (λ x. in_order (head_walks f x ps) (record file { result = result })) head
-    ∙ ap (λ xs. in_order (head_walks f (receiver_name file f.receiver) xs) (record file { result = result })) names
-    ∙ ap (λ g. in_order (head_walks f (receiver_name file f.receiver) (all_typed_names file f.parameters)) (record file { result = g })) gives
+    (ap (λ x. function_walked f x ps (record file { result = result })) head
+    ∙ ap (λ xs. function_walked f (receiver_name file f.receiver) xs (record file { result = result })) names
+    ∙ ap (λ g. function_walked f (receiver_name file f.receiver) (all_typed_names file f.parameters) (record file { result = g })) gives
     ∙ func_walks f file) h
 
 back : Scope → Scope
@@ -45,17 +55,17 @@ pub left_scope : (s t u : Scope) (g : Option GoType) (w : Walked) → s ≡ outs
 unfolding back
 left_scope s t u g w is at left = left ∙ ap back at ∙ ap back is ∙ sym is
 
--- parameters have no expressions
-parameters_types : (l : ℕ) (ps : List (List ℕ × Option GoType)) (s : Scope) → (in_order (map (parameter_walk l) ps) s).types ≡ []
-parameters_types l [] s = refl
-parameters_types l (p ∷ ps) s = parameters_types l ps (behind s (parameter_walk l p s))
+-- parameters have no facts
+parameters_facts : (l : ℕ) (ps : List (List ℕ × Option GoType)) (s : Scope) → (in_order (map (parameter_walk l) ps) s).facts ≡ []
+parameters_facts l [] s = refl
+parameters_facts l (p ∷ ps) s = parameters_facts l ps (behind s (parameter_walk l p s))
 
 -- where the parameters break nothing, the answer for what stands behind them tells of both
-pub inner_tells : {A : Type 0} (r : Result A TypeFault) (l : ℕ) (ps : List (List ℕ × Option GoType)) (ws : List Walk) (s mid t : Scope) (old new : List (Option GoType)) → (in_order (map (parameter_walk l) ps) s).faults ≡ [] → mid ≡ behind s (in_order (map (parameter_walk l) ps) s) → Walks r (in_order ws mid) mid t old new → Walks r (in_order (in_order (map (parameter_walk l) ps) ∷ ws) s) s t old new
+pub inner_tells : {A : Type 0} (r : Result A TypeFault) (l : ℕ) (ps : List (List ℕ × Option GoType)) (ws : List Walk) (s mid t : Scope) (old new : List Fact) → (in_order (map (parameter_walk l) ps) s).faults ≡ [] → mid ≡ behind s (in_order (map (parameter_walk l) ps) s) → Walks r (in_order ws mid) mid t old new → Walks r (in_order (in_order (map (parameter_walk l) ps) ∷ ws) s) s t old new
 inner_tells r l ps ws s mid t old new none at h =
     let a = in_order (map (parameter_walk l) ps) s in
     then_tells r a (in_order ws (behind s a)) s (behind s a) t old old new none refl
-    (sym (ap (λ ts. old ++ ts) (parameters_types l ps s) ∙ append-nil old))
+    (sym (ap (λ ts. old ++ ts) (parameters_facts l ps s) ∙ append-nil old))
     (subst (λ m. Walks r (in_order ws m) m t old new) at h)
 
 -- a scope whose file has these types
@@ -78,29 +88,29 @@ typed_scope s t xs fs gs hs is fields globals functions at =
 
 -- Declarations are walked in the scope outside all functions.
 
-pub var_stays : {A : Type 0} (r : Result A TypeFault) (v : Var) (g : ℕ) (s t : Scope) (old new : List (Option GoType)) → s ≡ outside s.file → Stays r (initial_walk v.line v.content (record s { initialises = Some g })) s t old new → Stays r (initial_walk v.line v.content (record (outside s.file) { initialises = Some g })) s t old new
+pub var_stays : {A : Type 0} (r : Result A TypeFault) (v : Var) (g : ℕ) (s t : Scope) (old new : List Fact) → s ≡ outside s.file → Stays r (initial_walk v.line v.content (record s { initialises = Some g })) s t old new → Stays r (initial_walk v.line v.content (record (outside s.file) { initialises = Some g })) s t old new
 var_stays r v g s t old new is h = subst (λ u. Stays r (initial_walk v.line v.content (record u { initialises = Some g })) s t old new) is h
 
-pub func_stays : {A : Type 0} (r : Result A TypeFault) (f : Func) (s t : Scope) (old new : List (Option GoType)) → s ≡ outside s.file → Stays r (func_walk f s) s t old new → Stays r (func_walk f (outside s.file)) s t old new
+pub func_stays : {A : Type 0} (r : Result A TypeFault) (f : Func) (s t : Scope) (old new : List Fact) → s ≡ outside s.file → Stays r (func_walk f s) s t old new → Stays r (func_walk f (outside s.file)) s t old new
 func_stays r f s t old new is h = subst (λ u. Stays r (func_walk f u) s t old new) is h
 
 -- Passes over the declarations of a file.
 
 -- behind the scope with all types the answer for the declarations is that for the file with its types
-pub walked_tells : (r : Result (List (Option GoType)) TypeFault) (f : FileScope) (s t : Scope) (xs : List Decl) → t ≡ outside f → Tells r (walk_faults t.file 0 xs) (λ ts. (s ≡ t) × (ts ≡ walk_types t.file 0 xs)) → Tells r (walk_faults f 0 xs) (λ ts. (s ≡ outside f) × (ts ≡ walk_types f 0 xs))
-walked_tells r f s t xs is h = subst (λ (u : Scope). Tells r (walk_faults u.file 0 xs) (λ ts. (s ≡ u) × (ts ≡ walk_types u.file 0 xs))) is h
+pub walked_tells : (r : Result (List Fact) TypeFault) (f : FileScope) (s t : Scope) (xs : List Decl) → t ≡ outside f → Tells r (walk_faults t.file 0 xs) (λ ts. (s ≡ t) × (ts ≡ walk_facts t.file 0 xs)) → Tells r (walk_faults f 0 xs) (λ ts. (s ≡ outside f) × (ts ≡ walk_facts f 0 xs))
+walked_tells r f s t xs is h = subst (λ (u : Scope). Tells r (walk_faults u.file 0 xs) (λ ts. (s ≡ u) × (ts ≡ walk_facts u.file 0 xs))) is h
 
 -- the answer for the passes in the scope without types is that for the declarations
-pub named_tells : (r : Result (List (Option GoType)) TypeFault) (i : Imports) (s t : Scope) (xs : List Decl) → s ≡ outside (bare_file i xs) → Tells r (named_faults s xs) (λ ts. (t ≡ outside (typed_file s.file xs)) × (ts ≡ walk_types (typed_file s.file xs) 0 xs)) → Tells r (decl_faults i xs) (λ ts. (t ≡ outside (file_scope i xs)) × (ts ≡ walk_types (file_scope i xs) 0 xs))
-named_tells r i s t xs is h = subst (λ (u : Scope). Tells r (named_faults u xs) (λ ts. (t ≡ outside (typed_file u.file xs)) × (ts ≡ walk_types (typed_file u.file xs) 0 xs))) is h
+pub named_tells : (r : Result (List Fact) TypeFault) (i : Imports) (s t : Scope) (xs : List Decl) → s ≡ outside (bare_file i xs) → Tells r (named_faults s xs) (λ ts. (t ≡ outside (typed_file s.file xs)) × (ts ≡ walk_facts (typed_file s.file xs) 0 xs)) → Tells r (decl_faults i xs) (λ ts. (t ≡ outside (file_scope i xs)) × (ts ≡ walk_facts (file_scope i xs) 0 xs))
+named_tells r i s t xs is h = subst (λ (u : Scope). Tells r (named_faults u xs) (λ ts. (t ≡ outside (typed_file u.file xs)) × (ts ≡ walk_facts (typed_file u.file xs) 0 xs))) is h
 
 -- what was found of the declarations of a file
 abbrev pub FoundIn : Imports → List Decl → Found → Type 0
-FoundIn i ys x = (x.scope ≡ outside (file_scope i ys)) × (x.types ≡ walk_types (file_scope i ys) 0 ys)
+FoundIn i ys x = (x.scope ≡ outside (file_scope i ys)) × (x.facts ≡ walk_facts (file_scope i ys) 0 ys)
 
 -- where the imports break nothing, the answer for the declarations tells of the file
-pub broken_tells : (r : Result Found TypeFault) (f : File) (xs : List Import) (ys : List Decl) (i : Imports) → xs ≡ f.imports → ys ≡ f.declarations → import_faults no_imports xs ≡ [] → i ≡ with_imports no_imports xs → Tells r (decl_faults i ys) (FoundIn i ys) → Tells r (Broken f) (λ x. (x.scope ≡ scope_of f) × (x.types ≡ types_in f))
-unfolding Broken types_in scope_of
+pub broken_tells : (r : Result Found TypeFault) (f : File) (xs : List Import) (ys : List Decl) (i : Imports) → xs ≡ f.imports → ys ≡ f.declarations → import_faults no_imports xs ≡ [] → i ≡ with_imports no_imports xs → Tells r (decl_faults i ys) (FoundIn i ys) → Tells r (Broken f) (λ x. (x.scope ≡ scope_of f) × (x.facts ≡ facts_in f))
+unfolding Broken facts_in scope_of
 broken_tells r f xs ys i from at none is h =
     tells_behind r (import_faults no_imports f.imports) (decl_faults (with_imports no_imports f.imports) f.declarations)
     (FoundIn (with_imports no_imports f.imports) f.declarations)

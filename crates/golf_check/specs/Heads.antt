@@ -6,11 +6,12 @@ use Rattle.golf_grammar.specs.declared.declarations.Decl.{Decl}
 use Rattle.golf_grammar.specs.declared.declarations.File.{File}
 use Rattle.golf_types.specs.declared.fault.TypeFault.{TypeFault}
 use Rattle.golf_types.specs.declared.types.GoType.{GoType}
+use Rattle.golf_types.specs.declared.facts.Fact.{Fact}
 use Rattle.golf_types.specs.declared.scopes.FileScope.{FileScope}
 use Rattle.golf_types.specs.declared.scopes.Scope.{Scope}
 use Rattle.golf_types.specs.Faults.{Fault, Tells}
-use Rattle.golf_types.specs.Statements.{Walk, Walked, nothing, breaks, in_order, walk}
-use Rattle.golf_types.specs.Files.{receiver_type, parameter_walk, end_faults, names_faults, none_above, type_faults, main_faults, with_types, with_forms, walk_faults, outside, file_scope, with_imports, no_imports}
+use Rattle.golf_types.specs.Statements.{Walk, Walked, nothing, breaks, behind, in_order, walk}
+use Rattle.golf_types.specs.Files.{receiver_type, parameter_walk, end_faults, of_function, names_faults, none_above, type_faults, main_faults, with_types, with_forms, walk_faults, outside, file_scope, with_imports, no_imports}
 
 -- a receiver's name with its type
 abbrev pub receiver_name : Scope → Option Receiver → Option (List ℕ × Option GoType)
@@ -33,9 +34,23 @@ inner_walks f ps = in_order (map (parameter_walk f.line) ps) ∷ body_walks f
 abbrev pub head_walks : Func → Option (List ℕ × Option GoType) → List (List ℕ × Option GoType) → List Walk
 head_walks f r ps = optional_parameter f.line r ∷ inner_walks f ps
 
--- What the answers of the checker tell of a declaration: they come where no rule is broken, and then the scope is as before, and these types were added.
-abbrev pub Stays : {A : Type 0} → Result A TypeFault → Walked → Scope → Scope → List (Option GoType) → List (Option GoType) → Type 0
-Stays result w s t old new = Tells result w.faults (λ _. (t ≡ s) × (new ≡ old ++ w.types))
+-- how many slots receiver and parameters have
+abbrev pub arguments : Func → Option (List ℕ × Option GoType) → List (List ℕ × Option GoType) → Scope → ℕ
+arguments f r ps s =
+    let t = behind s (optional_parameter f.line r s) in
+    (behind t (in_order (map (parameter_walk f.line) ps) t)).next
+
+-- a function with this head, and its fact
+abbrev pub function_walked : Func → Option (List ℕ × Option GoType) → List (List ℕ × Option GoType) → Walk
+function_walked f r ps s = of_function (arguments f r ps s) s (in_order (head_walks f r ps) s)
+
+-- What the answers of the checker tell of a head and its body: beside what they tell of a statement, how many slots receiver and parameters have.
+abbrev pub Counts : Result ℕ TypeFault → Walked → ℕ → Scope → Scope → List Fact → List Fact → Type 0
+Counts result w n s t old new = Tells result w.faults (λ k. (k ≡ n) × ((t ≡ behind s w) × (new ≡ old ++ w.facts)))
+
+-- What the answers of the checker tell of a declaration: they come where no rule is broken, and then the scope is as before, and these facts were added.
+abbrev pub Stays : {A : Type 0} → Result A TypeFault → Walked → Scope → Scope → List Fact → List Fact → Type 0
+Stays result w s t old new = Tells result w.faults (λ _. (t ≡ s) × (new ≡ old ++ w.facts))
 
 -- the names of a file with their types, as written and by form
 abbrev pub typed_file : FileScope → List Decl → FileScope

@@ -2,9 +2,9 @@
 
 ghost use Rattle.std.specs.Prelude.{◌≡◌, [], map, IfOk, OnOk};
 ghost use Rattle.golf_types.specs.Faults.{Tells};
-ghost use Rattle.golf_types.specs.Statements.{Moves, Walks, in_order};
+ghost use Rattle.golf_types.specs.Statements.{Moves, Walks, behind, in_order};
 ghost use Rattle.golf_types.specs.Files.{parameter as parameter_of, parameter_walk, end_faults, func_walk, outside as outside_of};
-ghost use Rattle.golf_check.specs.Heads.{receiver_name as receiver_name_of, optional_parameter as optional_parameter_of, body_walks, inner_walks, head_walks, Stays};
+ghost use Rattle.golf_check.specs.Heads.{receiver_name as receiver_name_of, optional_parameter as optional_parameter_of, body_walks, inner_walks, head_walks, arguments as arguments_of, function_walked, Counts, Stays};
 
 use golf_base::{List, Memory};
 use golf_check_forms::{TypedName, result_type, typed_names};
@@ -13,7 +13,7 @@ use golf_check_statements::all;
 use golf_endings::all_ending;
 use golf_grammar::{Func, Receiver};
 use golf_types::{
-    GoType, Scope, TypeFault, copy_name, copy_optional, declare, may_be_declared, meaning_at,
+    Fact, GoType, Scope, TypeFault, copy_name, copy_optional, declare, may_be_declared, meaning_at,
     require,
 };
 use std::alloc::Global;
@@ -86,39 +86,43 @@ fn body(
     alloc: Global,
     scope: &mut Scope,
     func: &Func,
-    types: &mut List<Option<GoType>>,
+    facts: &mut List<Fact>,
 ) -> Result<(), TypeFault>
-    ensures { Walks result (in_order (body_walks func.now) scope.old) scope.old scope.new types.old types.new }
+    ensures { Walks result (in_order (body_walks func.now) scope.old) scope.old scope.new facts.old facts.new }
 {
-    all(alloc, scope, func.body.as_slice(), types)?;
+    all(alloc, scope, func.body.as_slice(), facts)?;
     ends(func)
 }
 
+// Parameters and a body; how many slots receiver and parameters have.
 fn behind_receiver(
     alloc: Global,
     scope: &mut Scope,
     func: &Func,
     names: &[TypedName],
-    types: &mut List<Option<GoType>>,
-) -> Result<(), TypeFault>
-    ensures { Walks result (in_order (inner_walks func.now names.now) scope.old) scope.old scope.new types.old types.new }
+    facts: &mut List<Fact>,
+) -> Result<u32, TypeFault>
+    ensures { Counts result (in_order (inner_walks func.now names.now) scope.old) (behind scope.old (in_order (map (parameter_walk func.now.line) names.now) scope.old)).next scope.old scope.new facts.old facts.new }
 {
     parameters(alloc, func.line, scope, names)?;
-    body(alloc, scope, func, types)
+    let arguments = scope.next;
+    body(alloc, scope, func, facts)?;
+    Ok(arguments)
 }
 
+// A head and a body; how many slots receiver and parameters have.
 fn head(
     alloc: Global,
     scope: &mut Scope,
     func: &Func,
     receiver: &Option<TypedName>,
     names: &[TypedName],
-    types: &mut List<Option<GoType>>,
-) -> Result<(), TypeFault>
-    ensures { Walks result (in_order (head_walks func.now receiver.now names.now) scope.old) scope.old scope.new types.old types.new }
+    facts: &mut List<Fact>,
+) -> Result<u32, TypeFault>
+    ensures { Counts result (in_order (head_walks func.now receiver.now names.now) scope.old) (arguments_of func.now receiver.now names.now scope.old) scope.old scope.new facts.old facts.new }
 {
     optional_parameter(alloc, func.line, scope, receiver)?;
-    behind_receiver(alloc, scope, func, names, types)
+    behind_receiver(alloc, scope, func, names, facts)
 }
 
 fn named_receiver(alloc: Global, scope: &Scope, receiver: &Receiver) -> Result<TypedName, Memory>
@@ -153,8 +157,8 @@ pub fn leave(alloc: Global, scope: &mut Scope) -> Result<(), Memory>
     Ok(())
 }
 
-// A function of these types.
-#[tactic(auto, using(crate::proofs::Laws::left_scope))]
+// A function of these types, and the fact that counts its slots and facts.
+#[tactic(auto, using(crate::proofs::Laws::left_scope, golf_types::proofs::Seams::function_filled))]
 fn typed_func(
     alloc: Global,
     scope: &mut Scope,
@@ -162,13 +166,25 @@ fn typed_func(
     receiver: &Option<TypedName>,
     names: &[TypedName],
     result_type: Option<GoType>,
-    types: &mut List<Option<GoType>>,
+    facts: &mut List<Fact>,
 ) -> Result<(), TypeFault>
     requires { scope.old ≡ outside_of scope.old.file }
-    ensures { Stays result (in_order (head_walks func.now receiver.now names.now) (record scope.old { result = result_type })) scope.old scope.new types.old types.new }
+    ensures { Stays result (function_walked func.now receiver.now names.now (record scope.old { result = result_type })) scope.old scope.new facts.old facts.new }
 {
     scope.result = result_type;
-    head(alloc, scope, func, receiver, names, types)?;
+    let at = facts.len();
+    facts.push(Fact::Part(0))?;
+    let arguments = head(alloc, scope, func, receiver, names, facts)?;
+    let slots = scope.next;
+    let parts = facts.len() - at - 1;
+    facts.set(
+        at,
+        Fact::Function {
+            arguments,
+            slots,
+            parts,
+        },
+    );
     leave(alloc, scope)?;
     Ok(())
 }
@@ -178,15 +194,15 @@ pub fn func_at(
     alloc: Global,
     scope: &mut Scope,
     func: &Func,
-    types: &mut List<Option<GoType>>,
+    facts: &mut List<Fact>,
 ) -> Result<(), TypeFault>
     requires { scope.old ≡ outside_of scope.old.file }
-    ensures { Stays result (func_walk func.now scope.old) scope.old scope.new types.old types.new }
+    ensures { Stays result (func_walk func.now scope.old) scope.old scope.new facts.old facts.new }
 {
     let parameters = func.parameters.as_slice();
     let receiver = receiver_name(alloc, scope, &func.receiver)?;
     let names = typed_names(alloc, scope, parameters)?;
     let result_type = result_type(alloc, scope, &func.result)?;
     let typed = names.as_slice();
-    typed_func(alloc, scope, func, &receiver, typed, result_type, types)
+    typed_func(alloc, scope, func, &receiver, typed, result_type, facts)
 }

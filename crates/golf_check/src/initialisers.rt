@@ -1,27 +1,34 @@
 //! Whether constants and what globals begin with keep the rules.
 
 ghost use Rattle.std.specs.Prelude.{◌≡◌};
-ghost use Rattle.golf_types.specs.Faults.{Tells};
-ghost use Rattle.golf_types.specs.Statements.{Adds};
-ghost use Rattle.golf_types.specs.Files.{const_faults, initial_walk};
+ghost use Rattle.golf_types.specs.Statements.{Adds, judges};
+ghost use Rattle.golf_types.specs.Files.{const_faults, const_facts, initial_walk};
 ghost use Rattle.golf_check.specs.Heads.{Stays};
 ghost use Rattle.golf_grammar.specs.declared.statements.VarContent.TheVariants as content_as;
 
 use golf_base::List;
 use golf_check_expressions::given;
-use golf_check_operands::{assignable, fits_int, written_type};
+use golf_check_operands::{assignable, int_value, written_type};
 use golf_check_simple::is_nil;
 use golf_grammar::{Const, Expr, TypeExpr, Var, VarContent};
-use golf_types::{GoType, Scope, TypeFault, require};
+use golf_types::{Fact, Scope, TypeFault, require};
 use std::alloc::Global;
 
-/// Rule 19 of a constant.
-pub fn const_at(line: u32, value: &Const) -> Result<(), TypeFault>
-    ensures { Tells result (const_faults line value.now) (λ _. Unit {0}) }
+/// A constant, and the fact of its value where it is an integer: rule 19.
+pub fn const_at(line: u32, value: &Const, facts: &mut List<Fact>) -> Result<(), TypeFault>
+    ensures { Adds result (judges (const_faults line value.now) (const_facts value.now)) facts.old facts.new }
 {
     match value {
-        Const::Integer(digits) => require(line, 19, fits_int(digits.as_slice())),
-        Const::Negative(digits) => require(line, 19, fits_int(digits.as_slice())),
+        Const::Integer(digits) => {
+            let number = int_value(line, digits.as_slice())?;
+            facts.push(Fact::Number(number))?;
+            Ok(())
+        }
+        Const::Negative(digits) => {
+            let number = int_value(line, digits.as_slice())?;
+            facts.push(Fact::Number(-number))?;
+            Ok(())
+        }
         _ => Ok(()),
     }
 }
@@ -32,11 +39,11 @@ fn typed_at(
     scope: &Scope,
     t: &TypeExpr,
     e: &Expr,
-    types: &mut List<Option<GoType>>,
+    facts: &mut List<Fact>,
 ) -> Result<(), TypeFault>
-    ensures { Adds result (initial_walk line (content_as.Typed t.now e.now) scope.now) types.old types.new }
+    ensures { Adds result (initial_walk line (content_as.Typed t.now e.now) scope.now) facts.old facts.new }
 {
-    let value = given(alloc, line, scope, e, types)?;
+    let value = given(alloc, line, scope, e, facts)?;
     let of_type = written_type(alloc, line, scope, t)?;
     require(line, 9, assignable(&value, &of_type))
 }
@@ -46,11 +53,11 @@ fn untyped_at(
     line: u32,
     scope: &Scope,
     e: &Expr,
-    types: &mut List<Option<GoType>>,
+    facts: &mut List<Fact>,
 ) -> Result<(), TypeFault>
-    ensures { Adds result (initial_walk line (content_as.Untyped e.now) scope.now) types.old types.new }
+    ensures { Adds result (initial_walk line (content_as.Untyped e.now) scope.now) facts.old facts.new }
 {
-    let value = given(alloc, line, scope, e, types)?;
+    let value = given(alloc, line, scope, e, facts)?;
     require(line, 23, !is_nil(&value))
 }
 
@@ -59,14 +66,14 @@ fn initial_at(
     line: u32,
     scope: &Scope,
     content: &VarContent,
-    types: &mut List<Option<GoType>>,
+    facts: &mut List<Fact>,
 ) -> Result<(), TypeFault>
-    ensures { Adds result (initial_walk line content.now scope.now) types.old types.new }
+    ensures { Adds result (initial_walk line content.now scope.now) facts.old facts.new }
 {
     match content {
         VarContent::Zero(_) => Ok(()),
-        VarContent::Typed(t, e) => typed_at(alloc, line, scope, t.get(), e.get(), types),
-        VarContent::Untyped(e) => untyped_at(alloc, line, scope, e.get(), types),
+        VarContent::Typed(t, e) => typed_at(alloc, line, scope, t.get(), e.get(), facts),
+        VarContent::Untyped(e) => untyped_at(alloc, line, scope, e.get(), facts),
     }
 }
 
@@ -77,13 +84,13 @@ pub fn global_at(
     scope: &mut Scope,
     global: u32,
     var: &Var,
-    types: &mut List<Option<GoType>>,
+    facts: &mut List<Fact>,
 ) -> Result<(), TypeFault>
     requires { scope.old.initialises ≡ None }
-    ensures { Stays result (initial_walk var.now.line var.now.content (record scope.old { initialises = Some global })) scope.old scope.new types.old types.new }
+    ensures { Stays result (initial_walk var.now.line var.now.content (record scope.old { initialises = Some global })) scope.old scope.new facts.old facts.new }
 {
     scope.initialises = Some(global);
-    initial_at(alloc, var.line, scope, var.content.get(), types)?;
+    initial_at(alloc, var.line, scope, var.content.get(), facts)?;
     scope.initialises = None;
     Ok(())
 }

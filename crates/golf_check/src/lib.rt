@@ -1,4 +1,4 @@
-//! Whether a file keeps the rules of names and types, and the types of its expressions.
+//! Whether a file keeps the rules of names and types, and what is found of its parts.
 #![tactic(auto)]
 
 mod files;

@@ -1,6 +1,6 @@
 -- What the answer for a `select` tells.
 use Rattle.std.proofs.Common.{◌≡◌, ℕ, List, map, sym, ap, subst, ◌∙◌}
-use Rattle.std.specs.Prelude.{Option, Result}
+use Rattle.std.specs.Prelude.{Result}
 use Rattle.std.proofs.lemmas.Simd.{map-map}
 use Rattle.golf_grammar.specs.declared.statements.Stmt.{Stmt}
 use Rattle.golf_grammar.specs.declared.statements.Stmt.TheVariants as st
@@ -8,7 +8,7 @@ use Rattle.golf_grammar.specs.declared.statements.Clause.{Clause}
 use Rattle.golf_grammar.specs.declared.statements.Clause.TheOpen as S
 use Rattle.golf_grammar.specs.declared.statements.Clause.TheFolds.{fold-roll-Stmt}
 use Rattle.golf_types.specs.declared.fault.TypeFault.{TypeFault}
-use Rattle.golf_types.specs.declared.types.GoType.{GoType}
+use Rattle.golf_types.specs.declared.facts.Fact.{Fact}
 use Rattle.golf_types.specs.declared.scopes.Scope.{Scope}
 use Rattle.golf_types.specs.Statements.{Walk, in_order, clause_step, stmt_step, walk, walk_clause, walk_clause_at, Walks}
 
@@ -18,6 +18,6 @@ walk-Select l cs s =
     ap (λ w. w s) (ap walk (sym (st.rolls-Select l cs)) ∙ fold-roll-Stmt (ℕ → Walk) Walk clause_step stmt_step (S.Select l cs))
     ∙ ap (λ ws. in_order ws s) (map-map (λ c. c l) walk_clause cs)
 
-pub select_tells : {A : Type 0} (r : Result A TypeFault) (x : Stmt) (l : ℕ) (cs ds : List Clause) (s t : Scope) (old new : List (Option GoType)) → x ≡ st.Select l cs → ds ≡ cs → Walks r (in_order (map (walk_clause_at l) ds) s) s t old new → Walks r (walk x s) s t old new
+pub select_tells : {A : Type 0} (r : Result A TypeFault) (x : Stmt) (l : ℕ) (cs ds : List Clause) (s t : Scope) (old new : List Fact) → x ≡ st.Select l cs → ds ≡ cs → Walks r (in_order (map (walk_clause_at l) ds) s) s t old new → Walks r (walk x s) s t old new
 select_tells r x l cs ds s t old new is also h =
     subst (λ w. Walks r w s t old new) (ap (λ es. in_order (map (walk_clause_at l) es) s) also ∙ sym (ap (λ y. walk y s) is ∙ walk-Select l cs s)) h

@@ -1,11 +1,11 @@
 //! What stands in statements beside other statements.
 
-ghost use Rattle.std.specs.Prelude.{◌≡◌, ◌++◌, []};
+ghost use Rattle.std.specs.Prelude.{◌≡◌, ◌<◌, ◌-◌, ◌++◌, [], length, slice_set};
 ghost use Rattle.golf_types.specs.Faults.{Tells};
 ghost use Rattle.golf_types.specs.Types.{starts_with, type_given as type_given_of, is_slice as is_slice_layer, is_channel as is_channel_layer};
 ghost use Rattle.golf_types.specs.Expressions.{given_by};
 ghost use Rattle.golf_types.specs.Judging.{judge};
-ghost use Rattle.golf_types.specs.Statements.{Adds, Moves, Walks, zero as zero_of, typed as typed_of, untyped as untyped_of, var_content, may_be_begun as may_be_begun_of, done_faults, begin_call as begin_call_of, result_faults, returned as returned_of, condition as condition_of, optional as optional_of, optional_test as optional_test_of, range_names_differ as range_names_differ_of, are_two as are_two_of, only_takes, is_outer, range_faults, hidden, hides, range_name as range_name_of, first_type as first_type_of, range_names as range_names_of, range_head as range_head_of, range_slots as range_slots_of, communication as communication_of, received as received_of, then};
+ghost use Rattle.golf_types.specs.Statements.{Adds, Moves, Walks, zero as zero_of, typed as typed_of, untyped as untyped_of, var_content, may_be_begun as may_be_begun_of, done_faults, begin_call as begin_call_of, result_faults, returned as returned_of, condition as condition_of, optional as optional_of, optional_test as optional_test_of, counted, range_names_differ as range_names_differ_of, are_two as are_two_of, only_takes, is_outer, range_faults, hidden, hides, range_name as range_name_of, first_type as first_type_of, range_names as range_names_of, range_head as range_head_of, range_slots as range_slots_of, communication as communication_of, received as received_of, then};
 
 use golf_base::List;
 use golf_check_expressions::{called, callee, given};
@@ -14,12 +14,13 @@ use golf_check_operands::{
     written,
 };
 use golf_check_simple::{
-    assign_name, define_name, define_received, is_nil, received, send, simple,
+    assign_name, declare_told, define_name, define_received, is_nil, new_or_kept, received, send,
+    simple,
 };
 use golf_grammar::{Communication, Expr, OwnedExpr, OwnedSimple, RangeNames, TypeExpr, VarContent};
 use golf_types::{
-    Base, BuiltIn, Given, GoType, Layer, Operand, Scope, TypeFault, copy_optional, declare,
-    declare_new, hide, is_blank, is_reserved, may_be_declared, plain, require,
+    Base, BuiltIn, Fact, Given, GoType, Layer, Operand, Scope, TypeFault, copy_optional, hide,
+    is_blank, is_reserved, may_be_declared, plain, require,
 };
 use std::alloc::Global;
 
@@ -29,14 +30,13 @@ fn zero(
     scope: &mut Scope,
     name: &[u8],
     t: &TypeExpr,
-    types: &mut List<Option<GoType>>,
+    facts: &mut List<Fact>,
 ) -> Result<(), TypeFault>
-    ensures { Walks result (zero_of line name.now t.now scope.old) scope.old scope.new types.old types.new }
+    ensures { Walks result (zero_of line name.now t.now scope.old) scope.old scope.new facts.old facts.new }
 {
     let of_type = written(alloc, line, scope, t)?;
     require(line, 2, may_be_declared(scope, name))?;
-    declare(alloc, scope, name, of_type)?;
-    Ok(())
+    declare_told(alloc, scope, name, of_type, facts)
 }
 
 fn typed(
@@ -46,16 +46,15 @@ fn typed(
     name: &[u8],
     t: &TypeExpr,
     e: &Expr,
-    types: &mut List<Option<GoType>>,
+    facts: &mut List<Fact>,
 ) -> Result<(), TypeFault>
-    ensures { Walks result (typed_of line name.now t.now e.now scope.old) scope.old scope.new types.old types.new }
+    ensures { Walks result (typed_of line name.now t.now e.now scope.old) scope.old scope.new facts.old facts.new }
 {
     let of_type = written(alloc, line, scope, t)?;
-    let value = given(alloc, line, scope, e, types)?;
+    let value = given(alloc, line, scope, e, facts)?;
     require(line, 2, may_be_declared(scope, name))?;
     require(line, 9, assignable(&value, &of_type))?;
-    declare(alloc, scope, name, of_type)?;
-    Ok(())
+    declare_told(alloc, scope, name, of_type, facts)
 }
 
 fn untyped(
@@ -64,15 +63,14 @@ fn untyped(
     scope: &mut Scope,
     name: &[u8],
     e: &Expr,
-    types: &mut List<Option<GoType>>,
+    facts: &mut List<Fact>,
 ) -> Result<(), TypeFault>
-    ensures { Walks result (untyped_of line name.now e.now scope.old) scope.old scope.new types.old types.new }
+    ensures { Walks result (untyped_of line name.now e.now scope.old) scope.old scope.new facts.old facts.new }
 {
-    let value = given(alloc, line, scope, e, types)?;
+    let value = given(alloc, line, scope, e, facts)?;
     require(line, 2, may_be_declared(scope, name))?;
     require(line, 23, !is_nil(&value))?;
-    declare(alloc, scope, name, value.into_type())?;
-    Ok(())
+    declare_told(alloc, scope, name, value.into_type(), facts)
 }
 
 /// A variable.
@@ -82,14 +80,14 @@ pub fn variable(
     scope: &mut Scope,
     name: &[u8],
     content: &VarContent,
-    types: &mut List<Option<GoType>>,
+    facts: &mut List<Fact>,
 ) -> Result<(), TypeFault>
-    ensures { Walks result (var_content line name.now content.now scope.old) scope.old scope.new types.old types.new }
+    ensures { Walks result (var_content line name.now content.now scope.old) scope.old scope.new facts.old facts.new }
 {
     match content {
-        VarContent::Zero(t) => zero(alloc, line, scope, name, t.get(), types),
-        VarContent::Typed(t, e) => typed(alloc, line, scope, name, t.get(), e.get(), types),
-        VarContent::Untyped(e) => untyped(alloc, line, scope, name, e.get(), types),
+        VarContent::Zero(t) => zero(alloc, line, scope, name, t.get(), facts),
+        VarContent::Typed(t, e) => typed(alloc, line, scope, name, t.get(), e.get(), facts),
+        VarContent::Untyped(e) => untyped(alloc, line, scope, name, e.get(), facts),
     }
 }
 
@@ -129,12 +127,12 @@ pub fn begin_call(
     scope: &Scope,
     f: &Expr,
     xs: &[Expr],
-    types: &mut List<Option<GoType>>,
+    facts: &mut List<Fact>,
 ) -> Result<(), TypeFault>
-    ensures { Adds result (begin_call_of line f.now xs.now scope.now) types.old types.new }
+    ensures { Adds result (begin_call_of line f.now xs.now scope.now) facts.old facts.new }
 {
-    let callee = callee(alloc, line, scope, f, types)?;
-    let operand = called(alloc, line, scope, &callee, xs, types)?;
+    let callee = callee(alloc, line, scope, f, facts)?;
+    let operand = called(alloc, line, scope, &callee, xs, facts)?;
     is_done(line, &operand)?;
     require(line, 12, may_be_begun(&callee))
 }
@@ -153,11 +151,11 @@ fn return_value(
     line: u32,
     scope: &Scope,
     e: &Expr,
-    types: &mut List<Option<GoType>>,
+    facts: &mut List<Fact>,
 ) -> Result<(), TypeFault>
-    ensures { Adds result (returned_of line (Some e.now) scope.now) types.old types.new }
+    ensures { Adds result (returned_of line (Some e.now) scope.now) facts.old facts.new }
 {
-    let value = given(alloc, line, scope, e, types)?;
+    let value = given(alloc, line, scope, e, facts)?;
     gives_back(line, &scope.result, &value)
 }
 
@@ -167,13 +165,13 @@ pub fn returned(
     line: u32,
     scope: &Scope,
     e: &Option<OwnedExpr>,
-    types: &mut List<Option<GoType>>,
+    facts: &mut List<Fact>,
 ) -> Result<(), TypeFault>
-    ensures { Adds result (returned_of line e.now scope.now) types.old types.new }
+    ensures { Adds result (returned_of line e.now scope.now) facts.old facts.new }
 {
     match e {
         None => require(line, 13, scope.result.is_none()),
-        Some(e) => return_value(alloc, line, scope, e.get(), types),
+        Some(e) => return_value(alloc, line, scope, e.get(), facts),
     }
 }
 
@@ -183,11 +181,11 @@ pub fn condition(
     line: u32,
     scope: &Scope,
     e: &Expr,
-    types: &mut List<Option<GoType>>,
+    facts: &mut List<Fact>,
 ) -> Result<(), TypeFault>
-    ensures { Adds result (condition_of line e.now scope.now) types.old types.new }
+    ensures { Adds result (condition_of line e.now scope.now) facts.old facts.new }
 {
-    let value = given(alloc, line, scope, e, types)?;
+    let value = given(alloc, line, scope, e, facts)?;
     require(line, 8, has_base(Base::Bool, &value))
 }
 
@@ -197,14 +195,23 @@ pub fn optional_test(
     line: u32,
     scope: &Scope,
     test: &Option<OwnedExpr>,
-    types: &mut List<Option<GoType>>,
+    facts: &mut List<Fact>,
 ) -> Result<(), TypeFault>
-    ensures { Adds result (optional_test_of line test.now scope.now) types.old types.new }
+    ensures { Adds result (optional_test_of line test.now scope.now) facts.old facts.new }
 {
     match test {
         None => Ok(()),
-        Some(e) => condition(alloc, line, scope, e.get(), types),
+        Some(e) => condition(alloc, line, scope, e.get(), facts),
     }
+}
+
+/// Puts the number of the facts after a place into it.
+pub fn count_part(facts: &mut List<Fact>, at: usize)
+    requires { at < length facts.old }
+    ensures { facts.new ≡ slice_set facts.old at (Fact.Part (length facts.old - at - 1)) }
+{
+    let parts = facts.len() - at - 1;
+    facts.set(at, Fact::Part(parts));
 }
 
 /// A simple statement, where there is one.
@@ -213,14 +220,31 @@ pub fn optional(
     alloc: Global,
     scope: &mut Scope,
     first: &Option<OwnedSimple>,
-    types: &mut List<Option<GoType>>,
+    facts: &mut List<Fact>,
 ) -> Result<(), TypeFault>
-    ensures { Walks result (optional_of first.now scope.old) scope.old scope.new types.old types.new }
+    ensures { Walks result (optional_of first.now scope.old) scope.old scope.new facts.old facts.new }
 {
     match first {
         None => Ok(()),
-        Some(first) => simple(alloc, scope, first.get(), types),
+        Some(first) => simple(alloc, scope, first.get(), facts),
     }
+}
+
+/// The last statement of a header, where there is one: its facts are counted.
+#[tactic(auto, using(golf_types::proofs::Seams::part_filled))]
+pub fn post(
+    alloc: Global,
+    scope: &mut Scope,
+    post: &Option<OwnedSimple>,
+    facts: &mut List<Fact>,
+) -> Result<(), TypeFault>
+    ensures { Walks result (counted (optional_of post.now) scope.old) scope.old scope.new facts.old facts.new }
+{
+    let at = facts.len();
+    facts.push(Fact::Part(0))?;
+    optional(alloc, scope, post, facts)?;
+    count_part(facts, at);
+    Ok(())
 }
 
 #[tactic(auto, unfolding(golf_types::specs::Statements::range_names_differ))]
@@ -295,33 +319,34 @@ fn can_be_ranged(line: u32, names: &RangeNames, given: &Given) -> Result<(), Typ
     )
 }
 
-/// What a `range` goes over: rules 2, 16 and 17.
+/// What a `range` goes over, and the fact of its first hidden slot: rules 2, 16 and 17.
 pub fn range_head(
     alloc: Global,
     line: u32,
     scope: &Scope,
     names: &RangeNames,
     e: &Expr,
-    types: &mut List<Option<GoType>>,
+    facts: &mut List<Fact>,
 ) -> Result<Given, TypeFault>
-    ensures { Tells result (range_head_of line names.now e.now scope.now).faults (λ v. (v ≡ given_by (judge e.now line scope.now)) × (types.new ≡ types.old ++ (range_head_of line names.now e.now scope.now).types)) }
+    ensures { Tells result (range_head_of line names.now e.now scope.now).faults (λ v. (v ≡ given_by (judge e.now line scope.now)) × (facts.new ≡ facts.old ++ (range_head_of line names.now e.now scope.now).facts)) }
 {
-    let value = given(alloc, line, scope, e, types)?;
+    let value = given(alloc, line, scope, e, facts)?;
     can_be_ranged(line, names, &value)?;
+    facts.push(Fact::Hidden(scope.next))?;
     Ok(value)
 }
 
-#[tactic(auto, using(golf_types::proofs::WalkLaws::new_breaks_none))]
 fn range_name(
     alloc: Global,
     scope: &mut Scope,
     name: &[u8],
     t: Option<GoType>,
+    facts: &mut List<Fact>,
 ) -> Result<(), TypeFault>
-    ensures { Moves result (range_name_of name.now t scope.old) scope.old scope.new }
+    ensures { Walks result (range_name_of name.now t scope.old) scope.old scope.new facts.old facts.new }
 {
-    declare_new(alloc, scope, !is_blank(name), name, t)?;
-    Ok(())
+    let new = !is_blank(name);
+    new_or_kept(alloc, scope, new, Operand::Blank, name, t, facts)
 }
 
 fn first_type(alloc: Global, slice: bool, t: &Option<GoType>) -> Result<Option<GoType>, TypeFault>
@@ -341,11 +366,12 @@ fn two_names(
     second: &[u8],
     first_type: Option<GoType>,
     second_type: Option<GoType>,
+    facts: &mut List<Fact>,
 ) -> Result<(), TypeFault>
-    ensures { Moves result (then (range_name_of first.now first_type) (range_name_of second.now second_type) scope.old) scope.old scope.new }
+    ensures { Walks result (then (range_name_of first.now first_type) (range_name_of second.now second_type) scope.old) scope.old scope.new facts.old facts.new }
 {
-    range_name(alloc, scope, first, first_type)?;
-    range_name(alloc, scope, second, second_type)
+    range_name(alloc, scope, first, first_type, facts)?;
+    range_name(alloc, scope, second, second_type, facts)
 }
 
 #[tactic(auto, using(golf_types::proofs::WalkLaws::stays))]
@@ -355,14 +381,17 @@ fn range_names(
     names: &RangeNames,
     slice: bool,
     t: Option<GoType>,
+    facts: &mut List<Fact>,
 ) -> Result<(), TypeFault>
-    ensures { Moves result (range_names_of names.now slice t scope.old) scope.old scope.new }
+    ensures { Walks result (range_names_of names.now slice t scope.old) scope.old scope.new facts.old facts.new }
 {
     let first = first_type(alloc, slice, &t)?;
     match names {
         RangeNames::Neither => Ok(()),
-        RangeNames::One(n) => range_name(alloc, scope, n.as_slice(), first),
-        RangeNames::Two(n, m) => two_names(alloc, scope, n.as_slice(), m.as_slice(), first, t),
+        RangeNames::One(n) => range_name(alloc, scope, n.as_slice(), first, facts),
+        RangeNames::Two(n, m) => {
+            two_names(alloc, scope, n.as_slice(), m.as_slice(), first, t, facts)
+        }
     }
 }
 
@@ -383,12 +412,13 @@ pub fn range_slots(
     scope: &mut Scope,
     names: &RangeNames,
     given: Given,
+    facts: &mut List<Fact>,
 ) -> Result<(), TypeFault>
-    ensures { Moves result (range_slots_of names.now given scope.old) scope.old scope.new }
+    ensures { Walks result (range_slots_of names.now given scope.old) scope.old scope.new facts.old facts.new }
 {
     let slice = is_slice(&given);
     hide_slots(scope, slice, &given)?;
-    range_names(alloc, scope, names, slice, element(given))
+    range_names(alloc, scope, names, slice, element(given), facts)
 }
 
 fn define_received_name(
@@ -398,12 +428,12 @@ fn define_received_name(
     scope: &mut Scope,
     name: &[u8],
     e: &Expr,
-    types: &mut List<Option<GoType>>,
+    facts: &mut List<Fact>,
 ) -> Result<(), TypeFault>
-    ensures { Walks result (communication_of line names_line (Communication.Define name.now e.now) scope.old) scope.old scope.new types.old types.new }
+    ensures { Walks result (communication_of line names_line (Communication.Define name.now e.now) scope.old) scope.old scope.new facts.old facts.new }
 {
-    let t = received(alloc, line, scope, e, types)?;
-    define_name(alloc, names_line, scope, name, t)
+    let t = received(alloc, line, scope, e, facts)?;
+    define_name(alloc, names_line, scope, name, t, facts)
 }
 
 fn assign_received_name(
@@ -413,12 +443,12 @@ fn assign_received_name(
     scope: &Scope,
     name: &[u8],
     e: &Expr,
-    types: &mut List<Option<GoType>>,
+    facts: &mut List<Fact>,
 ) -> Result<(), TypeFault>
-    ensures { Adds result (communication_of line names_line (Communication.Assign name.now e.now) scope.now) types.old types.new }
+    ensures { Adds result (communication_of line names_line (Communication.Assign name.now e.now) scope.now) facts.old facts.new }
 {
-    let t = received(alloc, line, scope, e, types)?;
-    assign_name(alloc, names_line, scope, name, &t)
+    let t = received(alloc, line, scope, e, facts)?;
+    assign_name(alloc, names_line, scope, name, &t, facts)
 }
 
 fn receive(
@@ -426,11 +456,11 @@ fn receive(
     line: u32,
     scope: &Scope,
     e: &Expr,
-    types: &mut List<Option<GoType>>,
+    facts: &mut List<Fact>,
 ) -> Result<(), TypeFault>
-    ensures { Adds result (received_of line e.now scope.now) types.old types.new }
+    ensures { Adds result (received_of line e.now scope.now) facts.old facts.new }
 {
-    received(alloc, line, scope, e, types)?;
+    received(alloc, line, scope, e, facts)?;
     Ok(())
 }
 
@@ -442,15 +472,15 @@ pub fn communication(
     names_line: u32,
     scope: &mut Scope,
     communication: &Communication,
-    types: &mut List<Option<GoType>>,
+    facts: &mut List<Fact>,
 ) -> Result<(), TypeFault>
-    ensures { Walks result (communication_of line names_line communication.now scope.old) scope.old scope.new types.old types.new }
+    ensures { Walks result (communication_of line names_line communication.now scope.old) scope.old scope.new facts.old facts.new }
 {
     match communication {
         Communication::Send(channel, e) => {
-            send(alloc, line, scope, channel.get(), e.get(), types)
+            send(alloc, line, scope, channel.get(), e.get(), facts)
         },
-        Communication::Receive(e) => receive(alloc, line, scope, e.get(), types),
+        Communication::Receive(e) => receive(alloc, line, scope, e.get(), facts),
         Communication::Define(name, e) => {
             define_received_name(
                 alloc,
@@ -459,7 +489,7 @@ pub fn communication(
                 scope,
                 name.as_slice(),
                 e.get(),
-                types,
+                facts,
             )
         }
         Communication::Assign(name, e) => {
@@ -470,7 +500,7 @@ pub fn communication(
                 scope,
                 name.as_slice(),
                 e.get(),
-                types,
+                facts,
             )
         }
         Communication::DefineReceived(first, second, e) => define_received(
@@ -481,7 +511,7 @@ pub fn communication(
             first.as_slice(),
             second.as_slice(),
             e.get(),
-            types,
+            facts,
         ),
     }
 }

@@ -1,4 +1,4 @@
-//! What statements declare, which rules they break, and the types of their expressions.
+//! What statements declare, which rules they break, and their facts.
 #![tactic(auto)]
 
 mod bodies;

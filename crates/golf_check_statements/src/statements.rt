@@ -1,16 +1,16 @@
 //! Whether statements keep the rules.
 
 ghost use Rattle.std.specs.Prelude.{map};
-ghost use Rattle.golf_types.specs.Statements.{Walks, in_order, block as block_of, loop_body as loop_body_of, then_walk, if_walk, else_walk, behind_test, behind_optional, steps as steps_of, then, optional as optional_of, range_walk, header_walk, for_walk, case_walk, breaking as breaking_of, in_block, communication as communication_of, walk, walk_clause, walk_clause_at};
+ghost use Rattle.golf_types.specs.Statements.{Walks, in_order, block as block_of, loop_body as loop_body_of, then_walk, if_walk, else_walk, behind_test, behind_optional, steps as steps_of, then, optional as optional_of, range_walk, header_walk, for_walk, case_walk, default_walk, counted, breaking as breaking_of, in_block, communication as communication_of, walk, walk_clause, walk_clause_at};
 
 use crate::bodies::{
-    begin_call, communication, condition, optional, optional_test, range_head, range_slots,
-    returned, variable,
+    begin_call, communication, condition, count_part, optional, optional_test, post as post_at,
+    range_head, range_slots, returned, variable,
 };
 use golf_base::List;
 use golf_check_simple::simple;
 use golf_grammar::{Clause, Communication, Expr, Header, OwnedExpr, OwnedSimple, RangeNames, Stmt};
-use golf_types::{GoType, Scope, TypeFault, begin, end, require};
+use golf_types::{Fact, Scope, TypeFault, begin, end, require};
 use std::alloc::Global;
 
 /// Statements in order, in one block.
@@ -19,12 +19,12 @@ pub fn all(
     alloc: Global,
     scope: &mut Scope,
     stmts: &[Stmt],
-    types: &mut List<Option<GoType>>,
+    facts: &mut List<Fact>,
 ) -> Result<(), TypeFault>
-    ensures { Walks result (in_order (map walk stmts.now) scope.old) scope.old scope.new types.old types.new }
+    ensures { Walks result (in_order (map walk stmts.now) scope.old) scope.old scope.new facts.old facts.new }
 {
     for stmt in stmts {
-        statement(alloc, scope, stmt, types)?;
+        statement(alloc, scope, stmt, facts)?;
     }
     Ok(())
 }
@@ -34,12 +34,12 @@ fn block(
     alloc: Global,
     scope: &mut Scope,
     body: &[Stmt],
-    types: &mut List<Option<GoType>>,
+    facts: &mut List<Fact>,
 ) -> Result<(), TypeFault>
-    ensures { Walks result (block_of (map walk body.now) scope.old) scope.old scope.new types.old types.new }
+    ensures { Walks result (block_of (map walk body.now) scope.old) scope.old scope.new facts.old facts.new }
 {
     let mark = begin(scope)?;
-    all(alloc, scope, body, types)?;
+    all(alloc, scope, body, facts)?;
     end(alloc, scope, mark)?;
     Ok(())
 }
@@ -50,15 +50,15 @@ fn loop_body(
     alloc: Global,
     scope: &mut Scope,
     body: &[Stmt],
-    types: &mut List<Option<GoType>>,
+    facts: &mut List<Fact>,
 ) -> Result<(), TypeFault>
-    ensures { Walks result (loop_body_of (map walk body.now) scope.old) scope.old scope.new types.old types.new }
+    ensures { Walks result (loop_body_of (map walk body.now) scope.old) scope.old scope.new facts.old facts.new }
 {
     let breaks = scope.breaks;
     let loops = scope.loops;
     scope.breaks = true;
     scope.loops = true;
-    block(alloc, scope, body, types)?;
+    block(alloc, scope, body, facts)?;
     scope.breaks = breaks;
     scope.loops = loops;
     Ok(())
@@ -71,12 +71,12 @@ fn tested(
     scope: &mut Scope,
     body: &[Stmt],
     test: &Expr,
-    types: &mut List<Option<GoType>>,
+    facts: &mut List<Fact>,
 ) -> Result<(), TypeFault>
-    ensures { Walks result (behind_test line test.now (block_of (map walk body.now)) scope.old) scope.old scope.new types.old types.new }
+    ensures { Walks result (behind_test line test.now (block_of (map walk body.now)) scope.old) scope.old scope.new facts.old facts.new }
 {
-    condition(alloc, line, scope, test, types)?;
-    block(alloc, scope, body, types)
+    condition(alloc, line, scope, test, facts)?;
+    block(alloc, scope, body, facts)
 }
 
 #[cycle(walking)]
@@ -87,12 +87,12 @@ fn then_part(
     body: &[Stmt],
     first: &Option<OwnedSimple>,
     test: &Expr,
-    types: &mut List<Option<GoType>>,
+    facts: &mut List<Fact>,
 ) -> Result<(), TypeFault>
-    ensures { Walks result (then_walk line first.now test.now (map walk body.now) scope.old) scope.old scope.new types.old types.new }
+    ensures { Walks result (then_walk line first.now test.now (map walk body.now) scope.old) scope.old scope.new facts.old facts.new }
 {
-    optional(alloc, scope, first, types)?;
-    tested(alloc, line, scope, body, test, types)
+    optional(alloc, scope, first, facts)?;
+    tested(alloc, line, scope, body, test, facts)
 }
 
 #[cycle(walking)]
@@ -103,12 +103,12 @@ fn if_at(
     body: &[Stmt],
     first: &Option<OwnedSimple>,
     test: &Expr,
-    types: &mut List<Option<GoType>>,
+    facts: &mut List<Fact>,
 ) -> Result<(), TypeFault>
-    ensures { Walks result (if_walk line first.now test.now (map walk body.now) scope.old) scope.old scope.new types.old types.new }
+    ensures { Walks result (if_walk line first.now test.now (map walk body.now) scope.old) scope.old scope.new facts.old facts.new }
 {
     let mark = begin(scope)?;
-    then_part(alloc, line, scope, body, first, test, types)?;
+    then_part(alloc, line, scope, body, first, test, facts)?;
     end(alloc, scope, mark)?;
     Ok(())
 }
@@ -122,12 +122,12 @@ fn both_parts(
     otherwise: &Stmt,
     first: &Option<OwnedSimple>,
     test: &Expr,
-    types: &mut List<Option<GoType>>,
+    facts: &mut List<Fact>,
 ) -> Result<(), TypeFault>
-    ensures { Walks result (then (then_walk line first.now test.now (map walk body.now)) (walk otherwise.now) scope.old) scope.old scope.new types.old types.new }
+    ensures { Walks result (then (then_walk line first.now test.now (map walk body.now)) (walk otherwise.now) scope.old) scope.old scope.new facts.old facts.new }
 {
-    then_part(alloc, line, scope, body, first, test, types)?;
-    statement(alloc, scope, otherwise, types)
+    then_part(alloc, line, scope, body, first, test, facts)?;
+    statement(alloc, scope, otherwise, facts)
 }
 
 #[cycle(walking)]
@@ -139,12 +139,12 @@ fn else_at(
     otherwise: &Stmt,
     first: &Option<OwnedSimple>,
     test: &Expr,
-    types: &mut List<Option<GoType>>,
+    facts: &mut List<Fact>,
 ) -> Result<(), TypeFault>
-    ensures { Walks result (else_walk line first.now test.now (map walk body.now) (walk otherwise.now) scope.old) scope.old scope.new types.old types.new }
+    ensures { Walks result (else_walk line first.now test.now (map walk body.now) (walk otherwise.now) scope.old) scope.old scope.new facts.old facts.new }
 {
     let mark = begin(scope)?;
-    both_parts(alloc, line, scope, body, otherwise, first, test, types)?;
+    both_parts(alloc, line, scope, body, otherwise, first, test, facts)?;
     end(alloc, scope, mark)?;
     Ok(())
 }
@@ -156,12 +156,12 @@ fn while_at(
     scope: &mut Scope,
     body: &[Stmt],
     test: &Expr,
-    types: &mut List<Option<GoType>>,
+    facts: &mut List<Fact>,
 ) -> Result<(), TypeFault>
-    ensures { Walks result (behind_test line test.now (loop_body_of (map walk body.now)) scope.old) scope.old scope.new types.old types.new }
+    ensures { Walks result (behind_test line test.now (loop_body_of (map walk body.now)) scope.old) scope.old scope.new facts.old facts.new }
 {
-    condition(alloc, line, scope, test, types)?;
-    loop_body(alloc, scope, body, types)
+    condition(alloc, line, scope, test, facts)?;
+    loop_body(alloc, scope, body, facts)
 }
 
 #[cycle(walking)]
@@ -170,12 +170,12 @@ fn behind_post(
     scope: &mut Scope,
     body: &[Stmt],
     post: &Option<OwnedSimple>,
-    types: &mut List<Option<GoType>>,
+    facts: &mut List<Fact>,
 ) -> Result<(), TypeFault>
-    ensures { Walks result (then (optional_of post.now) (loop_body_of (map walk body.now)) scope.old) scope.old scope.new types.old types.new }
+    ensures { Walks result (then (counted (optional_of post.now)) (loop_body_of (map walk body.now)) scope.old) scope.old scope.new facts.old facts.new }
 {
-    optional(alloc, scope, post, types)?;
-    loop_body(alloc, scope, body, types)
+    post_at(alloc, scope, post, facts)?;
+    loop_body(alloc, scope, body, facts)
 }
 
 #[cycle(walking)]
@@ -186,12 +186,12 @@ fn behind_first(
     body: &[Stmt],
     test: &Option<OwnedExpr>,
     post: &Option<OwnedSimple>,
-    types: &mut List<Option<GoType>>,
+    facts: &mut List<Fact>,
 ) -> Result<(), TypeFault>
-    ensures { Walks result (behind_optional line test.now (then (optional_of post.now) (loop_body_of (map walk body.now))) scope.old) scope.old scope.new types.old types.new }
+    ensures { Walks result (behind_optional line test.now (then (counted (optional_of post.now)) (loop_body_of (map walk body.now))) scope.old) scope.old scope.new facts.old facts.new }
 {
-    optional_test(alloc, line, scope, test, types)?;
-    behind_post(alloc, scope, body, post, types)
+    optional_test(alloc, line, scope, test, facts)?;
+    behind_post(alloc, scope, body, post, facts)
 }
 
 #[cycle(walking)]
@@ -203,12 +203,12 @@ fn steps(
     first: &Option<OwnedSimple>,
     test: &Option<OwnedExpr>,
     post: &Option<OwnedSimple>,
-    types: &mut List<Option<GoType>>,
+    facts: &mut List<Fact>,
 ) -> Result<(), TypeFault>
-    ensures { Walks result (steps_of line first.now test.now post.now (map walk body.now) scope.old) scope.old scope.new types.old types.new }
+    ensures { Walks result (steps_of line first.now test.now post.now (map walk body.now) scope.old) scope.old scope.new facts.old facts.new }
 {
-    optional(alloc, scope, first, types)?;
-    behind_first(alloc, line, scope, body, test, post, types)
+    optional(alloc, scope, first, facts)?;
+    behind_first(alloc, line, scope, body, test, post, facts)
 }
 
 #[cycle(walking)]
@@ -219,13 +219,13 @@ fn range_at(
     body: &[Stmt],
     names: &RangeNames,
     e: &Expr,
-    types: &mut List<Option<GoType>>,
+    facts: &mut List<Fact>,
 ) -> Result<(), TypeFault>
-    ensures { Walks result (range_walk line names.now e.now (map walk body.now) scope.old) scope.old scope.new types.old types.new }
+    ensures { Walks result (range_walk line names.now e.now (map walk body.now) scope.old) scope.old scope.new facts.old facts.new }
 {
-    let value = range_head(alloc, line, scope, names, e, types)?;
-    range_slots(alloc, scope, names, value)?;
-    loop_body(alloc, scope, body, types)
+    let value = range_head(alloc, line, scope, names, e, facts)?;
+    range_slots(alloc, scope, names, value, facts)?;
+    loop_body(alloc, scope, body, facts)
 }
 
 #[cycle(walking)]
@@ -235,17 +235,17 @@ fn header_at(
     scope: &mut Scope,
     body: &[Stmt],
     header: &Header,
-    types: &mut List<Option<GoType>>,
+    facts: &mut List<Fact>,
 ) -> Result<(), TypeFault>
-    ensures { Walks result (header_walk line header.now (map walk body.now) scope.old) scope.old scope.new types.old types.new }
+    ensures { Walks result (header_walk line header.now (map walk body.now) scope.old) scope.old scope.new facts.old facts.new }
 {
     match header {
-        Header::Forever => loop_body(alloc, scope, body, types),
-        Header::While(test) => while_at(alloc, line, scope, body, test.get(), types),
+        Header::Forever => loop_body(alloc, scope, body, facts),
+        Header::While(test) => while_at(alloc, line, scope, body, test.get(), facts),
         Header::Steps(first, test, post) => {
-            steps(alloc, line, scope, body, first, test, post, types)
+            steps(alloc, line, scope, body, first, test, post, facts)
         }
-        Header::Range(names, e) => range_at(alloc, line, scope, body, names, e.get(), types),
+        Header::Range(names, e) => range_at(alloc, line, scope, body, names, e.get(), facts),
     }
 }
 
@@ -256,12 +256,12 @@ fn for_at(
     scope: &mut Scope,
     body: &[Stmt],
     header: &Header,
-    types: &mut List<Option<GoType>>,
+    facts: &mut List<Fact>,
 ) -> Result<(), TypeFault>
-    ensures { Walks result (for_walk line header.now (map walk body.now) scope.old) scope.old scope.new types.old types.new }
+    ensures { Walks result (for_walk line header.now (map walk body.now) scope.old) scope.old scope.new facts.old facts.new }
 {
     let mark = begin(scope)?;
-    header_at(alloc, line, scope, body, header, types)?;
+    header_at(alloc, line, scope, body, header, facts)?;
     end(alloc, scope, mark)?;
     Ok(())
 }
@@ -272,13 +272,13 @@ fn clause_body(
     alloc: Global,
     scope: &mut Scope,
     body: &[Stmt],
-    types: &mut List<Option<GoType>>,
+    facts: &mut List<Fact>,
 ) -> Result<(), TypeFault>
-    ensures { Walks result (breaking_of (in_order (map walk body.now)) scope.old) scope.old scope.new types.old types.new }
+    ensures { Walks result (breaking_of (in_order (map walk body.now)) scope.old) scope.old scope.new facts.old facts.new }
 {
     let breaks = scope.breaks;
     scope.breaks = true;
-    all(alloc, scope, body, types)?;
+    all(alloc, scope, body, facts)?;
     scope.breaks = breaks;
     Ok(())
 }
@@ -291,15 +291,35 @@ fn case_parts(
     scope: &mut Scope,
     body: &[Stmt],
     first: &Communication,
-    types: &mut List<Option<GoType>>,
+    facts: &mut List<Fact>,
 ) -> Result<(), TypeFault>
-    ensures { Walks result (then (communication_of line case_line first.now) (breaking_of (in_order (map walk body.now))) scope.old) scope.old scope.new types.old types.new }
+    ensures { Walks result (then (communication_of line case_line first.now) (breaking_of (in_order (map walk body.now))) scope.old) scope.old scope.new facts.old facts.new }
 {
-    communication(alloc, line, case_line, scope, first, types)?;
-    clause_body(alloc, scope, body, types)
+    communication(alloc, line, case_line, scope, first, facts)?;
+    clause_body(alloc, scope, body, facts)
 }
 
 #[cycle(walking)]
+fn case_block(
+    alloc: Global,
+    line: u32,
+    case_line: u32,
+    scope: &mut Scope,
+    body: &[Stmt],
+    first: &Communication,
+    facts: &mut List<Fact>,
+) -> Result<(), TypeFault>
+    ensures { Walks result (in_block (then (communication_of line case_line first.now) (breaking_of (in_order (map walk body.now)))) scope.old) scope.old scope.new facts.old facts.new }
+{
+    let mark = begin(scope)?;
+    case_parts(alloc, line, case_line, scope, body, first, facts)?;
+    end(alloc, scope, mark)?;
+    Ok(())
+}
+
+// A case, whose facts are counted.
+#[cycle(walking)]
+#[tactic(auto, using(golf_types::proofs::Seams::part_filled))]
 fn case_at(
     alloc: Global,
     line: u32,
@@ -307,28 +327,47 @@ fn case_at(
     scope: &mut Scope,
     body: &[Stmt],
     first: &Communication,
-    types: &mut List<Option<GoType>>,
+    facts: &mut List<Fact>,
 ) -> Result<(), TypeFault>
-    ensures { Walks result (case_walk line case_line first.now (map walk body.now) scope.old) scope.old scope.new types.old types.new }
+    ensures { Walks result (case_walk line case_line first.now (map walk body.now) scope.old) scope.old scope.new facts.old facts.new }
 {
-    let mark = begin(scope)?;
-    case_parts(alloc, line, case_line, scope, body, first, types)?;
-    end(alloc, scope, mark)?;
+    let at = facts.len();
+    facts.push(Fact::Part(0))?;
+    case_block(alloc, line, case_line, scope, body, first, facts)?;
+    count_part(facts, at);
     Ok(())
 }
 
 #[cycle(walking)]
+fn default_block(
+    alloc: Global,
+    scope: &mut Scope,
+    body: &[Stmt],
+    facts: &mut List<Fact>,
+) -> Result<(), TypeFault>
+    ensures { Walks result (in_block (breaking_of (in_order (map walk body.now))) scope.old) scope.old scope.new facts.old facts.new }
+{
+    let mark = begin(scope)?;
+    clause_body(alloc, scope, body, facts)?;
+    end(alloc, scope, mark)?;
+    Ok(())
+}
+
+// The default clause, whose facts are counted.
+#[cycle(walking)]
+#[tactic(auto, using(golf_types::proofs::Seams::part_filled))]
 fn default_at(
     alloc: Global,
     scope: &mut Scope,
     body: &[Stmt],
-    types: &mut List<Option<GoType>>,
+    facts: &mut List<Fact>,
 ) -> Result<(), TypeFault>
-    ensures { Walks result (in_block (breaking_of (in_order (map walk body.now))) scope.old) scope.old scope.new types.old types.new }
+    ensures { Walks result (default_walk (map walk body.now) scope.old) scope.old scope.new facts.old facts.new }
 {
-    let mark = begin(scope)?;
-    clause_body(alloc, scope, body, types)?;
-    end(alloc, scope, mark)?;
+    let at = facts.len();
+    facts.push(Fact::Part(0))?;
+    default_block(alloc, scope, body, facts)?;
+    count_part(facts, at);
     Ok(())
 }
 
@@ -339,9 +378,9 @@ fn clause_at(
     line: u32,
     scope: &mut Scope,
     clause: &Clause,
-    types: &mut List<Option<GoType>>,
+    facts: &mut List<Fact>,
 ) -> Result<(), TypeFault>
-    ensures { Walks result (walk_clause clause.now line scope.old) scope.old scope.new types.old types.new }
+    ensures { Walks result (walk_clause clause.now line scope.old) scope.old scope.new facts.old facts.new }
 {
     match clause {
         Clause::Case(case_line, first, body) => {
@@ -352,10 +391,10 @@ fn clause_at(
                 scope,
                 body.as_slice(),
                 first.get(),
-                types,
+                facts,
             )
         }
-        Clause::Default(_, body) => default_at(alloc, scope, body.as_slice(), types),
+        Clause::Default(_, body) => default_at(alloc, scope, body.as_slice(), facts),
     }
 }
 
@@ -365,26 +404,26 @@ fn clauses_at(
     line: u32,
     scope: &mut Scope,
     clauses: &[Clause],
-    types: &mut List<Option<GoType>>,
+    facts: &mut List<Fact>,
 ) -> Result<(), TypeFault>
-    ensures { Walks result (in_order (map (walk_clause_at line) clauses.now) scope.old) scope.old scope.new types.old types.new }
+    ensures { Walks result (in_order (map (walk_clause_at line) clauses.now) scope.old) scope.old scope.new facts.old facts.new }
 {
     for clause in clauses {
-        clause_at(alloc, line, scope, clause, types)?;
+        clause_at(alloc, line, scope, clause, facts)?;
     }
     Ok(())
 }
 
-/// Whether a statement keeps the rules; what it declares and its expressions' types are added.
+/// Whether a statement keeps the rules; what it declares and its facts are added.
 #[cycle(walking)]
 #[tactic(auto, unfolding(golf_types::specs::Statements::walk))]
 pub fn statement(
     alloc: Global,
     scope: &mut Scope,
     stmt: &Stmt,
-    types: &mut List<Option<GoType>>,
+    facts: &mut List<Fact>,
 ) -> Result<(), TypeFault>
-    ensures { Walks result (walk stmt.now scope.old) scope.old scope.new types.old types.new }
+    ensures { Walks result (walk stmt.now scope.old) scope.old scope.new facts.old facts.new }
 {
     match stmt {
         Stmt::Var(var) => variable(
@@ -393,15 +432,15 @@ pub fn statement(
             scope,
             var.get().name.as_slice(),
             var.get().content.get(),
-            types,
+            facts,
         ),
-        Stmt::Simple(one) => simple(alloc, scope, one.get(), types),
-        Stmt::Go(line, f, xs) => begin_call(alloc, *line, scope, f.get(), xs.as_slice(), types),
-        Stmt::Defer(line, f, xs) => begin_call(alloc, *line, scope, f.get(), xs.as_slice(), types),
-        Stmt::Return(line, e) => returned(alloc, *line, scope, e, types),
+        Stmt::Simple(one) => simple(alloc, scope, one.get(), facts),
+        Stmt::Go(line, f, xs) => begin_call(alloc, *line, scope, f.get(), xs.as_slice(), facts),
+        Stmt::Defer(line, f, xs) => begin_call(alloc, *line, scope, f.get(), xs.as_slice(), facts),
+        Stmt::Return(line, e) => returned(alloc, *line, scope, e, facts),
         Stmt::Break(line) => require(*line, 15, scope.breaks),
         Stmt::Continue(line) => require(*line, 15, scope.loops),
-        Stmt::Block(_, body) => block(alloc, scope, body.as_slice(), types),
+        Stmt::Block(_, body) => block(alloc, scope, body.as_slice(), facts),
         Stmt::If(line, first, test, body) => {
             if_at(
                 alloc,
@@ -410,7 +449,7 @@ pub fn statement(
                 body.as_slice(),
                 first,
                 test.get(),
-                types,
+                facts,
             )
         }
         Stmt::IfElse(line, first, test, body, otherwise) => else_at(
@@ -421,11 +460,11 @@ pub fn statement(
             otherwise.get(),
             first,
             test.get(),
-            types,
+            facts,
         ),
         Stmt::For(line, header, body) => {
-            for_at(alloc, *line, scope, body.as_slice(), header.get(), types)
+            for_at(alloc, *line, scope, body.as_slice(), header.get(), facts)
         }
-        Stmt::Select(line, clauses) => clauses_at(alloc, *line, scope, clauses.as_slice(), types),
+        Stmt::Select(line, clauses) => clauses_at(alloc, *line, scope, clauses.as_slice(), facts),
     }
 }

@@ -100,7 +100,7 @@ pub(crate) fn type_words(
     match checked(rt, alloc, source) {
         Err(_) => panic!(rt; "it is not typed: {source}"),
         Ok(checked) => {
-            for t in checked.types.as_slice() {
+            for t in checked.types(alloc)?.as_slice() {
                 words.push(word(t))?;
             }
         }

@@ -1,5 +1,5 @@
 -- The code of every expression is small beside its words: one step for each kind of expression, and an induction.
-use Rattle.std.proofs.Common.{◌≡◌, ℕ, ◌+◌, ◌*◌, ◌≤◌, List, [], ◌∷◌, ◌++◌, length, map, refl, sym, ap, subst, arith, length-append}
+use Rattle.std.proofs.Common.{◌≡◌, ℕ, ◌*◌, ◌≤◌, List, [], ◌∷◌, ◌++◌, length, map, refl, sym, ap, subst, arith, length-append}
 use Rattle.golf_tokens.specs.declared.token.Mark.TheVariants as marks
 use Rattle.golf_grammar.specs.declared.expressions.Expr.{Expr, roll-Expr}
 use Rattle.golf_grammar.specs.declared.expressions.Element.{Element, roll-Element}

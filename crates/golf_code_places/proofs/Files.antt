@@ -27,7 +27,6 @@ use Rattle.golf_layout.specs.Piece.{size, all}
 use Rattle.golf_layout.proofs.Sizes.{placed-size}
 use Rattle.golf_code_of.specs.declared.tables.Tables.{Tables}
 use Rattle.golf_code_of.specs.declared.making.Making.{Making}
-use Rattle.golf_code_of.specs.Calls.{operation}
 use Rattle.golf_code_of.specs.Laying.{stmt_part}
 use Rattle.golf_code_of.specs.Files.{function, body_laid, last_return, function_of, functions_from, loads, made_body, made_function, initial, initials, entry_body, giving, main_number, main_line, tables_of, code_in, CodeOf}
 use Rattle.golf_code_places.specs.Laws.{IsSmall, BodiesAreSmall, FilesHavePlaces}

@@ -4,12 +4,12 @@ use Rattle.golf_theory.specs.Membership.{In, Every}
 use Rattle.golf_theory.proofs.Lists.{Every-append}
 use Rattle.golf_grammar.specs.declared.expressions.Expr.{Expr}
 use Rattle.golf_types.specs.declared.types.Base.TheVariants as base
-use Rattle.golf_types.specs.declared.types.GoType.{GoType}
 use Rattle.golf_types.specs.declared.scopes.Scope.{Scope}
 use Rattle.golf_types.specs.Expressions.{used, given_by}
 use Rattle.golf_types.specs.Scopes.{begun}
 use Rattle.golf_types.specs.Judging.{judge}
 use Rattle.golf_types.specs.declared.locals.Local.{Local}
+use Rattle.golf_types.specs.declared.facts.Fact.{Fact}
 use Rattle.golf_types.specs.Faults.{Fault}
 use Rattle.golf_types.specs.Statements as W
 use Rattle.golf_types.specs.Statements.{Walk, Walked, both, behind}
@@ -76,7 +76,7 @@ module _ (types : Types) (t : Tables) (ft : FunctionTypes) where
       (has-weaker types ft (x.lay a s).piece (shape [] A) [] A l.0 exits l.1 l.3, r.1)
 
   -- behind a test nothing is known that was not before it
-  fits-tested : (A : List ℕ) (s : Scope) (w : Walked) (fs : List Fault) (ts : List (Option GoType)) → w.declares ≡ [] → Fits A s → Fits A (behind s (both (W.judges fs ts) w))
+  fits-tested : (A : List ℕ) (s : Scope) (w : Walked) (fs : List Fault) (ts : List Fact) → w.declares ≡ [] → Fits A s → Fits A (behind s (both (W.judges fs ts) w))
   fits-tested A s w fs ts calm ok = scope-quiet types t ft A s (both (W.judges fs ts) w) calm ok
 
   fits-both : (A : List ℕ) (s : Scope) (v w : Walked) → Fits A (behind (behind s v) w) → Fits A (behind s (both v w))
@@ -100,7 +100,7 @@ module _ (types : Types) (t : Tables) (ft : FunctionTypes) where
     first-fits : (s : Scope) (A : List ℕ) (m : Simply A s) → Fits m.0 (behind s (First.walk s))
     first-fits s A m =
         let s1 = behind s (w s) in
-        fits-both m.0 s (w s) (Inner s1) (fits-tested m.0 s1 (body.walk s1) (W.condition l test s1).faults (W.condition l test s1).types (calm s1) m.2)
+        fits-both m.0 s (w s) (Inner s1) (fits-tested m.0 s1 (body.walk s1) (W.condition l test s1).faults (W.condition l test s1).facts (calm s1) m.2)
 
     first-has : (a : Around) (s : Scope) (A : List ℕ) (exits : List Shape) (m : Simply A s) → Slotted ft s.next (First.walk s).slots → MadeFit types a.functions (First.lay a s).made → (First.walk s).faults ≡ []
         → WaysFit m.0 exits s a → slice_get exits 0 ≡ Some (shape [] m.0) → Has types ft (First.lay a s).piece (shape [] A) (shape [] m.0) exits × Every IsMaking (First.lay a s).made

@@ -21,6 +21,8 @@ use Rattle.golf_types.specs.declared.operands.Where.TheVariants as place
 use Rattle.golf_types.specs.declared.operands.BuiltIn.TheVariants as built_in
 use Rattle.golf_types.specs.declared.operands.Operand.{Operand}
 use Rattle.golf_types.specs.declared.operands.Operand.TheVariants as operand
+use Rattle.golf_types.specs.declared.facts.Fact.{Fact}
+use Rattle.golf_types.specs.declared.facts.Fact.TheVariants as fact
 use Rattle.golf_types.specs.declared.operands.Given.{Given}
 use Rattle.golf_types.specs.declared.operands.Given.TheVariants as given_as
 use Rattle.golf_types.specs.declared.scopes.Meaning.{Meaning}
@@ -34,7 +36,7 @@ use Rattle.golf_types.specs.Types.{with_layer, given}
 use Rattle.golf_types.specs.Names.{is_blank}
 use Rattle.golf_types.specs.Scopes.{or_else, type_at, entry_operand, meaning_in, predeclared, meaning, member}
 use Rattle.golf_types.specs.Written.{write, pointer_to}
-use Rattle.golf_types.specs.Expressions.{Judged, used, named_or_used, given_by, types_of, value_faults, pointer_value, leaf, known_name, named, in_parens, field_of_member, field_type, put_faults, all_put_faults, fields_differ, struct_literal, slice_literal, made, made_sized, made_struct, struct_member, base_member, type_member, value_member, selected_from, selector, unary_judged, binary_judged, index_judged}
+use Rattle.golf_types.specs.Expressions.{Judged, used, named_or_used, given_by, facts_of, value_faults, pointer_value, leaf, known_name, named, in_parens, field_of_member, field_type, put_faults, all_put_faults, fields_differ, field_place, put_facts, struct_literal, slice_literal, made, made_sized, made_struct, struct_member, base_member, type_member, value_member, selected_from, selector, unary_judged, binary_judged, index_judged}
 use Rattle.golf_types.specs.Calls.{steady_faults, called_with, call_judged}
 use Rattle.golf_types.specs.Judging.{Judge, Put, judge, judge_step, element_step}
 use Rattle.golf_types.specs.Files.{outside}
@@ -71,12 +73,24 @@ module _ (f : FileScope) (globals : List (Option GoType)) where
       ap (λ t. (is_some t && not (list_any (bytes_eq n) seen)) && fields_differ other b (seen ++ n ∷ []) ns) (field-same b n)
       ∙ ap (λ z. (is_some (field_type f b n) && not (list_any (bytes_eq n) seen)) && z) (differ-same b (seen ++ n ∷ []) ns)
 
+  place-same : (b : Option Base) (n : List ℕ) → field_place other b n ≡ field_place f b n
+  unfolding member
+  place-same b n = refl
+
+  facts-same : (b : Option Base) (ns : List (List ℕ)) (js : List Judged) → put_facts other b ns js ≡ put_facts f b ns js
+  facts-same b [] js = refl
+  facts-same b (n ∷ ns) [] = refl
+  facts-same b (n ∷ ns) (j ∷ js) =
+      ap (λ i. fact.Field i ∷ (facts_of j ++ put_facts other b ns js)) (place-same b n) ∙ ap (λ fs. fact.Field (field_place f b n) ∷ (facts_of j ++ fs)) (facts-same b ns js)
+
   literal-same : (l : ℕ) (b : Option Base) (ns : List (List ℕ)) (js : List Judged) → struct_literal l other b ns js ≡ struct_literal l f b ns js
   literal-same l b ns js =
-      ap (literal-of l b js (fields_differ other b [] ns)) (put-same l b ns (map given_by js)) ∙ ap (λ z. literal-of l b js z (all_put_faults l f b ns (map given_by js))) (differ-same b [] ns)
+      ap (literal-of l b js (put_facts other b ns js) (fields_differ other b [] ns)) (put-same l b ns (map given_by js))
+      ∙ ap (λ z. literal-of l b js (put_facts other b ns js) z (all_put_faults l f b ns (map given_by js))) (differ-same b [] ns)
+      ∙ ap (λ inner. literal-of l b js inner (fields_differ f b [] ns) (all_put_faults l f b ns (map given_by js))) (facts-same b ns js)
     where
-      literal-of : ℕ → Option Base → List Judged → Bool → List Fault → Judged
-      literal-of l b js z fs = record { meaning = pointer_value b; faults = flat_map (used l) js ++ (fs ++ broken l 20 (is_some b && z)); inner = flat_map types_of js }
+      literal-of : ℕ → Option Base → List Judged → List Fact → Bool → List Fault → Judged
+      literal-of l b js inner z fs = record { meaning = pointer_value b; faults = flat_map (used l) js ++ (fs ++ broken l 20 (is_some b && z)); inner = inner }
 
   -- selectors
 
@@ -107,7 +121,7 @@ module _ (f : FileScope) (globals : List (Option GoType)) where
   selected-same l n m = ap (of-value l m) (value-same l n (given m))
 
   abbrev behind-dot : Judged → Judged → Judged
-  behind-dot e j = record { meaning = j.meaning; faults = e.faults ++ j.faults; inner = types_of e }
+  behind-dot e j = record { meaning = j.meaning; faults = e.faults ++ j.faults; inner = facts_of e }
 
 module _ (f : FileScope) (globals : List (Option GoType)) (g : ℕ) (same : SameBelow g globals f.globals) where
   -- where the global of this number is initialised
@@ -166,7 +180,7 @@ module _ (f : FileScope) (globals : List (Option GoType)) (g : ℕ) (same : Same
   arguments-clean l m xs none = none-left (flat_map (used l) xs) _ none
 
   abbrev call-of : ℕ → Judged → Judged → Judged
-  call-of l f j = record { meaning = j.meaning; faults = named_or_used l f ++ j.faults; inner = types_of f ++ j.inner }
+  call-of l f j = record { meaning = j.meaning; faults = named_or_used l f ++ j.faults; inner = facts_of f ++ j.inner }
 
   call-same : (l : ℕ) (j : Judged) (xs : List Judged) → (call_judged l here j xs).faults ≡ [] → call_judged l there j xs ≡ call_judged l here j xs
   call-same l j xs none = ap (call-of l j) (called-same l j.meaning xs (none-right (named_or_used l j) _ none))

@@ -11,7 +11,7 @@ invariant-all-loop-stmt l =
     record {
       faults : rest.faults ≡ all.faults;
       scope : behind l.scope rest ≡ behind l.fn.scope all;
-      types : l.types ++ rest.types ≡ l.fn.types ++ all.types;
+      facts : l.facts ++ rest.facts ≡ l.fn.facts ++ all.facts;
     }
 
 abbrev pub invariant-clauses_at-loop-clause : goal.invariant-clauses_at-loop-clause
@@ -21,7 +21,7 @@ invariant-clauses_at-loop-clause l =
     record {
       faults : rest.faults ≡ all.faults;
       scope : behind l.scope rest ≡ behind l.fn.scope all;
-      types : l.types ++ rest.types ≡ l.fn.types ++ all.types;
+      facts : l.facts ++ rest.facts ≡ l.fn.facts ++ all.facts;
     }
 
 abbrev pub decreases-statement : goal.decreases-statement
@@ -72,11 +72,17 @@ decreases-clause_body l = 16 * goal.size-clause_body l + 2
 abbrev pub decreases-case_parts : goal.decreases-case_parts
 decreases-case_parts l = 16 * goal.size-case_parts l + 3
 
+abbrev pub decreases-case_block : goal.decreases-case_block
+decreases-case_block l = 16 * goal.size-case_block l + 4
+
 abbrev pub decreases-case_at : goal.decreases-case_at
-decreases-case_at l = 16 * goal.size-case_at l + 4
+decreases-case_at l = 16 * goal.size-case_at l + 5
+
+abbrev pub decreases-default_block : goal.decreases-default_block
+decreases-default_block l = 16 * goal.size-default_block l + 3
 
 abbrev pub decreases-default_at : goal.decreases-default_at
-decreases-default_at l = 16 * goal.size-default_at l + 3
+decreases-default_at l = 16 * goal.size-default_at l + 4
 
 abbrev pub decreases-clauses_at : goal.decreases-clauses_at
 decreases-clauses_at l = 16 * goal.size-clauses_at l + 2

@@ -1,0 +1,6 @@
+use Rattle.std.proofs.Common.{◌≡◌, ◌++◌, drop}
+use Rattle.golf_types.specs.Facts.{types_told}
+use Rattle.golf_check.proofs.files.Checked.types.Given as goal
+
+abbrev pub invariant-loop-fact : goal.invariant-loop-fact
+invariant-loop-fact l = l.types ++ types_told (drop l.fact-index l.self.facts) ≡ types_told l.self.facts
