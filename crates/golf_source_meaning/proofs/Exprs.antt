@@ -16,7 +16,7 @@ use Rattle.golf_types.specs.Types.{with_layer}
 use Rattle.golf_types.specs.Names.{is_blank}
 use Rattle.golf_types.specs.Scopes.{meaning}
 use Rattle.golf_types.specs.Written.{write, pointer_to, made_base}
-use Rattle.golf_types.specs.Expressions.{value_from, selected_from, unary_judged, index_judged}
+use Rattle.golf_types.specs.Expressions.{value_from, selected_from, unary_judged, index_judged, struct_of}
 use Rattle.golf_types.specs.Calls.{call_judged}
 use Rattle.golf_types.specs.Judging.{Judge, judge}
 use Rattle.golf_layout.specs.Piece.{Piece, op}
@@ -148,13 +148,13 @@ module _ (t : Tables) where
     at (F.StructLiteral n xs) =
         let b = pointer_to (meaning s n) in
         only (made (F.StructLiteral n xs) l s).piece (does (F.StructLiteral n xs) l s).value
-        (turn-after slots (op l (Instr.NewStruct (C.struct_of b))) (C.puts l s.file b (map (λ (c : CodedPut). c.name) (map element_coded (elements_of xs))) (map (λ (c : CodedPut). (c.value.code l s).piece) (map element_coded (elements_of xs)))) (X.new_struct b) (X.puts s.file b (map (λ (m : MeantPut). m.name) (map element_meant (elements_of xs))) (map (λ (m : MeantPut). (m.value.does l s).value env) (map element_meant (elements_of xs)))) (turn-visible slots l (Instr.NewStruct (C.struct_of b)) (X.pointer_type b) [] refl) (all-puts b xs))
+        (turn-after slots (op l (Instr.NewStruct (struct_of b))) (C.puts l s.file b (map (λ (c : CodedPut). c.name) (map element_coded (elements_of xs))) (map (λ (c : CodedPut). (c.value.code l s).piece) (map element_coded (elements_of xs)))) (X.new_struct b) (X.puts s.file b (map (λ (m : MeantPut). m.name) (map element_meant (elements_of xs))) (map (λ (m : MeantPut). (m.value.does l s).value env) (map element_meant (elements_of xs)))) (turn-visible slots l (Instr.NewStruct (struct_of b)) (X.pointer_type b) [] refl) (all-puts b xs))
     at (F.SyncLiteral n) = matches-sync slots s.locals env l (made_base n)
     at (F.SliceLiteral w xs) = only (made (F.SliceLiteral w xs) l s).piece (does (F.SliceLiteral w xs) l s).value (turn-slice slots l (with_layer layer.Slice (write w l s).type) (codes_of xs) (values_of xs) (all-turn xs))
     at F.EmptyLiteral = only (op l Instr.Unit) (X.constant_gives (Value.Unit ∷ [])) (λ n at ts rest w. refl)
     at (F.Make w) = only (made (F.Make w) l s).piece (does (F.Make w) l s).value (turn-made slots l (write w l s).type)
     at (F.MakeSized w e) = only (made (F.MakeSized w e) l s).piece (does (F.MakeSized w e) l s).value (turn-made-sized slots l (write w l s).type (code_of e) (value_of e) (turns e))
-    at (F.New n) = only (op l (Instr.NewStruct (C.struct_of (pointer_to (meaning s n))))) (λ env. X.new_struct (pointer_to (meaning s n))) (turn-visible slots l (Instr.NewStruct (C.struct_of (pointer_to (meaning s n)))) (X.pointer_type (pointer_to (meaning s n))) [] refl)
+    at (F.New n) = only (op l (Instr.NewStruct (struct_of (pointer_to (meaning s n))))) (λ env. X.new_struct (pointer_to (meaning s n))) (turn-visible slots l (Instr.NewStruct (struct_of (pointer_to (meaning s n)))) (X.pointer_type (pointer_to (meaning s n))) [] refl)
     at (F.NewSync n) = matches-sync slots s.locals env l (made_base n)
     at (F.Selector e n) =
         subst (λ (j : Judge). Means (does (F.Selector e n) l s) (C.selector l (selected_from l s.file n (j l s).meaning).meaning ((coded t e.0).code l s).piece)) (judges e.0)
