@@ -65,7 +65,7 @@ pub inner_tells : {A : Type 0} (r : Result A TypeFault) (l : ℕ) (ps : List (Li
 inner_tells r l ps ws s mid t old new none at h =
     let a = in_order (map (parameter_walk l) ps) s in
     then_tells r a (in_order ws (behind s a)) s (behind s a) t old old new none refl
-    (sym (ap (λ ts. old ++ ts) (parameters_facts l ps s) ∙ append-nil old))
+    (sym (ap (λ fs. old ++ fs) (parameters_facts l ps s) ∙ append-nil old))
     (subst (λ m. Walks r (in_order ws m) m t old new) at h)
 
 -- a scope whose file has these types
@@ -97,12 +97,12 @@ func_stays r f s t old new is h = subst (λ u. Stays r (func_walk f u) s t old n
 -- Passes over the declarations of a file.
 
 -- behind the scope with all types the answer for the declarations is that for the file with its types
-pub walked_tells : (r : Result (List Fact) TypeFault) (f : FileScope) (s t : Scope) (xs : List Decl) → t ≡ outside f → Tells r (walk_faults t.file 0 xs) (λ ts. (s ≡ t) × (ts ≡ walk_facts t.file 0 xs)) → Tells r (walk_faults f 0 xs) (λ ts. (s ≡ outside f) × (ts ≡ walk_facts f 0 xs))
-walked_tells r f s t xs is h = subst (λ (u : Scope). Tells r (walk_faults u.file 0 xs) (λ ts. (s ≡ u) × (ts ≡ walk_facts u.file 0 xs))) is h
+pub walked_tells : (r : Result (List Fact) TypeFault) (f : FileScope) (s t : Scope) (xs : List Decl) → t ≡ outside f → Tells r (walk_faults t.file 0 xs) (λ fs. (s ≡ t) × (fs ≡ walk_facts t.file 0 xs)) → Tells r (walk_faults f 0 xs) (λ fs. (s ≡ outside f) × (fs ≡ walk_facts f 0 xs))
+walked_tells r f s t xs is h = subst (λ (u : Scope). Tells r (walk_faults u.file 0 xs) (λ fs. (s ≡ u) × (fs ≡ walk_facts u.file 0 xs))) is h
 
 -- the answer for the passes in the scope without types is that for the declarations
-pub named_tells : (r : Result (List Fact) TypeFault) (i : Imports) (s t : Scope) (xs : List Decl) → s ≡ outside (bare_file i xs) → Tells r (named_faults s xs) (λ ts. (t ≡ outside (typed_file s.file xs)) × (ts ≡ walk_facts (typed_file s.file xs) 0 xs)) → Tells r (decl_faults i xs) (λ ts. (t ≡ outside (file_scope i xs)) × (ts ≡ walk_facts (file_scope i xs) 0 xs))
-named_tells r i s t xs is h = subst (λ (u : Scope). Tells r (named_faults u xs) (λ ts. (t ≡ outside (typed_file u.file xs)) × (ts ≡ walk_facts (typed_file u.file xs) 0 xs))) is h
+pub named_tells : (r : Result (List Fact) TypeFault) (i : Imports) (s t : Scope) (xs : List Decl) → s ≡ outside (bare_file i xs) → Tells r (named_faults s xs) (λ fs. (t ≡ outside (typed_file s.file xs)) × (fs ≡ walk_facts (typed_file s.file xs) 0 xs)) → Tells r (decl_faults i xs) (λ fs. (t ≡ outside (file_scope i xs)) × (fs ≡ walk_facts (file_scope i xs) 0 xs))
+named_tells r i s t xs is h = subst (λ (u : Scope). Tells r (named_faults u xs) (λ fs. (t ≡ outside (typed_file u.file xs)) × (fs ≡ walk_facts (typed_file u.file xs) 0 xs))) is h
 
 -- what was found of the declarations of a file
 abbrev pub FoundIn : Imports → List Decl → Found → Type 0

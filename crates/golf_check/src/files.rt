@@ -116,7 +116,7 @@ fn facts_behind_names(
     decls: &[Decl],
 ) -> Result<List<Fact>, TypeFault>
     requires { scope.old ≡ outside scope.old.file }
-    ensures { Tells result (walk_faults (typed_file scope.old.file decls.now) 0 decls.now) (λ ts. (scope.new ≡ outside (typed_file scope.old.file decls.now)) × (ts ≡ walk_facts (typed_file scope.old.file decls.now) 0 decls.now)) }
+    ensures { Tells result (walk_faults (typed_file scope.old.file decls.now) 0 decls.now) (λ fs. (scope.new ≡ outside (typed_file scope.old.file decls.now)) × (fs ≡ walk_facts (typed_file scope.old.file decls.now) 0 decls.now)) }
 {
     add_types(alloc, scope, decls)?;
     let mut facts = List::new(alloc);
@@ -127,7 +127,7 @@ fn facts_behind_names(
 // Names, written types, `main`, and then the rest.
 fn facts_of_named(alloc: Global, scope: &mut Scope, decls: &[Decl]) -> Result<List<Fact>, TypeFault>
     requires { scope.old ≡ outside scope.old.file }
-    ensures { Tells result (named_faults scope.old decls.now) (λ ts. (scope.new ≡ outside (typed_file scope.old.file decls.now)) × (ts ≡ walk_facts (typed_file scope.old.file decls.now) 0 decls.now)) }
+    ensures { Tells result (named_faults scope.old decls.now) (λ fs. (scope.new ≡ outside (typed_file scope.old.file decls.now)) × (fs ≡ walk_facts (typed_file scope.old.file decls.now) 0 decls.now)) }
 {
     names_are_good(alloc, &scope.file, decls)?;
     types_are_there(alloc, scope, decls)?;

@@ -1,16 +1,8 @@
-//! The code of a typed file.
+//! From a typed file to its code, by what the checker wrote down of it.
 //!
-//! Function 0 first, then the functions and methods in source order, then those that are made for
-//! `go` and `defer`. A body's code is added to flat marks (`golf_emit_statements`), which become
-//! a function by three passes (`golf_targets`).
+//! What the code of a file is stands in `specs/` of `golf_code_of`; that the code by facts is that code is a law of `golf_facts`.
 #![tactic(auto)]
 
-mod entry;
 mod files;
-mod functions;
-mod heads;
-mod made;
-mod numbers;
-mod values;
 
 pub use files::generate;

@@ -36,7 +36,7 @@ use Rattle.golf_code_shapes.proofs.Branches.{further}
 use Rattle.golf_code_shapes.proofs.Flows.{Right, then-in, locals-wider, slotted-left, slotted-right, made-left, made-right, quiet, scope-quiet}
 use Rattle.golf_code_shapes.proofs.Simples.{value-of}
 use Rattle.golf_code_shapes.proofs.Receives.{pair-taken, stores-assigned}
-use Rattle.golf_code_shapes.proofs.NamesAlone.{judged-by-names}
+use Rattle.golf_types.proofs.NamesAlone.{judged-by-names}
 
 -- what a clause leaves at its target, and what it takes, where it is on a channel of this type; `default` takes and leaves nothing
 abbrev leaves_of : Option CaseKind → ValueType → List ValueType

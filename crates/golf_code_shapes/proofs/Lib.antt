@@ -6,7 +6,6 @@ pub mod Selectors
 pub mod Literals
 pub mod CallShapes
 pub mod Exprs
-pub mod NamesAlone
 pub mod Flows
 pub mod Simples
 pub mod Receives

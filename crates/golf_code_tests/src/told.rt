@@ -37,7 +37,7 @@ fn code_of(rt: &impl Abort, alloc: Global, source: &str) -> Code {
             Err(_) => panic!(rt; "it is no file"),
             Ok(file) => match check(alloc, file) {
                 Err(_) => panic!(rt; "it is not typed"),
-                Ok(mut checked) => match generate(alloc, &mut checked) {
+                Ok(checked) => match generate(alloc, &checked) {
                     Ok(code) => code,
                     Err(Memory) => panic!(rt; "memory is wanting"),
                 },

@@ -42,7 +42,7 @@ use Rattle.golf_types.specs.Judging.{Judge, Put, judge, judge_step, element_step
 use Rattle.golf_types.specs.Files.{outside}
 use Rattle.golf_code_shapes.specs.FileLaws.{initial_scope}
 use Rattle.golf_code_shapes.proofs.Typings.{none-left, none-right, kept}
-use Rattle.golf_name_shapes.proofs.Alike.{pointers-alike, written-same}
+use Rattle.golf_types.proofs.Alike.{pointers-alike, written-same}
 use Rattle.golf_global_shapes.specs.Laws.{SameBelow, FormsStay}
 
 module _ (f : FileScope) (globals : List (Option GoType)) where

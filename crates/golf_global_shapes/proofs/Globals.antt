@@ -34,7 +34,7 @@ use Rattle.golf_code_shapes.proofs.Simples.{value-of, typed}
 use Rattle.golf_code_shapes.proofs.WholeFiles.{text-below}
 use Rattle.golf_name_shapes.specs.Parts.{contents_of}
 use Rattle.golf_name_shapes.specs.Laws.{named_with, GlobalsAreKnown, WellNamed}
-use Rattle.golf_name_shapes.proofs.Alike.{written-alike, fields-alike}
+use Rattle.golf_types.proofs.Alike.{written-alike, fields-alike}
 use Rattle.golf_name_shapes.proofs.Callees.{NameKnown, fields-known, receiver-known, pointers, names-mean}
 use Rattle.golf_name_shapes.proofs.Mains.{main-fits}
 use Rattle.golf_global_shapes.specs.Laws.{DeclarationsKnown, NamesFitAll}

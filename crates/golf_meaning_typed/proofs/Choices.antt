@@ -30,7 +30,7 @@ use Rattle.golf_code_of.specs.Selects.{ClausePart, case_to, cases_from, default_
 use Rattle.golf_code_shapes.specs.Types.{value_type}
 use Rattle.golf_code_shapes.specs.Sound.{FileFits}
 use Rattle.golf_code_shapes.proofs.Typings.{none-left, none-right, kept}
-use Rattle.golf_code_shapes.proofs.NamesAlone.{judged-by-names}
+use Rattle.golf_types.proofs.NamesAlone.{judged-by-names}
 use Rattle.golf_flat_meaning.specs.Worlds.{Answer, World, asked, asks, done}
 use Rattle.golf_source_meaning.specs.Names.{Env}
 use Rattle.golf_source_meaning.specs.Operations as O

@@ -49,7 +49,7 @@ use Rattle.golf_name_shapes.specs.Parts.{contents_of, structs_of, functions_of}
 use Rattle.golf_name_shapes.specs.Laws.{named_with, GlobalsAreKnown, WellNamed, NamesMean}
 use Rattle.golf_shapes.proofs.Gets.{slice_get-left}
 use Rattle.golf_name_shapes.proofs.Gets.{get-next, get-mapped, some-same}
-use Rattle.golf_name_shapes.proofs.Alike.{fields-alike, result-alike, written-alike, pointers-alike}
+use Rattle.golf_types.proofs.Alike.{fields-alike, result-alike, written-alike, pointers-alike}
 use Rattle.golf_name_shapes.proofs.Meanings.{Means, counted}
 use Rattle.golf_name_shapes.proofs.Methods.{IsMethod, Belongs, members-belong}
 

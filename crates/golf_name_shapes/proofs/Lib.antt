@@ -1,5 +1,4 @@
 pub mod Gets
-pub mod Alike
 pub mod Meanings
 pub mod Methods
 pub mod Callees

@@ -10,7 +10,7 @@ use Rattle.golf_grammar.specs.Reads.{Reads as HasTree, ReadsTokens}
 use Rattle.golf_lex.proofs.Scans.{lexes-once}
 use Rattle.golf_syntax.proofs.OneTree.{one-tree}
 use Rattle.golf_types.specs.Faults.{IsFirst}
-use Rattle.golf_types.specs.Files.{Broken}
+use Rattle.golf_types.specs.Files.{Broken, facts_in}
 use Rattle.golf_check.specs.declared.files.Checked.{Checked}
 use Rattle.golf_check.specs.Heads.{scope_of}
 use Rattle.golf_code_of.specs.Files.{CodeOf}
@@ -44,7 +44,7 @@ untyped-none bytes file line rule t first = λ other h. subst (IsFirst rule line
 
 -- whether the tree of the bytes keeps the rules is whether the file is typed
 pub of-tree : (bytes : List ℕ) (file : File) (r : Result Checked Refusal) → HasTree bytes file → Keeps file r → WasTyped bytes r
-of-tree bytes file (Ok checked) t k = (subst (λ f. HasTypedTree bytes f) (sym k.0) (record { tree = t; keeps = k.2 }), k.1 ∙ ap scope_of (sym k.0))
+of-tree bytes file (Ok checked) t k = (subst (λ f. HasTypedTree bytes f) (sym k.0) (record { tree = t; keeps = k.3 }), k.1 ∙ ap scope_of (sym k.0), k.2 ∙ ap facts_in (sym k.0))
 of-tree bytes file (Err (refusals.Lexical line byte)) t k = absurd k
 of-tree bytes file (Err (refusals.Syntax line)) t k = absurd k
 of-tree bytes file (Err (refusals.Untyped line rule)) t k = record { file = file; tree = t; first = k; none = untyped-none bytes file line rule t k }

@@ -71,7 +71,7 @@ pub fn read(alloc: Global, bytes: &[u8]) -> Result<Code, Refusal>
     // The code can be run.
     ensures places { IfOk result HasPlaces }
 {
-    let mut checked = typed(alloc, bytes)?;
-    let code = generate(alloc, &mut checked)?;
+    let checked = typed(alloc, bytes)?;
+    let code = generate(alloc, &checked)?;
     Ok(code)
 }

@@ -3,3 +3,5 @@ pub mod PlaceLaws
 pub mod TableLaws
 pub mod JudgeLaws
 pub mod WalkLaws
+pub mod Alike
+pub mod NamesAlone

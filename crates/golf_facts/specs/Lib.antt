@@ -1,0 +1,8 @@
+pub mod Facts
+pub mod Expressions
+pub mod Statements
+pub mod Loops
+pub mod Selects
+pub mod Laying
+pub mod Files
+pub mod Laws

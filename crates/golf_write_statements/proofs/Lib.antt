@@ -1,0 +1,4 @@
+pub mod Types
+pub mod Seams
+pub mod Selects
+pub mod Begun

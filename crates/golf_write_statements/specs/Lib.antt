@@ -1,0 +1,5 @@
+pub mod Lays
+pub mod Begins
+pub mod Clauses
+pub mod Begun
+pub mod Ranges
