@@ -1,4 +1,0 @@
-pub mod Taking
-pub mod Wholes
-pub mod Selecting
-pub mod Arms

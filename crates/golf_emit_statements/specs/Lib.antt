@@ -1,4 +1,0 @@
-pub mod Lays
-pub mod Begins
-pub mod Ranges
-pub mod Clauses
