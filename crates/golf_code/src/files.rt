@@ -12,7 +12,6 @@ use golf_write_files::code;
 use std::alloc::Global;
 
 /// The code of a typed file.
-#[tactic(auto, using(crate::proofs::Laws::code_is))]
 pub fn generate(alloc: Global, checked: &Checked) -> Result<Code, Memory>
     requires scope { checked.now.scope ≡ scope_of checked.now.file }
     requires facts { checked.now.facts ≡ facts_in checked.now.file }
