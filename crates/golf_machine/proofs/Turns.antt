@@ -23,6 +23,7 @@ use Rattle.golf_model.specs.Clearing.{clearing}
 use Rattle.golf_model.specs.Turn.{turned, changes, line_at, turn_of, turn_changes, whose_turn, step, frame_changes, performs, wants_collection, goroutine_collects}
 use Rattle.golf_state.specs.Looked.{frames_of, frames_in}
 use Rattle.golf_state.specs.Doing.{does, Stands, Runs}
+use Rattle.golf_machine.specs.Within.{acted, taken}
 use Rattle.golf_state.proofs.Doings.{does-is}
 
 -- ---- whose turn it is
@@ -80,6 +81,22 @@ module _ (code : Code) (s : State) (n g : ℕ) (turn : whose_turn s n ≡ Some g
       ∙ ap (λ c. apply_all (clearing code c (Some g) s1) s1) (w ∙ sym wants-is)
       ∙ ap (λ (m : Option ℕ). apply_all (clearing code (wants_collection code s n) m s1) s1) (sym turn)
       ∙ ap (λ (t : State). apply_all (clearing code (wants_collection code s n) (whose_turn s n) t) t) (turned-is s1 count e h)
+
+-- the same by the place and the choice that the number was divided into
+module _ (code : Code) (s : State) (n : ℕ) (xs : List GoroutineId) (told : map (λ g. g.0) xs ≡ runnable s) (goes : ending s ≡ None) (place : ℕ) (at : place ≡ n % length xs) where
+  pub whose-at : whose_turn s n ≡ Some (get_or xs place (record { 0 = 0 })).0
+  whose-at = whose s n xs told goes ∙ ap (λ k. let d : GoroutineId = record { 0 = 0 } in Some (get_or xs k d).0) (sym at)
+
+  pub step-taken : (choice : ℕ) (t : State) → choice ≡ n / length xs → t ≡ taken code (get_or xs place (record { 0 = 0 })).0 choice s → t ≡ step code s n
+  step-taken choice t e is =
+      let d : GoroutineId = record { 0 = 0 } in
+      let g = (get_or xs place d).0 in
+      step-is code s n g whose-at (acted code g (n / length xs) s) t (goroutine_collects code (find g s.goroutines)) (length xs) (how_many s n xs told goes) refl refl (is ∙ ap (λ k. taken code g k s) e)
+
+  pub wants-taken : (b : Bool) → b ≡ goroutine_collects code (find (get_or xs place (record { 0 = 0 })).0 s.goroutines) → wants_collection code s n ≡ b
+  wants-taken b h =
+      let d : GoroutineId = record { 0 = 0 } in
+      wants-is code s n (get_or xs place d).0 whose-at ∙ sym h
 
 -- ---- the goroutine's frames
 

@@ -2,4 +2,6 @@ pub mod Acts
 pub mod Groups
 pub mod Objects
 pub mod Operations
+pub mod Taking
 pub mod Turns
+pub mod Within

@@ -3,7 +3,7 @@
 ghost use Rattle.std.specs.Prelude.{◌≡◌, OnOk, OnErr};
 ghost use Rattle.golf_model.specs.Acting.{jumps};
 ghost use Rattle.golf_model.specs.Calculating.{negates, inverts, computes, divides, compares, equates, jumps_unless};
-ghost use Rattle.golf_model.specs.Values.{equality, int_of};
+ghost use Rattle.golf_model.specs.Values.{equality, int_of, bool_of};
 ghost use Rattle.std.specs.Int.{w64, IsNonZero};
 ghost use Rattle.golf_model.specs.Turn.{panics_with};
 ghost use Rattle.golf_state.specs.Doing.{does, Stands};
@@ -50,6 +50,20 @@ pub fn int_in(value: Value) -> Option<i64>
     }
 }
 
+/// The truth value that a value is.
+pub fn bool_in(value: Value) -> Option<bool>
+    ensures { result ≡ bool_of value }
+{
+    match value {
+        Value::Bool(b) => Some(b),
+        Value::Int(_) => None,
+        Value::Text(_) => None,
+        Value::Unit => None,
+        Value::Nil => None,
+        Value::Ref(_) => None,
+    }
+}
+
 /// The last operand, where it is an integer.
 pub fn last_int(state: &State, g: GoroutineId) -> Option<i64>
     ensures { result ≡ int_in (operands_of g.0 state.now) }
@@ -84,14 +98,7 @@ pub fn negate(state: &mut State, acting: Acting) -> Result<(), Memory>
 fn last_bool(state: &State, g: GoroutineId) -> Option<bool>
     ensures { result ≡ bool_in (operands_of g.0 state.now) }
 {
-    match last_operand(state, g)? {
-        Value::Bool(b) => Some(b),
-        Value::Int(_) => None,
-        Value::Text(_) => None,
-        Value::Unit => None,
-        Value::Nil => None,
-        Value::Ref(_) => None,
-    }
+    bool_in(last_operand(state, g)?)
 }
 
 /// Inverts a truth value.
@@ -106,8 +113,8 @@ pub fn invert(state: &mut State, acting: Acting) -> Result<(), Memory>
     proceed_with(state, acting, acting.after, 1, Given::One(Value::Bool(!b)))
 }
 
-// The result of an operation, wrapped at 64 bits.
-fn result_of(operation: Operation, m: i64, n: i64) -> i64
+/// The result of an operation, wrapped at 64 bits.
+pub fn result_of(operation: Operation, m: i64, n: i64) -> i64
     ensures { result ≡ operation_of operation m n }
 {
     match operation {
@@ -130,8 +137,8 @@ pub fn compute(state: &mut State, acting: Acting, operation: Operation) -> Resul
     proceed_with(state, acting, acting.after, 2, given)
 }
 
-// The result of a division, cut off toward zero, or its remainder.
-fn part_of(division: Division, m: i64, n: i64) -> i64
+/// The result of a division, cut off toward zero, or its remainder.
+pub fn part_of(division: Division, m: i64, n: i64) -> i64
     requires { IsNonZero w64 n }
     ensures { result ≡ division_of division m n }
 {
@@ -158,8 +165,8 @@ pub fn divide(state: &mut State, acting: Acting, division: Division) -> Result<(
     proceed_with(state, acting, acting.after, 2, given)
 }
 
-// Whether a comparison holds.
-fn holds(comparison: Comparison, m: i64, n: i64) -> bool
+/// Whether a comparison holds.
+pub fn holds(comparison: Comparison, m: i64, n: i64) -> bool
     ensures { result ≡ comparison_of comparison m n }
 {
     match comparison {
@@ -181,8 +188,8 @@ pub fn compare(state: &mut State, acting: Acting, comparison: Comparison) -> Res
     proceed_with(state, acting, acting.after, 2, given)
 }
 
-// Whether two values of one kind are equal.
-fn are_equal(x: Value, y: Value) -> Option<bool>
+/// Whether two values of one kind are equal.
+pub fn are_equal(x: Value, y: Value) -> Option<bool>
     ensures { result ≡ equality x y }
 {
     match (x, y) {

@@ -1,4 +1,4 @@
-//! The machine: the state before the first turn of a code, and a turn.
+//! The machine: the state before the first turn of a code, a turn, and turns in one go.
 #![tactic(auto)]
 
 mod calculating;
@@ -9,7 +9,10 @@ mod performing;
 mod printing;
 mod stepping;
 mod structures;
+mod taking;
 mod turning;
 mod values;
+mod within;
 
+pub use taking::{Numbers, take_turns};
 pub use turning::{Turned, start, turn};

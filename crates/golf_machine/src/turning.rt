@@ -1,16 +1,20 @@
 //! The state before the first turn, and one turn.
 
-ghost use Rattle.std.specs.Prelude.{◌≡◌, Some, None, IfOk, OnOk, OnErr};
+ghost use Rattle.std.specs.Prelude.{◌≡◌, ◌<◌, ◌%◌, ◌/◌, Some, None, IfOk, OnOk, OnErr};
+ghost use Rattle.golf_theory.specs.Maps.{find};
 ghost use Rattle.golf_data.specs.Places.{HasPlaces};
 ghost use Rattle.golf_model.specs.Changes.{apply_all};
 ghost use Rattle.golf_model.specs.Clearing.{clearing};
 ghost use Rattle.golf_model.specs.State.{ending, start as start_of};
-ghost use Rattle.golf_model.specs.Turn.{step, wants_collection};
+ghost use Rattle.golf_model.specs.Turn.{step, wants_collection, goroutine_collects};
+ghost use Rattle.golf_state.specs.Doing.{Runs};
 ghost use Rattle.golf_machine.specs.Turns.{turned_of};
+ghost use Rattle.golf_machine.specs.Within.{taken};
 
 use crate::entering::first_frames;
 use crate::stepping::{act, collects};
 use crate::structures::zeros_of;
+use crate::within::pass;
 use golf_base::{GoroutineId, Memory};
 use golf_data::{Code, Ending};
 use golf_state::State;
@@ -47,6 +51,47 @@ fn clear_after(code: &Code, state: &mut State, g: GoroutineId, collects: bool)
     }
 }
 
+// A number divided by how many goroutines can run: the place of the one whose turn it is, and the choice
+// of its `select`. It divides no more bits than it has to.
+fn shared_out(number: u64, count: u64) -> (u64, u64)
+    requires { 0 < count }
+    ensures place { result.0 ≡ number % count }
+    ensures choice { result.1 ≡ number / count }
+{
+    if count == 1 {
+        return (0, number);
+    }
+    if number < 1 << 32 && count < 1 << 32 {
+        let (number, count) = (number as u32, count as u32);
+        return (u64::from(number % count), u64::from(number / count));
+    }
+    (number % count, number / count)
+}
+
+// The turn of a goroutine that runs, and what is cleared after it. It answers whether the instruction is a
+// collection.
+fn take(
+    alloc: Global,
+    code: &Code,
+    state: &mut State,
+    g: GoroutineId,
+    choice: u64,
+) -> Result<bool, Memory>
+    requires places { HasPlaces code.now }
+    requires runs { Runs g.0 state.old }
+    ensures ok { OnOk result (state.new ≡ taken code.now g.0 choice state.old) }
+    ensures collects { IfOk result (λ wants. wants ≡ goroutine_collects code.now (find g.0 state.old.goroutines)) }
+    ensures err { OnErr result (state.new ≡ state.old) }
+{
+    if pass(code, state, g)? {
+        return Ok(false);
+    }
+    let collects = collects(code, state, g);
+    act(alloc, code, state, g, choice)?;
+    clear_after(code, state, g, collects);
+    Ok(collects)
+}
+
 /// One turn: of the goroutines that can run, in rising order, the one at the place of the number,
 /// counted round. It takes all its memory first: on `Memory` the state is unchanged.
 pub fn turn(alloc: Global, code: &Code, state: &mut State, number: u64) -> Result<Turned, Memory>
@@ -58,10 +103,9 @@ pub fn turn(alloc: Global, code: &Code, state: &mut State, number: u64) -> Resul
 {
     let runnable = state.runnable();
     let count = runnable.len() as u64;
-    let g = runnable[(number % count) as usize];
-    let collects = collects(code, state, g);
-    act(alloc, code, state, g, number / count)?;
-    clear_after(code, state, g, collects);
+    let (place, choice) = shared_out(number, count);
+    let g = runnable[place as usize];
+    let collects = take(alloc, code, state, g, choice)?;
     Ok(match state.ending() {
         Some(ending) => Turned::Ended(ending),
         None if collects => Turned::WantsCollection,

@@ -10,6 +10,8 @@ mod Lines
 mod Sleepers
 mod Tellings
 mod Turning
+mod Silent
+mod Advanced
 mod Cutting
 mod Ending
 pub mod Fronts

@@ -1,5 +1,5 @@
 -- One event of a run, in the run's own words.
-use Rattle.std.proofs.Common.{◌≡◌, ℕ, zero, suc, ◌+◌, ◌-◌, ◌*◌, ◌^◌, ◌<◌, ◌≤◌, Bool, true, false, List, [], ◌∷◌, ◌++◌, length, length-append, take, Option, None, refl, sym, ap, subst, ◌∙◌, append_assoc, arith}
+use Rattle.std.proofs.Common.{◌≡◌, ℕ, zero, suc, ◌+◌, ◌-◌, ◌*◌, ◌^◌, ◌<◌, ◌≤◌, Bool, true, false, List, [], ◌∷◌, ◌++◌, length, length-append, take, Option, None, sym, ap, subst, ◌∙◌, append_assoc, arith}
 use Rattle.std.specs.Io.KnownBytes.{Appends}
 use Rattle.golf_data.specs.declared.code.Code.{Code}
 use Rattle.golf_data.specs.declared.report.Book.{Book}
@@ -14,10 +14,8 @@ use Rattle.golf_state_laws.proofs.Leading.{leads-whole}
 use Rattle.golf_reclaim.specs.Noting.{AreGone}
 use Rattle.golf_schedules.specs.declared.schedule.Schedule.{Schedule}
 use Rattle.golf_schedules.specs.declared.options.Options.{Options}
-use Rattle.golf_schedules.specs.declared.events.Event.{Event as Given}
-use Rattle.golf_schedules.specs.declared.events.Events.{Events}
 use Rattle.golf_schedules.specs.Options.{IsWithinLimits}
-use Rattle.golf_schedules.specs.Events.{rotation, congruence, congruent, numbers as numbers_by, is_due, collection_if, turns_from, events as events_by, event_of, events_left, turns_of, turns_among}
+use Rattle.golf_schedules.specs.Events.{rotation, congruence, congruent, numbers as numbers_by, is_due, collection_if, turns_from, events as events_by, turns_among}
 use Rattle.golf_texts.specs.declared.totals.Totals.{Totals}
 use Rattle.golf_texts.specs.Totals.{totals_of}
 use Rattle.golf_texts.specs.Meaning.{events_of, joined}
@@ -36,10 +34,6 @@ turns-append [] fs = zero-plus (turns_among fs)
     zero-plus n = omega arith
 turns-append (Event.Turn c ∷ es) fs = let h = turns-append es fs in omega (arith, h)
 turns-append (Event.Collect ∷ es) fs = turns-append es fs
-
-one-turn : (given : Given) → turns_among (event_of given ∷ []) ≡ turns_of given
-one-turn (Given.Turn c) = refl
-one-turn Given.Collect = refl
 
 -- ---- how many events there are
 
@@ -82,21 +76,17 @@ events-count options =
 
 -- ---- one event
 
-module _ (code : Code) (options : Options) (events next : Events) (given : Given) (state : State) (ledger : Book) (totals : Totals) (old now : Sinks) (going : IsGoing code options events state ledger totals old now)
-    (goes : ending state ≡ None) (is : events_left events ≡ event_of given ∷ events_left next) (counted : next.done ≡ events.done + turns_of given) where
-  abbrev pub event : Event
-  event = event_of given
+module _ (code : Code) (options : Options) (left rest : List Event) (count more : ℕ) (event : Event) (state : State) (ledger : Book) (totals : Totals) (old now : Sinks) (going : IsGoing code options left count state ledger totals old now)
+    (goes : ending state ≡ None) (is : left ≡ event ∷ rest) (counted : more ≡ count + turns_among (event ∷ [])) where
+  split-next : events_of options ≡ (going.done ++ event ∷ []) ++ rest
+  split-next = going.split ∙ ap (λ es. going.done ++ es) is ∙ sym (append_assoc going.done (event ∷ []) rest)
 
-  split-next : events_of options ≡ (going.done ++ event ∷ []) ++ events_left next
-  split-next = going.split ∙ ap (λ es. going.done ++ es) is ∙ sym (append_assoc going.done (event ∷ []) (events_left next))
-
-  turns-next : next.done ≡ turns_among (going.done ++ event ∷ [])
-  turns-next =
-      counted ∙ ap (λ n. n + turns_of given) going.turns ∙ ap (λ n. turns_among going.done + n) (sym (one-turn given)) ∙ sym (turns-append going.done (event ∷ []))
+  turns-next : more ≡ turns_among (going.done ++ event ∷ [])
+  turns-next = counted ∙ ap (λ n. n + turns_among (event ∷ [])) going.turns ∙ sym (turns-append going.done (event ∷ []))
 
   -- without a collection
   pub going-quiet : (out : Option (List ℕ)) (of ef : ℕ) → Appends now.out out (prints code event state) → collects code event state ≡ false
-      → IsGoing code options next (turned code event state) ledger totals old (record { out = out; out_faults = of; err = now.err; err_faults = ef })
+      → IsGoing code options rest more (turned code event state) ledger totals old (record { out = out; out_faults = of; err = now.err; err_faults = ef })
   going-quiet out of ef a h = record {
     done = going.done ++ event ∷ [];
     split = split-next;
@@ -117,36 +107,36 @@ module _ (code : Code) (options : Options) (events next : Events) (given : Given
   pub few-next : IsWithinLimits options → ledger.collections < 2 ^ 32 - 1
   few-next limits =
       let a = events-count options in
-      let b = ap length going.split ∙ length-append going.done (events_left events) in
+      let b = ap length going.split ∙ length-append going.done left in
       omega (arith, a, b, going.under_way.few, limits.turns)
 
   -- what was written by then, what the event prints comes next, and then what follows it
   pub got-before : GotWrites (writes_to code options.recover options.why going.done) old now
-  got-before = got-now code options going.done (events_left events) going.split state ledger totals old now going.under_way
+  got-before = got-now code options going.done left going.split state ledger totals old now going.under_way
 
   pub written-after : List Write
   written-after =
-      followed code options going.done (events_left events) going.split state ledger totals old now going.under_way goes event (events_left next) is
-      ++ behind-next code options going.done (events_left events) going.split state ledger totals old now going.under_way goes event (events_left next) is
+      followed code options going.done left going.split state ledger totals old now going.under_way goes event rest is
+      ++ behind-next code options going.done left going.split state ledger totals old now going.under_way goes event rest is
 
   pub next-order : writes_of code options ≡ (writes_to code options.recover options.why going.done ++ says code event state) ++ written-after
   unfolding written-after
-  next-order = order-next code options going.done (events_left events) going.split state ledger totals old now going.under_way goes event (events_left next) is
+  next-order = order-next code options going.done left going.split state ledger totals old now going.under_way goes event rest is
 
   pub said-got : (out : Option (List ℕ)) (of ef : ℕ) → Appends now.out out (prints code event state) → GotWrites (writes_to code options.recover options.why going.done ++ says code event state) old (sinks out of now.err ef)
-  said-got = got-said code options going.done (events_left events) going.split state ledger totals old now going.under_way goes event (events_left next) is
+  said-got = got-said code options going.done left going.split state ledger totals old now going.under_way goes event rest is
 
   module _ (sets : Bool) (same : sets ≡ sets_finalisers code) where
     -- with a collection
-    pub going-loud : (out err : Option (List ℕ)) (of ef : ℕ) (sum : Totals) (later : State) (book : Book) → Appends now.out out (prints code event state) → collects code event state ≡ true
-        → sum ≡ totalled options.recover sets ledger (turned code event state) → later ≡ collected options.recover sets (turned code event state) → book ≡ noted options.recover sets ledger (turned code event state)
+    pub going-loud : (out err : Option (List ℕ)) (of ef : ℕ) (sum : Totals) (after : State) (book : Book) → Appends now.out out (prints code event state) → collects code event state ≡ true
+        → sum ≡ totalled options.recover sets ledger (turned code event state) → after ≡ collected options.recover sets (turned code event state) → book ≡ noted options.recover sets ledger (turned code event state)
         → Appends now.err err (joined (told_by options.recover sets options.why ledger (turned code event state)))
-        → IsGoing code options next later book sum old (record { out = out; out_faults = of; err = err; err_faults = ef })
-    going-loud out err of ef sum later book a h who left noted-is t = record {
+        → IsGoing code options rest more after book sum old (record { out = out; out_faults = of; err = err; err_faults = ef })
+    going-loud out err of ef sum after book a h who left noted-is t = record {
       done = going.done ++ event ∷ [];
       split = split-next;
       turns = turns-next;
-      under_way = loud code options.recover options.why going.done event state ledger totals old now goes going.under_way out err of ef sum later book a h
+      under_way = loud code options.recover options.why going.done event state ledger totals old now goes going.under_way out err of ef sum after book a h
           (who ∙ ap (λ b. totalled options.recover b ledger (turned code event state)) same)
           (left ∙ ap (λ b. collected options.recover b (turned code event state)) same)
           (noted-is ∙ ap (λ b. noted options.recover b ledger (turned code event state)) same)
@@ -155,13 +145,13 @@ module _ (code : Code) (options : Options) (events next : Events) (given : Given
 
     -- and then its report
     pub told-order : collects code event state ≡ true → writes_of code options ≡ (writes_to code options.recover options.why going.done ++ says code event state) ++ (line_writes (told_by options.recover sets options.why ledger (turned code event state))
-        ++ behind-next code options going.done (events_left events) going.split state ledger totals old now going.under_way goes event (events_left next) is)
+        ++ behind-next code options going.done left going.split state ledger totals old now going.under_way goes event rest is)
     told-order h =
-        order-told code options going.done (events_left events) going.split state ledger totals old now going.under_way goes event (events_left next) is h
-        ∙ ap (λ b. (writes_to code options.recover options.why going.done ++ says code event state) ++ (line_writes (told_by options.recover b options.why ledger (turned code event state)) ++ behind-next code options going.done (events_left events) going.split state ledger totals old now going.under_way goes event (events_left next) is)) (sym same)
+        order-told code options going.done left going.split state ledger totals old now going.under_way goes event rest is h
+        ∙ ap (λ b. (writes_to code options.recover options.why going.done ++ says code event state) ++ (line_writes (told_by options.recover b options.why ledger (turned code event state)) ++ behind-next code options going.done left going.split state ledger totals old now going.under_way goes event rest is)) (sym same)
 
 -- before the first event
-pub starts : (code : Code) (options : Options) (events : Events) (state : State) (book : Book) (totals : Totals) (out err : Option (List ℕ)) (of ef : ℕ) → events_left events ≡ events_by options.schedule options.turns options.every → events.done ≡ 0 → state ≡ start code → book ≡ new_book → totals ≡ totals_of []
-    → IsGoing code options events state book totals (record { out = out; out_faults = of; err = err; err_faults = ef }) (record { out = out; out_faults = of; err = err; err_faults = ef })
+pub starts : (code : Code) (options : Options) (left : List Event) (count : ℕ) (state : State) (book : Book) (totals : Totals) (out err : Option (List ℕ)) (of ef : ℕ) → left ≡ events_by options.schedule options.turns options.every → count ≡ 0 → state ≡ start code → book ≡ new_book → totals ≡ totals_of []
+    → IsGoing code options left count state book totals (record { out = out; out_faults = of; err = err; err_faults = ef }) (record { out = out; out_faults = of; err = err; err_faults = ef })
 unfolding events_of
-starts code options events state book totals out err of ef left none is empty nothing = record { done = []; split = sym left; turns = none; under_way = begins code options.recover options.why state book totals out err of ef is empty nothing }
+starts code options left count state book totals out err of ef are none is empty nothing = record { done = []; split = sym are; turns = none; under_way = begins code options.recover options.why state book totals out err of ef is empty nothing }

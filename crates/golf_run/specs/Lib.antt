@@ -1,6 +1,8 @@
 pub mod Lines
 pub mod Told
 pub mod Happening
+pub mod Coming
+pub mod Advancing
 pub mod HasRun
 pub mod HasLeft
 pub mod UnderWay

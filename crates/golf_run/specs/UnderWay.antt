@@ -9,9 +9,8 @@ use Rattle.golf_model.specs.Collecting.{sets_finalisers, real_collect}
 use Rattle.golf_model.specs.Running.{Event, run, stops, run_by, stops_by}
 use Rattle.golf_model.specs.Futures.{Leads}
 use Rattle.golf_model.specs.Reporting.{book_of, new_book, numbers, report, book_after}
-use Rattle.golf_schedules.specs.declared.events.Events.{Events}
 use Rattle.golf_schedules.specs.declared.options.Options.{Options}
-use Rattle.golf_schedules.specs.Events.{events_left, turns_among}
+use Rattle.golf_schedules.specs.Events.{turns_among}
 use Rattle.golf_texts.specs.declared.totals.Totals.{Totals}
 use Rattle.golf_texts.specs.Totals.{total_reported, total_reclaimed, totals_of}
 use Rattle.golf_texts.specs.Meaning.{events_of, joined}
@@ -82,9 +81,9 @@ pub record IsUnderWay (code : Code) (recover why : Bool) (done : List Event) (st
   pub out : Appends old.out now.out (at code done).output
   pub err : Appends old.err now.err (told_to code recover why done)
 
--- these events of the run are done, and the others are still to come
-pub record IsGoing (code : Code) (options : Options) (events : Events) (state : State) (ledger : Book) (totals : Totals) (old now : Sinks) : Type 0 where
+-- these events of the run are done, in which so many numbers were given, and the others are still to come
+pub record IsGoing (code : Code) (options : Options) (left : List Event) (given : ℕ) (state : State) (ledger : Book) (totals : Totals) (old now : Sinks) : Type 0 where
   pub done : List Event
-  pub split : events_of options ≡ done ++ events_left events
-  pub turns : events.done ≡ turns_among done
+  pub split : events_of options ≡ done ++ left
+  pub turns : given ≡ turns_among done
   pub under_way : IsUnderWay code options.recover options.why done state ledger totals old now

@@ -1,6 +1,7 @@
 //! The run of a code: its turns and collections, what it prints and what it reports.
 #![tactic(auto)]
 
+mod coming;
 mod fault;
 mod running;
 mod surveying;

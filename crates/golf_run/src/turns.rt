@@ -1,25 +1,25 @@
 //! The turns and collections of a run; what they print and report is written.
 
-ghost use Rattle.std.specs.Prelude.{◌≡◌, ◌+◌, ◌<◌, ◌-◌, ◌≤◌, ◌^◌, ◌∷◌, [], ◌⊎◌, true, None, is_some, MatchOption};
+ghost use Rattle.std.specs.Prelude.{◌≡◌, ◌<◌, ◌-◌, ◌≤◌, ◌^◌};
 ghost use Rattle.golf_data.specs.Places.{HasPlaces};
 ghost use Rattle.golf_model.specs.Futures.{Numbered};
 ghost use Rattle.golf_model.specs.Presence.{IsWhole};
-ghost use Rattle.golf_model.specs.State.{ending as ending_of};
 ghost use Rattle.golf_reclaim.specs.Noting.{AreGone};
-ghost use Rattle.golf_schedules.specs.Events.{event_of, events_left, turns_of};
 ghost use Rattle.golf_schedules.specs.Options.{IsWithinLimits};
-ghost use Rattle.golf_run.specs.Happening.{HasTurned, turn_event};
+ghost use Rattle.golf_run.specs.Coming.{coming_left};
+ghost use Rattle.golf_run.specs.Advancing.{HasAdvanced};
 ghost use Rattle.golf_run.specs.Told.{HasTold, totals_by};
 ghost use Rattle.golf_run.specs.HasRun.{sinks};
 ghost use Rattle.golf_run.specs.HasGone.{HasGone};
 
+use crate::coming::Coming;
 use crate::fault::RunFault;
 use crate::telling::{explanation, write_told};
 use golf_base::{Gate, Sink, write_all};
 use golf_data::{Code, Ending, Report};
-use golf_machine::{Turned, start, turn};
+use golf_machine::{Turned, start, take_turns};
 use golf_reclaim::{Ledger, Options as Collecting, collect, sets_finalisers};
-use golf_schedules::{Event, Events, Options};
+use golf_schedules::{Events, Options};
 use golf_state::State;
 use golf_texts::Totals;
 use std::alloc::Global;
@@ -79,55 +79,36 @@ fn tell<R: Threads + Sync, E: Sink, G: Gate + Sync>(
     Ok(totals_after(book, &report))
 }
 
-// One turn, and what it prints is written. It answers whether its instruction is a collection.
-fn take_turn<O: Sink>(
+// Takes turns until the outside is needed, and writes what the last one prints; or the collection that
+// comes next. It answers whether a collection follows; nothing where the program has ended, or where nothing
+// is left.
+fn advance<O: Sink>(
     alloc: Global,
     code: &Code,
-    number: u64,
+    coming: &mut Coming,
     state: &mut State,
     out: &mut O,
-) -> Result<bool, RunFault>
+) -> Result<Option<bool>, RunFault>
     requires places { HasPlaces code.now }
-    requires goes { ending_of state.old ≡ None }
-    ensures { HasTurned result code.now (turn_event number) state.old state.new (O.written out.old) (O.written out.new) (O.faults out.old) (O.faults out.new) }
+    ensures { HasAdvanced result code.now state.old state.new (coming_left coming.old) (coming_left coming.new) coming.old.events.done coming.new.events.done
+        (O.written out.old) (O.written out.new) (O.faults out.old) (O.faults out.new) }
 {
-    let turned = turn(alloc, code, state, number)?;
+    if state.ending().is_some() {
+        return Ok(None);
+    }
+    let Some(turned) = take_turns(alloc, code, state, coming)? else {
+        return Ok(if coming.take_collection() {
+            Some(true)
+        } else {
+            None
+        });
+    };
     write_all(out, state.output())?;
     state.clear_output();
     match turned {
-        Turned::WantsCollection => Ok(true),
-        Turned::Went | Turned::Ended(_) => Ok(false),
+        Turned::WantsCollection => Ok(Some(true)),
+        Turned::Went | Turned::Ended(_) => Ok(Some(false)),
     }
-}
-
-// The event's turn, if it is one. It answers whether a collection follows.
-fn happen<O: Sink>(
-    alloc: Global,
-    code: &Code,
-    event: Event,
-    state: &mut State,
-    out: &mut O,
-) -> Result<bool, RunFault>
-    requires places { HasPlaces code.now }
-    requires goes { ending_of state.old ≡ None }
-    ensures { HasTurned result code.now (event_of event) state.old state.new (O.written out.old) (O.written out.new) (O.faults out.old) (O.faults out.new) }
-{
-    match event {
-        Event::Turn(number) => take_turn(alloc, code, number, state, out),
-        Event::Collect => Ok(true),
-    }
-}
-
-// What happens next; nothing where the program has ended, or where nothing is left.
-fn next_event(state: &State, events: &mut Events) -> Option<Event>
-    ensures { MatchOption result
-        (((is_some (ending_of state.now) ≡ true) ⊎ (events_left events.old ≡ [])) × (events.new.done ≡ events.old.done))
-        (λ event. (ending_of state.now ≡ None) × (events_left events.old ≡ event_of event ∷ events_left events.new) × (events.new.done ≡ events.old.done + turns_of event)) }
-{
-    if state.ending().is_some() {
-        return None;
-    }
-    events.next()
 }
 
 // Goes through the events of a run. What a turn prints is written to `out` after it, what is told of a
@@ -155,7 +136,8 @@ pub(crate) fn go_through<R: Threads + Sync, O: Sink, E: Sink, G: Gate + Sync>(
         },
         why: options.why,
     };
-    let mut events = Events::new(options.schedule, options.turns, options.every);
+    let events = Events::new(options.schedule, options.turns, options.every);
+    let mut coming = Coming::new(events);
     let mut state = start(alloc, code)?;
     let mut book = Ledger::new(alloc);
     let mut totals = Totals {
@@ -165,13 +147,13 @@ pub(crate) fn go_through<R: Threads + Sync, O: Sink, E: Sink, G: Gate + Sync>(
         reclaimed: 0,
         objects: 0,
     };
-    while let Some(event) = next_event(&state, &mut events) {
-        if happen(alloc, code, event, &mut state, out)? {
+    while let Some(collects) = advance(alloc, code, &mut coming, &mut state, out)? {
+        if collects {
             totals = tell(rt, alloc, how, &mut state, &mut book, err, gate)?;
         }
     }
     Ok(Course {
-        turns: events.turns_done(),
+        turns: coming.turns_done(),
         ending: state.ending(),
         totals,
     })

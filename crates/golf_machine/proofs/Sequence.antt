@@ -1,0 +1,73 @@
+-- Turns that were taken in one go, and one turn more.
+use Rattle.std.proofs.Common.{◌≡◌, ℕ, ◌+◌, Bool, true, false, List, [], ◌∷◌, ◌++◌, Option, Some, None, refl, sym, ap, ◌∙◌, arith, subst}
+use Rattle.std.proofs.lemmas.List.{length-append}
+use Rattle.std.specs.Prelude.{Result, Ok, Err, IsErr, OnErr}
+use Rattle.golf_data.specs.declared.code.Code.{Code}
+use Rattle.golf_data.specs.declared.goroutine.Ending.{Ending}
+use Rattle.golf_model.specs.State.{State, ending}
+use Rattle.golf_model.specs.Turn.{step, wants_collection}
+use Rattle.golf_model.specs.Running.{Event}
+use Rattle.golf_machine.specs.Turns.{turned_of}
+use Rattle.golf_machine.specs.Taking.{turn_events, outcome_of, needs_outside, stops_after, steps, GoOn, HasGoneOn, HasCome}
+use Rattle.golf_machine.specs.declared.turning.Turned.{Turned}
+
+pub none-taken : (code : Code) (s : State) (es : List Event) (n : ℕ) → HasGoneOn code s s es es n n
+none-taken code s es n = record { taken = []; order = refl; count = omega arith; silent = tt; state = refl }
+
+steps-more : (code : Code) (s : State) (cs : List ℕ) (c : ℕ) → steps code s (cs ++ c ∷ []) ≡ step code (steps code s cs) c
+steps-more code s [] c = refl
+steps-more code s (d ∷ cs) c = steps-more code (step code s d) cs c
+
+silent-more : (code : Code) (s : State) (cs : List ℕ) (c : ℕ) → GoOn code s cs → stops_after code (steps code s cs) c ≡ false → GoOn code s (cs ++ c ∷ [])
+silent-more code s [] c g h = (h, tt)
+silent-more code s (d ∷ cs) c g h = (g.0, silent-more code (step code s d) cs c g.1 h)
+
+events-more : (cs : List ℕ) (c : ℕ) (es : List Event) → turn_events cs ++ Event.Turn c ∷ es ≡ turn_events (cs ++ c ∷ []) ++ es
+events-more [] c es = refl
+events-more (d ∷ cs) c es = ap (λ (fs : List Event). Event.Turn d ∷ fs) (events-more cs c es)
+
+-- one turn more, after which the outside is not needed
+pub one-more : (code : Code) (old s t : State) (es later fs : List Event) (n k m c : ℕ) → HasGoneOn code old s es later n k → later ≡ Event.Turn c ∷ fs → m ≡ k + 1 → t ≡ step code s c → stops_after code s c ≡ false
+    → HasGoneOn code old t es fs n m
+one-more code old s t es later fs n k m c w next more is quiet =
+    let size = length-append w.taken (c ∷ []) in
+    let count = w.count in
+    record {
+      taken = w.taken ++ c ∷ [];
+      order = w.order ∙ ap (λ (xs : List Event). turn_events w.taken ++ xs) next ∙ events-more w.taken c fs;
+      count = omega (arith, size, count, more);
+      silent = silent-more code old w.taken c w.silent (ap (λ (x : State). stops_after code x c) (sym w.state) ∙ quiet);
+      state = is ∙ ap (λ (x : State). step code x c) w.state ∙ sym (steps-more code old w.taken c);
+    }
+
+-- one number more
+abbrev pub last-given : (code : Code) (old s : State) (es later fs : List Event) (n k m c : ℕ) → HasGoneOn code old s es later n k → later ≡ Event.Turn c ∷ fs → m ≡ k + 1 → HasCome code old es fs n m
+last-given code old s es later fs n k m c w next more = record {
+  state = s;
+  number = c;
+  earlier = k;
+  went = subst (λ (xs : List Event). HasGoneOn code old s es xs n k) next w;
+  one_more = more;
+}
+
+-- what a turn came to, by the state after it
+pub outcome-is : (code : Code) (s t : State) (c : ℕ) (turned : Turned) → t ≡ step code s c → turned ≡ turned_of (ending t) (wants_collection code s c) → turned ≡ outcome_of code s c
+outcome-is code s t c turned is h = h ∙ ap (λ (x : State). turned_of (ending x) (wants_collection code s c)) is
+
+pub stops-is : (code : Code) (s t : State) (c : ℕ) (turned : Turned) (printed : List ℕ) (b : Bool) → t ≡ step code s c → turned ≡ turned_of (ending t) (wants_collection code s c) → printed ≡ t.output → b ≡ needs_outside turned printed → stops_after code s c ≡ b
+stops-is code s t c turned printed b is h out n =
+    sym (n ∙ ap (λ (x : Turned). needs_outside x printed) (outcome-is code s t c turned is h)
+    ∙ ap (needs_outside (outcome_of code s c)) (out ∙ ap (λ (x : State). x.output) is))
+
+went-goes : (turned : Turned) (o : Option Ending) (b : Bool) (printed : List ℕ) → turned ≡ turned_of o b → needs_outside turned printed ≡ false → o ≡ None
+went-goes turned None b printed h n = refl
+went-goes turned (Some e) b printed h n = let f : true ≡ false = ap (λ (x : Turned). needs_outside x printed) (sym h) ∙ n in cc
+
+-- a turn after which the outside is not needed leaves a program that goes on
+pub still-goes : (turned : Turned) (t : State) (b wants : Bool) (printed : List ℕ) → turned ≡ turned_of (ending t) b → wants ≡ needs_outside turned printed → wants ≡ false → ending t ≡ None
+still-goes turned t b wants printed h n f = went-goes turned (ending t) b printed h (sym n ∙ f)
+
+-- what an error leaves
+pub failed : {X E P : Type 0} (r : Result X E) → IsErr r → P → OnErr r P
+failed (Ok x) i p = tt
+failed (Err e) i p = p

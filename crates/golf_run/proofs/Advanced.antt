@@ -1,0 +1,116 @@
+-- What turns in one go, and the event after them, come to.
+use Rattle.std.proofs.Common.{◌≡◌, ℕ, ◌+◌, Bool, true, false, List, Option, Some, None, refl, sym, ap, subst, ◌∙◌, inr, arith}
+use Rattle.std.specs.Prelude.{Result, Ok, Err, IsErr, IsErrAnd, is_some}
+use Rattle.std.specs.Io.KnownBytes.{Appends}
+use Rattle.std.proofs.KnownBytes.{Appends-nil}
+use Rattle.golf_base.specs.Causes.{Rose, WritesFront}
+use Rattle.golf_data.specs.declared.code.Code.{Code}
+use Rattle.golf_model.specs.State.{State, ending}
+use Rattle.golf_model.specs.Turn.{step, wants_collection}
+use Rattle.golf_model.specs.Running.{Event}
+use Rattle.golf_machine.specs.Taking.{HasGoneOn, HasCome, HasTaken, HasFailed}
+use Rattle.golf_machine.specs.declared.turning.Turned.{Turned}
+use Rattle.golf_machine.specs.declared.turning.Turned.TheVariants as t
+use Rattle.golf_texts.specs.Writes.{emptied}
+use Rattle.golf_run.specs.declared.fault.RunFault.{RunFault}
+use Rattle.golf_run.specs.declared.fault.RunFault.TheVariants as faults
+use Rattle.golf_run.specs.Happening.{HasTurned, turned, prints, collects}
+use Rattle.golf_run.specs.Coming.{HasTakenCollection}
+use Rattle.golf_run.specs.Advancing.{HasComeTo, HasStopped, HasAdvanced}
+use Rattle.golf_run.proofs.Silent.{come-goes}
+use Rattle.golf_run.proofs.Turning.{loud-turn, quiet-turn}
+
+module _ (code : Code) (old : State) (before after : List Event) (n m : ℕ) (goes : ending old ≡ None) where
+  abbrev come-of : (h : HasCome code old before after n m) → HasComeTo code old (Event.Turn h.number) before after n m
+  come-of h = record { state = h.state; earlier = h.earlier; begins = goes; silent = h.went; count = h.one_more }
+
+  -- memory was wanting for the last turn
+  pub wanting-advanced : (r : Result (Option Bool) RunFault) (new : State) (out : Option (List ℕ)) (f : ℕ) → IsErr r → IsErrAnd r (λ x. x ≡ faults.Memory) → HasFailed code old new before after n m → HasAdvanced r code old new before after n m out out f f
+  wanting-advanced (Ok x) new out f i a h = cc
+  wanting-advanced (Err faults.Write) new out f i a h = cc
+  wanting-advanced (Err faults.Memory) new out f i a h = (Event.Turn h.0.number, come-of h.0, (refl, refl))
+
+  -- the write of what it prints failed
+  pub broken-advanced : (r : Result (Option Bool) RunFault) (turned : Turned) (mid new : State) (printed : List ℕ) (out out' : Option (List ℕ)) (f f' : ℕ) → IsErr r → IsErrAnd r (λ x. x ≡ faults.Write) → HasTaken (Some turned) code old mid before after n m
+      → printed ≡ mid.output → WritesFront out out' printed → Rose f f' → HasAdvanced r code old new before after n m out out' f f'
+  broken-advanced (Ok x) turned mid new printed out out' f f' i a h same front rose = cc
+  broken-advanced (Err faults.Memory) turned mid new printed out out' f f' i a h same front rose = cc
+  broken-advanced (Err faults.Write) turned mid new printed out out' f f' i a h same front rose =
+      (Event.Turn h.0.number, come-of h.0, (subst (WritesFront out out') (same ∙ ap (λ (s : State). s.output) h.1) front, rose))
+
+  -- it was written
+  module _ (turned : Turned) (mid new : State) (printed : List ℕ) (out out' : Option (List ℕ)) (f f' : ℕ) (h : HasTaken (Some turned) code old mid before after n m) (same : printed ≡ mid.output) (is : new ≡ emptied mid) (a : Appends out out' printed) (steady : f' ≡ f) where
+    written : (b : Bool) → b ≡ wants_collection code h.0.state h.0.number → HasAdvanced (Ok (Some b)) code old new before after n m out out' f f'
+    written b w = (
+      Event.Turn h.0.number,
+      come-of h.0,
+      (w, is ∙ ap emptied h.1, subst (Appends out out') (same ∙ ap (λ (s : State). s.output) h.1) a, steady),
+    )
+
+    pub loud-advanced : turned ≡ t.WantsCollection → HasAdvanced (Ok (Some true)) code old new before after n m out out' f f'
+    loud-advanced e = written true (sym (loud-turn turned code h.0.state (step code h.0.state h.0.number) h.0.number e h.2))
+
+    pub quiet-advanced : (turned ≡ t.WantsCollection → ⊥) → HasAdvanced (Ok (Some false)) code old new before after n m out out' f f'
+    quiet-advanced other = written false (sym (quiet-turn turned code h.0.state (step code h.0.state h.0.number) h.0.number other refl (come-goes code old (Event.Turn h.0.number) before after n m (come-of h.0)) h.2))
+
+  -- no turn is next: a collection, or nothing
+  module _ (mid : State) (later : List Event) (k : ℕ) (h : HasGoneOn code old mid before after n m) (same : k ≡ m) (out : Option (List ℕ)) (f : ℕ) where
+    pub collection-advanced : HasTakenCollection true after later → HasAdvanced (Ok (Some true)) code old mid before later n k out out f f
+    collection-advanced e = (
+      Event.Collect,
+      record { state = mid; earlier = m; begins = goes; silent = subst (λ (es : List Event). HasGoneOn code old mid before es n m) e h; count = (let z : k ≡ m + 0 = omega (arith, same) in z) },
+      (refl, refl, Appends-nil out, refl),
+    )
+
+    pub stopped-advanced : HasTakenCollection false after later → HasAdvanced (Ok None) code old mid before later n k out out f f
+    stopped-advanced e = (
+      inr (goes, e.1, subst (λ j. HasGoneOn code old mid before later n j) (sym same) (subst (λ (es : List Event). HasGoneOn code old mid before es n m) (e.0 ∙ sym e.1) h)),
+      refl,
+      refl,
+    )
+
+-- what was answered
+pub none-is : {X : Type 0} (o : Option X) → is_some o ≡ false → o ≡ None
+none-is None e = refl
+none-is (Some x) e = cc
+
+pub taken-none : (code : Code) (old mid : State) (before after : List Event) (n m : ℕ) (o : Option Turned) → o ≡ None → HasTaken o code old mid before after n m → HasGoneOn code old mid before after n m
+taken-none code old mid before after n m None e h = h.0
+taken-none code old mid before after n m (Some x) e h = cc
+
+pub taken-some : (code : Code) (old mid : State) (before after : List Event) (n m : ℕ) (o : Option Turned) (turned : Turned) → o ≡ Some turned → HasTaken o code old mid before after n m → HasTaken (Some turned) code old mid before after n m
+taken-some code old mid before after n m o turned e h = subst (λ x. HasTaken x code old mid before after n m) e h
+
+-- what an answer says, written out
+pub record CameAbout (wants : Bool) (code : Code) (old new : State) (before after : List Event) (n m : ℕ) (out out' : Option (List ℕ)) (f f' : ℕ) : Type 0 where
+  pub event : Event
+  pub come : HasComeTo code old event before after n m
+  pub wants_one : wants ≡ collects code event come.state
+  pub stands : new ≡ turned code event come.state
+  pub got : Appends out out' (prints code event come.state)
+  pub steady : f' ≡ f
+
+pub advanced-some : (o : Option Bool) (b : Bool) (code : Code) (old new : State) (before after : List Event) (n m : ℕ) (out out' : Option (List ℕ)) (f f' : ℕ) → o ≡ Some b → HasAdvanced (Ok o) code old new before after n m out out' f f' → CameAbout b code old new before after n m out out' f f'
+advanced-some None b code old new before after n m out out' f f' e h = cc
+advanced-some (Some x) b code old new before after n m out out' f f' e h =
+    let same : x ≡ b = cc in
+    record { event = h.0; come = h.1; wants_one = sym same ∙ h.2.0; stands = h.2.1; got = h.2.2; steady = h.2.3 }
+
+pub record CameNot (e : RunFault) (code : Code) (old new : State) (before after : List Event) (n m : ℕ) (out out' : Option (List ℕ)) (f f' : ℕ) : Type 0 where
+  pub event : Event
+  pub come : HasComeTo code old event before after n m
+  pub failed : HasTurned (Err e) code event come.state new out out' f f'
+
+pub advanced-not : (r : Result (Option Bool) RunFault) (e : RunFault) (code : Code) (old new : State) (before after : List Event) (n m : ℕ) (out out' : Option (List ℕ)) (f f' : ℕ) → r ≡ Err e → HasAdvanced r code old new before after n m out out' f f' → CameNot e code old new before after n m out out' f f'
+advanced-not r e code old new before after n m out out' f f' is h =
+    let a = subst (λ x. HasAdvanced x code old new before after n m out out' f f') is h in
+    record { event = a.0; come = a.1; failed = a.2 }
+
+pub record CameToEnd (code : Code) (old new : State) (before after : List Event) (n m : ℕ) (out out' : Option (List ℕ)) (f f' : ℕ) : Type 0 where
+  pub stopped : HasStopped code old new before after n m
+  pub out_same : out' ≡ out
+  pub steady : f' ≡ f
+
+pub advanced-none : (o : Option Bool) (code : Code) (old new : State) (before after : List Event) (n m : ℕ) (out out' : Option (List ℕ)) (f f' : ℕ) → o ≡ None → HasAdvanced (Ok o) code old new before after n m out out' f f' → CameToEnd code old new before after n m out out' f f'
+advanced-none None code old new before after n m out out' f f' e h = record { stopped = h.0; out_same = h.1; steady = h.2 }
+advanced-none (Some x) code old new before after n m out out' f f' e h = cc
