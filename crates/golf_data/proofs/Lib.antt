@@ -1,2 +1,4 @@
 pub mod Masks
+pub mod Rebuilt
+pub mod Equal
 pub mod Clears

@@ -2,12 +2,14 @@
 #![tactic(auto)]
 
 mod code;
+mod equality;
 mod goroutine;
 mod report;
 mod slots;
 mod value;
 
 pub use code::{CaseKind, Code, Function, Instr, Line, SelectCase};
+pub use equality::same_lines;
 pub use goroutine::{
     Deferred, Ending, Fault, Frame, Goroutine, Leaving, Mode, PanicKind, Queued, Side, Wait,
     WaitKind,

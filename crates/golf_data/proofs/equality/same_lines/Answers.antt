@@ -1,0 +1,14 @@
+use Rattle.std.proofs.Common.{◌<◌, refl, subst}
+use Rattle.golf_data.proofs.Equal.{same-so-far, same-to-end}
+use Rattle.golf_data.proofs.equality.same_lines.Goals as goal
+
+pub loop-at-init : goal.loop-at-init
+loop-at-init c = λ e. e
+
+pub loop-at-preserved : goal.loop-at-preserved
+loop-at-preserved c =
+    same-so-far c.args.lines.now c.args.others.now c.loop-at.at c.index-lines-at.result c.index-others-at.result c.loop-at-test.true (subst (λ n. c.loop-at.at < n) c.if-lines-others.false c.loop-at-test.true)
+    c.index-lines-at.is c.index-others-at.is (c.is.ensures.0 c.if-not-is.false) c.loop-at.invariant
+
+pub returns : goal.returns
+returns c = (λ t. same-to-end c.args.lines.now c.args.others.now c.loop-at.at c.if-lines-others.false c.loop-at-test.false c.loop-at.invariant, λ e. refl)
