@@ -134,7 +134,7 @@ fn named_receiver(alloc: Global, scope: &Scope, receiver: &Receiver) -> Result<T
 }
 
 /// The name of a receiver with its type, where there is one.
-pub fn receiver_name(
+fn receiver_name(
     alloc: Global,
     scope: &Scope,
     receiver: &Option<Receiver>,
@@ -148,7 +148,7 @@ pub fn receiver_name(
 }
 
 /// The scope outside all functions again. On an `Err` nothing is said of the scope.
-pub fn leave(alloc: Global, scope: &mut Scope) -> Result<(), Memory>
+fn leave(alloc: Global, scope: &mut Scope) -> Result<(), Memory>
     ensures { OnOk result (scope.new ≡ record scope.old { locals = []; result = None; next = 0 }) }
 {
     scope.locals.truncate(alloc, 0)?;

@@ -7,4 +7,3 @@ mod initialisers;
 mod scopes;
 
 pub use files::{Checked, check};
-pub use functions::{leave, receiver_name};

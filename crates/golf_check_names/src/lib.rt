@@ -9,4 +9,4 @@ pub use declared::{
     add_methods, declares_main, line_of, main_is_there, names_are_good, types_are_there,
 };
 pub use imports::imported;
-pub use names::{names_of, naming_of};
+pub use names::naming_of;

@@ -52,7 +52,7 @@ fn add_names(alloc: Global, names: &mut List<Name>, field: &Field) -> Result<(),
 }
 
 /// The names of fields or parameters.
-pub fn names_of(alloc: Global, fields: &[Field]) -> Result<List<Name>, Memory>
+pub(crate) fn names_of(alloc: Global, fields: &[Field]) -> Result<List<Name>, Memory>
     ensures { IfOk result (λ ns. ns ≡ flat_map field_names fields.now) }
 {
     let mut names = List::new(alloc);

@@ -13,12 +13,12 @@ pub use literals::{
     named, struct_of,
 };
 pub use operators::{
-    as_value, binary, index, is_name, is_value, late, result_base, unary, value, without_package,
+    binary, index, is_name, is_value, late, result_base, unary, value, without_package,
 };
 pub use selectors::select;
 pub use values::{
     assignable, assignable_to, begins_channel, begins_slice, can_give, can_take, element, has_any,
-    has_base, has_channel, has_slice,
+    has_base, has_channel,
 };
 pub use written_types::{
     made_base, made_sync, plain_type, pointer_to, type_is_there, written, written_type,

@@ -57,7 +57,7 @@ pub fn is_name(line: u32, operand: &Operand) -> Result<(), TypeFault>
 }
 
 /// What an operand gives as a value.
-pub fn as_value(alloc: Global, line: u32, operand: Operand) -> Result<Given, TypeFault>
+pub(crate) fn as_value(alloc: Global, line: u32, operand: Operand) -> Result<Given, TypeFault>
     ensures { Tells result (value_faults line operand) (λ v. v ≡ given_of operand) }
 {
     is_value(line, &operand)?;

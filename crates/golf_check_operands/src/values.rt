@@ -28,7 +28,7 @@ pub fn begins_slice(layers: &[Layer]) -> bool
 }
 
 /// Whether a value is a slice.
-pub fn has_slice(given: &Given) -> bool
+pub(crate) fn has_slice(given: &Given) -> bool
     ensures { result ≡ has_layer is_slice given.now }
 {
     match given {

@@ -30,8 +30,3 @@ Adds (Err fault) p old new = Unit {0}
 abbrev pub Grows : {A : Type 0} → Result A Memory → Mark → List Mark → List Mark → Type 0
 Grows (Ok a) m old new = new ≡ old ++ m ∷ []
 Grows (Err fault) m old new = Unit {0}
-
--- by a piece, and the answer is this
-abbrev pub Makes : {A : Type 0} → Result A Memory → A → Piece → List Mark → List Mark → Type 0
-Makes (Ok a) x p old new = (a ≡ x) × (new ≡ onto old p)
-Makes (Err fault) x p old new = Unit {0}

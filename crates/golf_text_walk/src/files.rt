@@ -2,14 +2,12 @@
 
 ghost use Rattle.std.specs.Prelude.{◌≡◌, flat_map, IfOk, OnOk};
 ghost use Rattle.golf_code_of.specs.Texts.{decl_texts, texts_of, const_texts};
-ghost use Rattle.golf_code_of.specs.Files.{tables_of};
 ghost use Rattle.golf_text_walk.specs.Adding.{with_texts};
 
-use crate::constants::constants_of;
 use crate::simple::content;
 use crate::statements::stmts;
 use golf_base::Memory;
-use golf_code_of::{Tables, TextTable};
+use golf_code_of::TextTable;
 use golf_grammar::{Const, Decl};
 use std::alloc::Global;
 
@@ -56,13 +54,4 @@ pub fn texts_of_decls(alloc: Global, decls: &[Decl]) -> Result<TextTable, Memory
     table.add(alloc, b"".as_slice())?;
     all_decls(alloc, &mut table, decls)?;
     Ok(table)
-}
-
-/// What the code of a file looks up.
-pub fn tables(alloc: Global, decls: &[Decl]) -> Result<Tables, Memory>
-    ensures { IfOk result (λ t. t ≡ tables_of decls.now) }
-{
-    let texts = texts_of_decls(alloc, decls)?;
-    let constants = constants_of(alloc, &texts, decls)?;
-    Ok(Tables { texts, constants })
 }

@@ -1,11 +1,10 @@
 //! Names left of `:=` and `=` beside a receive.
 
-ghost use Rattle.std.specs.Prelude.{◌≡◌, IfOk, OnOk};
-ghost use Rattle.golf_types.specs.Statements.{behind, is_new as is_new_of, one_new, assigned_name as assigned_name_of};
+ghost use Rattle.std.specs.Prelude.{◌≡◌, IfOk};
+ghost use Rattle.golf_types.specs.Statements.{is_new as is_new_of, assigned_name as assigned_name_of};
 
 use crate::operands::Operand;
-use crate::scopes::{Scope, declare, is_blank, is_here, meaning_at};
-use crate::types::GoType;
+use crate::scopes::{Scope, is_blank, is_here, meaning_at};
 use golf_base::Memory;
 use std::alloc::Global;
 
@@ -14,23 +13,6 @@ pub fn is_new(scope: &Scope, name: &[u8]) -> bool
     ensures { result ≡ is_new_of scope.now name.now }
 {
     !is_blank(name) && !is_here(scope, name)
-}
-
-/// Declares a variable where it is new. On an `Err` nothing is said of the scope.
-#[tactic(auto, using(crate::proofs::WalkLaws::stays))]
-pub fn declare_new(
-    alloc: Global,
-    scope: &mut Scope,
-    new: bool,
-    name: &[u8],
-    t: Option<GoType>,
-) -> Result<(), Memory>
-    ensures { OnOk result (scope.new ≡ behind scope.old (one_new new name.now t scope.old)) }
-{
-    if new {
-        declare(alloc, scope, name, t)?;
-    }
-    Ok(())
 }
 
 /// What is assigned where a name stands left of `=`.

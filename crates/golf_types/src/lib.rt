@@ -12,7 +12,7 @@ mod scopes;
 mod table;
 mod types;
 
-pub use assigned::{assigned_name, declare_new, is_new};
+pub use assigned::{assigned_name, is_new};
 pub use endings::{Ending, Panics};
 pub use facts::Fact;
 pub use fault::{TypeFault, require};
@@ -26,6 +26,5 @@ pub use scopes::{
 };
 pub use table::Table;
 pub use types::{
-    Base, GoType, Layer, copy_optional, copy_type, plain, same_base, same_layers, same_type,
-    with_layer,
+    Base, GoType, Layer, copy_optional, plain, same_base, same_layers, same_type, with_layer,
 };

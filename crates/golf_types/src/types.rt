@@ -151,7 +151,7 @@ pub fn with_layer(
 }
 
 /// The same type.
-pub fn copy_type(alloc: Global, t: &GoType) -> Result<GoType, Memory>
+fn copy_type(alloc: Global, t: &GoType) -> Result<GoType, Memory>
     ensures { IfOk result (λ r. r ≡ t.now) }
 {
     let mut layers = List::new(alloc);

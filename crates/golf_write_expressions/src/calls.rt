@@ -84,7 +84,7 @@ fn call_method(
 }
 
 /// Adds the call, after receiver and arguments.
-pub fn calling(
+pub(crate) fn calling(
     marks: &mut List<Mark>,
     line: u32,
     callee: &Operand,

@@ -10,7 +10,7 @@ mod places;
 mod values;
 mod writer;
 
-pub use calls::{calling, operation};
+pub use calls::operation;
 pub use expressions::expression;
 pub use facts::Facts;
 pub use names::store;
