@@ -1,3 +1,4 @@
+pub mod Lone
 pub mod Inner
 pub mod Sequence
 pub mod Takings

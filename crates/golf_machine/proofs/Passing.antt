@@ -1,8 +1,9 @@
 -- Turns that touch the innermost frame alone.
 use Rattle.std.proofs.Common.{◌≡◌, ℕ, ◌-◌, Bool, true, false, List, [], ◌∷◌, length, take, Option, Some, None, refl, sym, ap, ◌∙◌}
 use Rattle.std.specs.Prelude.{slice_get, slice_set, option_and_then}
-use Rattle.golf_theory.specs.Maps.{find}
-use Rattle.golf_theory.proofs.MapFinds.{find-put, put-put}
+use Rattle.golf_theory.specs.Maps.{find, IsRising}
+use Rattle.golf_theory.proofs.MapFinds.{find-put, put-put, find-Entry}
+use Rattle.golf_theory.proofs.MapKeys.{keys_where-put_same}
 use Rattle.golf_data.specs.declared.code.Code.{Code}
 use Rattle.golf_data.specs.declared.code.Function.{Function}
 use Rattle.golf_data.specs.declared.code.Line.{Line}
@@ -13,7 +14,7 @@ use Rattle.golf_data.specs.declared.value.Value.{Value}
 use Rattle.golf_data.specs.Slots.{cleared_slots}
 use Rattle.golf_data.proofs.Clears.{all-stay}
 use Rattle.golf_model.specs.Views.{FrameView, GoroutineView, frame_view, frame_views}
-use Rattle.golf_model.specs.State.{State}
+use Rattle.golf_model.specs.State.{State, can_run, runnable, not_empty, ending, ending_of}
 use Rattle.golf_model.specs.Changes.{Change, apply_all, become}
 use Rattle.golf_model.specs.Acting.{Actor}
 use Rattle.golf_model.specs.Clearing.{stays_in, mask_at, cleared, clears, clearing}
@@ -96,12 +97,15 @@ is-done false act f h e d = cc
 pub blank : State
 blank = opening [] [] 0
 
+some-same : {X : Type 0} {x y : X} → Some x ≡ Some y → x ≡ y
+some-same h = cc
+
 -- the goroutine with this innermost frame
 module _ (code : Code) (g : ℕ) (s : State) (r : Runs g s) (f h : FrameView) (callers : List FrameView) (are : r.frames ≡ f ∷ callers) (p : Passes code f h) where
   abbrev with : FrameView → GoroutineView
   with x = record { frames = x ∷ callers; mode = Mode.Running; started = r.started }
 
-  found : find g s.goroutines ≡ Some (with f)
+  pub found : find g s.goroutines ≡ Some (with f)
   found = r.found ∙ ap (λ (fs : List FrameView). let x : GoroutineView = record { frames = fs; mode = Mode.Running; started = r.started } in Some x) are
 
   turn : (choice : ℕ) → acted code g choice s ≡ become g (with p.frame) s
@@ -119,18 +123,29 @@ module _ (code : Code) (g : ℕ) (s : State) (r : Runs g s) (f h : FrameView) (c
       ap (λ (o : Option GoroutineView). apply_all (clears code g o) (become g (with p.frame) s)) (find-put g (with p.frame) s.goroutines (with f) found)
       ∙ ap (λ (es : List (ℕ × GoroutineView)). record s { goroutines = es }) (put-put g (with (cleared code p.frame)) (with p.frame) s.goroutines)
 
+  -- who can run is the same
+  pub runnable-same : IsRising s.goroutines → runnable (become g (with h) s) ≡ runnable s
+  runnable-same rises = keys_where-put_same (can_run s.queue) g (with h) s.goroutines (λ x i. let same : x ≡ with f = some-same (sym (find-Entry s.goroutines g x rises i) ∙ found) in ap (can_run s.queue g) same)
+
+  pub ending-same : IsRising s.goroutines → ending (become g (with h) s) ≡ ending s
+  ending-same rises = ap (λ (xs : List ℕ). ending_of s.recorded (not_empty xs)) (runnable-same rises)
+
+  pub reframed-is : reframed g (h ∷ callers) s ≡ become g (with h) s
+  reframed-is = ap (λ (o : Option GoroutineView). on_goroutine (λ q. become g (record q { frames = h ∷ callers })) o s) found
+
   pub turn-taken : (choice : ℕ) → reframed g (h ∷ callers) s ≡ taken code g choice s
   turn-taken choice =
-      ap (λ (o : Option GoroutineView). on_goroutine (λ q. become g (record q { frames = h ∷ callers })) o s) found
+      reframed-is
       ∙ ap (λ (x : FrameView). become g (with x) s) p.clears
       ∙ sym (ap (λ b. apply_all (clearing code b (Some g) (acted code g choice s)) (acted code g choice s)) collects-not
       ∙ ap (λ (t : State). apply_all (clears code g (find g t.goroutines)) t) (turn choice) ∙ after)
 
 -- what is lent of the goroutine was changed, or left
-pub turn-by : (b : Bool) (code : Code) (g : ℕ) (s : State) (r : Runs g s) (fs hs : List FrameView) → fs ≡ frames_of g s → reframed g (frames_of g s) s ≡ s → HasPassedOnTop b code fs hs → HasTakenTurn b code g s (reframed g hs s)
-turn-by true code g s r fs hs e same p =
+pub turn-by : (b : Bool) (code : Code) (g : ℕ) (s : State) (r : Runs g s) (fs hs : List FrameView) → IsRising s.goroutines → fs ≡ frames_of g s → reframed g (frames_of g s) s ≡ s → HasPassedOnTop b code fs hs → HasTakenTurn b code g s (reframed g hs s)
+turn-by true code g s r fs hs rises e same p =
     let are = sym (frames-are g s r) ∙ sym e ∙ p.were in (
       collects-not code g s r p.first p.next p.callers are p.passes,
       λ choice. ap (λ (xs : List FrameView). reframed g xs s) p.are ∙ turn-taken code g s r p.first p.next p.callers are p.passes choice,
+      ap (λ (xs : List FrameView). ending (reframed g xs s)) p.are ∙ ap ending (reframed-is code g s r p.first p.next p.callers are p.passes) ∙ ending-same code g s r p.first p.next p.callers are p.passes rises,
     )
-turn-by false code g s r fs hs e same p = ap (λ (xs : List FrameView). reframed g xs s) (p ∙ e) ∙ same
+turn-by false code g s r fs hs rises e same p = ap (λ (xs : List FrameView). reframed g xs s) (p ∙ e) ∙ same

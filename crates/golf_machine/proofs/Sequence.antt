@@ -8,7 +8,7 @@ use Rattle.golf_model.specs.State.{State, ending}
 use Rattle.golf_model.specs.Turn.{step, wants_collection}
 use Rattle.golf_model.specs.Running.{Event}
 use Rattle.golf_machine.specs.Turns.{turned_of}
-use Rattle.golf_machine.specs.Taking.{turn_events, outcome_of, needs_outside, stops_after, steps, GoOn, HasGoneOn, HasCome}
+use Rattle.golf_machine.specs.Taking.{turn_events, outcome_of, needs_outside, stops_after, steps, GoOn, HasGoneOn, HasCome, HasAsked, HasFailed, is_turn_next}
 use Rattle.golf_machine.specs.declared.turning.Turned.{Turned}
 
 pub none-taken : (code : Code) (s : State) (es : List Event) (n : ℕ) → HasGoneOn code s s es es n n
@@ -22,7 +22,7 @@ silent-more : (code : Code) (s : State) (cs : List ℕ) (c : ℕ) → GoOn code 
 silent-more code s [] c g h = (h, tt)
 silent-more code s (d ∷ cs) c g h = (g.0, silent-more code (step code s d) cs c g.1 h)
 
-events-more : (cs : List ℕ) (c : ℕ) (es : List Event) → turn_events cs ++ Event.Turn c ∷ es ≡ turn_events (cs ++ c ∷ []) ++ es
+pub events-more : (cs : List ℕ) (c : ℕ) (es : List Event) → turn_events cs ++ Event.Turn c ∷ es ≡ turn_events (cs ++ c ∷ []) ++ es
 events-more [] c es = refl
 events-more (d ∷ cs) c es = ap (λ (fs : List Event). Event.Turn d ∷ fs) (events-more cs c es)
 
@@ -39,6 +39,48 @@ one-more code old s t es later fs n k m c w next more is quiet =
       silent = silent-more code old w.taken c w.silent (ap (λ (x : State). stops_after code x c) (sym w.state) ∙ quiet);
       state = is ∙ ap (λ (x : State). step code x c) w.state ∙ sym (steps-more code old w.taken c);
     }
+
+steps-after : (code : Code) (s : State) (cs ds : List ℕ) → steps code s (cs ++ ds) ≡ steps code (steps code s cs) ds
+steps-after code s [] ds = refl
+steps-after code s (c ∷ cs) ds = steps-after code (step code s c) cs ds
+
+silent-after : (code : Code) (s : State) (cs ds : List ℕ) → GoOn code s cs → GoOn code (steps code s cs) ds → GoOn code s (cs ++ ds)
+silent-after code s [] ds g h = h
+silent-after code s (c ∷ cs) ds g h = (g.0, silent-after code (step code s c) cs ds g.1 h)
+
+events-after : (cs ds : List ℕ) (es : List Event) → turn_events cs ++ (turn_events ds ++ es) ≡ turn_events (cs ++ ds) ++ es
+events-after [] ds es = refl
+events-after (c ∷ cs) ds es = ap (λ (fs : List Event). Event.Turn c ∷ fs) (events-after cs ds es)
+
+-- and then more turns
+gone-after : (code : Code) (old s t : State) (es later fs : List Event) (n k m : ℕ) → HasGoneOn code old s es later n k → HasGoneOn code s t later fs k m → HasGoneOn code old t es fs n m
+gone-after code old s t es later fs n k m v w =
+    let size = length-append v.taken w.taken in
+    let first = v.count in
+    let second = w.count in
+    record {
+      taken = v.taken ++ w.taken;
+      order = v.order ∙ ap (λ (xs : List Event). turn_events v.taken ++ xs) w.order ∙ events-after v.taken w.taken fs;
+      count = omega (arith, size, first, second);
+      silent = silent-after code old v.taken w.taken v.silent (subst (λ (x : State). GoOn code x w.taken) v.state w.silent);
+      state = w.state ∙ ap (λ (x : State). steps code x w.taken) v.state ∙ sym (steps-after code old v.taken w.taken);
+    }
+
+pub asked-after : (o : Option ℕ) (code : Code) (old s t : State) (es later fs : List Event) (n k m : ℕ) → HasGoneOn code old s es later n k → HasAsked o (λ xs j. HasGoneOn code s t later xs k j) fs m → HasAsked o (λ xs j. HasGoneOn code old t es xs n j) fs m
+asked-after None code old s t es later fs n k m v a = (gone-after code old s t es later fs n k m v a.0, a.1)
+asked-after (Some c) code old s t es later fs n k m v a = (a.0, gone-after code old s t es later (Event.Turn c ∷ fs) n k a.0 v a.1, a.2)
+
+pub asked-turn : (o : Option ℕ) (c : ℕ) (code : Code) (old s t : State) (es later fs : List Event) (n k m : ℕ) → o ≡ Some c → HasGoneOn code old s es later n k → HasAsked o (λ xs j. HasGoneOn code s t later xs k j) fs m
+    → (j : ℕ) × HasGoneOn code old t es (Event.Turn c ∷ fs) n j × (m ≡ j + 1)
+asked-turn o c code old s t es later fs n k m is v a = subst (λ x. HasAsked x (λ xs j. HasGoneOn code old t es xs n j) fs m) is (asked-after o code old s t es later fs n k m v a)
+
+pub asked-end : (o : Option ℕ) (code : Code) (old s t : State) (es later fs : List Event) (n k m : ℕ) → o ≡ None → HasGoneOn code old s es later n k → HasAsked o (λ xs j. HasGoneOn code s t later xs k j) fs m
+    → HasGoneOn code old t es fs n m × (is_turn_next fs ≡ false)
+asked-end o code old s t es later fs n k m is v a = subst (λ x. HasAsked x (λ xs j. HasGoneOn code old t es xs n j) fs m) is (asked-after o code old s t es later fs n k m v a)
+
+-- memory was wanting for the turn of the last number that was given
+pub failed-asked : (code : Code) (old t : State) (es fs : List Event) (n m : ℕ) → (c : ℕ) → HasAsked (Some c) (λ xs j. HasGoneOn code old t es xs n j) fs m → HasFailed code old t es fs n m
+failed-asked code old t es fs n m c a = (record { state = t; number = c; earlier = a.0; went = a.1; one_more = a.2 }, refl)
 
 -- one number more
 abbrev pub last-given : (code : Code) (old s : State) (es later fs : List Event) (n k m c : ℕ) → HasGoneOn code old s es later n k → later ≡ Event.Turn c ∷ fs → m ≡ k + 1 → HasCome code old es fs n m

@@ -1,10 +1,12 @@
 -- Turns that are taken in one go.
 use Rattle.std.specs.Prelude.{◌≡◌, ℕ, ◌+◌, Bool, true, false, List, [], ◌∷◌, ◌++◌, length, map, Option, Some, None}
 use Rattle.golf_data.specs.declared.code.Code.{Code}
-use Rattle.golf_model.specs.State.{State, ending, not_empty}
+use Rattle.golf_model.specs.Views.{FrameView}
+use Rattle.golf_model.specs.State.{State, runnable, ending, not_empty}
 use Rattle.golf_model.specs.Turn.{step, wants_collection}
 use Rattle.golf_model.specs.Running.{Event}
 use Rattle.golf_machine.specs.Turns.{turned_of}
+use Rattle.golf_machine.specs.Within.{PassEach}
 use Rattle.golf_machine.specs.declared.turning.Turned.{Turned}
 
 -- whether the next event is a turn
@@ -46,6 +48,23 @@ pub record HasGoneOn (code : Code) (old new : State) (before after : List Event)
   pub count : now ≡ given + length taken
   pub silent : GoOn code old taken
   pub state : new ≡ steps code old taken
+
+-- with these frames turns of exactly the numbers that were given were taken, and each touched the innermost frame alone
+pub record HasKeptOn (code : Code) (fs hs : List FrameView) (before after : List Event) (given now : ℕ) : Type 0 where
+  pub taken : List ℕ
+  pub order : before ≡ turn_events taken ++ after
+  pub count : now ≡ given + length taken
+  pub passes : PassEach code taken fs hs
+
+-- the goroutine alone can run, and nothing is printed
+pub record IsLone (g : ℕ) (s : State) : Type 0 where
+  pub alone : runnable s ≡ g ∷ []
+  pub quiet : s.output ≡ []
+
+-- one more number was given, and before it that was so; or no turn comes next
+abbrev pub HasAsked : Option ℕ → (List Event → ℕ → Type 0) → List Event → ℕ → Type 0
+HasAsked None P after now = P after now × (is_turn_next after ≡ false)
+HasAsked (Some c) P after now = (earlier : ℕ) × P (Event.Turn c ∷ after) earlier × (now ≡ earlier + 1)
 
 -- that was so, and then one more number was given, in this state
 pub record HasCome (code : Code) (old : State) (before after : List Event) (given now : ℕ) : Type 0 where

@@ -1,5 +1,5 @@
 -- Instructions that touch the innermost frame alone.
-use Rattle.std.specs.Prelude.{◌≡◌, ℕ, Bool, true, false, List, ◌∷◌, Some, slice_get}
+use Rattle.std.specs.Prelude.{◌≡◌, ℕ, Bool, true, false, List, [], ◌∷◌, Some, slice_get}
 use Rattle.golf_theory.specs.Maps.{find}
 use Rattle.golf_data.specs.declared.code.Code.{Code}
 use Rattle.golf_data.specs.declared.code.Function.{Function}
@@ -7,7 +7,7 @@ use Rattle.golf_data.specs.declared.code.Line.{Line}
 use Rattle.golf_data.specs.declared.goroutine.Leaving.{Leaving}
 use Rattle.golf_data.specs.Slots.{cleared_slots}
 use Rattle.golf_model.specs.Views.{FrameView, GoroutineView}
-use Rattle.golf_model.specs.State.{State}
+use Rattle.golf_model.specs.State.{State, ending}
 use Rattle.golf_model.specs.Changes.{Change, apply_all}
 use Rattle.golf_model.specs.Clearing.{stays_in, cleared, clearing}
 use Rattle.golf_model.specs.Acting.{Actor, stands}
@@ -56,6 +56,11 @@ abbrev pub HasPassedOnTop : Bool → Code → List FrameView → List FrameView 
 HasPassedOnTop true code fs hs = PassesOnTop code fs hs
 HasPassedOnTop false code fs hs = hs ≡ fs
 
+-- so often, once for each of these numbers
+abbrev pub PassEach : Code → List ℕ → List FrameView → List FrameView → Type 0
+PassEach code [] fs hs = hs ≡ fs
+PassEach code (c ∷ cs) fs hs = (ks : List FrameView) × PassesOnTop code fs ks × PassEach code cs ks hs
+
 -- the state after the turn of a goroutine that runs, and what is cleared after it
 abbrev pub acted : Code → ℕ → ℕ → State → State
 acted code g choice s = apply_all (turn_of code g choice s (find g s.goroutines)) s
@@ -63,7 +68,7 @@ acted code g choice s = apply_all (turn_of code g choice s (find g s.goroutines)
 abbrev pub taken : Code → ℕ → ℕ → State → State
 taken code g choice s = apply_all (clearing code (goroutine_collects code (find g s.goroutines)) (Some g) (acted code g choice s)) (acted code g choice s)
 
--- the turn of the goroutine, which is no collection, whatever choice it is given; or the state is as it was
+-- the turn of the goroutine, which is no collection and ends no program, whatever choice it is given; or the state is as it was
 abbrev pub HasTakenTurn : Bool → Code → ℕ → State → State → Type 0
-HasTakenTurn true code g s t = (goroutine_collects code (find g s.goroutines) ≡ false) × ((choice : ℕ) → t ≡ taken code g choice s)
+HasTakenTurn true code g s t = (goroutine_collects code (find g s.goroutines) ≡ false) × ((choice : ℕ) → t ≡ taken code g choice s) × (ending t ≡ ending s)
 HasTakenTurn false code g s t = t ≡ s

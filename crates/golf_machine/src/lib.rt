@@ -1,10 +1,12 @@
 //! The machine: the state before the first turn of a code, a turn, and turns in one go.
 #![tactic(auto)]
 
+mod alone;
 mod calculating;
 mod entering;
 mod finalising;
 mod leaving;
+mod numbers;
 mod performing;
 mod printing;
 mod stepping;
@@ -14,5 +16,6 @@ mod turning;
 mod values;
 mod within;
 
-pub use taking::{Numbers, take_turns};
+pub use numbers::Numbers;
+pub use taking::take_turns;
 pub use turning::{Turned, start, turn};

@@ -1,11 +1,11 @@
 //! The turn of one goroutine.
 
-ghost use Rattle.std.specs.Prelude.{◌≡◌, OnOk, OnErr, option_map};
+ghost use Rattle.std.specs.Prelude.{◌≡◌, IfOk, OnOk, OnErr, option_map};
 ghost use Rattle.golf_theory.specs.Maps.{find};
 ghost use Rattle.golf_data.specs.Places.{HasPlaces};
 ghost use Rattle.golf_model.specs.Changes.{apply_all};
 ghost use Rattle.golf_model.specs.Views.{frame_view};
-ghost use Rattle.golf_model.specs.Turn.{line_at, return_line, turn_of, goroutine_collects};
+ghost use Rattle.golf_model.specs.Turn.{line_at, return_line, turn_of, is_collection, goroutine_collects};
 ghost use Rattle.golf_state.specs.Doing.{Runs};
 
 use crate::entering::begin_queued;
@@ -34,56 +34,53 @@ fn return_line(code: &Code, frame: &Frame) -> u32
     }
 }
 
-/// Whether the instruction of a goroutine's turn is a collection.
-pub fn collects(code: &Code, state: &State, g: GoroutineId) -> bool
-    ensures { result ≡ goroutine_collects code.now (find g.0 state.now.goroutines) }
+// Whether an instruction is a collection.
+fn is_collection(instr: &Instr) -> bool
+    ensures { result ≡ is_collection instr.now }
 {
-    match state.frame(g) {
-        Some(frame) => match frame.leaving {
-            Leaving::No => match line_at(code, frame.function, frame.at) {
-                Some(line) => matches!(line.instr, Instr::Collect),
-                None => false,
-            },
-            Leaving::Returning(_) => false,
-            Leaving::Unwinding(_) => false,
-        },
-        None => false,
-    }
+    matches!(instr, Instr::Collect)
 }
 
 /// The turn of a goroutine that runs; a `select` takes the ready case at the place `choice`, counted
-/// round.
+/// round. It answers whether the instruction is a collection.
 pub fn act(
     alloc: Global,
     code: &Code,
     state: &mut State,
     g: GoroutineId,
     choice: u64,
-) -> Result<(), Memory>
+) -> Result<bool, Memory>
     requires places { HasPlaces code.now }
     requires runs { Runs g.0 state.old }
     ensures ok { OnOk result (state.new ≡ apply_all (turn_of code.now g.0 choice state.old (find g.0 state.old.goroutines)) state.old) }
+    ensures collects { IfOk result (λ collects. collects ≡ goroutine_collects code.now (find g.0 state.old.goroutines)) }
     ensures err { OnErr result (state.new ≡ state.old) }
 {
     let Some(frame) = state.frame(g) else {
-        return begin_queued(alloc, code, state, g);
+        begin_queued(alloc, code, state, g)?;
+        return Ok(false);
     };
     match frame.leaving {
         Leaving::No => {
             let Some(line) = line_at(code, frame.function, frame.at) else {
-                return Ok(());
+                return Ok(false);
             };
             let acting = Acting {
                 goroutine: g,
                 line: line.line,
                 after: frame.at + 1,
             };
-            perform(alloc, code, state, acting, &line.instr, choice)
+            perform(alloc, code, state, acting, &line.instr, choice)?;
+            Ok(is_collection(&line.instr))
         }
         Leaving::Returning(value) => {
             let line = return_line(code, frame);
-            leave_returning(alloc, code, state, g, line, value)
+            leave_returning(alloc, code, state, g, line, value)?;
+            Ok(false)
         }
-        Leaving::Unwinding(fault) => leave_unwinding(alloc, code, state, g, fault),
+        Leaving::Unwinding(fault) => {
+            leave_unwinding(alloc, code, state, g, fault)?;
+            Ok(false)
+        }
     }
 }

@@ -1,31 +1,17 @@
 //! Turns in one go, until the outside is needed.
 
-ghost use Rattle.std.specs.Prelude.{◌≡◌, ◌+◌, ◌∷◌, ℕ, List, None, false, IfOk, OnErr, MatchOption};
+ghost use Rattle.std.specs.Prelude.{◌≡◌, None, IfOk, OnErr};
 ghost use Rattle.golf_data.specs.Places.{HasPlaces};
-ghost use Rattle.golf_model.specs.Running.{Event};
 ghost use Rattle.golf_model.specs.State.{ending};
-ghost use Rattle.golf_machine.specs.Taking.{is_turn_next, needs_outside, HasTaken, HasFailed};
+ghost use Rattle.golf_machine.specs.Taking.{needs_outside, HasTaken, HasFailed};
 
+use crate::alone::go_on_alone;
+use crate::numbers::Numbers;
 use crate::turning::{Turned, turn};
 use golf_base::Memory;
 use golf_data::Code;
 use golf_state::State;
 use std::alloc::Global;
-
-/// Where the numbers of turns come from.
-pub trait Numbers {
-    /// The events that are still to come.
-    ghost left: { Self → List Event };
-
-    /// How many numbers were given.
-    ghost given: { Self → ℕ };
-
-    /// The number of the next turn; none if the next event is no turn.
-    fn next(&mut self) -> Option<u64>
-        ensures { MatchOption result
-            ((is_turn_next (left self.old) ≡ false) × (left self.new ≡ left self.old) × (given self.new ≡ given self.old))
-            (λ c. (left self.old ≡ Event.Turn c ∷ left self.new) × (given self.new ≡ given self.old + 1)) };
-}
 
 // Whether the outside is needed after a turn.
 fn needs_outside(turned: Turned, printed: &[u8]) -> bool
@@ -52,7 +38,7 @@ pub fn take_turns<N: Numbers>(
     ensures ok { IfOk result (λ last. HasTaken last code.now state.old state.new (N.left numbers.old) (N.left numbers.new) (N.given numbers.old) (N.given numbers.new)) }
     ensures err { OnErr result (HasFailed code.now state.old state.new (N.left numbers.old) (N.left numbers.new) (N.given numbers.old) (N.given numbers.new)) }
 {
-    while let Some(number) = numbers.next() {
+    while let Some(number) = go_on_alone(code, state, numbers)? {
         let turned = turn(alloc, code, state, number)?;
         if needs_outside(turned, state.output()) {
             return Ok(Some(turned));

@@ -12,7 +12,7 @@ ghost use Rattle.golf_machine.specs.Turns.{turned_of};
 ghost use Rattle.golf_machine.specs.Within.{taken};
 
 use crate::entering::first_frames;
-use crate::stepping::{act, collects};
+use crate::stepping::act;
 use crate::structures::zeros_of;
 use crate::within::pass;
 use golf_base::{GoroutineId, Memory};
@@ -68,28 +68,38 @@ fn shared_out(number: u64, count: u64) -> (u64, u64)
     (number % count, number / count)
 }
 
-// The turn of a goroutine that runs, and what is cleared after it. It answers whether the instruction is a
-// collection.
+// What a turn came to, by how the program has ended and by whether the instruction is a collection.
+fn turned_of(ending: Option<Ending>, collects: bool) -> Turned
+    ensures { result ≡ turned_of ending collects }
+{
+    match ending {
+        Some(ending) => Turned::Ended(ending),
+        None if collects => Turned::WantsCollection,
+        None => Turned::Went,
+    }
+}
+
+// The turn of a goroutine that runs, and what is cleared after it.
 fn take(
     alloc: Global,
     code: &Code,
     state: &mut State,
     g: GoroutineId,
     choice: u64,
-) -> Result<bool, Memory>
+) -> Result<Turned, Memory>
     requires places { HasPlaces code.now }
+    requires goes { ending state.old ≡ None }
     requires runs { Runs g.0 state.old }
     ensures ok { OnOk result (state.new ≡ taken code.now g.0 choice state.old) }
-    ensures collects { IfOk result (λ wants. wants ≡ goroutine_collects code.now (find g.0 state.old.goroutines)) }
+    ensures turned { IfOk result (λ turned. turned ≡ turned_of (ending state.new) (goroutine_collects code.now (find g.0 state.old.goroutines))) }
     ensures err { OnErr result (state.new ≡ state.old) }
 {
     if pass(code, state, g)? {
-        return Ok(false);
+        return Ok(Turned::Went);
     }
-    let collects = collects(code, state, g);
-    act(alloc, code, state, g, choice)?;
+    let collects = act(alloc, code, state, g, choice)?;
     clear_after(code, state, g, collects);
-    Ok(collects)
+    Ok(turned_of(state.ending(), collects))
 }
 
 /// One turn: of the goroutines that can run, in rising order, the one at the place of the number,
@@ -105,10 +115,5 @@ pub fn turn(alloc: Global, code: &Code, state: &mut State, number: u64) -> Resul
     let count = runnable.len() as u64;
     let (place, choice) = shared_out(number, count);
     let g = runnable[place as usize];
-    let collects = take(alloc, code, state, g, choice)?;
-    Ok(match state.ending() {
-        Some(ending) => Turned::Ended(ending),
-        None if collects => Turned::WantsCollection,
-        None => Turned::Went,
-    })
+    take(alloc, code, state, g, choice)
 }

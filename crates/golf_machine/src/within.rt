@@ -342,8 +342,8 @@ fn pass_in(code: &Code, frame: &mut Frame) -> Result<bool, Memory>
     Ok(true)
 }
 
-// The same of the innermost frame, if there is one.
-fn pass_on_top(code: &Code, frames: &mut List<Frame>) -> Result<bool, Memory>
+/// The same of the innermost frame, if there is one.
+pub(crate) fn pass_on_top(code: &Code, frames: &mut List<Frame>) -> Result<bool, Memory>
     requires places { HasPlaces code.now }
     ensures ok { IfOk result (λ done. HasPassedOnTop done code.now (frame_views frames.old) (frame_views frames.new)) }
     ensures err { OnErr result (frame_views frames.new ≡ frame_views frames.old) }

@@ -1,8 +1,7 @@
 use Rattle.std.proofs.Common.{◌+◌, List, Some, sym, ap, ◌∙◌, arith}
-use Rattle.std.proofs.lemmas.Result.{on_ok_weaker}
 use Rattle.golf_data.specs.declared.goroutine.Mode.{Mode}
 use Rattle.golf_model.specs.Views.{FrameView, GoroutineView, frame_view}
-use Rattle.golf_machine.proofs.Turns.{no_first, frames-are, stands-at, turn-is, place-fits}
+use Rattle.golf_machine.proofs.Turns.{no_first, frames-are, stands-at, place-fits}
 use Rattle.golf_machine.proofs.stepping.act.Goals as goal
 
 pub begin_queued-requires : goal.begin_queued-requires
@@ -24,9 +23,3 @@ leave_returning-requires c = (c.in-Some.frame.now.at + 1, stands-at c.args.g.0 c
 
 pub leave_unwinding-requires : goal.leave_unwinding-requires
 leave_unwinding-requires c = (c.in-Some.frame.now.at + 1, stands-at c.args.g.0 c.args.state.now c.requires.runs (frame_view c.in-Some.frame.now) c.in-Some.ensures)
-
-pub returns-in-Some-line_at-clause-ok : goal.returns-in-Some-line_at-clause-ok
-returns-in-Some-line_at-clause-ok c =
-    on_ok_weaker c.perform.result
-    (λ h. h ∙ turn-is c.args.g.0 c.args.state.now c.requires.runs c.args.code.now (frame_view c.in-Some.frame.now) c.in-Some.ensures c.in-Some-line_at.line.now c.args.choice c.in-No.is c.in-Some-line_at.ensures.line)
-    c.perform.ensures.ok

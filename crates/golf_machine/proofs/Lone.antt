@@ -1,0 +1,173 @@
+-- Turns of the one goroutine that can run.
+use Rattle.std.proofs.Common.{◌≡◌, ℕ, ◌+◌, ◌%◌, ◌/◌, Bool, true, false, List, [], ◌∷◌, ◌++◌, length, Option, Some, None, refl, sym, ap, ◌∙◌, arith, subst}
+use Rattle.std.specs.Prelude.{MatchOption, slice_get}
+use Rattle.std.proofs.Math.Nat.{mod-one}
+use Rattle.std.proofs.lemmas.List.{length-append}
+use Rattle.golf_theory.specs.Maps.{find, IsRising}
+use Rattle.golf_theory.proofs.MapFinds.{find-put, put-put}
+use Rattle.golf_theory.proofs.MapOrder.{Rises-put}
+use Rattle.golf_data.specs.declared.code.Code.{Code}
+use Rattle.golf_data.specs.declared.goroutine.Ending.{Ending}
+use Rattle.golf_data.specs.declared.goroutine.Mode.{Mode}
+use Rattle.golf_model.specs.Views.{FrameView, GoroutineView}
+use Rattle.golf_model.specs.State.{State, runnable, ending, not_empty}
+use Rattle.golf_model.specs.Changes.{become}
+use Rattle.golf_model.specs.Turn.{step, whose_turn, wants_collection, goroutine_collects}
+use Rattle.golf_model.specs.Running.{Event}
+use Rattle.golf_state.specs.Looked.{reframed, frames_of, frames_in, on_goroutine, runs, is_running_in}
+use Rattle.golf_state.specs.Doing.{Runs}
+use Rattle.golf_machine.specs.Turns.{turned_of}
+use Rattle.golf_machine.specs.Within.{PassesOnTop, PassEach, HasPassedOnTop, acted}
+use Rattle.golf_machine.specs.Taking.{turn_events, stops_after, steps, needs_outside, GoOn, HasGoneOn, HasKeptOn, HasAsked, IsLone, is_turn_next}
+use Rattle.golf_machine.proofs.Passing.{found, runnable-same, ending-same, reframed-is, turn-taken, collects-not}
+use Rattle.golf_machine.proofs.Sequence.{events-more}
+use Rattle.golf_machine.proofs.Turns.{step-is, wants-is, frames-are, turn-runs}
+
+-- ---- the frames
+
+passes-more : (code : Code) (cs : List ℕ) (c : ℕ) (fs ks hs : List FrameView) → PassEach code cs fs ks → PassesOnTop code ks hs → PassEach code (cs ++ c ∷ []) fs hs
+passes-more code [] c fs ks hs e p = (hs, subst (λ (xs : List FrameView). PassesOnTop code xs hs) e p, refl)
+passes-more code (d ∷ cs) c fs ks hs e p = (e.0, e.1, passes-more code cs c e.0 ks hs e.2 p)
+
+pub none-kept : (code : Code) (fs : List FrameView) (es : List Event) (n : ℕ) → HasKeptOn code fs fs es es n n
+none-kept code fs es n = record { taken = []; order = refl; count = omega arith; passes = refl }
+
+pub one-kept : (b : Bool) (code : Code) (fs ks hs : List FrameView) (es later rest : List Event) (n k m c : ℕ) → b ≡ true → HasKeptOn code fs ks es later n k → later ≡ Event.Turn c ∷ rest → m ≡ k + 1 → HasPassedOnTop b code ks hs
+    → HasKeptOn code fs hs es rest n m
+one-kept false code fs ks hs es later rest n k m c t w next more p = cc
+one-kept true code fs ks hs es later rest n k m c t w next more p =
+    let size = length-append w.taken (c ∷ []) in
+    let count = w.count in
+    record {
+      taken = w.taken ++ c ∷ [];
+      order = w.order ∙ ap (λ (xs : List Event). turn_events w.taken ++ xs) next ∙ events-more w.taken c rest;
+      count = omega (arith, size, count, more);
+      passes = passes-more code w.taken c fs ks hs w.passes p;
+    }
+
+-- the number after these is still to be taken
+pub asked : (P : List Event → ℕ → Type 0) (later rest : List Event) (k m c : ℕ) → P later k → later ≡ Event.Turn c ∷ rest → m ≡ k + 1 → HasAsked (Some c) P rest m
+asked P later rest k m c p next more = (k, subst (λ (xs : List Event). P xs k) next p, more)
+
+pub nothing-done : (b : Bool) (code : Code) (fs hs : List FrameView) → b ≡ false → HasPassedOnTop b code fs hs → hs ≡ fs
+nothing-done true code fs hs f p = cc
+nothing-done false code fs hs f p = p
+
+-- ---- the state
+
+-- the goroutine alone can run, and nothing printed is there
+pub record IsAlone (g : ℕ) (s : State) : Type 0 where
+  pub runs : Runs g s
+  pub alone : runnable s ≡ g ∷ []
+  pub goes : ending s ≡ None
+  pub quiet : s.output ≡ []
+  pub rises : IsRising s.goroutines
+  pub same : reframed g (frames_of g s) s ≡ s
+
+module _ (code : Code) (g : ℕ) (s : State) (a : IsAlone g s) (ks : List FrameView) (p : PassesOnTop code (frames_of g s) ks) where
+  are : a.runs.frames ≡ p.first ∷ p.callers
+  are = sym (frames-are g s a.runs) ∙ p.were
+
+  abbrev with : FrameView → GoroutineView
+  with x = record { frames = x ∷ p.callers; mode = Mode.Running; started = a.runs.started }
+
+  abbrev after : State
+  after = become g (with p.next) s
+
+  after-is : reframed g ks s ≡ after
+  after-is = ap (λ (xs : List FrameView). reframed g xs s) p.are ∙ reframed-is code g s a.runs p.first p.next p.callers are p.passes
+
+  turn-is : (c : ℕ) → whose_turn s c ≡ Some g
+  turn-is c = ap (λ (xs : List ℕ). slice_get xs (c % length xs)) a.alone ∙ ap (slice_get (g ∷ [])) (mod-one c)
+
+  step-taken : (c : ℕ) → reframed g ks s ≡ step code s c
+  step-taken c =
+      step-is code s c g (turn-is c) (acted code g (c / length (runnable s)) s) (reframed g ks s) (goroutine_collects code (find g s.goroutines)) (length (runnable s)) refl refl refl
+      (ap (λ (xs : List FrameView). reframed g xs s) p.are ∙ turn-taken code g s a.runs p.first p.next p.callers are p.passes (c / length (runnable s)))
+
+  ending-is : ending (reframed g ks s) ≡ None
+  ending-is = ap ending after-is ∙ ending-same code g s a.runs p.first p.next p.callers are p.passes a.rises ∙ a.goes
+
+  wants-not : (c : ℕ) → wants_collection code s c ≡ false
+  wants-not c = wants-is code s c g (turn-is c) ∙ collects-not code g s a.runs p.first p.next p.callers are p.passes
+
+  stops-not : (c : ℕ) → stops_after code s c ≡ false
+  stops-not c =
+      ap (λ (t : State). needs_outside (turned_of (ending t) (wants_collection code s c)) t.output) (sym (step-taken c))
+      ∙ ap (λ (o : Option Ending). needs_outside (turned_of o (wants_collection code s c)) (reframed g ks s).output) ending-is
+      ∙ ap (λ b. needs_outside (turned_of None b) (reframed g ks s).output) (wants-not c)
+      ∙ ap (λ (t : State). not_empty t.output) after-is
+      ∙ ap (λ (xs : List ℕ). not_empty xs) a.quiet
+
+  found-after : find g after.goroutines ≡ Some (with p.next)
+  found-after = find-put g (with p.next) s.goroutines (with p.first) (found code g s a.runs p.first p.next p.callers are p.passes)
+
+  frames-after : frames_of g after ≡ ks
+  frames-after = ap frames_in found-after ∙ sym p.are
+
+  reframed-after : (hs : List FrameView) → reframed g hs after ≡ reframed g hs s
+  reframed-after hs =
+      ap (λ (o : Option GoroutineView). on_goroutine (λ q. become g (record q { frames = hs })) o after) found-after
+      ∙ ap (λ (es : List (ℕ × GoroutineView)). record s { goroutines = es }) (put-put g (let r : GoroutineView = record { frames = hs; mode = Mode.Running; started = a.runs.started } in r) (with p.next) s.goroutines)
+      ∙ sym (ap (λ (o : Option GoroutineView). on_goroutine (λ q. become g (record q { frames = hs })) o s) (found code g s a.runs p.first p.next p.callers are p.passes))
+
+  alone-after : IsAlone g after
+  alone-after = record {
+    runs = record { frames = p.next ∷ p.callers; started = a.runs.started; found = found-after };
+    alone = runnable-same code g s a.runs p.first p.next p.callers are p.passes a.rises ∙ a.alone;
+    goes = ap ending (sym after-is) ∙ ending-is;
+    quiet = a.quiet;
+    rises = Rises-put 0 g (with p.next) s.goroutines a.rises;
+    same = reframed-after (frames_of g after) ∙ ap (λ (xs : List FrameView). reframed g xs s) frames-after ∙ after-is;
+  }
+
+-- each turn is the goroutine's, and after none the outside is needed
+pub alone-steps : (code : Code) (g : ℕ) (s : State) (a : IsAlone g s) (cs : List ℕ) (hs : List FrameView) → PassEach code cs (frames_of g s) hs
+    → (reframed g hs s ≡ steps code s cs) × GoOn code s cs × (ending (reframed g hs s) ≡ None)
+alone-steps code g s a [] hs e =
+    let is = ap (λ (xs : List FrameView). reframed g xs s) e ∙ a.same in
+    (is, tt, ap ending is ∙ a.goes)
+alone-steps code g s a (c ∷ cs) hs e =
+    let ks = e.0 in
+    let p = e.1 in
+    let t = after code g s a ks p in
+    let rest = alone-steps code g t (alone-after code g s a ks p) cs hs (subst (λ (xs : List FrameView). PassEach code cs xs hs) (sym (frames-after code g s a ks p)) e.2) in
+    let there = reframed-after code g s a ks p hs in
+    let is : t ≡ step code s c = sym (after-is code g s a ks p) ∙ step-taken code g s a ks p c in (
+      sym there ∙ rest.0 ∙ ap (λ (x : State). steps code x cs) is,
+      (stops-not code g s a ks p c, subst (λ (x : State). GoOn code x cs) is rest.1),
+      ap ending (sym there) ∙ rest.2,
+    )
+
+-- the goroutines that can run are this one
+pub lone-runs : (g : ℕ) (s : State) → IsRising s.goroutines → runnable s ≡ g ∷ [] → Runs g s
+lone-runs g s rises e = turn-runs s 0 g rises (ap (λ (xs : List ℕ). slice_get xs (0 % length xs)) e ∙ ap (slice_get (g ∷ [])) (mod-one 0))
+
+pub lone-is-running : (g : ℕ) (s : State) → Runs g s → runs g s ≡ true
+lone-is-running g s r = ap is_running_in r.found
+
+-- what was asked of the frames that are lent, asked of the state
+module _ (code : Code) (g : ℕ) (s : State) (rises : IsRising s.goroutines) (lone : IsLone g s) (goes : ending s ≡ None) (fs hs : List FrameView) (value : fs ≡ frames_of g s) (same : reframed g (frames_of g s) s ≡ s) where
+  is-alone : IsAlone g s
+  is-alone = record { runs = lone-runs g s rises lone.alone; alone = lone.alone; goes = goes; quiet = lone.quiet; rises = rises; same = same }
+
+  gone : (before after : List Event) (given now : ℕ) → HasKeptOn code fs hs before after given now → HasGoneOn code s (reframed g hs s) before after given now × (ending (reframed g hs s) ≡ None)
+  gone before after given now w =
+      let r = alone-steps code g s is-alone w.taken hs (subst (λ (xs : List FrameView). PassEach code w.taken xs hs) value w.passes) in
+      (record { taken = w.taken; order = w.order; count = w.count; silent = r.1; state = r.0 }, r.2)
+
+  pub lone-asked : (o : Option ℕ) (before after : List Event) (given now : ℕ) → HasAsked o (λ es n. HasKeptOn code fs hs before es given n) after now → HasAsked o (λ es n. HasGoneOn code s (reframed g hs s) before es given n) after now
+  lone-asked None before after given now a = ((gone before after given now a.0).0, a.1)
+  lone-asked (Some c) before after given now a = (a.0, (gone before (Event.Turn c ∷ after) given a.0 a.1).0, a.2)
+
+  pub lone-goes : (o : Option ℕ) (before after : List Event) (given now : ℕ) → HasAsked o (λ es n. HasKeptOn code fs hs before es given n) after now → ending (reframed g hs s) ≡ None
+  lone-goes None before after given now a = (gone before after given now a.0).1
+  lone-goes (Some c) before after given now a = (gone before (Event.Turn c ∷ after) given a.0 a.1).1
+
+-- nothing was done yet
+pub asked-first : (o : Option ℕ) (code : Code) (s : State) (before after : List Event) (given now : ℕ) → MatchOption o ((is_turn_next before ≡ false) × (after ≡ before) × (now ≡ given)) (λ c. (before ≡ Event.Turn c ∷ after) × (now ≡ given + 1))
+    → HasAsked o (λ es n. HasGoneOn code s s before es given n) after now
+asked-first None code s before after given now h =
+    (record { taken = []; order = sym h.1; count = omega (arith, h.2); silent = tt; state = refl }, ap is_turn_next h.1 ∙ h.0)
+asked-first (Some c) code s before after given now h =
+    (given, record { taken = []; order = h.0; count = omega arith; silent = tt; state = refl }, h.1)

@@ -1,0 +1,69 @@
+//! Turns of the one goroutine that can run.
+
+ghost use Rattle.std.specs.Prelude.{◌≡◌, ℕ, Some, None, IfOk, OnErr, IfSome};
+ghost use Rattle.golf_theory.specs.Maps.{IsRising};
+ghost use Rattle.golf_data.specs.Places.{HasPlaces};
+ghost use Rattle.golf_model.specs.State.{ending};
+ghost use Rattle.golf_model.specs.Views.{frame_views};
+ghost use Rattle.golf_machine.specs.Taking.{HasGoneOn, HasKeptOn, HasAsked, IsLone};
+
+use crate::numbers::Numbers;
+use crate::within::pass_on_top;
+use golf_base::{GoroutineId, List, Memory};
+use golf_data::{Code, Frame};
+use golf_state::State;
+
+// Takes turns with these frames, one for each number, as long as they touch the innermost frame alone. It
+// answers the number of the turn that does not, and is still to come; none if no turn comes next. On `Memory` the
+// frames are those before the turn of the last number.
+fn keep_on<N: Numbers>(
+    code: &Code,
+    frames: &mut List<Frame>,
+    numbers: &mut N,
+) -> Result<Option<u64>, Memory>
+    requires places { HasPlaces code.now }
+    ensures ok { IfOk result (λ next. HasAsked next (λ es n. HasKeptOn code.now (frame_views frames.old) (frame_views frames.new) (N.left numbers.old) es (N.given numbers.old) n) (N.left numbers.new) (N.given numbers.new)) }
+    ensures err { OnErr result ((c : ℕ) × HasAsked (Some c) (λ es n. HasKeptOn code.now (frame_views frames.old) (frame_views frames.new) (N.left numbers.old) es (N.given numbers.old) n) (N.left numbers.new) (N.given numbers.new)) }
+{
+    while let Some(number) = numbers.next() {
+        if !pass_on_top(code, frames)? {
+            return Ok(Some(number));
+        }
+    }
+    Ok(None)
+}
+
+// The one goroutine that can run, unless there are several, or something printed is still there.
+fn lone_goroutine(state: &State) -> Option<GoroutineId>
+    ensures lone { IfSome result (λ g. IsLone g.0 state.now) }
+    ensures rises { IfSome result (λ g. IsRising state.now.goroutines) }
+{
+    if !state.output().is_empty() {
+        return None;
+    }
+    match state.runnable() {
+        [g] => Some(*g),
+        [..] => None,
+    }
+}
+
+/// Takes the turns of the one goroutine that can run, as long as they touch its innermost frame alone; none if
+/// several can run, or if something printed is still there. It answers the number of the next turn, which is still to
+/// come; none if no turn comes next. On `Memory` the state is the one before the turn of the last number.
+pub(crate) fn go_on_alone<N: Numbers>(
+    code: &Code,
+    state: &mut State,
+    numbers: &mut N,
+) -> Result<Option<u64>, Memory>
+    requires places { HasPlaces code.now }
+    requires goes { ending state.old ≡ None }
+    ensures ok { IfOk result (λ next. HasAsked next (λ es n. HasGoneOn code.now state.old state.new (N.left numbers.old) es (N.given numbers.old) n) (N.left numbers.new) (N.given numbers.new)) }
+    ensures err { OnErr result ((c : ℕ) × HasAsked (Some c) (λ es n. HasGoneOn code.now state.old state.new (N.left numbers.old) es (N.given numbers.old) n) (N.left numbers.new) (N.given numbers.new)) }
+    ensures goes { ending state.new ≡ None }
+{
+    let Some(g) = lone_goroutine(state) else {
+        return Ok(numbers.next());
+    };
+    let next = keep_on(code, state.frames_mut(g), numbers)?;
+    Ok(next)
+}

@@ -1,0 +1,20 @@
+//! The numbers of turns that are taken in one go.
+
+ghost use Rattle.std.specs.Prelude.{◌≡◌, ◌+◌, ◌∷◌, ℕ, List, false, MatchOption};
+ghost use Rattle.golf_model.specs.Running.{Event};
+ghost use Rattle.golf_machine.specs.Taking.{is_turn_next};
+
+/// Where the numbers of turns come from.
+pub trait Numbers {
+    /// The events that are still to come.
+    ghost left: { Self → List Event };
+
+    /// How many numbers were given.
+    ghost given: { Self → ℕ };
+
+    /// The number of the next turn; none if the next event is no turn.
+    fn next(&mut self) -> Option<u64>
+        ensures { MatchOption result
+            ((is_turn_next (left self.old) ≡ false) × (left self.new ≡ left self.old) × (given self.new ≡ given self.old))
+            (λ c. (left self.old ≡ Event.Turn c ∷ left self.new) × (given self.new ≡ given self.old + 1)) };
+}
