@@ -7,3 +7,4 @@ pub mod Freeing
 pub mod Finding
 pub mod Writing
 pub mod Flagged
+pub mod Guesses

@@ -17,7 +17,7 @@ use std::marker::Model;
 /// order of making, and none is used again.
 ///
 /// The objects lie in a slab, whose keys are used again and are seen nowhere else. An object is
-/// found by a binary search for its number. `make` alone takes memory.
+/// found at its number, if none before it was freed, and else by a binary search. `make` alone takes memory.
 #[derive(Debug, Drop)]
 pub struct Heap {
     slots: Slab<(u32, Object)>,

@@ -1,6 +1,6 @@
 //! Where the objects stand in the slab.
 
-ghost use Rattle.std.specs.Prelude.{◌≡◌, ◌+◌, length, None};
+ghost use Rattle.std.specs.Prelude.{◌≡◌, ◌+◌, length, None, IfSome};
 ghost use Rattle.slab.specs.Slab.{slab_len, ContainsKey, Updates};
 ghost use Rattle.golf_theory.specs.Maps.{find, Rises};
 ghost use Rattle.golf_heap.specs.Objects.{kept, rank};
@@ -16,12 +16,29 @@ pub struct Place {
     pub key: usize,
 }
 
+// The index at which the object of this number stands if none before it was freed, and if it does.
+fn index_of(places: &[Place], number: u32) -> Option<usize>
+    requires { Rises 1 (keyed places.now) }
+    ensures { IfSome result (λ at. at ≡ rank number (keyed places.now)) }
+{
+    let index = (number as usize).checked_sub(1)?;
+    let place = places.get(index)?;
+    if place.number == number {
+        Some(index)
+    } else {
+        None
+    }
+}
+
 /// How many places have a smaller number.
 pub fn rank_of(places: &[Place], number: u32) -> usize
     requires { Rises 1 (keyed places.now) }
     ensures { result ≡ rank number (keyed places.now) }
 {
-    places.partition_point(|place| place.number < number)
+    match index_of(places, number) {
+        Some(at) => at,
+        None => places.partition_point(|place| place.number < number),
+    }
 }
 
 /// The key of the object of this number.

@@ -6,9 +6,10 @@ use Rattle.golf_data.specs.declared.value.Value.{Value}
 use Rattle.golf_data.specs.declared.goroutine.PanicKind.{PanicKind}
 use Rattle.golf_model.specs.Views.{FrameView, GoroutineView}
 use Rattle.golf_model.specs.Values.{int_of, bool_of, equality, is_zero}
+use Rattle.golf_model.specs.State.{State}
 use Rattle.golf_model.specs.Changes.{Change}
 use Rattle.golf_model.specs.Acting.{Actor, stands, next, goes, jumps, leaves, on_some, choose, taking_one, taking_two, panics}
-use Rattle.golf_model.specs.Calculating.{pushes, loads, stores, drops, doubles, negates, inverts, computes, divides, compares, equates, two_ints, jumps_unless}
+use Rattle.golf_model.specs.Calculating.{pushes, loads, loads_global, stores, drops, doubles, doubles_two, negates, inverts, computes, divides, compares, equates, two_ints, jumps_unless}
 use Rattle.golf_model.specs.Turn.{acting}
 use Rattle.golf_state.specs.Going.{went}
 use Rattle.golf_state.specs.Operands.{two_of}
@@ -156,12 +157,28 @@ doubled : (os : List Value) (v : Value) (act : List Value → List Change) → S
 doubled [] v act h = cc
 doubled (x ∷ os) v act h = let same : x ≡ v = cc in ap (λ (y : Value). act (y ∷ y ∷ os)) same ∙ ap (λ (y : Value). act (v ∷ y ∷ os)) (sym same)
 
+twice : (os : List Value) (x y : Value) (act : List Value → List Change) → Some (x, y) ≡ two_of os → taking_two (λ v w rest. act (w ∷ v ∷ w ∷ v ∷ rest)) os ≡ act (y ∷ x ∷ os)
+twice [] x y act h = cc
+twice (w ∷ []) x y act h = cc
+twice (w ∷ v ∷ os) x y act h =
+    let e = some-pair x v y w h in
+    ap (λ (b : Value). act (b ∷ v ∷ w ∷ v ∷ os)) (sym e.1) ∙ ap (λ (a : Value). act (y ∷ a ∷ w ∷ v ∷ os)) (sym e.0)
+
 -- what is a push of the value that was read
 pub doubles-pushes : (f : FrameView) (v : Value) → Some v ≡ slice_get f.operands 0 → (g : ℕ) (r : GoroutineView) (callers : List FrameView) (line : ℕ) → doubles (acting g r f callers line) ≡ pushes (acting g r f callers line) v
 doubles-pushes f v e g r callers line = doubled f.operands v (λ os. goes (acting g r f callers line) os) e
 
 pub loads-pushes : (f : FrameView) (i : ℕ) (v : Value) → Some v ≡ slice_get f.slots i → (g : ℕ) (r : GoroutineView) (callers : List FrameView) (line : ℕ) → loads (acting g r f callers line) i ≡ pushes (acting g r f callers line) v
 loads-pushes f i v e g r callers line = ap (leaves (acting g r f callers line) f.operands) (sym e)
+
+pub loads_global-pushes : (f : FrameView) (s : State) (globals : List Value) (i : ℕ) (v : Value) → Some v ≡ slice_get globals i → s.globals ≡ globals → (g : ℕ) (r : GoroutineView) (callers : List FrameView) (line : ℕ)
+    → loads_global (acting g r f callers line) i s ≡ pushes (acting g r f callers line) v
+loads_global-pushes f s globals i v e same g r callers line =
+    ap (λ (vs : List Value). leaves (acting g r f callers line) f.operands (slice_get vs i)) same ∙ ap (leaves (acting g r f callers line) f.operands) (sym e)
+
+-- two values more
+pub doubled-two : (f h : FrameView) (x y : Value) → Some (x, y) ≡ two_of f.operands → h ≡ next f (y ∷ x ∷ f.operands) → Becomes doubles_two f h
+doubled-two f h x y e is = becomes f h doubles_two (next f (y ∷ x ∷ f.operands)) (λ g r callers line. twice f.operands x y (λ os. goes (acting g r f callers line) os) e) is refl refl
 
 -- a list that is not empty
 pub some_there : {X : Type 0} (b : Bool) (os : List X) → (IsTrue b ↔ (os ≡ [])) → b ≡ false → 1 ≤ length os

@@ -6,6 +6,7 @@ use Rattle.std.proofs.lemmas.List.{length-append}
 use Rattle.golf_theory.specs.Maps.{find, IsRising}
 use Rattle.golf_theory.proofs.MapFinds.{find-put, put-put}
 use Rattle.golf_theory.proofs.MapOrder.{Rises-put}
+use Rattle.golf_data.specs.declared.value.Value.{Value}
 use Rattle.golf_data.specs.declared.code.Code.{Code}
 use Rattle.golf_data.specs.declared.goroutine.Ending.{Ending}
 use Rattle.golf_data.specs.declared.goroutine.Mode.{Mode}
@@ -25,33 +26,33 @@ use Rattle.golf_machine.proofs.Turns.{step-is, wants-is, frames-are, turn-runs}
 
 -- ---- the frames
 
-passes-more : (code : Code) (cs : List ℕ) (c : ℕ) (fs ks hs : List FrameView) → PassEach code cs fs ks → PassesOnTop code ks hs → PassEach code (cs ++ c ∷ []) fs hs
-passes-more code [] c fs ks hs e p = (hs, subst (λ (xs : List FrameView). PassesOnTop code xs hs) e p, refl)
-passes-more code (d ∷ cs) c fs ks hs e p = (e.0, e.1, passes-more code cs c e.0 ks hs e.2 p)
+passes-more : (code : Code) (globals : List Value) (cs : List ℕ) (c : ℕ) (fs ks hs : List FrameView) → PassEach code globals cs fs ks → PassesOnTop code globals ks hs → PassEach code globals (cs ++ c ∷ []) fs hs
+passes-more code globals [] c fs ks hs e p = (hs, subst (λ (xs : List FrameView). PassesOnTop code globals xs hs) e p, refl)
+passes-more code globals (d ∷ cs) c fs ks hs e p = (e.0, e.1, passes-more code globals cs c e.0 ks hs e.2 p)
 
-pub none-kept : (code : Code) (fs : List FrameView) (es : List Event) (n : ℕ) → HasKeptOn code fs fs es es n n
-none-kept code fs es n = record { taken = []; order = refl; count = omega arith; passes = refl }
+pub none-kept : (code : Code) (globals : List Value) (fs : List FrameView) (es : List Event) (n : ℕ) → HasKeptOn code globals fs fs es es n n
+none-kept code globals fs es n = record { taken = []; order = refl; count = omega arith; passes = refl }
 
-pub one-kept : (b : Bool) (code : Code) (fs ks hs : List FrameView) (es later rest : List Event) (n k m c : ℕ) → b ≡ true → HasKeptOn code fs ks es later n k → later ≡ Event.Turn c ∷ rest → m ≡ k + 1 → HasPassedOnTop b code ks hs
-    → HasKeptOn code fs hs es rest n m
-one-kept false code fs ks hs es later rest n k m c t w next more p = cc
-one-kept true code fs ks hs es later rest n k m c t w next more p =
+pub one-kept : (b : Bool) (code : Code) (globals : List Value) (fs ks hs : List FrameView) (es later rest : List Event) (n k m c : ℕ) → b ≡ true → HasKeptOn code globals fs ks es later n k → later ≡ Event.Turn c ∷ rest → m ≡ k + 1 → HasPassedOnTop b code globals ks hs
+    → HasKeptOn code globals fs hs es rest n m
+one-kept false code globals fs ks hs es later rest n k m c t w next more p = cc
+one-kept true code globals fs ks hs es later rest n k m c t w next more p =
     let size = length-append w.taken (c ∷ []) in
     let count = w.count in
     record {
       taken = w.taken ++ c ∷ [];
       order = w.order ∙ ap (λ (xs : List Event). turn_events w.taken ++ xs) next ∙ events-more w.taken c rest;
       count = omega (arith, size, count, more);
-      passes = passes-more code w.taken c fs ks hs w.passes p;
+      passes = passes-more code globals w.taken c fs ks hs w.passes p;
     }
 
 -- the number after these is still to be taken
 pub asked : (P : List Event → ℕ → Type 0) (later rest : List Event) (k m c : ℕ) → P later k → later ≡ Event.Turn c ∷ rest → m ≡ k + 1 → HasAsked (Some c) P rest m
 asked P later rest k m c p next more = (k, subst (λ (xs : List Event). P xs k) next p, more)
 
-pub nothing-done : (b : Bool) (code : Code) (fs hs : List FrameView) → b ≡ false → HasPassedOnTop b code fs hs → hs ≡ fs
-nothing-done true code fs hs f p = cc
-nothing-done false code fs hs f p = p
+pub nothing-done : (b : Bool) (code : Code) (globals : List Value) (fs hs : List FrameView) → b ≡ false → HasPassedOnTop b code globals fs hs → hs ≡ fs
+nothing-done true code globals fs hs f p = cc
+nothing-done false code globals fs hs f p = p
 
 -- ---- the state
 
@@ -64,17 +65,17 @@ pub record IsAlone (g : ℕ) (s : State) : Type 0 where
   pub rises : IsRising s.goroutines
   pub same : reframed g (frames_of g s) s ≡ s
 
-module _ (code : Code) (g : ℕ) (s : State) (a : IsAlone g s) (ks : List FrameView) (p : PassesOnTop code (frames_of g s) ks) where
+module _ (code : Code) (g : ℕ) (s : State) (a : IsAlone g s) (ks : List FrameView) (p : PassesOnTop code s.globals (frames_of g s) ks) where
   are : a.runs.frames ≡ p.first ∷ p.callers
   are = sym (frames-are g s a.runs) ∙ p.were
 
   abbrev with : FrameView → GoroutineView
   with x = record { frames = x ∷ p.callers; mode = Mode.Running; started = a.runs.started }
 
-  abbrev after : State
-  after = become g (with p.next) s
+  abbrev stepped : State
+  stepped = become g (with p.next) s
 
-  after-is : reframed g ks s ≡ after
+  after-is : reframed g ks s ≡ stepped
   after-is = ap (λ (xs : List FrameView). reframed g xs s) p.are ∙ reframed-is code g s a.runs p.first p.next p.callers are p.passes
 
   turn-is : (c : ℕ) → whose_turn s c ≡ Some g
@@ -99,30 +100,30 @@ module _ (code : Code) (g : ℕ) (s : State) (a : IsAlone g s) (ks : List FrameV
       ∙ ap (λ (t : State). not_empty t.output) after-is
       ∙ ap (λ (xs : List ℕ). not_empty xs) a.quiet
 
-  found-after : find g after.goroutines ≡ Some (with p.next)
+  found-after : find g stepped.goroutines ≡ Some (with p.next)
   found-after = find-put g (with p.next) s.goroutines (with p.first) (found code g s a.runs p.first p.next p.callers are p.passes)
 
-  frames-after : frames_of g after ≡ ks
+  frames-after : frames_of g stepped ≡ ks
   frames-after = ap frames_in found-after ∙ sym p.are
 
-  reframed-after : (hs : List FrameView) → reframed g hs after ≡ reframed g hs s
+  reframed-after : (hs : List FrameView) → reframed g hs stepped ≡ reframed g hs s
   reframed-after hs =
-      ap (λ (o : Option GoroutineView). on_goroutine (λ q. become g (record q { frames = hs })) o after) found-after
+      ap (λ (o : Option GoroutineView). on_goroutine (λ q. become g (record q { frames = hs })) o stepped) found-after
       ∙ ap (λ (es : List (ℕ × GoroutineView)). record s { goroutines = es }) (put-put g (let r : GoroutineView = record { frames = hs; mode = Mode.Running; started = a.runs.started } in r) (with p.next) s.goroutines)
       ∙ sym (ap (λ (o : Option GoroutineView). on_goroutine (λ q. become g (record q { frames = hs })) o s) (found code g s a.runs p.first p.next p.callers are p.passes))
 
-  alone-after : IsAlone g after
+  alone-after : IsAlone g stepped
   alone-after = record {
     runs = record { frames = p.next ∷ p.callers; started = a.runs.started; found = found-after };
     alone = runnable-same code g s a.runs p.first p.next p.callers are p.passes a.rises ∙ a.alone;
     goes = ap ending (sym after-is) ∙ ending-is;
     quiet = a.quiet;
     rises = Rises-put 0 g (with p.next) s.goroutines a.rises;
-    same = reframed-after (frames_of g after) ∙ ap (λ (xs : List FrameView). reframed g xs s) frames-after ∙ after-is;
+    same = reframed-after (frames_of g stepped) ∙ ap (λ (xs : List FrameView). reframed g xs s) frames-after ∙ after-is;
   }
 
 -- each turn is the goroutine's, and after none the outside is needed
-pub alone-steps : (code : Code) (g : ℕ) (s : State) (a : IsAlone g s) (cs : List ℕ) (hs : List FrameView) → PassEach code cs (frames_of g s) hs
+pub alone-steps : (code : Code) (g : ℕ) (s : State) (a : IsAlone g s) (cs : List ℕ) (hs : List FrameView) → PassEach code s.globals cs (frames_of g s) hs
     → (reframed g hs s ≡ steps code s cs) × GoOn code s cs × (ending (reframed g hs s) ≡ None)
 alone-steps code g s a [] hs e =
     let is = ap (λ (xs : List FrameView). reframed g xs s) e ∙ a.same in
@@ -130,8 +131,8 @@ alone-steps code g s a [] hs e =
 alone-steps code g s a (c ∷ cs) hs e =
     let ks = e.0 in
     let p = e.1 in
-    let t = after code g s a ks p in
-    let rest = alone-steps code g t (alone-after code g s a ks p) cs hs (subst (λ (xs : List FrameView). PassEach code cs xs hs) (sym (frames-after code g s a ks p)) e.2) in
+    let t = stepped code g s a ks p in
+    let rest = alone-steps code g t (alone-after code g s a ks p) cs hs (subst (λ (xs : List FrameView). PassEach code s.globals cs xs hs) (sym (frames-after code g s a ks p)) e.2) in
     let there = reframed-after code g s a ks p hs in
     let is : t ≡ step code s c = sym (after-is code g s a ks p) ∙ step-taken code g s a ks p c in (
       sym there ∙ rest.0 ∙ ap (λ (x : State). steps code x cs) is,
@@ -147,20 +148,20 @@ pub lone-is-running : (g : ℕ) (s : State) → Runs g s → runs g s ≡ true
 lone-is-running g s r = ap is_running_in r.found
 
 -- what was asked of the frames that are lent, asked of the state
-module _ (code : Code) (g : ℕ) (s : State) (rises : IsRising s.goroutines) (lone : IsLone g s) (goes : ending s ≡ None) (fs hs : List FrameView) (value : fs ≡ frames_of g s) (same : reframed g (frames_of g s) s ≡ s) where
+module _ (code : Code) (g : ℕ) (s : State) (rises : IsRising s.goroutines) (lone : IsLone g s) (goes : ending s ≡ None) (fs hs : List FrameView) (value : fs ≡ frames_of g s) (same : reframed g (frames_of g s) s ≡ s) (globals : List Value) (are-those : globals ≡ s.globals) where
   is-alone : IsAlone g s
   is-alone = record { runs = lone-runs g s rises lone.alone; alone = lone.alone; goes = goes; quiet = lone.quiet; rises = rises; same = same }
 
-  gone : (before after : List Event) (given now : ℕ) → HasKeptOn code fs hs before after given now → HasGoneOn code s (reframed g hs s) before after given now × (ending (reframed g hs s) ≡ None)
+  gone : (before after : List Event) (given now : ℕ) → HasKeptOn code globals fs hs before after given now → HasGoneOn code s (reframed g hs s) before after given now × (ending (reframed g hs s) ≡ None)
   gone before after given now w =
-      let r = alone-steps code g s is-alone w.taken hs (subst (λ (xs : List FrameView). PassEach code w.taken xs hs) value w.passes) in
+      let r = alone-steps code g s is-alone w.taken hs (subst (λ (vs : List Value). PassEach code vs w.taken (frames_of g s) hs) are-those (subst (λ (xs : List FrameView). PassEach code globals w.taken xs hs) value w.passes)) in
       (record { taken = w.taken; order = w.order; count = w.count; silent = r.1; state = r.0 }, r.2)
 
-  pub lone-asked : (o : Option ℕ) (before after : List Event) (given now : ℕ) → HasAsked o (λ es n. HasKeptOn code fs hs before es given n) after now → HasAsked o (λ es n. HasGoneOn code s (reframed g hs s) before es given n) after now
+  pub lone-asked : (o : Option ℕ) (before after : List Event) (given now : ℕ) → HasAsked o (λ es n. HasKeptOn code globals fs hs before es given n) after now → HasAsked o (λ es n. HasGoneOn code s (reframed g hs s) before es given n) after now
   lone-asked None before after given now a = ((gone before after given now a.0).0, a.1)
   lone-asked (Some c) before after given now a = (a.0, (gone before (Event.Turn c ∷ after) given a.0 a.1).0, a.2)
 
-  pub lone-goes : (o : Option ℕ) (before after : List Event) (given now : ℕ) → HasAsked o (λ es n. HasKeptOn code fs hs before es given n) after now → ending (reframed g hs s) ≡ None
+  pub lone-goes : (o : Option ℕ) (before after : List Event) (given now : ℕ) → HasAsked o (λ es n. HasKeptOn code globals fs hs before es given n) after now → ending (reframed g hs s) ≡ None
   lone-goes None before after given now a = (gone before after given now a.0).1
   lone-goes (Some c) before after given now a = (gone before (Event.Turn c ∷ after) given a.0 a.1).1
 

@@ -34,6 +34,10 @@ no-mask fn f m = ap (λ (vs : List Value). record f { slots = vs })
 pub masked : (fn : Function) (f : FrameView) (mask : ℕ) (vs : List Value) → Some mask ≡ slice_get fn.live f.at → vs ≡ cleared_slots (stays_in Leaving.No (Some mask)) f.slots → record f { slots = vs } ≡ cleared_in fn f
 masked fn f mask vs m e = ap (λ (ws : List Value). record f { slots = ws }) (e ∙ ap (λ (o : Option ℕ). cleared_slots (stays_in Leaving.No o) f.slots) m)
 
+-- a state with these globals
+abbrev pub blank : List Value → State
+blank globals = opening globals [] 0
+
 -- the frame that an instruction left, cleared by the masks of its function
 module _ (code : Code) (fn : Function) (l : Line) (f frame : FrameView) (there : Some fn ≡ slice_get code.functions f.function) (at : Some l ≡ slice_get fn.body f.at) where
   pub line-there : line_at code f.function f.at ≡ Some l
@@ -44,9 +48,9 @@ module _ (code : Code) (fn : Function) (l : Line) (f frame : FrameView) (there :
       ap (λ (o : Option Function). record frame { slots = cleared_slots (stays_in Leaving.No (option_and_then (λ (x : Function). slice_get x.live frame.at) o)) frame.slots }) (there ∙ ap (slice_get code.functions) (sym same))
       ∙ ap (λ (x : Leaving). record frame { slots = cleared_slots (stays_in x (mask_at code frame.function frame.at)) frame.slots }) (sym stays)
 
-  pub passed : (h : FrameView) → f.leaving ≡ Leaving.No → is_collection l.instr ≡ false → ((choice : ℕ) (s : State) → Becomes (λ a. changes code l.instr a choice s) f frame) → (s : State) → h ≡ cleared_in fn frame → Passes code f h
-  passed h stays plain does s is =
-      let b = does 0 s in record {
+  pub passed : (globals : List Value) (h : FrameView) → f.leaving ≡ Leaving.No → is_collection l.instr ≡ false → ((choice : ℕ) (s : State) → s.globals ≡ globals → Becomes (λ a. changes code l.instr a choice s) f frame) → h ≡ cleared_in fn frame → Passes code globals f h
+  passed globals h stays plain does is =
+      let b = does 0 (blank globals) refl in record {
         line = l;
         frame = frame;
         stays = stays;
@@ -57,8 +61,8 @@ module _ (code : Code) (fn : Function) (l : Line) (f frame : FrameView) (there :
       }
 
 -- the innermost frame of a list
-pub on-top : (code : Code) (fs : List Frame) (f w : Frame) → slice_get fs (length fs - 1) ≡ Some f → Passes code (frame_view f) (frame_view w) → PassesOnTop code (frame_views fs) (frame_views (slice_set fs (length fs - 1) w))
-on-top code fs f w at p =
+pub on-top : (code : Code) (globals : List Value) (fs : List Frame) (f w : Frame) → slice_get fs (length fs - 1) ≡ Some f → Passes code globals (frame_view f) (frame_view w) → PassesOnTop code globals (frame_views fs) (frame_views (slice_set fs (length fs - 1) w))
+on-top code globals fs f w at p =
     let below = take (length fs - 1) fs in record {
       first = frame_view f;
       next = frame_view w;
@@ -68,10 +72,10 @@ on-top code fs f w at p =
       passes = p;
     }
 
-pub on-top-by : (b : Bool) (code : Code) (fs : List Frame) (f w : Frame) (n : ℕ) → n ≡ length fs → slice_get fs (n - 1) ≡ Some f → HasPassed b code (frame_view f) (frame_view w)
-    → HasPassedOnTop b code (frame_views fs) (frame_views (slice_set fs (n - 1) w))
-on-top-by true code fs f w n size at d =
-    let p = on-top code fs f w (ap (λ k. slice_get fs (k - 1)) (sym size) ∙ at) d in record {
+pub on-top-by : (b : Bool) (code : Code) (globals : List Value) (fs : List Frame) (f w : Frame) (n : ℕ) → n ≡ length fs → slice_get fs (n - 1) ≡ Some f → HasPassed b code globals (frame_view f) (frame_view w)
+    → HasPassedOnTop b code globals (frame_views fs) (frame_views (slice_set fs (n - 1) w))
+on-top-by true code globals fs f w n size at d =
+    let p = on-top code globals fs f w (ap (λ k. slice_get fs (k - 1)) (sym size) ∙ at) d in record {
       first = p.first;
       next = p.next;
       callers = p.callers;
@@ -79,7 +83,7 @@ on-top-by true code fs f w n size at d =
       are = ap (λ k. frame_views (slice_set fs (k - 1) w)) size ∙ p.are;
       passes = p.passes;
     }
-on-top-by false code fs f w n size at d = ap (λ k. frame_views (slice_set fs (k - 1) w)) size ∙ top_same fs f w (ap (λ k. slice_get fs (k - 1)) (sym size) ∙ at) d
+on-top-by false code globals fs f w n size at d = ap (λ k. frame_views (slice_set fs (k - 1) w)) size ∙ top_same fs f w (ap (λ k. slice_get fs (k - 1)) (sym size) ∙ at) d
 
 pub on-top-same : (fs : List Frame) (f w : Frame) (n : ℕ) → n ≡ length fs → slice_get fs (n - 1) ≡ Some f → frame_view w ≡ frame_view f → frame_views (slice_set fs (n - 1) w) ≡ frame_views fs
 on-top-same fs f w n size at e = ap (λ k. frame_views (slice_set fs (k - 1) w)) size ∙ top_same fs f w (ap (λ k. slice_get fs (k - 1)) (sym size) ∙ at) e
@@ -93,15 +97,11 @@ pub is-done : (b : Bool) (act : Actor → List Change) (f h : FrameView) → b �
 is-done true act f h e d = d
 is-done false act f h e d = cc
 
--- any state
-pub blank : State
-blank = opening [] [] 0
-
 some-same : {X : Type 0} {x y : X} → Some x ≡ Some y → x ≡ y
 some-same h = cc
 
 -- the goroutine with this innermost frame
-module _ (code : Code) (g : ℕ) (s : State) (r : Runs g s) (f h : FrameView) (callers : List FrameView) (are : r.frames ≡ f ∷ callers) (p : Passes code f h) where
+module _ (code : Code) (g : ℕ) (s : State) (r : Runs g s) (f h : FrameView) (callers : List FrameView) (are : r.frames ≡ f ∷ callers) (p : Passes code s.globals f h) where
   abbrev with : FrameView → GoroutineView
   with x = record { frames = x ∷ callers; mode = Mode.Running; started = r.started }
 
@@ -113,7 +113,7 @@ module _ (code : Code) (g : ℕ) (s : State) (r : Runs g s) (f h : FrameView) (c
       ap (λ (o : Option GoroutineView). apply_all (turn_of code g choice s o) s) found
       ∙ ap (λ (m : Leaving). apply_all (frame_changes code g (with f) f callers choice s m) s) p.stays
       ∙ ap (λ (o : Option Line). apply_all (performs code g (with f) f callers choice s o) s) p.found
-      ∙ ap (λ (cs : List Change). apply_all cs s) ((p.does choice s).stands g (with f) callers p.line.line)
+      ∙ ap (λ (cs : List Change). apply_all cs s) ((p.does choice s refl).stands g (with f) callers p.line.line)
 
   pub collects-not : goroutine_collects code (find g s.goroutines) ≡ false
   collects-not = ap (goroutine_collects code) found ∙ ap (frame_collects code f) p.stays ∙ ap line_collects p.found ∙ p.plain
@@ -141,7 +141,7 @@ module _ (code : Code) (g : ℕ) (s : State) (r : Runs g s) (f h : FrameView) (c
       ∙ ap (λ (t : State). apply_all (clears code g (find g t.goroutines)) t) (turn choice) ∙ after)
 
 -- what is lent of the goroutine was changed, or left
-pub turn-by : (b : Bool) (code : Code) (g : ℕ) (s : State) (r : Runs g s) (fs hs : List FrameView) → IsRising s.goroutines → fs ≡ frames_of g s → reframed g (frames_of g s) s ≡ s → HasPassedOnTop b code fs hs → HasTakenTurn b code g s (reframed g hs s)
+pub turn-by : (b : Bool) (code : Code) (g : ℕ) (s : State) (r : Runs g s) (fs hs : List FrameView) → IsRising s.goroutines → fs ≡ frames_of g s → reframed g (frames_of g s) s ≡ s → HasPassedOnTop b code s.globals fs hs → HasTakenTurn b code g s (reframed g hs s)
 turn-by true code g s r fs hs rises e same p =
     let are = sym (frames-are g s r) ∙ sym e ∙ p.were in (
       collects-not code g s r p.first p.next p.callers are p.passes,

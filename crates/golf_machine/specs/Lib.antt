@@ -1,5 +1,6 @@
 pub mod Acts
 pub mod Groups
+pub mod Lightness
 pub mod Objects
 pub mod Operations
 pub mod Taking

@@ -1,5 +1,6 @@
 -- Turns that are taken in one go.
 use Rattle.std.specs.Prelude.{◌≡◌, ℕ, ◌+◌, Bool, true, false, List, [], ◌∷◌, ◌++◌, length, map, Option, Some, None}
+use Rattle.golf_data.specs.declared.value.Value.{Value}
 use Rattle.golf_data.specs.declared.code.Code.{Code}
 use Rattle.golf_model.specs.Views.{FrameView}
 use Rattle.golf_model.specs.State.{State, runnable, ending, not_empty}
@@ -49,12 +50,12 @@ pub record HasGoneOn (code : Code) (old new : State) (before after : List Event)
   pub silent : GoOn code old taken
   pub state : new ≡ steps code old taken
 
--- with these frames turns of exactly the numbers that were given were taken, and each touched the innermost frame alone
-pub record HasKeptOn (code : Code) (fs hs : List FrameView) (before after : List Event) (given now : ℕ) : Type 0 where
+-- with these frames and globals turns of exactly the numbers that were given were taken, and each touched the innermost frame alone
+pub record HasKeptOn (code : Code) (globals : List Value) (fs hs : List FrameView) (before after : List Event) (given now : ℕ) : Type 0 where
   pub taken : List ℕ
   pub order : before ≡ turn_events taken ++ after
   pub count : now ≡ given + length taken
-  pub passes : PassEach code taken fs hs
+  pub passes : PassEach code globals taken fs hs
 
 -- the goroutine alone can run, and nothing is printed
 pub record IsLone (g : ℕ) (s : State) : Type 0 where

@@ -1,6 +1,7 @@
--- Instructions that touch the innermost frame alone.
+-- Instructions that touch the innermost frame alone; they may look at globals.
 use Rattle.std.specs.Prelude.{◌≡◌, ℕ, Bool, true, false, List, [], ◌∷◌, Some, slice_get}
 use Rattle.golf_theory.specs.Maps.{find}
+use Rattle.golf_data.specs.declared.value.Value.{Value}
 use Rattle.golf_data.specs.declared.code.Code.{Code}
 use Rattle.golf_data.specs.declared.code.Function.{Function}
 use Rattle.golf_data.specs.declared.code.Line.{Line}
@@ -28,38 +29,38 @@ IsDone false act f h = h ≡ f
 abbrev pub cleared_in : Function → FrameView → FrameView
 cleared_in fn f = record f { slots = cleared_slots (stays_in Leaving.No (slice_get fn.live f.at)) f.slots }
 
--- the frame is at an instruction, no collection, that makes it another frame, and that one is cleared
-pub record Passes (code : Code) (f h : FrameView) : Type 0 where
+-- the frame is at an instruction, no collection, that makes it another frame, with these globals, and that one is cleared
+pub record Passes (code : Code) (globals : List Value) (f h : FrameView) : Type 0 where
   pub line : Line
   pub frame : FrameView
   pub stays : f.leaving ≡ Leaving.No
   pub found : line_at code f.function f.at ≡ Some line
   pub plain : is_collection line.instr ≡ false
-  pub does : (choice : ℕ) (s : State) → Becomes (λ a. changes code line.instr a choice s) f frame
+  pub does : (choice : ℕ) (s : State) → s.globals ≡ globals → Becomes (λ a. changes code line.instr a choice s) f frame
   pub clears : h ≡ cleared code frame
 
 -- that was so; or the frame is as it was
-abbrev pub HasPassed : Bool → Code → FrameView → FrameView → Type 0
-HasPassed true code f h = Passes code f h
-HasPassed false code f h = h ≡ f
+abbrev pub HasPassed : Bool → Code → List Value → FrameView → FrameView → Type 0
+HasPassed true code globals f h = Passes code globals f h
+HasPassed false code globals f h = h ≡ f
 
 -- the same of the innermost of these frames
-pub record PassesOnTop (code : Code) (fs hs : List FrameView) : Type 0 where
+pub record PassesOnTop (code : Code) (globals : List Value) (fs hs : List FrameView) : Type 0 where
   pub first : FrameView
   pub next : FrameView
   pub callers : List FrameView
   pub were : fs ≡ first ∷ callers
   pub are : hs ≡ next ∷ callers
-  pub passes : Passes code first next
+  pub passes : Passes code globals first next
 
-abbrev pub HasPassedOnTop : Bool → Code → List FrameView → List FrameView → Type 0
-HasPassedOnTop true code fs hs = PassesOnTop code fs hs
-HasPassedOnTop false code fs hs = hs ≡ fs
+abbrev pub HasPassedOnTop : Bool → Code → List Value → List FrameView → List FrameView → Type 0
+HasPassedOnTop true code globals fs hs = PassesOnTop code globals fs hs
+HasPassedOnTop false code globals fs hs = hs ≡ fs
 
 -- so often, once for each of these numbers
-abbrev pub PassEach : Code → List ℕ → List FrameView → List FrameView → Type 0
-PassEach code [] fs hs = hs ≡ fs
-PassEach code (c ∷ cs) fs hs = (ks : List FrameView) × PassesOnTop code fs ks × PassEach code cs ks hs
+abbrev pub PassEach : Code → List Value → List ℕ → List FrameView → List FrameView → Type 0
+PassEach code globals [] fs hs = hs ≡ fs
+PassEach code globals (c ∷ cs) fs hs = (ks : List FrameView) × PassesOnTop code globals fs ks × PassEach code globals cs ks hs
 
 -- the state after the turn of a goroutine that runs, and what is cleared after it
 abbrev pub acted : Code → ℕ → ℕ → State → State

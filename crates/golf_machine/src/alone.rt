@@ -10,23 +10,24 @@ ghost use Rattle.golf_machine.specs.Taking.{HasGoneOn, HasKeptOn, HasAsked, IsLo
 use crate::numbers::Numbers;
 use crate::within::pass_on_top;
 use golf_base::{GoroutineId, List, Memory};
-use golf_data::{Code, Frame};
+use golf_data::{Code, Frame, Value};
 use golf_state::State;
 
-// Takes turns with these frames, one for each number, as long as they touch the innermost frame alone. It
+// Takes turns with these frames and globals, one for each number, as long as they touch the innermost frame alone. It
 // answers the number of the turn that does not, and is still to come; none if no turn comes next. On `Memory` the
 // frames are those before the turn of the last number.
 fn keep_on<N: Numbers>(
     code: &Code,
+    globals: &[Value],
     frames: &mut List<Frame>,
     numbers: &mut N,
 ) -> Result<Option<u64>, Memory>
     requires places { HasPlaces code.now }
-    ensures ok { IfOk result (λ next. HasAsked next (λ es n. HasKeptOn code.now (frame_views frames.old) (frame_views frames.new) (N.left numbers.old) es (N.given numbers.old) n) (N.left numbers.new) (N.given numbers.new)) }
-    ensures err { OnErr result ((c : ℕ) × HasAsked (Some c) (λ es n. HasKeptOn code.now (frame_views frames.old) (frame_views frames.new) (N.left numbers.old) es (N.given numbers.old) n) (N.left numbers.new) (N.given numbers.new)) }
+    ensures ok { IfOk result (λ next. HasAsked next (λ es n. HasKeptOn code.now globals.now (frame_views frames.old) (frame_views frames.new) (N.left numbers.old) es (N.given numbers.old) n) (N.left numbers.new) (N.given numbers.new)) }
+    ensures err { OnErr result ((c : ℕ) × HasAsked (Some c) (λ es n. HasKeptOn code.now globals.now (frame_views frames.old) (frame_views frames.new) (N.left numbers.old) es (N.given numbers.old) n) (N.left numbers.new) (N.given numbers.new)) }
 {
     while let Some(number) = numbers.next() {
-        if !pass_on_top(code, frames)? {
+        if !pass_on_top(code, globals, frames)? {
             return Ok(Some(number));
         }
     }
@@ -64,6 +65,7 @@ pub(crate) fn go_on_alone<N: Numbers>(
     let Some(g) = lone_goroutine(state) else {
         return Ok(numbers.next());
     };
-    let next = keep_on(code, state.frames_mut(g), numbers)?;
+    let (frames, globals) = state.frames_and_globals(g);
+    let next = keep_on(code, globals, frames, numbers)?;
     Ok(next)
 }

@@ -6,6 +6,7 @@ ghost use Rattle.golf_model.specs.Turn.{changes};
 ghost use Rattle.golf_state.specs.Doing.{does, Stands};
 ghost use Rattle.golf_state.specs.Outcomes.{Comes};
 ghost use Rattle.golf_machine.specs.Groups.{group_of};
+ghost use Rattle.golf_machine.specs.Lightness.{is_light};
 ghost use Rattle.golf_machine.specs.declared.performing.Group.TheVariants as group;
 
 use crate::calculating::{
@@ -112,6 +113,20 @@ fn group_of(instr: &Instr) -> Group
         | Instr::SetFinalizer(_)
         | Instr::ClearFinalizer
         | Instr::Panic => Group::Calls,
+    }
+}
+
+/// Whether an instruction is about values of the innermost frame, or of globals.
+pub fn is_light(instr: &Instr) -> bool
+    ensures { result ≡ is_light (group_of instr.now) }
+{
+    match group_of(instr) {
+        Group::Values => true,
+        Group::Calculations => true,
+        Group::Structures => false,
+        Group::Communication => false,
+        Group::Sharing => false,
+        Group::Calls => false,
     }
 }
 

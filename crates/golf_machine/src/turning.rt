@@ -61,6 +61,9 @@ fn shared_out(number: u64, count: u64) -> (u64, u64)
     if count == 1 {
         return (0, number);
     }
+    if count == 2 {
+        return (number % 2, number / 2);
+    }
     if number < 1 << 32 && count < 1 << 32 {
         let (number, count) = (number as u32, count as u32);
         return (u64::from(number % count), u64::from(number / count));

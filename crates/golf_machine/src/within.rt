@@ -1,10 +1,10 @@
-//! Instructions that touch the innermost frame alone.
+//! Instructions that touch the innermost frame alone; they may look at globals.
 
 ghost use Rattle.std.specs.Prelude.{◌≡◌, ◌<◌, ◌≤◌, ◌+◌, ◌^◌, ◌∷◌, [], ℕ, length, drop, IfOk, OnErr, option_map, slice_get, true, false};
 ghost use Rattle.golf_data.specs.Places.{HasPlaces};
 ghost use Rattle.golf_data.specs.declared.code.Code.{Code};
 ghost use Rattle.golf_model.specs.Acting.{next, jumps};
-ghost use Rattle.golf_model.specs.Calculating.{pushes, loads, stores, drops, doubles, negates, inverts, computes, divides, compares, equates, jumps_unless};
+ghost use Rattle.golf_model.specs.Calculating.{pushes, loads, stores, loads_global, drops, doubles, doubles_two, negates, inverts, computes, divides, compares, equates, jumps_unless};
 ghost use Rattle.golf_model.specs.State.{State};
 ghost use Rattle.golf_model.specs.Turn.{changes, is_collection};
 ghost use Rattle.golf_model.specs.Views.{frame_view, frame_views};
@@ -17,6 +17,7 @@ ghost use Rattle.golf_machine.specs.Within.{IsDone, cleared_in, HasPassed, HasPa
 use crate::calculating::{
     Comparison, Division, Operation, are_equal, bool_in, holds, int_in, part_of, result_of,
 };
+use crate::stepping::is_light;
 use golf_base::{GoroutineId, List, Memory};
 use golf_data::{Code, Frame, Function, Instr, Leaving, Line, Value};
 use golf_state::State;
@@ -132,6 +133,25 @@ fn store(frame: &mut Frame, slot: u32) -> bool
     true
 }
 
+// The value of a global, where it is there.
+fn global_of(globals: &[Value], global: u32) -> Option<Value>
+    ensures { result ≡ slice_get globals.now global }
+{
+    globals.get(global as usize).copied()
+}
+
+// Pushes a global, where it is there.
+fn load_global(frame: &mut Frame, globals: &[Value], global: u32) -> Result<bool, Memory>
+    requires place { frame.old.at + 1 < 2 ^ 32 }
+    ensures ok { IfOk result (λ done. (s : State) → s.globals ≡ globals.now → IsDone done (λ a. loads_global a global s) (frame_view frame.old) (frame_view frame.new)) }
+    ensures err { OnErr result (frame_view frame.new ≡ frame_view frame.old) }
+{
+    match global_of(globals, global) {
+        Some(value) => push(frame, value),
+        None => Ok(false),
+    }
+}
+
 // Drops the last operand, where there is one.
 fn drop_last(frame: &mut Frame) -> bool
     requires place { frame.old.at + 1 < 2 ^ 32 }
@@ -155,6 +175,22 @@ fn double(frame: &mut Frame) -> Result<bool, Memory>
         Some(value) => push(frame, value),
         None => Ok(false),
     }
+}
+
+// Doubles the last two operands, where there are two.
+fn double_two(frame: &mut Frame) -> Result<bool, Memory>
+    requires place { frame.old.at + 1 < 2 ^ 32 }
+    ensures ok { IfOk result (λ done. IsDone done doubles_two (frame_view frame.old) (frame_view frame.new)) }
+    ensures err { OnErr result (frame_view frame.new ≡ frame_view frame.old) }
+{
+    let Some((first, second)) = last_two(frame) else {
+        return Ok(false);
+    };
+    frame.operands.reserve(2)?;
+    frame.operands.push_ready(first);
+    frame.operands.push_ready(second);
+    frame.at += 1;
+    Ok(true)
 }
 
 // Negates an integer.
@@ -256,21 +292,26 @@ fn jump_unless(frame: &mut Frame, target: u32) -> bool
     true
 }
 
-// Does an instruction of a frame, if it touches that frame alone, and fits. It answers whether it did;
-// else nothing has changed.
-fn perform_within(frame: &mut Frame, instr: &Instr) -> Result<bool, Memory>
+// Does an instruction of a frame, with these globals, if it touches that frame alone, and fits. It answers
+// whether it did; else nothing has changed.
+fn perform_within(frame: &mut Frame, globals: &[Value], instr: &Instr) -> Result<bool, Memory>
     requires place { frame.old.at + 1 < 2 ^ 32 }
-    ensures ok { IfOk result (λ done. (code : Code) (choice : ℕ) (s : State) → IsDone done (λ a. changes code instr.now a choice s) (frame_view frame.old) (frame_view frame.new)) }
+    ensures ok { IfOk result (λ done. (code : Code) (choice : ℕ) (s : State) → s.globals ≡ globals.now → IsDone done (λ a. changes code instr.now a choice s) (frame_view frame.old) (frame_view frame.new)) }
     ensures plain { IfOk result (λ done. done ≡ true → is_collection instr.now ≡ false) }
     ensures err { OnErr result (frame_view frame.new ≡ frame_view frame.old) }
 {
     match instr {
         Instr::Int(n) => push(frame, Value::Int(*n)),
         Instr::Bool(b) => push(frame, Value::Bool(*b)),
+        Instr::Text(k) => push(frame, Value::Text(*k)),
+        Instr::Unit => push(frame, Value::Unit),
+        Instr::Nil => push(frame, Value::Nil),
         Instr::Load(slot) => load(frame, *slot),
         Instr::Store(slot) => Ok(store(frame, *slot)),
+        Instr::LoadGlobal(global) => load_global(frame, globals, *global),
         Instr::Drop => Ok(drop_last(frame)),
         Instr::Dup => double(frame),
+        Instr::Dup2 => double_two(frame),
         Instr::Neg => Ok(negate(frame)),
         Instr::Not => Ok(invert(frame)),
         Instr::Add => Ok(compute(frame, Operation::Add)),
@@ -317,11 +358,11 @@ fn clear_in(function: &Function, frame: &mut Frame)
     }
 }
 
-// The turn of a frame that is at an instruction which touches the frame alone, and fits, with what is
-// cleared after it. It answers whether that was so; else nothing has changed.
-fn pass_in(code: &Code, frame: &mut Frame) -> Result<bool, Memory>
+// The turn of a frame, with these globals, that is at an instruction which touches the frame alone, and fits,
+// with what is cleared after it. It answers whether that was so; else nothing has changed.
+fn pass_in(code: &Code, globals: &[Value], frame: &mut Frame) -> Result<bool, Memory>
     requires places { HasPlaces code.now }
-    ensures ok { IfOk result (λ done. HasPassed done code.now (frame_view frame.old) (frame_view frame.new)) }
+    ensures ok { IfOk result (λ done. HasPassed done code.now globals.now (frame_view frame.old) (frame_view frame.new)) }
     ensures err { OnErr result (frame_view frame.new ≡ frame_view frame.old) }
 {
     match frame.leaving {
@@ -335,7 +376,7 @@ fn pass_in(code: &Code, frame: &mut Frame) -> Result<bool, Memory>
     let Some(line) = line_in(function, frame.at) else {
         return Ok(false);
     };
-    if !perform_within(frame, &line.instr)? {
+    if !perform_within(frame, globals, &line.instr)? {
         return Ok(false);
     }
     clear_in(function, frame);
@@ -343,16 +384,20 @@ fn pass_in(code: &Code, frame: &mut Frame) -> Result<bool, Memory>
 }
 
 /// The same of the innermost frame, if there is one.
-pub(crate) fn pass_on_top(code: &Code, frames: &mut List<Frame>) -> Result<bool, Memory>
+pub(crate) fn pass_on_top(
+    code: &Code,
+    globals: &[Value],
+    frames: &mut List<Frame>,
+) -> Result<bool, Memory>
     requires places { HasPlaces code.now }
-    ensures ok { IfOk result (λ done. HasPassedOnTop done code.now (frame_views frames.old) (frame_views frames.new)) }
+    ensures ok { IfOk result (λ done. HasPassedOnTop done code.now globals.now (frame_views frames.old) (frame_views frames.new)) }
     ensures err { OnErr result (frame_views frames.new ≡ frame_views frames.old) }
 {
     let count = frames.len();
     if count == 0 {
         return Ok(false);
     }
-    let done = pass_in(code, frames.item_mut(count - 1))?;
+    let done = pass_in(code, globals, frames.item_mut(count - 1))?;
     Ok(done)
 }
 
@@ -364,6 +409,10 @@ pub(crate) fn pass(code: &Code, state: &mut State, g: GoroutineId) -> Result<boo
     ensures ok { IfOk result (λ done. HasTakenTurn done code.now g.0 state.old state.new) }
     ensures err { OnErr result (state.new ≡ state.old) }
 {
-    let done = pass_on_top(code, state.frames_mut(g))?;
+    if !is_light(code, state, g) {
+        return Ok(false);
+    }
+    let (frames, globals) = state.frames_and_globals(g);
+    let done = pass_on_top(code, globals, frames)?;
     Ok(done)
 }

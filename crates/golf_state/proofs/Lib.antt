@@ -15,6 +15,5 @@ pub mod LinedLaws
 mod WakeLaws
 mod ReaderLaws
 pub mod FirstLaws
-pub mod Guesses
 mod Leaving
 mod ClearingLaws

@@ -284,6 +284,22 @@ impl State {
         &mut goroutine.frames
     }
 
+    /// Lends the frames of a goroutine that runs, the innermost one last, and with them the globals.
+    pub fn frames_and_globals(&mut self, g: GoroutineId) -> (&mut List<Frame>, &[Value])
+        requires { runs g.0 self.old ≡ true }
+        ensures* writes_back { sem 𝓛 (LendsFrames self.entry g.0 result.0) }
+        ensures value { frame_views result.0.now ≡ frames_of g.0 self.old }
+        ensures globals { result.1.now ≡ self.old.globals }
+        ensures same { reframed g.0 (frames_of g.0 self.old) self.old ≡ self.old }
+        ensures rises { IsRising self.old.goroutines }
+    {
+        let at = rank_of(self.goroutines.as_slice(), g.0);
+        let globals = self.globals.as_slice();
+        let place = &mut self.goroutines[at];
+        let goroutine = place.goroutine.get_mut();
+        (&mut goroutine.frames, globals)
+    }
+
     /// The innermost frame of a goroutine is cleared, if the goroutine is there, runs and has one: the
     /// slots that no instruction from the frame's next one on can read hold 0; if the frame is leaving,
     /// all do. It takes no memory.

@@ -7,8 +7,8 @@ use Rattle.golf_heap.specs.declared.places.Place.{Place}
 use Rattle.golf_heap.proofs.Order.{places-sorted, rank-places}
 use Rattle.golf_heap.proofs.places.rank_of.Goals as goal
 
-pub returns : goal.returns
-returns c =
+pub returns-in-None : goal.returns-in-None
+returns-in-None c =
     let ps = c.args.places.now in
     let k = c.args.number in
     let order : IsNonDecreasingBy (λ (p : Place). p.number) ps = places-sorted 1 ps c.requires in

@@ -1,7 +1,12 @@
+use Rattle.std.proofs.Common.{List, subst}
+use Rattle.golf_data.specs.declared.value.Value.{Value}
+use Rattle.golf_machine.specs.Within.{HasPassedOnTop}
 use Rattle.golf_model.specs.Views.{frame_views}
 use Rattle.golf_machine.proofs.Passing.{turn-by}
 use Rattle.golf_machine.proofs.within.pass.Goals as goal
 
 pub returns-clause-ok : goal.returns-clause-ok
 returns-clause-ok c =
-    turn-by c.in_ok-done.done c.args.code.now c.args.g.0 c.args.state.now c.requires.runs (frame_views c.frames_mut.result.now) (frame_views c.pass_on_top.new.frames) c.frames_mut.ensures.rises c.frames_mut.ensures.value c.frames_mut.ensures.same c.in_ok-done.ensures.ok
+    let lent = c.frames_and_globals-frames in
+    turn-by c.in_ok-done.done c.args.code.now c.args.g.0 c.args.state.now c.requires.runs (frame_views lent.result.0.now) (frame_views c.pass_on_top.new.frames) lent.ensures.rises lent.ensures.value lent.ensures.same
+    (subst (λ (vs : List Value). HasPassedOnTop c.in_ok-done.done c.args.code.now vs (frame_views lent.result.0.now) (frame_views c.pass_on_top.new.frames)) lent.ensures.globals c.in_ok-done.ensures.ok)

@@ -8,4 +8,4 @@ returns-in_err-done-clause-err c =
     rw p.1 (on-top-same c.args.frames.now c.item_mut.result.now c.pass_in.new.frame c.len-count.result c.len-count.ensures c.item_mut.ensures.value c.in_err-done.ensures.err)
 
 pub returns-clause-ok : goal.returns-clause-ok
-returns-clause-ok c = on-top-by c.in_ok-done.done c.args.code.now c.args.frames.now c.item_mut.result.now c.pass_in.new.frame c.len-count.result c.len-count.ensures c.item_mut.ensures.value c.in_ok-done.ensures.ok
+returns-clause-ok c = on-top-by c.in_ok-done.done c.args.code.now c.args.globals.now c.args.frames.now c.item_mut.result.now c.pass_in.new.frame c.len-count.result c.len-count.ensures c.item_mut.ensures.value c.in_ok-done.ensures.ok

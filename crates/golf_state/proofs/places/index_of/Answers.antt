@@ -3,7 +3,7 @@ use Rattle.std.specs.Prelude.{option_map}
 use Rattle.std.proofs.lemmas.Option.{slice_get-map}
 use Rattle.golf_heap.proofs.Finding.{item-at}
 use Rattle.golf_state.specs.Places.{plain_entry, plain_entries}
-use Rattle.golf_state.proofs.Guesses.{rank-here}
+use Rattle.golf_heap.proofs.Guesses.{rank-here}
 use Rattle.golf_state.proofs.places.index_of.Goals as goal
 
 pub returns-then-place-number : goal.returns-then-place-number

@@ -22,5 +22,8 @@ module _ {X : Type 0} where
       ∙ ap suc (rank-from (suc f.0) i k es e r.1 h n (omega (arith, here, is)))
 
   -- none before it is missing
+  pub rank-there : (k i : ℕ) (es : List (ℕ × X)) (e : ℕ × X) → Rises 1 es → slice_get es i ≡ Some e → e.0 ≡ k → k ≡ 1 + i → rank k es ≡ i
+  rank-there k i es e r h n is = rank-from 1 i k es e r h n is
+
   pub rank-here : (k : ℕ) (es : List (ℕ × X)) (e : ℕ × X) → Rises 0 es → slice_get es k ≡ Some e → e.0 ≡ k → rank k es ≡ k
   rank-here k es e r h n = rank-from 0 k k es e r h n (omega arith)

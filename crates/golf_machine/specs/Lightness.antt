@@ -1,0 +1,35 @@
+-- Instructions that are about values of the innermost frame, or of globals.
+use Rattle.std.specs.Prelude.{Bool, true, false, List, [], ◌∷◌, Option, Some, None}
+use Rattle.golf_data.specs.declared.code.Code.{Code}
+use Rattle.golf_data.specs.declared.code.Line.{Line}
+use Rattle.golf_data.specs.declared.goroutine.Leaving.{Leaving}
+use Rattle.golf_model.specs.Turn.{line_at}
+use Rattle.golf_model.specs.Views.{FrameView, GoroutineView}
+use Rattle.golf_machine.specs.Groups.{group_of}
+use Rattle.golf_machine.specs.declared.performing.Group.{Group}
+
+abbrev pub is_light : Group → Bool
+is_light Group.Values = true
+is_light Group.Calculations = true
+is_light Group.Structures = false
+is_light Group.Communication = false
+is_light Group.Sharing = false
+is_light Group.Calls = false
+
+abbrev pub line_is_light : Option Line → Bool
+line_is_light None = false
+line_is_light (Some l) = is_light (group_of l.instr)
+
+abbrev pub frame_is_light : Code → FrameView → Leaving → Bool
+frame_is_light code f Leaving.No = line_is_light (line_at code f.function f.at)
+frame_is_light code f (Leaving.Returning v) = false
+frame_is_light code f (Leaving.Unwinding x) = false
+
+abbrev pub frames_are_light : Code → List FrameView → Bool
+frames_are_light code [] = false
+frames_are_light code (f ∷ fs) = frame_is_light code f f.leaving
+
+-- whether the instruction of a goroutine's turn is about values
+abbrev pub goroutine_is_light : Code → Option GoroutineView → Bool
+goroutine_is_light code None = false
+goroutine_is_light code (Some r) = frames_are_light code r.frames
