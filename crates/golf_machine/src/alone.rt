@@ -35,6 +35,7 @@ fn keep_on<N: Numbers>(
 }
 
 // The one goroutine that can run, unless there are several, or something printed is still there.
+#[inline(always)]
 fn lone_goroutine(state: &State) -> Option<GoroutineId>
     ensures lone { IfSome result (λ g. IsLone g.0 state.now) }
     ensures rises { IfSome result (λ g. IsRising state.now.goroutines) }

@@ -46,6 +46,7 @@ enum Group {
 }
 
 // What an instruction is about.
+#[inline(always)]
 fn group_of(instr: &Instr) -> Group
     ensures { result ≡ group_of instr.now }
 {
@@ -117,6 +118,7 @@ fn group_of(instr: &Instr) -> Group
 }
 
 /// Whether an instruction is about values of the innermost frame, or of globals.
+#[inline(always)]
 pub fn is_light(instr: &Instr) -> bool
     ensures { result ≡ is_light (group_of instr.now) }
 {
@@ -302,6 +304,7 @@ fn perform_call(
 
 // Does an operation on a channel, a mutex, a wait group or a condition, and what is left to do once
 // it has come to its outcome.
+#[inline(always)]
 fn operate(
     alloc: Global,
     state: &mut State,

@@ -18,6 +18,7 @@ use golf_state::{Acting, State};
 use std::alloc::Global;
 
 // The instruction at a place of a function, with its line.
+#[inline(always)]
 fn line_at(code: &Code, function: u32, at: u32) -> Option<&Line>
     ensures line { option_map (λ l. l.now) result ≡ line_at code.now function at }
 {
@@ -36,6 +37,7 @@ fn return_line(code: &Code, frame: &Frame) -> u32
 }
 
 /// Whether the instruction of a goroutine's turn is about values of its innermost frame, or of globals.
+#[inline(always)]
 pub fn is_light(code: &Code, state: &State, g: GoroutineId) -> bool
     ensures { result ≡ goroutine_is_light code.now (find g.0 state.now.goroutines) }
 {
@@ -53,6 +55,7 @@ pub fn is_light(code: &Code, state: &State, g: GoroutineId) -> bool
 }
 
 // Whether an instruction is a collection.
+#[inline(always)]
 fn is_collection(instr: &Instr) -> bool
     ensures { result ≡ is_collection instr.now }
 {
@@ -61,6 +64,7 @@ fn is_collection(instr: &Instr) -> bool
 
 /// The turn of a goroutine that runs; a `select` takes the ready case at the place `choice`, counted
 /// round. It answers whether the instruction is a collection.
+#[inline(always)]
 pub fn act(
     alloc: Global,
     code: &Code,

@@ -14,6 +14,7 @@ use golf_state::State;
 use std::alloc::Global;
 
 // Whether the outside is needed after a turn.
+#[inline(always)]
 fn needs_outside(turned: Turned, printed: &[u8]) -> bool
     ensures { result ≡ needs_outside turned printed.now }
 {

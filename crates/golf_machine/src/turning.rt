@@ -53,6 +53,7 @@ fn clear_after(code: &Code, state: &mut State, g: GoroutineId, collects: bool)
 
 // A number divided by how many goroutines can run: the place of the one whose turn it is, and the choice
 // of its `select`. It divides no more bits than it has to.
+#[inline(always)]
 fn shared_out(number: u64, count: u64) -> (u64, u64)
     requires { 0 < count }
     ensures place { result.0 ≡ number % count }
@@ -72,6 +73,7 @@ fn shared_out(number: u64, count: u64) -> (u64, u64)
 }
 
 // What a turn came to, by how the program has ended and by whether the instruction is a collection.
+#[inline(always)]
 fn turned_of(ending: Option<Ending>, collects: bool) -> Turned
     ensures { result ≡ turned_of ending collects }
 {
@@ -83,6 +85,7 @@ fn turned_of(ending: Option<Ending>, collects: bool) -> Turned
 }
 
 // The turn of a goroutine that runs, and what is cleared after it.
+#[inline(always)]
 fn take(
     alloc: Global,
     code: &Code,
@@ -107,6 +110,7 @@ fn take(
 
 /// One turn: of the goroutines that can run, in rising order, the one at the place of the number,
 /// counted round. It takes all its memory first: on `Memory` the state is unchanged.
+#[inline(always)]
 pub fn turn(alloc: Global, code: &Code, state: &mut State, number: u64) -> Result<Turned, Memory>
     requires places { HasPlaces code.now }
     requires goes { ending state.old ≡ None }

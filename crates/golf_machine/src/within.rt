@@ -23,6 +23,7 @@ use golf_data::{Code, Frame, Function, Instr, Leaving, Line, Value};
 use golf_state::State;
 
 // The last operand, where there is one.
+#[inline(always)]
 fn last(frame: &Frame) -> Option<Value>
     ensures { result ≡ slice_get (frame_view frame.now).operands 0 }
 {
@@ -30,6 +31,7 @@ fn last(frame: &Frame) -> Option<Value>
 }
 
 // The last two operands, the last one second, where there are two.
+#[inline(always)]
 fn last_two(frame: &Frame) -> Option<(Value, Value)>
     ensures { result ≡ two_of (frame_view frame.now).operands }
 {
@@ -42,6 +44,7 @@ fn last_two(frame: &Frame) -> Option<(Value, Value)>
 }
 
 // The last operand, where it is an integer.
+#[inline(always)]
 fn last_int(frame: &Frame) -> Option<i64>
     ensures { result ≡ int_in (frame_view frame.now).operands }
 {
@@ -49,6 +52,7 @@ fn last_int(frame: &Frame) -> Option<i64>
 }
 
 // The last operand, where it is a truth value.
+#[inline(always)]
 fn last_bool(frame: &Frame) -> Option<bool>
     ensures { result ≡ bool_in (frame_view frame.now).operands }
 {
@@ -56,6 +60,7 @@ fn last_bool(frame: &Frame) -> Option<bool>
 }
 
 // The last two operands, where both are integers.
+#[inline(always)]
 fn last_ints(frame: &Frame) -> Option<(i64, i64)>
     ensures { result ≡ ints_in (frame_view frame.now).operands }
 {
@@ -66,6 +71,7 @@ fn last_ints(frame: &Frame) -> Option<(i64, i64)>
 }
 
 // Goes on at a place, without so many of the operands.
+#[inline(always)]
 fn go_to(frame: &mut Frame, target: u32, taken: usize)
     ensures { frame_view frame.new ≡ went target taken [] (frame_view frame.old) }
 {
@@ -75,6 +81,7 @@ fn go_to(frame: &mut Frame, target: u32, taken: usize)
 }
 
 // Goes on after the instruction, with a value in place of so many operands.
+#[inline(always)]
 fn put(frame: &mut Frame, taken: usize, value: Value)
     requires place { frame.old.at + 1 < 2 ^ 32 }
     requires some { 0 < taken }
@@ -88,6 +95,7 @@ fn put(frame: &mut Frame, taken: usize, value: Value)
 }
 
 // Pushes a value.
+#[inline(always)]
 fn push(frame: &mut Frame, value: Value) -> Result<bool, Memory>
     requires place { frame.old.at + 1 < 2 ^ 32 }
     ensures ok { IfOk result (λ done. IsDone done (λ a. pushes a value) (frame_view frame.old) (frame_view frame.new)) }
@@ -99,6 +107,7 @@ fn push(frame: &mut Frame, value: Value) -> Result<bool, Memory>
 }
 
 // The value of a slot, where it is there.
+#[inline(always)]
 fn slot_of(frame: &Frame, slot: u32) -> Option<Value>
     ensures { result ≡ slice_get frame.now.slots slot }
 {
@@ -106,6 +115,7 @@ fn slot_of(frame: &Frame, slot: u32) -> Option<Value>
 }
 
 // Pushes a slot, where it is there.
+#[inline(always)]
 fn load(frame: &mut Frame, slot: u32) -> Result<bool, Memory>
     requires place { frame.old.at + 1 < 2 ^ 32 }
     ensures ok { IfOk result (λ done. IsDone done (λ a. loads a slot) (frame_view frame.old) (frame_view frame.new)) }
@@ -118,6 +128,7 @@ fn load(frame: &mut Frame, slot: u32) -> Result<bool, Memory>
 }
 
 // Stores the last operand in a slot, where both are there.
+#[inline(always)]
 fn store(frame: &mut Frame, slot: u32) -> bool
     requires place { frame.old.at + 1 < 2 ^ 32 }
     ensures { IsDone result (λ a. stores a slot) (frame_view frame.old) (frame_view frame.new) }
@@ -134,6 +145,7 @@ fn store(frame: &mut Frame, slot: u32) -> bool
 }
 
 // The value of a global, where it is there.
+#[inline(always)]
 fn global_of(globals: &[Value], global: u32) -> Option<Value>
     ensures { result ≡ slice_get globals.now global }
 {
@@ -141,6 +153,7 @@ fn global_of(globals: &[Value], global: u32) -> Option<Value>
 }
 
 // Pushes a global, where it is there.
+#[inline(always)]
 fn load_global(frame: &mut Frame, globals: &[Value], global: u32) -> Result<bool, Memory>
     requires place { frame.old.at + 1 < 2 ^ 32 }
     ensures ok { IfOk result (λ done. (s : State) → s.globals ≡ globals.now → IsDone done (λ a. loads_global a global s) (frame_view frame.old) (frame_view frame.new)) }
@@ -218,6 +231,7 @@ fn invert(frame: &mut Frame) -> bool
 }
 
 // An integer from two.
+#[inline(always)]
 fn compute(frame: &mut Frame, operation: Operation) -> bool
     requires place { frame.old.at + 1 < 2 ^ 32 }
     ensures { IsDone result (computes (operation_of operation)) (frame_view frame.old) (frame_view frame.new) }
@@ -245,6 +259,7 @@ fn divide(frame: &mut Frame, division: Division) -> bool
 }
 
 // A truth value from two integers.
+#[inline(always)]
 fn compare(frame: &mut Frame, comparison: Comparison) -> bool
     requires place { frame.old.at + 1 < 2 ^ 32 }
     ensures { IsDone result (compares (comparison_of comparison)) (frame_view frame.old) (frame_view frame.new) }
@@ -272,6 +287,7 @@ fn equate(frame: &mut Frame) -> bool
 }
 
 // Goes on at the target.
+#[inline(always)]
 fn jump(frame: &mut Frame, target: u32) -> bool
     ensures { IsDone result (λ a. jumps a target a.frame.operands) (frame_view frame.old) (frame_view frame.new) }
 {
@@ -280,6 +296,7 @@ fn jump(frame: &mut Frame, target: u32) -> bool
 }
 
 // Goes on at the target where the last operand is false.
+#[inline(always)]
 fn jump_unless(frame: &mut Frame, target: u32) -> bool
     requires place { frame.old.at + 1 < 2 ^ 32 }
     ensures { IsDone result (λ a. jumps_unless a target) (frame_view frame.old) (frame_view frame.new) }
@@ -294,6 +311,7 @@ fn jump_unless(frame: &mut Frame, target: u32) -> bool
 
 // Does an instruction of a frame, with these globals, if it touches that frame alone, and fits. It answers
 // whether it did; else nothing has changed.
+#[inline(always)]
 fn perform_within(frame: &mut Frame, globals: &[Value], instr: &Instr) -> Result<bool, Memory>
     requires place { frame.old.at + 1 < 2 ^ 32 }
     ensures ok { IfOk result (λ done. (code : Code) (choice : ℕ) (s : State) → s.globals ≡ globals.now → IsDone done (λ a. changes code instr.now a choice s) (frame_view frame.old) (frame_view frame.new)) }
@@ -329,6 +347,7 @@ fn perform_within(frame: &mut Frame, globals: &[Value], instr: &Instr) -> Result
 }
 
 // The function of this number.
+#[inline(always)]
 fn function_at(code: &Code, number: u32) -> Option<&Function>
     ensures function { option_map (λ f. f.now) result ≡ slice_get code.now.functions number }
 {
@@ -336,6 +355,7 @@ fn function_at(code: &Code, number: u32) -> Option<&Function>
 }
 
 // The instruction at a place of a function, with its line.
+#[inline(always)]
 fn line_in(function: &Function, at: u32) -> Option<&Line>
     ensures line { option_map (λ l. l.now) result ≡ slice_get function.now.body at }
 {
@@ -343,6 +363,7 @@ fn line_in(function: &Function, at: u32) -> Option<&Line>
 }
 
 // The mask of a place of a function, where there is one.
+#[inline(always)]
 fn mask_in(function: &Function, at: u32) -> Option<u64>
     ensures { result ≡ slice_get function.now.live at }
 {
@@ -350,6 +371,7 @@ fn mask_in(function: &Function, at: u32) -> Option<u64>
 }
 
 // The slots of a frame of this function which no instruction from its next one on can read hold 0.
+#[inline(always)]
 fn clear_in(function: &Function, frame: &mut Frame)
     ensures { frame_view frame.new ≡ cleared_in function.now (frame_view frame.old) }
 {
@@ -360,6 +382,7 @@ fn clear_in(function: &Function, frame: &mut Frame)
 
 // The turn of a frame, with these globals, that is at an instruction which touches the frame alone, and fits,
 // with what is cleared after it. It answers whether that was so; else nothing has changed.
+#[inline(always)]
 fn pass_in(code: &Code, globals: &[Value], frame: &mut Frame) -> Result<bool, Memory>
     requires places { HasPlaces code.now }
     ensures ok { IfOk result (λ done. HasPassed done code.now globals.now (frame_view frame.old) (frame_view frame.new)) }
@@ -384,6 +407,7 @@ fn pass_in(code: &Code, globals: &[Value], frame: &mut Frame) -> Result<bool, Me
 }
 
 /// The same of the innermost frame, if there is one.
+#[inline(always)]
 pub(crate) fn pass_on_top(
     code: &Code,
     globals: &[Value],
@@ -403,6 +427,7 @@ pub(crate) fn pass_on_top(
 
 /// The turn of a goroutine that runs, with what is cleared after it, if its instruction touches its
 /// innermost frame alone, and fits. It answers whether that was so; else nothing has changed.
+#[inline(always)]
 pub(crate) fn pass(code: &Code, state: &mut State, g: GoroutineId) -> Result<bool, Memory>
     requires places { HasPlaces code.now }
     requires runs { Runs g.0 state.old }
