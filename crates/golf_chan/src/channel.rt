@@ -9,6 +9,7 @@ use golf_data::{Channel, Object, Value};
 use golf_state::State;
 
 /// The channel of this number, where there is one.
+#[inline(always)]
 pub fn channel_at(state: &State, object: ObjectId) -> Option<&Channel>
     ensures { option_map (λ c. c.now) result ≡ channel_of (find object.0 state.now.objects) }
 {

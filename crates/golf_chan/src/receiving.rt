@@ -27,6 +27,7 @@ pub struct Receiving {
 }
 
 // A receive of the first buffered value, in whose place the first sender's value is buffered.
+#[inline(always)]
 fn receive_buffered(
     state: &mut State,
     acting: Acting,
@@ -55,6 +56,7 @@ fn receive_buffered(
 
 // A receive from an empty channel: the first sender's value, else the zero value where it is
 // closed.
+#[inline(always)]
 fn receive_unbuffered(
     alloc: Global,
     state: &mut State,
@@ -100,6 +102,7 @@ fn receive_unbuffered(
 }
 
 // What a closed channel gives.
+#[inline(always)]
 fn zero_of_closed(channel: &Channel) -> Option<Value>
     ensures { result ≡ (if channel.now.closed then Some channel.now.zero else None) }
 {
@@ -111,6 +114,7 @@ fn zero_of_closed(channel: &Channel) -> Option<Value>
 }
 
 /// A receive from a channel, behind which the goroutine goes on with what it gets.
+#[inline(always)]
 pub fn receive_on(
     alloc: Global,
     state: &mut State,
@@ -136,6 +140,7 @@ pub fn receive_on(
 /// and where that is asked for whether it was sent: the first buffered one, else that of the first
 /// sender, else the zero value where the channel is closed; else it blocks. On nil it blocks for
 /// ever.
+#[inline(always)]
 pub fn receive(
     alloc: Global,
     state: &mut State,

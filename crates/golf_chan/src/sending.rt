@@ -16,6 +16,7 @@ use std::alloc::Global;
 
 /// A send of this value on a channel, behind which the goroutine goes on at a place without so many
 /// operands.
+#[inline(always)]
 pub fn send_on(
     alloc: Global,
     state: &mut State,
@@ -62,6 +63,7 @@ pub fn send_on(
 /// The goroutine in its turn sends its last operand on the channel before it: to the first
 /// receiver, else into the buffer where there is room; else it blocks. On nil it blocks for ever,
 /// and on a closed channel it panics.
+#[inline(always)]
 pub fn send(alloc: Global, state: &mut State, acting: Acting) -> Result<Outcome, Memory>
     requires { Stands acting.goroutine.0 acting.after state.old }
     ensures ok { IfOk result (λ outcome. Comes outcome (λ a. sends a state.old) acting.goroutine.0 acting.line state.old state.new) }

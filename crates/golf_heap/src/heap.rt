@@ -88,6 +88,7 @@ impl Heap {
     }
 
     /// The object of this number, where it is there.
+    #[inline(always)]
     pub fn get(&self, id: ObjectId) -> Option<&Object>
         ensures { option_map (λ x. x.now) result ≡ find id.0 self.now.objects }
     {
@@ -97,6 +98,7 @@ impl Heap {
     }
 
     /// Lends the object of this number, to be changed or replaced.
+    #[inline(always)]
     pub fn get_mut(&mut self, id: ObjectId) -> &mut Object
         requires { IsSome (find id.0 self.old.objects) }
         ensures* writes_back { sem 𝓛 (LendsObject self.entry id.0 result) }
@@ -111,6 +113,7 @@ impl Heap {
 
     /// Puts an object in the place of the one of this number. A number that is not there stays
     /// away.
+    #[inline(always)]
     pub fn put(&mut self, id: ObjectId, object: Object)
         ensures { self.new ≡ replaced id.0 object self.old }
     {

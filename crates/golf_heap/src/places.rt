@@ -17,6 +17,7 @@ pub struct Place {
 }
 
 // The index at which the object of this number stands if none before it was freed, and if it does.
+#[inline(always)]
 fn index_of(places: &[Place], number: u32) -> Option<usize>
     requires { Rises 1 (keyed places.now) }
     ensures { IfSome result (λ at. at ≡ rank number (keyed places.now)) }
@@ -31,6 +32,7 @@ fn index_of(places: &[Place], number: u32) -> Option<usize>
 }
 
 /// How many places have a smaller number.
+#[inline(always)]
 pub fn rank_of(places: &[Place], number: u32) -> usize
     requires { Rises 1 (keyed places.now) }
     ensures { result ≡ rank number (keyed places.now) }
@@ -42,6 +44,7 @@ pub fn rank_of(places: &[Place], number: u32) -> usize
 }
 
 /// The key of the object of this number.
+#[inline(always)]
 pub fn key_of(places: &[Place], number: u32) -> Option<usize>
     requires { Rises 1 (keyed places.now) }
     ensures { result ≡ find number (keyed places.now) }

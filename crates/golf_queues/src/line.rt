@@ -16,6 +16,7 @@ pub struct TicketHolder {
 }
 
 // How many have a smaller ticket.
+#[inline(always)]
 fn rank_of(line: &[TicketHolder], ticket: u64) -> usize
     requires { Rises 0 (held line.now) }
     ensures place { result ≡ rank ticket (held line.now) }
@@ -25,6 +26,7 @@ fn rank_of(line: &[TicketHolder], ticket: u64) -> usize
 }
 
 /// The goroutine stands last in the line, with a ticket that nobody who waits there has.
+#[inline(always)]
 pub fn join(line: &mut Vec<TicketHolder>, ticket: u64, goroutine: GoroutineId) -> Result<(), Memory>
     requires { Rises 0 (held line.old.items) }
     ensures rises { Rises 0 (held line.new.items) }
@@ -40,6 +42,7 @@ pub fn join(line: &mut Vec<TicketHolder>, ticket: u64, goroutine: GoroutineId) -
 }
 
 // Whether the goroutine with this ticket is the one at a place.
+#[inline(always)]
 fn stands_at(line: &[TicketHolder], at: usize, ticket: u64, goroutine: GoroutineId) -> bool
     ensures { result ≡ is_holder_in ticket goroutine.0 (slice_get (held line.now) at) }
 {
@@ -51,6 +54,7 @@ fn stands_at(line: &[TicketHolder], at: usize, ticket: u64, goroutine: Goroutine
 
 /// The goroutine with this ticket is gone from the line, where it stands there; all others stand where
 /// they stood.
+#[inline(always)]
 pub fn part(line: &mut Vec<TicketHolder>, ticket: u64, goroutine: GoroutineId)
     requires { Rises 0 (held line.old.items) }
     ensures { held line.new.items ≡ parted ticket goroutine.0 (held line.old.items) }

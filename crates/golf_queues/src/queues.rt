@@ -55,6 +55,7 @@ pub fn side_number(side: Side) -> u8
 }
 
 // Lines stand in rising order of object, and those of an object by their sides.
+#[inline(always)]
 fn key_of(object: ObjectId, side: Side) -> u64
     ensures { result ≡ key object.0 side }
 {
@@ -62,6 +63,7 @@ fn key_of(object: ObjectId, side: Side) -> u64
 }
 
 // How many lines stand before the key.
+#[inline(always)]
 fn rank_of(queues: &[Queue], key: u64) -> usize
     requires { Rises 0 (lines_of queues.now) }
     ensures place { result ≡ rank key (lines_of queues.now) }
@@ -71,6 +73,7 @@ fn rank_of(queues: &[Queue], key: u64) -> usize
 }
 
 // Whether the line at a place has the key.
+#[inline(always)]
 fn stands_at(queues: &[Queue], at: usize, key: u64) -> bool
     ensures { result ≡ has_key key (slice_get (lines_of queues.now) at) }
 {
@@ -101,6 +104,7 @@ impl Queues {
     }
 
     /// Those who stood in line for the object with that side.
+    #[inline(always)]
     pub fn line(&self, object: ObjectId, side: Side) -> &[TicketHolder]
         ensures line { held result.now ≡ line_at (key object.0 side) self.now }
         ensures rises { Rises 0 (line_at (key object.0 side) self.now) }
@@ -116,6 +120,7 @@ impl Queues {
 
     /// The goroutine stands last in line for the object with that side, with a ticket that nobody
     /// who waits there has, and nobody else is added.
+    #[inline(always)]
     pub fn enter(
         &mut self,
         object: ObjectId,
@@ -162,6 +167,7 @@ impl Queues {
 
     /// The goroutine is gone from the line for the object with that side, where it stands there with
     /// this ticket; all others stand where they stood. It takes no memory.
+    #[inline(always)]
     pub fn leave(&mut self, object: ObjectId, side: Side, ticket: u64, goroutine: GoroutineId)
         ensures { IsWithout (leaves ticket goroutine.0 (key object.0 side ∷ [])) self.old self.new }
     {

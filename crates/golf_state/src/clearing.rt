@@ -13,6 +13,7 @@ use golf_base::List;
 use golf_data::{Code, Frame, Goroutine, Leaving};
 
 // The mask of a position of a function.
+#[inline(always)]
 fn mask_at(code: &Code, function: u32, at: u32) -> Option<u64>
     ensures { result ≡ mask_at code.now function at }
 {
@@ -22,6 +23,7 @@ fn mask_at(code: &Code, function: u32, at: u32) -> Option<u64>
 
 // The slots of a frame that is not leaving which no instruction from its next one on can read hold
 // 0; in a frame that is leaving all do.
+#[inline(always)]
 fn clear_frame(code: &Code, frame: &mut Frame)
     ensures { frame_view frame.new ≡ cleared code.now (frame_view frame.old) }
 {
@@ -37,6 +39,7 @@ fn clear_frame(code: &Code, frame: &mut Frame)
 }
 
 // The innermost frame is cleared, if there is one.
+#[inline(always)]
 fn clear_top(code: &Code, frames: &mut List<Frame>)
     ensures { frame_views frames.new ≡ on_top (cleared code.now) (frame_views frames.old) }
 {
@@ -46,6 +49,7 @@ fn clear_top(code: &Code, frames: &mut List<Frame>)
 }
 
 /// The innermost frame of a goroutine is cleared, if the goroutine runs.
+#[inline(always)]
 pub fn clear_goroutine(code: &Code, goroutine: &mut Goroutine)
     ensures cleared { goroutine_view goroutine.new ≡ tidied code.now (goroutine_view goroutine.old) }
     ensures ready { IsReadyIn goroutine.old.mode goroutine.old.frames → IsReadyIn goroutine.new.mode goroutine.new.frames }

@@ -24,6 +24,7 @@ pub enum Given {
 }
 
 /// Lends the innermost frame, the last one.
+#[inline(always)]
 pub fn top_mut(frames: &mut List<Frame>) -> &mut Frame
     requires { 0 < length frames.old }
     ensures* writes_back { sem 𝓛 (LendsTop frames.entry result) }
@@ -34,6 +35,7 @@ pub fn top_mut(frames: &mut List<Frame>) -> &mut Frame
 }
 
 // Puts the values on top of the operands, for which there is room.
+#[inline(always)]
 fn give(operands: &mut Room<Value>, given: Given)
     requires { 2 ≤ operands.old.spare }
     ensures { reverse operands.new.items ≡ values_of given ++ reverse operands.old.items }
@@ -53,6 +55,7 @@ fn give(operands: &mut Room<Value>, given: Given)
 }
 
 // The frame goes on at a place, without so many of its operands, and has room for two more.
+#[inline(always)]
 fn settle_frame(frame: &mut Frame, after: u32, taken: usize) -> Result<(), Memory>
     ensures ok { OnOk result (frame_view frame.new ≡ went after taken [] (frame_view frame.old)) }
     ensures room { OnOk result (2 ≤ frame.new.operands.spare) }
@@ -65,6 +68,7 @@ fn settle_frame(frame: &mut Frame, after: u32, taken: usize) -> Result<(), Memor
 }
 
 // The frame goes on at a place, with these values in place of so many operands.
+#[inline(always)]
 fn advance_frame_with(
     frame: &mut Frame,
     after: u32,
@@ -80,6 +84,7 @@ fn advance_frame_with(
 }
 
 /// The innermost frame goes on at a place, with these values in place of so many operands.
+#[inline(always)]
 pub fn advance_with(
     frames: &mut List<Frame>,
     after: u32,
@@ -96,6 +101,7 @@ pub fn advance_with(
 }
 
 /// The frame goes on at a place, without so many of its operands.
+#[inline(always)]
 pub fn advance_frame(frame: &mut Frame, after: u32, taken: usize)
     ensures frame { frame_view frame.new ≡ went after taken [] (frame_view frame.old) }
     ensures room { frame.old.operands.spare ≤ frame.new.operands.spare }
@@ -106,6 +112,7 @@ pub fn advance_frame(frame: &mut Frame, after: u32, taken: usize)
 }
 
 /// The innermost frame goes on at a place, without so many of its operands.
+#[inline(always)]
 pub fn advance(frames: &mut List<Frame>, after: u32, taken: usize)
     ensures { frame_views frames.new ≡ on_top (went after taken []) (frame_views frames.old) }
 {
@@ -115,6 +122,7 @@ pub fn advance(frames: &mut List<Frame>, after: u32, taken: usize)
 }
 
 // The last operand becomes this one, where there is one, and the frame goes on at a place.
+#[inline(always)]
 fn exchange_last(frame: &mut Frame, after: u32, value: Value)
     ensures { frame_view frame.new ≡ exchanged after value (frame_view frame.old) }
 {
@@ -126,6 +134,7 @@ fn exchange_last(frame: &mut Frame, after: u32, value: Value)
 
 /// The last operand of the innermost frame becomes this one, where there is one, and the frame goes
 /// on at a place.
+#[inline(always)]
 pub fn exchange(frames: &mut List<Frame>, after: u32, value: Value)
     ensures { frame_views frames.new ≡ on_top (exchanged after value) (frame_views frames.old) }
 {
@@ -220,6 +229,7 @@ pub fn defer(
 
 /// The goroutine's innermost frame goes on at a place, without so many of its operands, and has
 /// room for two more.
+#[inline(always)]
 pub fn settle(goroutine: &mut Goroutine, after: u32, taken: usize) -> Result<(), Memory>
     ensures ok { OnOk result (goroutine_view goroutine.new ≡ advanced after taken (goroutine_view goroutine.old)) }
     ensures room { OnOk result (HasRoom goroutine.new.frames) }
@@ -245,6 +255,7 @@ pub enum Wakening {
 }
 
 // Goes on where the wait says, with these values on top of the operands.
+#[inline(always)]
 fn resume_frame(frame: &mut Frame, wait: Wait, given: Given)
     requires { 2 ≤ frame.old.operands.spare }
     ensures { frame_view frame.new ≡ resumed_frame wait (values_of given) (frame_view frame.old) }
@@ -254,6 +265,7 @@ fn resume_frame(frame: &mut Frame, wait: Wait, given: Given)
 }
 
 // The innermost frame goes on where the wait says, with these values on top of its operands.
+#[inline(always)]
 fn resume(frames: &mut List<Frame>, wait: Wait, given: Given)
     requires { HasRoom frames.old }
     ensures { frame_views frames.new ≡ on_top (resumed_frame wait (values_of given)) (frame_views frames.old) }
@@ -264,6 +276,7 @@ fn resume(frames: &mut List<Frame>, wait: Wait, given: Given)
 }
 
 /// The goroutine goes on. It takes no memory.
+#[inline(always)]
 pub fn waken(goroutine: &mut Goroutine, how: Wakening)
     requires { HasRoom goroutine.old.frames }
     ensures { goroutine_view goroutine.new ≡ wakened how (goroutine_view goroutine.old) }

@@ -37,6 +37,7 @@ fn last_three(items: &[Value]) -> Option<(Value, Value, Value)>
 }
 
 /// The last operand of a goroutine's innermost frame, where there is one.
+#[inline(always)]
 pub fn last_operand(state: &State, g: GoroutineId) -> Option<Value>
     ensures { result ≡ slice_get (operands_of g.0 state.now) 0 }
 {
@@ -45,6 +46,7 @@ pub fn last_operand(state: &State, g: GoroutineId) -> Option<Value>
 }
 
 /// The last two operands of a goroutine's innermost frame, the last one second, where there are two.
+#[inline(always)]
 pub fn last_operands(state: &State, g: GoroutineId) -> Option<(Value, Value)>
     ensures { result ≡ two_of (operands_of g.0 state.now) }
 {

@@ -48,6 +48,7 @@ pub fn fault(state: &mut State, acting: Acting, kind: PanicKind)
 }
 
 /// What is left to do once an operation has come to this: a panic or a fatal error.
+#[inline(always)]
 pub fn carry_out(state: &mut State, acting: Acting, outcome: Outcome)
     requires { StandsToFault outcome acting.goroutine.0 acting.after state.old }
     ensures { state.new ≡ carries outcome acting.goroutine.0 acting.line state.old }
@@ -61,6 +62,7 @@ pub fn carry_out(state: &mut State, acting: Acting, outcome: Outcome)
 }
 
 /// The goroutine in its turn goes on at a place, without so many operands.
+#[inline(always)]
 pub fn proceed(state: &mut State, acting: Acting, target: u32, taken: usize)
     requires { Stands acting.goroutine.0 acting.after state.old }
     ensures state { state.new ≡ does (λ a. stands a (went target taken [] a.frame)) acting.goroutine.0 acting.line state.old }
@@ -70,6 +72,7 @@ pub fn proceed(state: &mut State, acting: Acting, target: u32, taken: usize)
 }
 
 /// The goroutine in its turn goes on at a place, with these values in place of so many operands.
+#[inline(always)]
 pub fn proceed_with(
     state: &mut State,
     acting: Acting,
@@ -87,6 +90,7 @@ pub fn proceed_with(
 }
 
 /// The goroutine in its turn blocks at a place, without so many operands.
+#[inline(always)]
 pub fn block_at(
     state: &mut State,
     acting: Acting,
@@ -104,6 +108,7 @@ pub fn block_at(
 }
 
 /// A list of one wait.
+#[inline(always)]
 pub fn one_wait(alloc: Global, wait: Wait) -> Result<List<Wait>, Memory>
     ensures { IfOk result (λ waits. waits ≡ wait ∷ []) }
 {
@@ -114,6 +119,7 @@ pub fn one_wait(alloc: Global, wait: Wait) -> Result<List<Wait>, Memory>
 
 /// The goroutine in its turn blocks behind its instruction, without so many operands, on an object
 /// with this side.
+#[inline(always)]
 pub fn block_on(
     alloc: Global,
     state: &mut State,

@@ -43,6 +43,7 @@ pub fn place_of(
 
 // The number as an index, where its goroutine stands there, as it does where no goroutine before it
 // has ended.
+#[inline(always)]
 fn index_of(places: &[Place], number: u32) -> Option<usize>
     requires { Rises 0 (plain_entries places.now) }
     ensures { IfSome result (λ at. at ≡ rank number (plain_entries places.now)) }
@@ -56,6 +57,7 @@ fn index_of(places: &[Place], number: u32) -> Option<usize>
 }
 
 /// How many places have a smaller number.
+#[inline(always)]
 pub fn rank_of(places: &[Place], number: u32) -> usize
     requires { Rises 0 (plain_entries places.now) }
     ensures { result ≡ rank number (plain_entries places.now) }
@@ -67,6 +69,7 @@ pub fn rank_of(places: &[Place], number: u32) -> usize
 }
 
 /// The goroutine of this number, where it is there.
+#[inline(always)]
 pub fn goroutine_at(places: &[Place], number: u32) -> Option<&Goroutine>
     requires { Rises 0 (plain_entries places.now) }
     ensures { option_map (λ r. goroutine_view r.now) result ≡ find number (plain_entries places.now) }
@@ -94,6 +97,7 @@ pub fn take_place(places: &mut Vec<Place>, number: u32)
 }
 
 /// Whether a goroutine in this mode runs.
+#[inline(always)]
 pub fn is_running(mode: &Mode) -> bool
     ensures { result ≡ is_running mode.now }
 {
@@ -104,6 +108,7 @@ pub fn is_running(mode: &Mode) -> bool
 }
 
 // Whether a goroutine runs and has no frame.
+#[inline(always)]
 fn is_idle(goroutine: &Goroutine) -> bool
     ensures { result ≡ is_idle (goroutine_view goroutine.now) }
 {
@@ -111,6 +116,7 @@ fn is_idle(goroutine: &Goroutine) -> bool
 }
 
 /// Whether goroutine 0 is there, runs and has no frame.
+#[inline(always)]
 pub fn starts_idle(places: &[Place]) -> bool
     ensures { result ≡ starts_idle (plain_entries places.now) }
 {
@@ -121,6 +127,7 @@ pub fn starts_idle(places: &[Place]) -> bool
 }
 
 /// Whether goroutine 0 has nothing to do: it runs without a frame, and the queue is empty.
+#[inline(always)]
 pub fn has_no_call(queue: &[Queued], places: &[Place]) -> bool
     ensures { result ≡ (not (not_empty queue.now) && starts_idle (plain_entries places.now)) }
 {

@@ -8,6 +8,7 @@ ghost use Rattle.golf_state.specs.Rising.{RisesFrom, leading};
 use golf_base::GoroutineId;
 
 /// The goroutines behind the first one.
+#[inline(always)]
 pub fn behind_first(goroutines: &[GoroutineId]) -> &[GoroutineId]
     ensures { map (λ h. h.0) result.now ≡ behind_first (map (λ h. h.0) goroutines.now) }
 {
@@ -18,6 +19,7 @@ pub fn behind_first(goroutines: &[GoroutineId]) -> &[GoroutineId]
 }
 
 // How many goroutines stand before the first whose number is not below the bound.
+#[inline(always)]
 fn leading(goroutines: &[GoroutineId], bound: u64) -> usize
     requires { RisesFrom 0 (map (λ h. h.0) goroutines.now) }
     ensures place { result ≡ leading bound (map (λ h. h.0) goroutines.now) }
@@ -27,6 +29,7 @@ fn leading(goroutines: &[GoroutineId], bound: u64) -> usize
 }
 
 /// Takes a goroutine out, where it is one of them.
+#[inline(always)]
 pub fn leave_out(goroutines: &mut Vec<GoroutineId>, g: GoroutineId)
     requires { RisesFrom 0 (map (λ h. h.0) goroutines.old.items) }
     ensures others { map (λ h. h.0) goroutines.new.items ≡ without g.0 (map (λ h. h.0) goroutines.old.items) }
@@ -39,6 +42,7 @@ pub fn leave_out(goroutines: &mut Vec<GoroutineId>, g: GoroutineId)
 }
 
 /// Puts a goroutine at its place, for which there is room.
+#[inline(always)]
 pub fn put_in(goroutines: &mut Vec<GoroutineId>, g: GoroutineId)
     requires room { vec_len goroutines.old < vec_capacity goroutines.old }
     requires rises { RisesFrom 0 (map (λ h. h.0) goroutines.old.items) }

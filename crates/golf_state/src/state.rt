@@ -135,6 +135,7 @@ impl State {
     // ---- what it tells, without memory
 
     /// The goroutines that can run, in rising order.
+    #[inline(always)]
     pub fn runnable(&self) -> &[GoroutineId]
         ensures runnable { map (λ g. g.0) result.now ≡ runnable self.now }
         ensures rises { IsRising self.now.goroutines }
@@ -148,6 +149,7 @@ impl State {
     }
 
     /// How the program has ended: as recorded, else asleep where no goroutine can run.
+    #[inline(always)]
     pub fn ending(&self) -> Option<Ending>
         ensures { result ≡ ending self.now }
     {
@@ -166,6 +168,7 @@ impl State {
     }
 
     /// The goroutine of this number, where it has not ended.
+    #[inline(always)]
     pub fn goroutine(&self, g: GoroutineId) -> Option<&Goroutine>
         ensures { option_map (λ r. goroutine_view r.now) result ≡ find g.0 self.now.goroutines }
     {
@@ -173,6 +176,7 @@ impl State {
     }
 
     /// The innermost frame of a goroutine, where it has not ended and has one.
+    #[inline(always)]
     pub fn frame(&self, g: GoroutineId) -> Option<&Frame>
         ensures { option_map (λ f. frame_view f.now) result ≡ slice_get (frames_of g.0 self.now) 0 }
     {
@@ -220,6 +224,7 @@ impl State {
 
     /// The goroutine of least ticket among those that wait on the object with that side. It looks at
     /// those that stand in line there alone.
+    #[inline(always)]
     pub fn first_waiter(&self, object: ObjectId, side: Side) -> Option<Waiting>
         ensures first { result ≡ option_map waiting_of (first object.0 side self.now.goroutines) }
         ensures blocked { IfSome (first object.0 side self.now.goroutines) (λ w. find w.number self.now.goroutines ≡ Some w.goroutine × is_running w.goroutine.mode ≡ false) }
@@ -259,6 +264,7 @@ impl State {
     }
 
     /// Lends an object, to be changed or replaced.
+    #[inline(always)]
     pub fn object_mut(&mut self, object: ObjectId) -> &mut Object
         requires { IsSome (find object.0 self.old.objects) }
         ensures* writes_back { sem 𝓛 (LendsObject self.entry object.0 result) }
@@ -271,6 +277,7 @@ impl State {
     // ---- goroutines
 
     /// Lends the frames of a goroutine that runs, the innermost one last.
+    #[inline(always)]
     pub fn frames_mut(&mut self, g: GoroutineId) -> &mut List<Frame>
         requires { runs g.0 self.old ≡ true }
         ensures* writes_back { sem 𝓛 (LendsFrames self.entry g.0 result) }
@@ -285,6 +292,7 @@ impl State {
     }
 
     /// Lends the frames of a goroutine that runs, the innermost one last, and with them the globals.
+    #[inline(always)]
     pub fn frames_and_globals(&mut self, g: GoroutineId) -> (&mut List<Frame>, &[Value])
         requires { runs g.0 self.old ≡ true }
         ensures* writes_back { sem 𝓛 (LendsFrames self.entry g.0 result.0) }
@@ -303,6 +311,7 @@ impl State {
     /// The innermost frame of a goroutine is cleared, if the goroutine is there, runs and has one: the
     /// slots that no instruction from the frame's next one on can read hold 0; if the frame is leaving,
     /// all do. It takes no memory.
+    #[inline(always)]
     pub fn clear_slots(&mut self, code: &Code, g: GoroutineId)
         ensures { self.new ≡ apply_all (clears code.now g.0 (find g.0 self.old.goroutines)) self.old }
     {
@@ -339,6 +348,7 @@ impl State {
 
     /// The goroutine blocks, with the next ticket. Its innermost frame goes on at a place without so
     /// many of its operands, and gets room for two more, so that it is woken without memory.
+    #[inline(always)]
     pub fn block(
         &mut self,
         g: GoroutineId,
@@ -376,6 +386,7 @@ impl State {
     }
 
     /// The blocked goroutine goes on. It takes no memory.
+    #[inline(always)]
     pub fn wake(&mut self, g: GoroutineId, how: Wakening)
         requires { is_blocked g.0 self.old ≡ true }
         ensures { self.new ≡ looked_up g.0 (λ r. become g.0 (wakened how r)) self.old }

@@ -29,6 +29,7 @@ pub struct Waiting {
 /// Whether all who wait on that side stand in line. Those who wait for a mutex do while they all could
 /// be listed: one that is passed on from a condition waits for the mutex without a turn of its own,
 /// and memory may be wanting for its place in line.
+#[inline(always)]
 pub fn has_line(are_mutexes_lined: bool, side: Side) -> bool
     ensures { result ≡ has_line are_mutexes_lined side }
 {
@@ -39,6 +40,7 @@ pub fn has_line(are_mutexes_lined: bool, side: Side) -> bool
 }
 
 // Whether a wait is for the object, with that side.
+#[inline(always)]
 fn fits(wait: &Wait, object: ObjectId, side: Side) -> bool
     ensures { result ≡ (wait.now.object.0 == object.0 && same_side wait.now.side side) }
 {
@@ -46,6 +48,7 @@ fn fits(wait: &Wait, object: ObjectId, side: Side) -> bool
 }
 
 /// The first wait on the object with that side.
+#[inline(always)]
 pub fn wait_for(waits: &[Wait], object: ObjectId, side: Side) -> Option<Wait>
     ensures { result ≡ wait_for object.0 side waits.now }
 {
@@ -86,6 +89,7 @@ fn sooner(seen: Option<Waiting>, other: Option<Waiting>) -> Option<Waiting>
 }
 
 /// One who stood in line, where it waits there with that ticket.
+#[inline(always)]
 pub fn waiter_by(
     holder: TicketHolder,
     places: &[Place],
@@ -113,6 +117,7 @@ pub fn waiter_by(
 
 /// The goroutine of least ticket among those that wait on the object with that side, by the line of
 /// those who stood there.
+#[inline(always)]
 pub fn first_in_line(
     line: &[TicketHolder],
     places: &[Place],
@@ -134,6 +139,7 @@ pub fn first_in_line(
 }
 
 /// A goroutine in this mode is gone from the lines that it stands in; all others stand where they stood.
+#[inline(always)]
 pub fn leave_lines(queues: &mut Queues, g: GoroutineId, mode: &Mode)
     ensures { IsWithout (leaves_in g.0 mode.now) queues.old queues.new }
 {

@@ -26,6 +26,7 @@ pub enum Waking {
 }
 
 /// What a receive gives: the value, and whether it was sent where that is asked for.
+#[inline(always)]
 pub fn received(with_ok: bool, value: Value, sent: bool) -> Given
     ensures values { values_of result ≡ received with_ok value sent }
     ensures given { result ≡ given_for with_ok value sent }

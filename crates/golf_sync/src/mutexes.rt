@@ -15,6 +15,7 @@ use golf_state::{Acting, Outcome, State, Waiting, Wakening, block_on, last_opera
 use std::alloc::Global;
 
 // Locks a mutex, or blocks on it.
+#[inline(always)]
 fn lock_at(
     alloc: Global,
     state: &mut State,
@@ -39,6 +40,7 @@ fn lock_at(
 
 /// The goroutine in its turn locks the mutex that is its last operand; it blocks where that is
 /// locked, and panics on nil.
+#[inline(always)]
 pub fn lock(alloc: Global, state: &mut State, acting: Acting) -> Result<Outcome, Memory>
     requires { Stands acting.goroutine.0 acting.after state.old }
     ensures ok { IfOk result (λ outcome. Comes outcome (λ a. locks a state.old) acting.goroutine.0 acting.line state.old state.new) }
@@ -59,6 +61,7 @@ pub fn lock(alloc: Global, state: &mut State, acting: Acting) -> Result<Outcome,
 
 /// A mutex stays locked and its first waiter runs; where nobody waits it becomes unlocked. It takes
 /// no memory.
+#[inline(always)]
 pub fn hand_over(state: &mut State, mutex: ObjectId, waiting: Option<Waiting>)
     requires { is_blocked_where waiting state.old ≡ true }
     ensures { state.new ≡ handed_over mutex.0 waiting state.old }
@@ -70,6 +73,7 @@ pub fn hand_over(state: &mut State, mutex: ObjectId, waiting: Option<Waiting>)
 }
 
 // Unlocks a mutex.
+#[inline(always)]
 fn unlock_at(state: &mut State, acting: Acting, mutex: ObjectId) -> Outcome
     requires { Stands acting.goroutine.0 acting.after state.old }
     ensures { Comes result (λ a. at_mutex (unlocks_by a (drop 1 a.frame.operands) state.old mutex.0) (find mutex.0 state.old.objects)) acting.goroutine.0 acting.line state.old state.new }
@@ -88,6 +92,7 @@ fn unlock_at(state: &mut State, acting: Acting, mutex: ObjectId) -> Outcome
 
 /// The goroutine in its turn unlocks the mutex that is its last operand: its first waiter gets it.
 /// To unlock an unlocked mutex is a fatal error, and it panics on nil. It takes no memory.
+#[inline(always)]
 pub fn unlock(state: &mut State, acting: Acting) -> Outcome
     requires { Stands acting.goroutine.0 acting.after state.old }
     ensures { Comes result (λ a. unlocks a state.old) acting.goroutine.0 acting.line state.old state.new }

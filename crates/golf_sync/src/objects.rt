@@ -9,6 +9,7 @@ use golf_data::{Object, Value};
 use golf_state::State;
 
 /// Whether the mutex of this number is locked, where there is one.
+#[inline(always)]
 pub fn mutex_at(state: &State, object: ObjectId) -> Option<bool>
     ensures { result ≡ mutex_of (find object.0 state.now.objects) }
 {
