@@ -4,4 +4,5 @@ pub mod WholeFiles
 pub mod Equations
 pub mod Samples
 pub mod Bodies
+pub mod BodiesOfCalls
 pub mod Examples

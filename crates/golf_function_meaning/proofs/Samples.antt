@@ -1,6 +1,7 @@
 -- How the small bodies of the examples are written: each tree with what it means, by the equations for its kind.
-use Rattle.std.specs.Prelude.{◌≡◌, ℕ, Bool, List, [], ◌∷◌, Option, Some, None, map}
+use Rattle.std.specs.Prelude.{◌≡◌, ℕ, List, [], ◌∷◌, Option, Some, None, map}
 use Rattle.std.proofs.Common.{refl, ap, ◌∙◌}
+use Rattle.golf_grammar.specs.declared.types.TypeExpr.{TypeExpr}
 use Rattle.golf_grammar.specs.declared.expressions.UnaryOperator.{UnaryOperator}
 use Rattle.golf_grammar.specs.declared.expressions.BinaryOperator.{BinaryOperator}
 use Rattle.golf_grammar.specs.declared.expressions.Expr.{Expr}
@@ -10,8 +11,11 @@ use Rattle.golf_grammar.specs.declared.statements.UpdateOperator.{UpdateOperator
 use Rattle.golf_grammar.specs.declared.statements.Simple.{Simple}
 use Rattle.golf_grammar.specs.declared.statements.SimpleKind.{SimpleKind}
 use Rattle.golf_grammar.specs.declared.statements.SimpleKind.TheVariants as simple
+use Rattle.golf_grammar.specs.declared.statements.VarContent.{VarContent}
+use Rattle.golf_grammar.specs.declared.statements.VarContent.TheVariants as content
 use Rattle.golf_grammar.specs.declared.statements.Header.TheVariants as header
 use Rattle.golf_grammar.specs.declared.statements.RangeNames.{RangeNames}
+use Rattle.golf_grammar.specs.declared.statements.Communication.{Communication}
 use Rattle.golf_grammar.specs.declared.statements.Communication.TheVariants as comm
 use Rattle.golf_grammar.specs.declared.statements.Stmt.{Stmt}
 use Rattle.golf_grammar.specs.declared.statements.Stmt.TheVariants as st
@@ -19,26 +23,35 @@ use Rattle.golf_grammar.specs.declared.statements.Clause.{Clause}
 use Rattle.golf_grammar.specs.declared.statements.Clause.TheVariants as cl
 use Rattle.golf_grammar.specs.declared.statements.Clause.TheOpen as F
 use Rattle.golf_data.specs.declared.code.Instr.{Instr}
+use Rattle.golf_model.specs.Values.{zero_of}
 use Rattle.golf_model.specs.Calculating.{sum, difference}
 use Rattle.golf_types.specs.declared.scopes.Scope.{Scope}
 use Rattle.golf_types.specs.Types.{is_slice, element}
 use Rattle.golf_types.specs.Expressions.{given_by}
-use Rattle.golf_types.specs.Judging.{Judge, judge, judge_step}
+use Rattle.golf_types.specs.declared.types.GoType.{GoType}
+use Rattle.golf_types.specs.Written.{Write}
+use Rattle.golf_types.specs.Judging.{Judge, judge, judge_at, judge_step}
+use Rattle.golf_types.specs.Statements as V
 use Rattle.golf_types.specs.Statements.{behind, is_outer, range_slots, bool_type}
+use Rattle.golf_layout.specs.Piece.{all}
+use Rattle.golf_code_of.specs.Values.{zero_value}
+use Rattle.golf_code_of.specs.Calls as C
+use Rattle.golf_code_of.specs.Calls.{makings, pushes}
+use Rattle.golf_code_of.specs.Coding.{piece_at, argument_at}
 use Rattle.golf_code_of.specs.Statements as L
 use Rattle.golf_code_of.specs.Statements.{Part, within, past}
 use Rattle.golf_code_of.specs.Loops as O
 use Rattle.golf_code_of.specs.Selects as K
 use Rattle.golf_code_of.proofs.JudgeEquations as j
-use Rattle.golf_code_of.proofs.Examples.Writing.{tables}
+use Rattle.golf_code_of.proofs.Examples.Writing.{WrittenType, tables}
 use Rattle.golf_flat_meaning.specs.Worlds.{World, bind}
 use Rattle.golf_flat_meaning.specs.Doing.{computed}
 use Rattle.golf_source_meaning.specs.Names.{Env}
 use Rattle.golf_source_meaning.specs.Operations.{Gives, both, visible}
-use Rattle.golf_source_meaning.specs.Exprs.{if_none}
+use Rattle.golf_source_meaning.specs.Exprs.{Argument, values_of, if_none}
 use Rattle.golf_source_meaning.specs.Meaning.{Meant, meant, meant_step}
 use Rattle.golf_statement_meaning.specs.Flows.{Course, Flow, on, after, ends_here, or_else, guarded, tested, turns, then_post}
-use Rattle.golf_statement_meaning.specs.Steps.{Deals, Deed, Step, declared, drops, update_operation, updates, assigns, one, defines_pair, simple_deals, then_deed, in_order, in_block, block, optional, returned, parts, in_loop, is_plain, measured, over}
+use Rattle.golf_statement_meaning.specs.Steps.{Deals, Deed, Step, declared, drops, update_operation, updates, assigns, one, stores_pair, defines_pair, simple_deals, nothing, beginning, then_deed, in_order, in_block, block, returned, parts, in_loop, is_plain, measured, over}
 use Rattle.golf_statement_meaning.specs.Selecting.{ClauseStep, communicates, breaking}
 use Rattle.golf_statement_meaning.specs.Statements.{step, step_step, clause_step, clause_step_step}
 use Rattle.golf_function_meaning.proofs.Equations as e
@@ -58,6 +71,19 @@ name n = record { tree = ex.Name n; value = meant_step tables (E.Name n); judged
 
 abbrev pub integer : List ℕ → Sample
 integer n = record { tree = ex.Integer n; value = meant_step tables (E.Integer n); judged = judge_step (E.Integer n); same = e.meant-Integer tables n; alike = j.judge-Integer n }
+
+abbrev pub text : List ℕ → Sample
+text n = record { tree = ex.Text n; value = meant_step tables (E.Text n); judged = judge_step (E.Text n); same = e.meant-Text tables n; alike = j.judge-Text n }
+
+-- `a.n`
+abbrev pub dot : Sample → List ℕ → Sample
+dot a n = record {
+  tree = ex.Selector a.tree n;
+  value = meant_step tables (E.Selector a.value n);
+  judged = judge_step (E.Selector a.judged n);
+  same = e.meant-Selector tables a.tree n ∙ ap (λ m. meant_step tables (E.Selector m n)) a.same;
+  alike = j.judge-Selector a.tree n ∙ ap (λ m. judge_step (E.Selector m n)) a.alike;
+}
 
 abbrev pub index : Sample → Sample → Sample
 index a b = record {
@@ -84,6 +110,32 @@ binary_of o a b = record {
   judged = judge_step (E.Binary o a.judged b.judged);
   same = e.meant-Binary tables o a.tree b.tree ∙ ap (λ m. meant_step tables (E.Binary o m (meant tables b.tree))) a.same ∙ ap (λ m. meant_step tables (E.Binary o a.value m)) b.same;
   alike = j.judge-Binary o a.tree b.tree ∙ ap (λ m. judge_step (E.Binary o m (judge b.tree))) a.alike ∙ ap (λ m. judge_step (E.Binary o a.judged m)) b.alike;
+}
+
+abbrev pub expressions : List Sample → List Expr
+expressions xs = map (λ (x : Sample). x.tree) xs
+
+abbrev pub meanings : List Sample → List Meant
+meanings xs = map (λ (x : Sample). x.value) xs
+
+abbrev pub judgments : List Sample → List Judge
+judgments xs = map (λ (x : Sample). x.judged) xs
+
+pub all-meant : (xs : List Sample) → map (meant tables) (expressions xs) ≡ meanings xs
+all-meant [] = refl
+all-meant (x ∷ xs) = ap (λ m. m ∷ map (meant tables) (expressions xs)) x.same ∙ ap (λ ms. x.value ∷ ms) (all-meant xs)
+
+pub all-judged : (xs : List Sample) → map judge (expressions xs) ≡ judgments xs
+all-judged [] = refl
+all-judged (x ∷ xs) = ap (λ k. k ∷ map judge (expressions xs)) x.alike ∙ ap (λ ks. x.judged ∷ ks) (all-judged xs)
+
+abbrev pub call : Sample → List Sample → Sample
+call f xs = record {
+  tree = ex.Call f.tree (expressions xs);
+  value = meant_step tables (E.Call f.value (meanings xs));
+  judged = judge_step (E.Call f.judged (judgments xs));
+  same = e.meant-Call tables f.tree (expressions xs) ∙ ap (λ m. meant_step tables (E.Call m (map (meant tables) (expressions xs)))) f.same ∙ ap (λ ms. meant_step tables (E.Call f.value ms)) (all-meant xs);
+  alike = j.judge-Call f.tree (expressions xs) ∙ ap (λ k. judge_step (E.Call k (map judge (expressions xs)))) f.alike ∙ ap (λ ks. judge_step (E.Call f.judged ks)) (all-judged xs);
 }
 
 -- what a sample's meaning gives on a line
@@ -145,6 +197,12 @@ pair_deals n q m k s env w = bind (gives_on m 1 s env w) (λ vs u. bind (visible
 abbrev pub define_received : List ℕ → List ℕ → Sample → KindSample
 define_received n q a = record { kind = simple.DefineReceived n q a.tree; deals = pair_deals n q a.value a.judged; same = ap (λ m. pair_deals n q m (judge a.tree)) a.same ∙ ap (λ k. pair_deals n q a.value k) a.alike }
 
+abbrev assign_pair_deals : List ℕ → List ℕ → Meant → Judge → Scope → Deals
+assign_pair_deals n q m k s env w = bind (gives_on m 1 s env w) (λ vs u. bind (visible Instr.ReceiveOk (element (given_by (k 1 s)) ∷ (bool_type ∷ [])) vs u) (stores_pair tables s n q env))
+
+abbrev pub assign_received : List ℕ → List ℕ → Sample → KindSample
+assign_received n q a = record { kind = simple.AssignReceived n q a.tree; deals = assign_pair_deals n q a.value a.judged; same = ap (λ m. assign_pair_deals n q m (judge a.tree)) a.same ∙ ap (λ k. assign_pair_deals n q a.value k) a.alike }
+
 -- Statements.
 
 pub record StmtSample : Type 0 where
@@ -180,6 +238,9 @@ return_step x m = record { part = L.return_part tables 1 (Some x); deed = λ a s
 abbrev pub returns : Sample → StmtSample
 returns a = record { tree = st.Return 1 (Some a.tree); value = return_step a.tree a.value; same = e.step-Return tables 1 (Some a.tree) ∙ ap (return_step a.tree) a.same }
 
+abbrev pub returns_nothing : StmtSample
+returns_nothing = record { tree = st.Return 1 None; value = step_step tables (F.Return 1 None); same = e.step-Return tables 1 None }
+
 abbrev pub breaks : StmtSample
 breaks = record { tree = st.Break 1; value = step_step tables (F.Break 1); same = e.step-Break tables 1 }
 
@@ -189,32 +250,140 @@ continues = record { tree = st.Continue 1; value = step_step tables (F.Continue 
 abbrev pub block_of : List StmtSample → StmtSample
 block_of xs = record { tree = st.Block 1 (trees xs); value = step_step tables (F.Block 1 (values xs)); same = e.step-Block tables 1 (trees xs) ∙ ap (λ ys. step_step tables (F.Block 1 ys)) (all-same xs) }
 
+-- Variables.
+
+abbrev var_zero_step : List ℕ → TypeExpr → Write → Step
+var_zero_step n t x = record { part = L.var_part tables 1 n (content.Zero t); deed = λ a s k env w. on (bind (W.Part.Gives (zero_of (zero_value (x 1 s).type) ∷ []) w) (declared env n)) }
+
+abbrev pub var_zero : List ℕ → WrittenType → StmtSample
+var_zero n t = record { tree = st.Var (record { line = 1; name = n; content = content.Zero t.tree }); value = var_zero_step n t.tree t.value; same = e.step-Var tables (record { line = 1; name = n; content = content.Zero t.tree }) ∙ ap (var_zero_step n t.tree) t.same }
+
+abbrev var_step : List ℕ → VarContent → Meant → Step
+var_step n x m = record { part = L.var_part tables 1 n x; deed = λ a s k env w. on (bind (gives_on m 1 s env w) (declared env n)) }
+
+abbrev pub var_typed : List ℕ → WrittenType → Sample → StmtSample
+var_typed n t a = record { tree = st.Var (record { line = 1; name = n; content = content.Typed t.tree a.tree }); value = var_step n (content.Typed t.tree a.tree) a.value; same = e.step-Var tables (record { line = 1; name = n; content = content.Typed t.tree a.tree }) ∙ ap (var_step n (content.Typed t.tree a.tree)) a.same }
+
+abbrev pub var_untyped : List ℕ → Sample → StmtSample
+var_untyped n a = record { tree = st.Var (record { line = 1; name = n; content = content.Untyped a.tree }); value = var_step n (content.Untyped a.tree) a.value; same = e.step-Var tables (record { line = 1; name = n; content = content.Untyped a.tree }) ∙ ap (var_step n (content.Untyped a.tree)) a.same }
+
+-- `go` and `defer`.
+
+-- a call of f is begun, by what f is and does, and by the values of the arguments
+abbrev begin_step : (ℕ → ℕ → Instr) → Expr → List Expr → (Scope → Env → List Argument) → Meant → Judge → Step
+begin_step begin f xs given m k = record {
+  part = record {
+    walk = V.begin_call 1 f xs;
+    lay = λ a s. record {
+      piece = all (piece_at tables 1 s f ∷ pushes (map (argument_at tables 1 s) xs) ∷ C.beginning 1 begin a.functions (k 1 s).meaning (map (argument_at tables 1 s) xs) ∷ []);
+      made = makings 1 (k 1 s).meaning (map (argument_at tables 1 s) xs);
+    };
+  };
+  deed = λ a s n env w. on (
+      bind (both (gives_on m 1 s env) (values_of (given s env)) w) (λ vs u.
+      bind (beginning begin a.functions (k 1 s).meaning (map (argument_at tables 1 s) xs) vs u) (λ us v. if_none us v (W.Part.Gives env v))));
+}
+
+-- without arguments
+abbrev begin_alone : (ℕ → ℕ → Instr) → Expr → Meant → Judge → Step
+begin_alone begin f = begin_step begin f [] (λ s env. [])
+
+-- with one
+abbrev begin_with : (ℕ → ℕ → Instr) → Expr → Expr → Meant → Meant → Judge → Step
+begin_with begin f x p = begin_step begin f (x ∷ []) (λ s env. record { meaning = (judge_at 1 s x).meaning; value = gives_on p 1 s env } ∷ [])
+
+abbrev pub go_alone : Sample → StmtSample
+go_alone f = record {
+  tree = st.Go 1 f.tree [];
+  value = begin_alone Instr.Go f.tree f.value f.judged;
+  same = e.step-Go tables 1 f.tree [] ∙ ap (λ m. begin_alone Instr.Go f.tree m (judge f.tree)) f.same ∙ ap (begin_alone Instr.Go f.tree f.value) f.alike;
+}
+
+abbrev pub go : Sample → Sample → StmtSample
+go f a = record {
+  tree = st.Go 1 f.tree (a.tree ∷ []);
+  value = begin_with Instr.Go f.tree a.tree a.value f.value f.judged;
+  same =
+      e.step-Go tables 1 f.tree (a.tree ∷ [])
+      ∙ ap (λ p. begin_with Instr.Go f.tree a.tree p (meant tables f.tree) (judge f.tree)) a.same
+      ∙ ap (λ m. begin_with Instr.Go f.tree a.tree a.value m (judge f.tree)) f.same ∙ ap (begin_with Instr.Go f.tree a.tree a.value f.value) f.alike;
+}
+
+abbrev pub defer_alone : Sample → StmtSample
+defer_alone f = record {
+  tree = st.Defer 1 f.tree [];
+  value = begin_alone Instr.Defer f.tree f.value f.judged;
+  same = e.step-Defer tables 1 f.tree [] ∙ ap (λ m. begin_alone Instr.Defer f.tree m (judge f.tree)) f.same ∙ ap (begin_alone Instr.Defer f.tree f.value) f.alike;
+}
+
+abbrev pub defer : Sample → Sample → StmtSample
+defer f a = record {
+  tree = st.Defer 1 f.tree (a.tree ∷ []);
+  value = begin_with Instr.Defer f.tree a.tree a.value f.value f.judged;
+  same =
+      e.step-Defer tables 1 f.tree (a.tree ∷ [])
+      ∙ ap (λ p. begin_with Instr.Defer f.tree a.tree p (meant tables f.tree) (judge f.tree)) a.same
+      ∙ ap (λ m. begin_with Instr.Defer f.tree a.tree a.value m (judge f.tree)) f.same ∙ ap (begin_with Instr.Defer f.tree a.tree a.value f.value) f.alike;
+}
+
+-- Conditions.
+
 -- a condition, and what it guards
 abbrev tests : Meant → Deed → Deed
 tests m d a s n env w = after (gives_on m 1 s env w) (λ vs u. tested vs u (d a s n env u) (Flow.Goes Course.Skips env u))
 
-abbrev then_of : Meant → List Step → Deed
-then_of m ys = then_deed (L.optional tables None) (optional tables None) (tests m (block ys))
+-- what stands before a condition, then the condition, and what it guards
+abbrev then_of : Option Simple → Deed → List Step → Meant → Deed
+then_of x d ys m = then_deed (L.optional tables x) d (tests m (block ys))
 
-abbrev if_step : Expr → List Step → Meant → Step
-if_step x ys m = record { part = L.if_part tables 1 None x (parts ys); deed = in_block (λ a s n env w. ends_here (then_of m ys (within 1 a) s n env w)) }
+abbrev if_step : Option Simple → Expr → List Step → Deed → Meant → Step
+if_step x t ys d m = record { part = L.if_part tables 1 x t (parts ys); deed = in_block (λ a s n env w. ends_here (then_of x d ys m (within 1 a) s n env w)) }
 
 abbrev pub if_then : Sample → List StmtSample → StmtSample
-if_then a xs = record { tree = st.If 1 None a.tree (trees xs); value = if_step a.tree (values xs) a.value; same = e.step-If tables 1 None a.tree (trees xs) ∙ ap (λ ys. step_step tables (F.If 1 None a.tree ys)) (all-same xs) ∙ ap (if_step a.tree (values xs)) a.same }
+if_then a xs = record { tree = st.If 1 None a.tree (trees xs); value = if_step None a.tree (values xs) nothing a.value; same = e.step-If tables 1 None a.tree (trees xs) ∙ ap (λ ys. step_step tables (F.If 1 None a.tree ys)) (all-same xs) ∙ ap (if_step None a.tree (values xs) nothing) a.same }
 
-abbrev else_step : Expr → List Step → Step → Meant → Step
-else_step x ys z m = record {
-  part = L.else_part tables 1 None x (parts ys) z.part;
+-- `if first; a { }`
+abbrev pub if_first_then : KindSample → Sample → List StmtSample → StmtSample
+if_first_then k a xs = record {
+  tree = st.If 1 (Some (line k)) a.tree (trees xs);
+  value = if_step (Some (line k)) a.tree (values xs) (deals_deed k.deals) a.value;
+  same =
+      e.step-If tables 1 (Some (line k)) a.tree (trees xs)
+      ∙ ap (λ ys. step_step tables (F.If 1 (Some (line k)) a.tree ys)) (all-same xs)
+      ∙ ap (λ d. if_step (Some (line k)) a.tree (values xs) (deals_deed d) (meant tables a.tree)) k.same
+      ∙ ap (if_step (Some (line k)) a.tree (values xs) (deals_deed k.deals)) a.same;
+}
+
+abbrev else_step : Option Simple → Expr → List Step → Step → Deed → Meant → Step
+else_step x t ys z d m = record {
+  part = L.else_part tables 1 x t (parts ys) z.part;
   deed = in_block (λ a s n env w.
-      let p = L.then_part tables 1 None x (parts ys) in
-      or_else (then_of m ys (within 2 a) s n env w) (λ env u. ends_here (z.deed (within 1 (past a (p.lay (within 2 a) s))) (behind s (p.walk s)) n env u)));
+      let p = L.then_part tables 1 x t (parts ys) in
+      or_else (then_of x d ys m (within 2 a) s n env w) (λ env u. ends_here (z.deed (within 1 (past a (p.lay (within 2 a) s))) (behind s (p.walk s)) n env u)));
 }
 
 abbrev pub if_else : Sample → List StmtSample → StmtSample → StmtSample
 if_else a xs z = record {
   tree = st.IfElse 1 None a.tree (trees xs) z.tree;
-  value = else_step a.tree (values xs) z.value a.value;
-  same = e.step-IfElse tables 1 None a.tree (trees xs) z.tree ∙ ap (λ ys. step_step tables (F.IfElse 1 None a.tree ys (step tables z.tree))) (all-same xs) ∙ ap (λ y. step_step tables (F.IfElse 1 None a.tree (values xs) y)) z.same ∙ ap (else_step a.tree (values xs) z.value) a.same;
+  value = else_step None a.tree (values xs) z.value nothing a.value;
+  same =
+      e.step-IfElse tables 1 None a.tree (trees xs) z.tree
+      ∙ ap (λ ys. step_step tables (F.IfElse 1 None a.tree ys (step tables z.tree))) (all-same xs)
+      ∙ ap (λ y. step_step tables (F.IfElse 1 None a.tree (values xs) y)) z.same
+      ∙ ap (else_step None a.tree (values xs) z.value nothing) a.same;
+}
+
+-- `if first; a { } else z`
+abbrev pub if_first_else : KindSample → Sample → List StmtSample → StmtSample → StmtSample
+if_first_else k a xs z = record {
+  tree = st.IfElse 1 (Some (line k)) a.tree (trees xs) z.tree;
+  value = else_step (Some (line k)) a.tree (values xs) z.value (deals_deed k.deals) a.value;
+  same =
+      e.step-IfElse tables 1 (Some (line k)) a.tree (trees xs) z.tree
+      ∙ ap (λ ys. step_step tables (F.IfElse 1 (Some (line k)) a.tree ys (step tables z.tree))) (all-same xs)
+      ∙ ap (λ y. step_step tables (F.IfElse 1 (Some (line k)) a.tree (values xs) y)) z.same
+      ∙ ap (λ d. else_step (Some (line k)) a.tree (values xs) z.value (deals_deed d) (meant tables a.tree)) k.same
+      ∙ ap (else_step (Some (line k)) a.tree (values xs) z.value (deals_deed k.deals)) a.same;
 }
 
 -- Loops.
@@ -228,7 +397,15 @@ while_step x ys m = record { part = O.for_part tables 1 (header.While x) (parts 
 abbrev pub while : Sample → List StmtSample → StmtSample
 while a xs = record { tree = st.For 1 (header.While a.tree) (trees xs); value = while_step a.tree (values xs) a.value; same = e.step-For tables 1 (header.While a.tree) (trees xs) ∙ ap (λ ys. step_step tables (F.For 1 (header.While a.tree) ys)) (all-same xs) ∙ ap (while_step a.tree (values xs)) a.same }
 
--- `for first; test; post`
+-- `for ; ; { }`
+abbrev pub stepping_alone : List StmtSample → StmtSample
+stepping_alone xs = record {
+  tree = st.For 1 (header.Steps None None None) (trees xs);
+  value = step_step tables (F.For 1 (header.Steps None None None) (values xs));
+  same = e.step-For tables 1 (header.Steps None None None) (trees xs) ∙ ap (λ ys. step_step tables (F.For 1 (header.Steps None None None) ys)) (all-same xs);
+}
+
+-- `for first; test; post { }`
 abbrev steps_step : Simple → Expr → Simple → List Step → (Scope → Deals) → Meant → (Scope → Deals) → Step
 steps_step x t y ys d m f = record {
   part = O.for_part tables 1 (header.Steps (Some x) (Some t) (Some y)) (parts ys);
@@ -289,22 +466,41 @@ case_send a b xs = record {
       ∙ ap (λ m. send_clause a.tree b.tree (values xs) m (meant tables b.tree)) a.same ∙ ap (λ m. send_clause a.tree b.tree (values xs) a.value m) b.same;
 }
 
-abbrev define_clause : List ℕ → Expr → List Step → Meant → Judge → ClauseStep
-define_clause n x ys m k = record {
-  part = K.case_clause tables 1 (comm.Define n x) (parts ys);
+-- what receives has the channel for an operand, and is told what it leaves by the type that the channel carries
+abbrev taking_clause : Communication → (Option GoType → List (Option GoType)) → List Step → Meant → Judge → ClauseStep
+taking_clause c leaves ys m k = record {
+  part = K.case_clause tables 1 c (parts ys);
   operands = λ l s env. gives_on m l s env;
-  leaves = λ l s. element (given_by (k l s)) ∷ [];
-  deed = λ l vs. in_block (then_deed (K.communication tables l 1 (comm.Define n x)) (communicates tables (comm.Define n x) vs) (breaking (in_order ys)));
+  leaves = λ l s. leaves (element (given_by (k l s)));
+  deed = λ l vs. in_block (then_deed (K.communication tables l 1 c) (communicates tables c vs) (breaking (in_order ys)));
 }
 
-abbrev pub case_define : List ℕ → Sample → List StmtSample → ClauseSample
-case_define n a xs = record {
-  tree = cl.Case 1 (comm.Define n a.tree) (trees xs);
-  value = define_clause n a.tree (values xs) a.value a.judged;
+abbrev taking : (c : Communication) (leaves : Option GoType → List (Option GoType)) (a : Sample) (xs : List StmtSample) → ((ys : List Step) → clause_step_step tables (F.Case 1 c ys) ≡ taking_clause c leaves ys (meant tables a.tree) (judge a.tree)) → ClauseSample
+taking c leaves a xs known = record {
+  tree = cl.Case 1 c (trees xs);
+  value = taking_clause c leaves (values xs) a.value a.judged;
   same =
-      e.step-Case tables 1 (comm.Define n a.tree) (trees xs) ∙ ap (λ ys. clause_step_step tables (F.Case 1 (comm.Define n a.tree) ys)) (all-same xs)
-      ∙ ap (λ m. define_clause n a.tree (values xs) m (judge a.tree)) a.same ∙ ap (λ k. define_clause n a.tree (values xs) a.value k) a.alike;
+      e.step-Case tables 1 c (trees xs) ∙ ap (λ ys. clause_step_step tables (F.Case 1 c ys)) (all-same xs) ∙ known (values xs)
+      ∙ ap (λ m. taking_clause c leaves (values xs) m (judge a.tree)) a.same ∙ ap (λ k. taking_clause c leaves (values xs) a.value k) a.alike;
 }
+
+abbrev one_left : Option GoType → List (Option GoType)
+one_left t = t ∷ []
+
+abbrev two_left : Option GoType → List (Option GoType)
+two_left t = t ∷ (bool_type ∷ [])
+
+abbrev pub case_receive : Sample → List StmtSample → ClauseSample
+case_receive a xs = taking (comm.Receive a.tree) one_left a xs (λ ys. refl)
+
+abbrev pub case_define : List ℕ → Sample → List StmtSample → ClauseSample
+case_define n a xs = taking (comm.Define n a.tree) one_left a xs (λ ys. refl)
+
+abbrev pub case_assign : List ℕ → Sample → List StmtSample → ClauseSample
+case_assign n a xs = taking (comm.Assign n a.tree) one_left a xs (λ ys. refl)
+
+abbrev pub case_define_received : List ℕ → List ℕ → Sample → List StmtSample → ClauseSample
+case_define_received n q a xs = taking (comm.DefineReceived n q a.tree) two_left a xs (λ ys. refl)
 
 abbrev pub default : List StmtSample → ClauseSample
 default xs = record { tree = cl.Default 1 (trees xs); value = clause_step_step tables (F.Default 1 (values xs)); same = e.step-Default tables 1 (trees xs) ∙ ap (λ ys. clause_step_step tables (F.Default 1 ys)) (all-same xs) }
