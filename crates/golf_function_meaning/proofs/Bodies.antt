@@ -299,6 +299,16 @@ pub steps_without_a_header : body (s.stepping_alone (s.if_then (binary_of binary
 unfolding meaning type_name value_name call_name package_name text_number named_base made_base sync_base member fmt_member runtime_member sync_member condition_member condition_method mutex_method group_method read_method write_method field_type is_here is_reserved may_be_declared assigned_name kept_faults pair_differs put_in_faults range_names_differ
 steps_without_a_header = works_out (s.stepping_alone (s.if_then (binary_of binary.Less n (integer (codes "7"))) (does (s.increment n) ∷ s.continues ∷ []) ∷ s.breaks ∷ []) ∷ returns n ∷ []) [] 3
 
+-- for ; n < 7; n++ { continue }; return n
+pub steps_from_the_condition_on : body (s.stepping_on (binary_of binary.Less n (integer (codes "7"))) (s.increment n) (s.continues ∷ []) ∷ returns n ∷ []) [] 3 ≡ gives [] (int 7)
+unfolding meaning type_name value_name call_name package_name text_number named_base made_base sync_base member fmt_member runtime_member sync_member condition_member condition_method mutex_method group_method read_method write_method field_type is_here is_reserved may_be_declared assigned_name kept_faults pair_differs put_in_faults range_names_differ
+steps_from_the_condition_on = works_out (s.stepping_on (binary_of binary.Less n (integer (codes "7"))) (s.increment n) (s.continues ∷ []) ∷ returns n ∷ []) [] 3
+
+-- for i := 1; ; i++ { n += i; if n > 10 { return n } }: 6, 8, 11
+pub steps_without_a_condition : body (s.stepping_untested (s.define (codes "i") (integer (codes "1"))) (s.increment (name (codes "i"))) (does (s.update_by update.Add n (name (codes "i"))) ∷ s.if_then (binary_of binary.Greater n (integer (codes "10"))) (returns n ∷ []) ∷ []) ∷ []) [] 3 ≡ gives [] (int 11)
+unfolding meaning type_name value_name call_name package_name text_number named_base made_base sync_base member fmt_member runtime_member sync_member condition_member condition_method mutex_method group_method read_method write_method field_type is_here is_reserved may_be_declared assigned_name kept_faults pair_differs put_in_faults range_names_differ
+steps_without_a_condition = works_out (s.stepping_untested (s.define (codes "i") (integer (codes "1"))) (s.increment (name (codes "i"))) (does (s.update_by update.Add n (name (codes "i"))) ∷ s.if_then (binary_of binary.Greater n (integer (codes "10"))) (returns n ∷ []) ∷ []) ∷ []) [] 3
+
 -- for { <-c; return n }
 pub returns_from_a_loop : body (s.forever (does (s.expression receive) ∷ returns n ∷ []) ∷ []) (answer (int 8 ∷ []) ∷ []) 1 ≡ gives (shown Instr.Receive (ref 0 ∷ []) ∷ []) (int 5)
 unfolding meaning type_name value_name call_name package_name text_number named_base made_base sync_base member fmt_member runtime_member sync_member condition_member condition_method mutex_method group_method read_method write_method field_type is_here is_reserved may_be_declared assigned_name kept_faults pair_differs put_in_faults range_names_differ

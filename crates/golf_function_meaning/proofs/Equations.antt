@@ -1,11 +1,13 @@
 -- What each kind of expression and of statement means, as an equation.
-use Rattle.std.proofs.Common.{◌≡◌, ℕ, List, map, Option, ap, sym, ◌∙◌}
+use Rattle.std.proofs.Common.{◌≡◌, ℕ, List, [], ◌∷◌, map, Option, refl, ap, sym, ◌∙◌}
+use Rattle.golf_grammar.specs.declared.types.TypeExpr.{TypeExpr}
 use Rattle.golf_grammar.specs.declared.expressions.UnaryOperator.{UnaryOperator}
 use Rattle.golf_grammar.specs.declared.expressions.BinaryOperator.{BinaryOperator}
 use Rattle.golf_grammar.specs.declared.expressions.Expr.{Expr}
+use Rattle.golf_grammar.specs.declared.expressions.Element.{Element}
 use Rattle.golf_grammar.specs.declared.expressions.Expr.TheVariants as ex
 use Rattle.golf_grammar.specs.declared.expressions.Expr.TheOpen as E
-use Rattle.golf_grammar.specs.declared.expressions.Expr.TheFolds.{fold-roll-Expr}
+use Rattle.golf_grammar.specs.declared.expressions.Expr.TheFolds.{fold-Element, fold-roll-Expr, fold-roll-Element}
 use Rattle.golf_grammar.specs.declared.statements.Var.{Var}
 use Rattle.golf_grammar.specs.declared.statements.Simple.{Simple}
 use Rattle.golf_grammar.specs.declared.statements.Header.{Header}
@@ -37,6 +39,49 @@ meant-Name t n = ap (meant t) (sym (ex.rolls-Name n)) ∙ fold-roll-Expr Meant M
 pub meant-Parens : (t : Tables) (e : Expr) → meant t (ex.Parens e) ≡ meant_step t (E.Parens (meant t e))
 unfolding meant
 meant-Parens t e = ap (meant t) (sym (ex.rolls-Parens e)) ∙ fold-roll-Expr Meant MeantPut (meant_step t) element_meant_step (E.Parens e)
+
+-- an element of a struct literal
+abbrev pub meant_put : Tables → Element → MeantPut
+meant_put t x = record { name = x.field; value = meant t x.value }
+
+puts-are : (t : Tables) (xs : List Element) → map (fold-Element Meant MeantPut (meant_step t) element_meant_step) xs ≡ map (meant_put t) xs
+unfolding meant
+puts-are t [] = refl
+puts-are t (x ∷ xs) =
+    ap (λ p. p ∷ map (fold-Element Meant MeantPut (meant_step t) element_meant_step) xs) (fold-roll-Element Meant MeantPut (meant_step t) element_meant_step (record { field = x.field; value = x.value }))
+    ∙ ap (λ ps. meant_put t x ∷ ps) (puts-are t xs)
+
+pub meant-StructLiteral : (t : Tables) (n : List ℕ) (xs : List Element) → meant t (ex.StructLiteral n xs) ≡ meant_step t (E.StructLiteral n (map (meant_put t) xs))
+unfolding meant
+meant-StructLiteral t n xs = ap (meant t) (sym (ex.rolls-StructLiteral n xs)) ∙ fold-roll-Expr Meant MeantPut (meant_step t) element_meant_step (E.StructLiteral n xs) ∙ ap (λ ps. meant_step t (E.StructLiteral n ps)) (puts-are t xs)
+
+pub meant-SyncLiteral : (t : Tables) (n : List ℕ) → meant t (ex.SyncLiteral n) ≡ meant_step t (E.SyncLiteral n)
+unfolding meant
+meant-SyncLiteral t n = ap (meant t) (sym (ex.rolls-SyncLiteral n)) ∙ fold-roll-Expr Meant MeantPut (meant_step t) element_meant_step (E.SyncLiteral n)
+
+pub meant-SliceLiteral : (t : Tables) (of_type : TypeExpr) (xs : List Expr) → meant t (ex.SliceLiteral of_type xs) ≡ meant_step t (E.SliceLiteral of_type (map (meant t) xs))
+unfolding meant
+meant-SliceLiteral t of_type xs = ap (meant t) (sym (ex.rolls-SliceLiteral of_type xs)) ∙ fold-roll-Expr Meant MeantPut (meant_step t) element_meant_step (E.SliceLiteral of_type xs)
+
+pub meant-EmptyLiteral : (t : Tables) → meant t ex.EmptyLiteral ≡ meant_step t E.EmptyLiteral
+unfolding meant
+meant-EmptyLiteral t = ap (meant t) (sym ex.rolls-EmptyLiteral) ∙ fold-roll-Expr Meant MeantPut (meant_step t) element_meant_step E.EmptyLiteral
+
+pub meant-Make : (t : Tables) (of_type : TypeExpr) → meant t (ex.Make of_type) ≡ meant_step t (E.Make of_type)
+unfolding meant
+meant-Make t of_type = ap (meant t) (sym (ex.rolls-Make of_type)) ∙ fold-roll-Expr Meant MeantPut (meant_step t) element_meant_step (E.Make of_type)
+
+pub meant-MakeSized : (t : Tables) (of_type : TypeExpr) (e : Expr) → meant t (ex.MakeSized of_type e) ≡ meant_step t (E.MakeSized of_type (meant t e))
+unfolding meant
+meant-MakeSized t of_type e = ap (meant t) (sym (ex.rolls-MakeSized of_type e)) ∙ fold-roll-Expr Meant MeantPut (meant_step t) element_meant_step (E.MakeSized of_type e)
+
+pub meant-New : (t : Tables) (n : List ℕ) → meant t (ex.New n) ≡ meant_step t (E.New n)
+unfolding meant
+meant-New t n = ap (meant t) (sym (ex.rolls-New n)) ∙ fold-roll-Expr Meant MeantPut (meant_step t) element_meant_step (E.New n)
+
+pub meant-NewSync : (t : Tables) (n : List ℕ) → meant t (ex.NewSync n) ≡ meant_step t (E.NewSync n)
+unfolding meant
+meant-NewSync t n = ap (meant t) (sym (ex.rolls-NewSync n)) ∙ fold-roll-Expr Meant MeantPut (meant_step t) element_meant_step (E.NewSync n)
 
 pub meant-Selector : (t : Tables) (e : Expr) (n : List ℕ) → meant t (ex.Selector e n) ≡ meant_step t (E.Selector (meant t e) n)
 unfolding meant

@@ -5,4 +5,5 @@ pub mod Equations
 pub mod Samples
 pub mod Bodies
 pub mod BodiesOfCalls
+pub mod BodiesOfExpressions
 pub mod Examples

@@ -5,6 +5,7 @@ use Rattle.golf_grammar.specs.declared.types.TypeExpr.{TypeExpr}
 use Rattle.golf_grammar.specs.declared.expressions.UnaryOperator.{UnaryOperator}
 use Rattle.golf_grammar.specs.declared.expressions.BinaryOperator.{BinaryOperator}
 use Rattle.golf_grammar.specs.declared.expressions.Expr.{Expr}
+use Rattle.golf_grammar.specs.declared.expressions.Element.{Element}
 use Rattle.golf_grammar.specs.declared.expressions.Expr.TheVariants as ex
 use Rattle.golf_grammar.specs.declared.expressions.Expr.TheOpen as E
 use Rattle.golf_grammar.specs.declared.statements.UpdateOperator.{UpdateOperator}
@@ -26,11 +27,13 @@ use Rattle.golf_data.specs.declared.code.Instr.{Instr}
 use Rattle.golf_model.specs.Values.{zero_of}
 use Rattle.golf_model.specs.Calculating.{sum, difference}
 use Rattle.golf_types.specs.declared.scopes.Scope.{Scope}
-use Rattle.golf_types.specs.Types.{is_slice, element}
+use Rattle.golf_types.specs.declared.types.Layer.TheVariants as layer
+use Rattle.golf_types.specs.Types.{is_slice, element, with_layer}
+use Rattle.golf_types.specs.Expressions as T
 use Rattle.golf_types.specs.Expressions.{given_by}
 use Rattle.golf_types.specs.declared.types.GoType.{GoType}
 use Rattle.golf_types.specs.Written.{Write}
-use Rattle.golf_types.specs.Judging.{Judge, judge, judge_at, judge_step}
+use Rattle.golf_types.specs.Judging.{Judge, Put, judge, judge_at, judge_step}
 use Rattle.golf_types.specs.Statements as V
 use Rattle.golf_types.specs.Statements.{behind, is_outer, range_slots, bool_type}
 use Rattle.golf_layout.specs.Piece.{all}
@@ -47,9 +50,10 @@ use Rattle.golf_code_of.proofs.Examples.Writing.{WrittenType, tables}
 use Rattle.golf_flat_meaning.specs.Worlds.{World, bind}
 use Rattle.golf_flat_meaning.specs.Doing.{computed}
 use Rattle.golf_source_meaning.specs.Names.{Env}
-use Rattle.golf_source_meaning.specs.Operations.{Gives, both, visible}
-use Rattle.golf_source_meaning.specs.Exprs.{Argument, values_of, if_none}
-use Rattle.golf_source_meaning.specs.Meaning.{Meant, meant, meant_step}
+use Rattle.golf_source_meaning.specs.Operations.{Gives, both, then_do, visible}
+use Rattle.golf_source_meaning.specs.Exprs as X
+use Rattle.golf_source_meaning.specs.Exprs.{Argument, only, int_value, values_of, if_none}
+use Rattle.golf_source_meaning.specs.Meaning.{Meant, MeantPut, meant, meant_step}
 use Rattle.golf_statement_meaning.specs.Flows.{Course, Flow, on, after, ends_here, or_else, guarded, tested, turns, then_post}
 use Rattle.golf_statement_meaning.specs.Steps.{Deals, Deed, Step, declared, drops, update_operation, updates, assigns, one, stores_pair, defines_pair, simple_deals, nothing, beginning, then_deed, in_order, in_block, block, returned, parts, in_loop, is_plain, measured, over}
 use Rattle.golf_statement_meaning.specs.Selecting.{ClauseStep, communicates, breaking}
@@ -58,6 +62,10 @@ use Rattle.golf_function_meaning.proofs.Equations as e
 use Rattle.golf_flat_meaning.specs.Worlds as W
 
 -- Expressions.
+
+-- what a meaning gives on a line
+abbrev gives_on : Meant → ℕ → Scope → Env → Gives
+gives_on m l s env = (m.does l s).value env
 
 pub record Sample : Type 0 where
   pub tree : Expr
@@ -74,6 +82,15 @@ integer n = record { tree = ex.Integer n; value = meant_step tables (E.Integer n
 
 abbrev pub text : List ℕ → Sample
 text n = record { tree = ex.Text n; value = meant_step tables (E.Text n); judged = judge_step (E.Text n); same = e.meant-Text tables n; alike = j.judge-Text n }
+
+abbrev pub parens : Sample → Sample
+parens a = record {
+  tree = ex.Parens a.tree;
+  value = meant_step tables (E.Parens a.value);
+  judged = judge_step (E.Parens a.judged);
+  same = e.meant-Parens tables a.tree ∙ ap (λ m. meant_step tables (E.Parens m)) a.same;
+  alike = j.judge-Parens a.tree ∙ ap (λ m. judge_step (E.Parens m)) a.alike;
+}
 
 -- `a.n`
 abbrev pub dot : Sample → List ℕ → Sample
@@ -138,9 +155,98 @@ call f xs = record {
   alike = j.judge-Call f.tree (expressions xs) ∙ ap (λ k. judge_step (E.Call k (map judge (expressions xs)))) f.alike ∙ ap (λ ks. judge_step (E.Call f.judged ks)) (all-judged xs);
 }
 
--- what a sample's meaning gives on a line
-abbrev gives_on : Meant → ℕ → Scope → Env → Gives
-gives_on m l s env = (m.does l s).value env
+-- Literals, `make` and `new`.
+
+abbrev pub empty_literal : Sample
+empty_literal = record { tree = ex.EmptyLiteral; value = meant_step tables E.EmptyLiteral; judged = judge_step E.EmptyLiteral; same = e.meant-EmptyLiteral tables; alike = j.judge-EmptyLiteral }
+
+abbrev pub sync_literal : List ℕ → Sample
+sync_literal n = record { tree = ex.SyncLiteral n; value = meant_step tables (E.SyncLiteral n); judged = judge_step (E.SyncLiteral n); same = e.meant-SyncLiteral tables n; alike = j.judge-SyncLiteral n }
+
+abbrev pub new : List ℕ → Sample
+new n = record { tree = ex.New n; value = meant_step tables (E.New n); judged = judge_step (E.New n); same = e.meant-New tables n; alike = j.judge-New n }
+
+abbrev pub new_sync : List ℕ → Sample
+new_sync n = record { tree = ex.NewSync n; value = meant_step tables (E.NewSync n); judged = judge_step (E.NewSync n); same = e.meant-NewSync tables n; alike = j.judge-NewSync n }
+
+abbrev make_meant : Write → Meant
+make_meant x = record { judge = λ l s. T.made l (x l s); does = λ l s. only (λ env. X.made (x l s).type (int_value 0 ∷ [])) }
+
+abbrev make_judged : Write → Judge
+make_judged x l s = T.made l (x l s)
+
+abbrev pub make : WrittenType → Sample
+make t = record { tree = ex.Make t.tree; value = make_meant t.value; judged = make_judged t.value; same = e.meant-Make tables t.tree ∙ ap make_meant t.same; alike = j.judge-Make t.tree ∙ ap make_judged t.same }
+
+abbrev sized_meant : Write → Meant → Meant
+sized_meant x m = record { judge = λ l s. T.made_sized l (x l s) (m.judge l s); does = λ l s. only (λ env. then_do (gives_on m l s env) (X.made (x l s).type)) }
+
+abbrev sized_judged : Write → Judge → Judge
+sized_judged x k l s = T.made_sized l (x l s) (k l s)
+
+abbrev pub make_sized : WrittenType → Sample → Sample
+make_sized t a = record {
+  tree = ex.MakeSized t.tree a.tree;
+  value = sized_meant t.value a.value;
+  judged = sized_judged t.value a.judged;
+  same = e.meant-MakeSized tables t.tree a.tree ∙ ap (λ x. sized_meant x (meant tables a.tree)) t.same ∙ ap (sized_meant t.value) a.same;
+  alike = j.judge-MakeSized t.tree a.tree ∙ ap (λ x. sized_judged x (judge a.tree)) t.same ∙ ap (sized_judged t.value) a.alike;
+}
+
+abbrev slice_judged : Write → List Judge → Judge
+slice_judged x ks l s = T.slice_literal l (x l s) (with_layer layer.Slice (x l s).type) (map (λ k. k l s) ks)
+
+abbrev slice_meant : Write → List Meant → Meant
+slice_meant x ms = record {
+  judge = slice_judged x (map (λ (m : Meant). m.judge) ms);
+  does = λ l s. only (λ env. X.slice_literal (with_layer layer.Slice (x l s).type) (map (λ (m : Meant). gives_on m l s env) ms));
+}
+
+abbrev pub slice_literal : WrittenType → List Sample → Sample
+slice_literal t xs = record {
+  tree = ex.SliceLiteral t.tree (expressions xs);
+  value = slice_meant t.value (meanings xs);
+  judged = slice_judged t.value (judgments xs);
+  same = e.meant-SliceLiteral tables t.tree (expressions xs) ∙ ap (λ x. slice_meant x (map (meant tables) (expressions xs))) t.same ∙ ap (slice_meant t.value) (all-meant xs);
+  alike = j.judge-SliceLiteral t.tree (expressions xs) ∙ ap (λ x. slice_judged x (map judge (expressions xs))) t.same ∙ ap (slice_judged t.value) (all-judged xs);
+}
+
+-- `field: value`
+pub record PutSample : Type 0 where
+  pub field : List ℕ
+  pub value : Sample
+
+abbrev pub elements : List PutSample → List Element
+elements xs = map (λ (x : PutSample). record { field = x.field; value = x.value.tree }) xs
+
+abbrev put_meant : List ℕ → Meant → MeantPut
+put_meant n m = record { name = n; value = m }
+
+abbrev put_judged : List ℕ → Judge → Put
+put_judged n k = record { name = n; judge = k }
+
+abbrev pub puts_meant : List PutSample → List MeantPut
+puts_meant xs = map (λ (x : PutSample). put_meant x.field x.value.value) xs
+
+abbrev pub puts_judged : List PutSample → List Put
+puts_judged xs = map (λ (x : PutSample). put_judged x.field x.value.judged) xs
+
+pub puts-meant : (xs : List PutSample) → map (e.meant_put tables) (elements xs) ≡ puts_meant xs
+puts-meant [] = refl
+puts-meant (x ∷ xs) = ap (λ m. put_meant x.field m ∷ map (e.meant_put tables) (elements xs)) x.value.same ∙ ap (λ ms. put_meant x.field x.value.value ∷ ms) (puts-meant xs)
+
+pub puts-judged : (xs : List PutSample) → map j.put_of (elements xs) ≡ puts_judged xs
+puts-judged [] = refl
+puts-judged (x ∷ xs) = ap (λ k. put_judged x.field k ∷ map j.put_of (elements xs)) x.value.alike ∙ ap (λ ks. put_judged x.field x.value.judged ∷ ks) (puts-judged xs)
+
+abbrev pub struct_literal : List ℕ → List PutSample → Sample
+struct_literal n xs = record {
+  tree = ex.StructLiteral n (elements xs);
+  value = meant_step tables (E.StructLiteral n (puts_meant xs));
+  judged = judge_step (E.StructLiteral n (puts_judged xs));
+  same = e.meant-StructLiteral tables n (elements xs) ∙ ap (λ ms. meant_step tables (E.StructLiteral n ms)) (puts-meant xs);
+  alike = j.judge-StructLiteral n (elements xs) ∙ ap (λ ks. judge_step (E.StructLiteral n ks)) (puts-judged xs);
+}
 
 -- Simple statements, on line 1.
 
@@ -397,32 +503,59 @@ while_step x ys m = record { part = O.for_part tables 1 (header.While x) (parts 
 abbrev pub while : Sample → List StmtSample → StmtSample
 while a xs = record { tree = st.For 1 (header.While a.tree) (trees xs); value = while_step a.tree (values xs) a.value; same = e.step-For tables 1 (header.While a.tree) (trees xs) ∙ ap (λ ys. step_step tables (F.For 1 (header.While a.tree) ys)) (all-same xs) ∙ ap (while_step a.tree (values xs)) a.same }
 
+-- `for first; test; post { }`, each part of which may be missing
+abbrev steps_step : Option Simple → Option Expr → Option Simple → List Step → Deed → (Deed → Deed) → Deed → Step
+steps_step x t y ys d test f = record {
+  part = O.for_part tables 1 (header.Steps x t y) (parts ys);
+  deed = in_block (then_deed (L.optional tables x) d (λ a s n env w.
+      guarded (is_plain y) w (turns n (test (λ a s n env w. then_post (in_loop 2 0 (block ys) (past a ((L.optional tables y).lay a s)) (behind s ((L.optional tables y).walk s)) n env w) (f a s n)) a s n) env w)));
+}
+
+abbrev untested : Deed → Deed
+untested d = d
+
+abbrev pub stepping : KindSample → Sample → KindSample → List StmtSample → StmtSample
+stepping k a q xs = record {
+  tree = st.For 1 (header.Steps (Some (line k)) (Some a.tree) (Some (line q))) (trees xs);
+  value = steps_step (Some (line k)) (Some a.tree) (Some (line q)) (values xs) (deals_deed k.deals) (tests a.value) (deals_deed q.deals);
+  same =
+      e.step-For tables 1 (header.Steps (Some (line k)) (Some a.tree) (Some (line q))) (trees xs)
+      ∙ ap (λ ys. step_step tables (F.For 1 (header.Steps (Some (line k)) (Some a.tree) (Some (line q))) ys)) (all-same xs)
+      ∙ ap (λ d. steps_step (Some (line k)) (Some a.tree) (Some (line q)) (values xs) (deals_deed d) (tests (meant tables a.tree)) (deals_deed (simple_deals tables 1 q.kind))) k.same
+      ∙ ap (λ m. steps_step (Some (line k)) (Some a.tree) (Some (line q)) (values xs) (deals_deed k.deals) (tests m) (deals_deed (simple_deals tables 1 q.kind))) a.same
+      ∙ ap (λ f. steps_step (Some (line k)) (Some a.tree) (Some (line q)) (values xs) (deals_deed k.deals) (tests a.value) (deals_deed f)) q.same;
+}
+
+-- `for ; test; post { }`
+abbrev pub stepping_on : Sample → KindSample → List StmtSample → StmtSample
+stepping_on a q xs = record {
+  tree = st.For 1 (header.Steps None (Some a.tree) (Some (line q))) (trees xs);
+  value = steps_step None (Some a.tree) (Some (line q)) (values xs) nothing (tests a.value) (deals_deed q.deals);
+  same =
+      e.step-For tables 1 (header.Steps None (Some a.tree) (Some (line q))) (trees xs)
+      ∙ ap (λ ys. step_step tables (F.For 1 (header.Steps None (Some a.tree) (Some (line q))) ys)) (all-same xs)
+      ∙ ap (λ m. steps_step None (Some a.tree) (Some (line q)) (values xs) nothing (tests m) (deals_deed (simple_deals tables 1 q.kind))) a.same
+      ∙ ap (λ f. steps_step None (Some a.tree) (Some (line q)) (values xs) nothing (tests a.value) (deals_deed f)) q.same;
+}
+
+-- `for first; ; post { }`
+abbrev pub stepping_untested : KindSample → KindSample → List StmtSample → StmtSample
+stepping_untested k q xs = record {
+  tree = st.For 1 (header.Steps (Some (line k)) None (Some (line q))) (trees xs);
+  value = steps_step (Some (line k)) None (Some (line q)) (values xs) (deals_deed k.deals) untested (deals_deed q.deals);
+  same =
+      e.step-For tables 1 (header.Steps (Some (line k)) None (Some (line q))) (trees xs)
+      ∙ ap (λ ys. step_step tables (F.For 1 (header.Steps (Some (line k)) None (Some (line q))) ys)) (all-same xs)
+      ∙ ap (λ d. steps_step (Some (line k)) None (Some (line q)) (values xs) (deals_deed d) untested (deals_deed (simple_deals tables 1 q.kind))) k.same
+      ∙ ap (λ f. steps_step (Some (line k)) None (Some (line q)) (values xs) (deals_deed k.deals) untested (deals_deed f)) q.same;
+}
+
 -- `for ; ; { }`
 abbrev pub stepping_alone : List StmtSample → StmtSample
 stepping_alone xs = record {
   tree = st.For 1 (header.Steps None None None) (trees xs);
   value = step_step tables (F.For 1 (header.Steps None None None) (values xs));
   same = e.step-For tables 1 (header.Steps None None None) (trees xs) ∙ ap (λ ys. step_step tables (F.For 1 (header.Steps None None None) ys)) (all-same xs);
-}
-
--- `for first; test; post { }`
-abbrev steps_step : Simple → Expr → Simple → List Step → (Scope → Deals) → Meant → (Scope → Deals) → Step
-steps_step x t y ys d m f = record {
-  part = O.for_part tables 1 (header.Steps (Some x) (Some t) (Some y)) (parts ys);
-  deed = in_block (then_deed (L.simple_part tables x) (deals_deed d) (λ a s n env w.
-      guarded (is_plain (Some y)) w (turns n (tests m (λ a s n env w. then_post (in_loop 2 0 (block ys) (past a ((L.simple_part tables y).lay a s)) (behind s ((L.simple_part tables y).walk s)) n env w) (deals_deed f a s n)) a s n) env w)));
-}
-
-abbrev pub stepping : KindSample → Sample → KindSample → List StmtSample → StmtSample
-stepping k a q xs = record {
-  tree = st.For 1 (header.Steps (Some (line k)) (Some a.tree) (Some (line q))) (trees xs);
-  value = steps_step (line k) a.tree (line q) (values xs) k.deals a.value q.deals;
-  same =
-      e.step-For tables 1 (header.Steps (Some (line k)) (Some a.tree) (Some (line q))) (trees xs)
-      ∙ ap (λ ys. step_step tables (F.For 1 (header.Steps (Some (line k)) (Some a.tree) (Some (line q))) ys)) (all-same xs)
-      ∙ ap (λ d. steps_step (line k) a.tree (line q) (values xs) d (meant tables a.tree) (simple_deals tables 1 q.kind)) k.same
-      ∙ ap (λ m. steps_step (line k) a.tree (line q) (values xs) k.deals m (simple_deals tables 1 q.kind)) a.same
-      ∙ ap (λ f. steps_step (line k) a.tree (line q) (values xs) k.deals a.value f) q.same;
 }
 
 abbrev range_deed : RangeNames → List Step → Meant → Judge → Deed
