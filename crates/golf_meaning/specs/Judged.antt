@@ -1,0 +1,43 @@
+-- When code is that of a file, and when it agrees with the file's source.
+use Rattle.std.specs.Prelude.{◌≡◌, ℕ, ◌<◌, ◌≤◌, List, length, Option, Some, None, slice_get}
+use Rattle.golf_grammar.specs.declared.declarations.File.{File}
+use Rattle.golf_data.specs.declared.value.Value.{Value}
+use Rattle.golf_data.specs.declared.code.Code.{Code}
+use Rattle.golf_data.specs.declared.code.Function.{Function}
+use Rattle.golf_code_of.specs.Files.{CodeOf}
+use Rattle.golf_flat_meaning.specs.Worlds.{Answer}
+use Rattle.golf_flat_meaning.specs.Laws.{Agree, NeverUnfit}
+use Rattle.golf_function_meaning.specs.Functions.{CodeMeaning}
+use Rattle.golf_function_meaning.specs.Files.{function_count, MeaningOf}
+
+-- the same parameters, the same slots, and the same body with its lines
+pub record HasSameBody (f g : Function) : Type 0 where
+  pub params : f.params ≡ g.params
+  pub slots : f.slots ≡ g.slots
+  pub body : f.body ≡ g.body
+
+-- both are there, and have the same body
+abbrev pub AreSame : Option Function → Option Function → Type 0
+AreSame (Some f) (Some g) = HasSameBody f g
+AreSame (Some f) None = ⊥
+AreSame None o = ⊥
+
+-- the code has a function of this number, and its parameters, slots and body are those that it has in the code of the file
+abbrev pub IsCodeOf : File → Code → ℕ → Type 0
+IsCodeOf file code k = AreSame (slice_get code.functions k) (slice_get (CodeOf file).functions k)
+
+-- the number is that of a function or method of the file: neither 0, nor that of one that is made for `go` or `defer`
+abbrev pub IsNumbered : File → ℕ → Type 0
+IsNumbered file k = (0 < k) × (k ≤ function_count file.declarations)
+
+-- with as many arguments as it has parameters, and answers for which the source is unfit for no bound, the meaning of the source of this
+-- number and that of the function agree: for each bound of one there is a bound of the other
+abbrev pub FunctionAgrees : File → ℕ → Option Function → Type 0
+FunctionAgrees file k None = ⊥
+FunctionAgrees file k (Some fn) =
+    (arguments : List Value) (answers : List Answer) → length arguments ≡ fn.params → NeverUnfit (MeaningOf file k arguments answers)
+    → Agree (MeaningOf file k arguments answers) (CodeMeaning fn arguments answers)
+
+-- the code has a function of this number, which agrees with its source
+abbrev pub Agrees : File → Code → ℕ → Type 0
+Agrees file code k = FunctionAgrees file k (slice_get code.functions k)
