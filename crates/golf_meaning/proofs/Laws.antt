@@ -10,7 +10,7 @@ use Rattle.golf_data.specs.declared.code.Line.{Line}
 use Rattle.golf_code_of.specs.Files.{CodeOf}
 use Rattle.golf_flat_meaning.specs.Worlds.{Answer, Told}
 use Rattle.golf_flat_meaning.specs.Flat.{exec}
-use Rattle.golf_flat_meaning.specs.Laws.{Agree, NeverUnfit}
+use Rattle.golf_flat_meaning.specs.Laws.{Agree}
 use Rattle.golf_function_meaning.specs.Functions.{CodeMeaning, begins}
 use Rattle.golf_function_meaning.specs.Files.{function_count, MeaningOf}
 use Rattle.golf_function_meaning.proofs.WholeFiles.{files-agree}

@@ -14,6 +14,7 @@ use std::process::Abort;
 use std::test::Fail;
 
 const UP: u32 = 1;
+
 const MAIN: u32 = 2;
 
 // The place of the first such instruction, or the end.
@@ -34,7 +35,13 @@ fn subtract(rt: &impl Abort, code: &mut Code, number: u32) {
     let at = first_place(function.body.as_slice(), &Instr::Add);
     assert!(rt; at < function.body.len());
     let line = function.body.as_slice()[at].line;
-    function.body.set(at, Line { instr: Instr::Sub, line });
+    function.body.set(
+        at,
+        Line {
+            instr: Instr::Sub,
+            line,
+        },
+    );
 }
 
 // What a function is judged to be.
