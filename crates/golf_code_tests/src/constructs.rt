@@ -25,6 +25,17 @@ fn loops_have_their_code(rt: HostRuntime) -> Result<(), Fail> {
     Ok(())
 }
 
+// The function that `docs/MEANING.md` works through.
+#[test]
+fn a_function_that_gathers_what_it_receives_has_its_code(rt: HostRuntime) -> Result<(), Fail> {
+    expect(
+        &rt,
+        rt.alloc(),
+        "package main\nfunc gather(c chan int, n int) int {\nsum := 0\nfor i := 0; i < n; i++ {\nsum += <-c\n}\nreturn sum\n}\nfunc main() {\n}",
+        "9: 0 0 0; Call(2, 0) on 9; Return on 9\n2: 2 4 2; Int(0) on 3; Store(2) on 3; Int(0) on 4; Store(3) on 4; Load(3) on 4; Load(1) on 4; Less on 4; JumpIfNot(18) on 4; Load(2) on 5; Load(0) on 5; Receive on 5; Add on 5; Store(2) on 5; Load(3) on 4; Int(1) on 4; Add on 4; Store(3) on 4; Jump(4) on 4; Load(2) on 7; ReturnValue on 7; Int(0) on 2; ReturnValue on 2\n9: 0 0 0; Return on 9\n",
+    )
+}
+
 #[test]
 fn statements_have_their_code(rt: HostRuntime) -> Result<(), Fail> {
     let rows = [

@@ -18,6 +18,7 @@ pub asked-line : (words : List (List ℕ)) (r : Result (Option Line) Memory) (n 
 asked-line words (Ok (Some (Line.Threads m))) n e is = sym is ∙ ap (λ k. Some (Line.Threads k)) (same m n e)
 asked-line words (Ok (Some (Line.Run options))) n e is = absurd (never n e)
 asked-line words (Ok (Some (Line.Generate m))) n e is = absurd (never n e)
+asked-line words (Ok (Some Line.Meaning)) n e is = absurd (never n e)
 asked-line words (Ok None) n e is = absurd (never n e)
 asked-line words (Err m) n e is = absurd (never n e)
 
@@ -26,6 +27,7 @@ pub asked-within : (r : Result (Option Line) Memory) (n : ℕ) → threads_asked
 asked-within (Ok (Some (Line.Threads m))) n e w = subst (λ k. IsWithin (Line.Threads k)) (same m n e) w
 asked-within (Ok (Some (Line.Run options))) n e w = absurd (never n e)
 asked-within (Ok (Some (Line.Generate m))) n e w = absurd (never n e)
+asked-within (Ok (Some Line.Meaning)) n e w = absurd (never n e)
 asked-within (Ok None) n e w = absurd (never n e)
 asked-within (Err m) n e w = absurd (never n e)
 

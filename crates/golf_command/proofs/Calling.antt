@@ -18,8 +18,8 @@ use Rattle.golf_run.specs.HasRun.{Sinks, GotWrites, HasFailed, IsSteady}
 use Rattle.golf_command.specs.Ways.{out_for, err_for}
 use Rattle.golf_command.specs.Meaning.{IsLine, IsNoLine, Reads, IsFileOf, Meaning}
 use Rattle.golf_command.specs.Meaning.RefusedBy.{TooLong}
-use Rattle.golf_command.specs.Meaning.Meaning.{Misused, Refused, Runs}
-use Rattle.golf_command.specs.Means.{View, seen, FileMeans, RunsWhole, Says, IsRunEnd, LineMeans, UsageMeans, SinkCauses, SourceCauses, Causes, IsQuiet, GotMeaning, FileTells, LineTells, IsUntouched, Tells}
+use Rattle.golf_command.specs.Meaning.Meaning.{Misused, Refused, Goes}
+use Rattle.golf_command.specs.Means.{View, seen, FileMeans, GoesWhole, Says, IsWholeEnd, LineMeans, UsageMeans, SinkCauses, SourceCauses, Causes, IsQuiet, GotMeaning, FileTells, LineTells, IsUntouched, Tells}
 use Rattle.golf_command.proofs.Sinking.{some-rose}
 use Rattle.golf_command.proofs.Filing.{refused-tells, wanting-tells}
 
@@ -51,7 +51,7 @@ no-read-fault line bytes s.Memory a b m e = cc
 
 -- a file of which the status tells
 pub file-tells : (line : Line) (bytes : List ℕ) (left left' : Option (List ℕ)) (rf rf' : ℕ) (r : Status) (a b : Sinks)
-    → IsFileOf line left bytes → rf' ≡ rf → (Reads line → IsRunEnd r → IsAtEnd left') → FileTells line bytes r a b → LineTells line r (seen left rf a) (seen left' rf' b)
+    → IsFileOf line left bytes → rf' ≡ rf → (Reads line → IsWholeEnd r → IsAtEnd left') → FileTells line bytes r a b → LineTells line r (seen left rf a) (seen left' rf' b)
 file-tells line bytes left left' rf rf' r a b is same end h = record {
   means = inr (record { bytes = bytes; is_file = is; means = h.means; at_end = end });
   causes = record { source = causes-of r rf rf' a b same h.causes (no-read-fault line bytes r a b h.means); sinks = h.causes };
@@ -72,12 +72,14 @@ some-file : (line : Line) (left : Option (List ℕ)) → (bytes : List ℕ) × I
 some-file (Line.Run options) left = known left
 some-file (Line.Generate n) left = (generated_file n, refl)
 some-file (Line.Threads n) left = known left
+some-file Line.Meaning left = known left
 
 -- the file of a line that reads is what was left
 pub read-file : (line : Line) (left : Option (List ℕ)) (bytes : List ℕ) → Reads line → IfSome left (λ told. told ≡ bytes) → IsFileOf line left bytes
 read-file (Line.Run options) left bytes reads told = told
 read-file (Line.Generate n) left bytes reads told = absurd reads
 read-file (Line.Threads n) left bytes reads told = told
+read-file Line.Meaning left bytes reads told = told
 
 -- memory was wanting before anything was run
 pub wanting : (line : Line) (within : IsWithin line) (left left' : Option (List ℕ)) (rf rf' : ℕ) (r : Status) (a b : Sinks) → rf' ≡ rf → Says s.Memory NO_MEMORY.now r a b → LineTells line r (seen left rf a) (seen left' rf' b)
@@ -85,9 +87,9 @@ wanting line within left left' rf rf' r a b same h =
     let file = some-file line left in
     file-tells line file.0 left left' rf rf' r a b file.1 same (λ reads ran. absurd (no-run r a b h ran)) (wanting-tells line file.0 within a b r h)
   where
-    no-run : (r : Status) (a b : Sinks) → Says s.Memory NO_MEMORY.now r a b → IsRunEnd r → ⊥
-    no-run r a b (inl e) ran = subst IsRunEnd e.0 ran
-    no-run r a b (inr e) ran = subst IsRunEnd e.0 ran
+    no-run : (r : Status) (a b : Sinks) → Says s.Memory NO_MEMORY.now r a b → IsWholeEnd r → ⊥
+    no-run r a b (inl e) ran = subst IsWholeEnd e.0 ran
+    no-run r a b (inr e) ran = subst IsWholeEnd e.0 ran
 
 -- the source failed
 pub unread : (line : Line) (reads : Reads line) (left left' : Option (List ℕ)) (rf rf' : ℕ) (r : Status) (a b : Sinks) → Rose rf rf' → rf ≤ rf' → Says s.ReadFault READ_FAULT.now r a b → LineTells line r (seen left rf a) (seen left' rf' b)
@@ -115,9 +117,9 @@ too-long line reads within left left' rf rf' r a b more same h =
     let file = long-file left left' more in
     file-tells line file.0 left left' rf rf' r a b (read-file line left file.0 reads file.1) same (λ _ ran. absurd (no-run h ran)) (refused-tells line file.0 within a b reads TOO_LONG.now r (TooLong file.2) h)
   where
-    no-run : Says s.Refused TOO_LONG.now r a b → IsRunEnd r → ⊥
-    no-run (inl e) ran = subst IsRunEnd e.0 ran
-    no-run (inr e) ran = subst IsRunEnd e.0 ran
+    no-run : Says s.Refused TOO_LONG.now r a b → IsWholeEnd r → ⊥
+    no-run (inl e) ran = subst IsWholeEnd e.0 ran
+    no-run (inr e) ran = subst IsWholeEnd e.0 ran
 
 -- ---- all words
 
@@ -156,11 +158,11 @@ module _ (words : List (List ℕ)) (left left' : Option (List ℕ)) (rf rf' : �
     said status r text (inl e) (inr why) = inr (line-got r text (subst (λ t. Meaning words left t [] text) (sym e.0) why) e.1)
     said status r text (inr e) why = absurd (loud (Write.ToErr text) left left' rf rf' a b quiet e.1.failed)
 
-    ran : (line : Line) (bytes : List ℕ) (r : Status) → IsLine words line → IsFileOf line left bytes → RunsWhole line bytes r a b → Whole r
+    ran : (line : Line) (bytes : List ℕ) (r : Status) → IsLine words line → IsFileOf line left bytes → GoesWhole line bytes r a b → Whole r
     ran line bytes r is file h =
         let out = out_for h.way (CodeOf h.file) in
         let err = err_for h.way (CodeOf h.file) in
-        inr (record { out = out; err = err; meaning = subst (λ t. Meaning words left t out err) (sym h.status) (Runs line bytes h.file h.way is file h.accepts h.is_way); got_out = h.out; got_err = h.err })
+        inr (record { out = out; err = err; meaning = subst (λ t. Meaning words left t out err) (sym h.status) (Goes line bytes h.file h.way is file h.accepts h.is_way); got_out = h.out; got_err = h.err })
 
     of-file : (line : Line) (bytes : List ℕ) (r : Status) → IsLine words line → IsFileOf line left bytes → FileMeans line bytes r a b → Whole r
     of-file line bytes s.Clean is file m = ran line bytes s.Clean is file m

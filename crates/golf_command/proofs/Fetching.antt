@@ -3,9 +3,9 @@ use Rattle.std.proofs.Common.{◌≡◌, ◌≤◌, ℕ, List, length, subst}
 use Rattle.std.specs.Prelude.{Option, IfSome}
 use Rattle.std.specs.Io.KnownBytes.{IsAtEnd}
 use Rattle.golf_base.specs.Causes.{Rose, ReadsSome}
-use Rattle.golf_data.specs.declared.code.Code.{Code}
+use Rattle.golf_grammar.specs.declared.declarations.File.{File}
 use Rattle.golf_reader.specs.declared.refusal.Refusal.{Refusal}
-use Rattle.golf_reader.specs.Refusals.{IsRefusedBy}
+use Rattle.golf_reader.specs.Refusals.{IsRefusedBy, HasTypedTree, IsOnly}
 use Rattle.golf_words.specs.declared.line.Line.{Line}
 use Rattle.golf_words.specs.Words.{IsWithin}
 use Rattle.golf_texts.specs.declared.status.Status.{Status}
@@ -15,7 +15,7 @@ use Rattle.golf_run.specs.HasRun.{Sinks, sinks}
 use Rattle.golf_command.specs.Ends.{EndsWith, Refuses}
 use Rattle.golf_command.specs.Meaning.{Reads}
 use Rattle.golf_command.specs.Means.{seen, FileTells, LineTells}
-use Rattle.golf_command.specs.Loads.{HasLoaded}
+use Rattle.golf_command.specs.Loads.{HasFetched, HasFile, Ends}
 use Rattle.golf_command.proofs.Sinking.{says}
 use Rattle.golf_command.proofs.Filing.{refusal-tells}
 use Rattle.golf_command.proofs.Calling.{file-tells, read-file, unread, too-long, wanting}
@@ -39,9 +39,20 @@ module _ (left left' : Option (List ℕ)) (rf rf' : ℕ) (err err' : Option (Lis
       file-tells line bytes left left' rf rf' r _ _ (read-file line left bytes reads told) same (λ _ _. at_end)
       (refusal-tells line bytes within reads short out of err err' ef ef' refusal r why e)
 
--- the file has code, and what follows tells of it
-module _ (line : Line) (reads : Reads line) (code : Code) (left left' : Option (List ℕ)) (rf rf' : ℕ) (l : HasLoaded code left left' rf rf') (out err err1 : Option (List ℕ)) (of ef ef1 : ℕ) where
+-- the bytes are refused, and nothing was written before
+pub then-refused : (bytes : List ℕ) (left left' : Option (List ℕ)) (rf rf' : ℕ) (err err1 err' : Option (List ℕ)) (ef ef1 ef' : ℕ) (r : Status) → HasFetched bytes left left' rf rf' → err1 ≡ err → ef1 ≡ ef
+    → (refusal : Refusal) → IsRefusedBy bytes refusal → Refuses r refusal err1 err' ef1 ef' → Ends r left left' rf rf' err err' ef ef'
+then-refused bytes left left' rf rf' err err1 err' ef ef1 ef' r h same quiet refusal why e =
+    is-refused left left' rf rf' err err' ef ef' r bytes h.told h.at_end h.quiet h.within refusal why
+    (subst (λ (y : Option (List ℕ) × ℕ). Refuses r refusal y.0 err' y.1 ef') (λ i. (same i, quiet i)) e)
+
+-- there is a file, and what follows tells of it
+module _ (line : Line) (reads : Reads line) (file : File) (left left' : Option (List ℕ)) (rf rf' : ℕ) (l : HasFile file left left' rf rf') (out err err1 : Option (List ℕ)) (of ef ef1 : ℕ) where
   pub loaded-tells : (b : Sinks) (r : Status) → err1 ≡ err → ef1 ≡ ef → FileTells line l.bytes r (sinks out of err1 ef1) b → LineTells line r (seen left rf (sinks out of err ef)) (seen left' rf' b)
   loaded-tells b r same quiet h =
       file-tells line l.bytes left left' rf rf' r (sinks out of err ef) b (read-file line left l.bytes reads l.told) l.quiet (λ _ _. l.at_end)
       (subst (λ (y : Option (List ℕ) × ℕ). FileTells line l.bytes r (sinks out of y.0 y.1) b) (λ i. (same i, quiet i)) h)
+
+-- the file of the bytes
+pub of-bytes : (file : File) (bytes : List ℕ) (left left' : Option (List ℕ)) (rf rf' : ℕ) → HasFetched bytes left left' rf rf' → HasTypedTree bytes file → IsOnly bytes file → HasFile file left left' rf rf'
+of-bytes file bytes left left' rf rf' h typed only = record { bytes = bytes; told = h.told; at_end = h.at_end; quiet = h.quiet; accepts = record { within = h.within; typed = typed }; only = only }

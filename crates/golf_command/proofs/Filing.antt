@@ -18,18 +18,19 @@ use Rattle.golf_texts.specs.Meaning.{status_by, status_of, last_of, reports_of, 
 use Rattle.golf_texts.specs.Writes.{Write}
 use Rattle.golf_model.proofs.Agreeing.{dead-sound, dead-complete}
 use Rattle.golf_laws.proofs.MainLaws as Law
+use Rattle.golf_meaning.proofs.Laws.{file-agrees}
 use Rattle.golf_never_stuck.specs.Reached.{IsProgram}
 use Rattle.golf_never_stuck.proofs.Reaching.{reached-moves-on}
 use Rattle.golf_never_stuck.proofs.Plain.{plain-runs-go-on}
 use Rattle.golf_reader.specs.declared.refusal.Refusal.{Refusal}
 use Rattle.golf_reader.specs.declared.refusal.Refusal.TheVariants as refusals
-use Rattle.golf_reader.specs.Refusals.{IsRefusedBy, HasTypedTree}
+use Rattle.golf_reader.specs.Refusals.{IsRefusedBy, IsOnly}
 use Rattle.golf_run.specs.HasRun.{Sinks, sinks, GotWrites, IsSteady}
 use Rattle.golf_command.specs.Ends.{EndsWith, Refuses}
-use Rattle.golf_command.specs.Ways.{Way, IsWayOf, options_of, out_for, err_for, writes_for}
+use Rattle.golf_command.specs.Ways.{Way, IsWayOf, options_of, status_by_options, status_for, out_for, err_for, writes_for}
 use Rattle.golf_command.specs.Meaning.{Reads, Accepts, AreTrue, MovesAlways, RefusedBy}
 use Rattle.golf_command.specs.Meaning.RefusedBy.{Unlexed, Unparsed, Untyped}
-use Rattle.golf_command.specs.Means.{Breaks, IsSound, BeginsRun, AreFirst, MayFollow, MayStand, RunsWhole, Says, FileTells}
+use Rattle.golf_command.specs.Means.{Breaks, IsSoundBy, IsSound, Begins, AreFirst, MayFollow, MayStand, GoesWhole, Says, FileTells}
 use Rattle.golf_command.specs.Means.IsCause.{Refusal as Refusing, Wanting}
 use Rattle.golf_command.specs.Means.MayFollow.{Next, Cause}
 use Rattle.golf_command.proofs.Sinking.{gets-more, breaks-later, some-rose, says}
@@ -54,15 +55,19 @@ moves-always bytes file options a =
       moves = λ s c leads going. reached-moves-on (CodeOf file) s c (record { file = file; program = program; coded = refl; leads = leads }) going;
     }
 
-sound-run : (way : Way) (bytes : List ℕ) (file : File) → Accepts bytes file → IsSound way (CodeOf file)
-sound-run way bytes file a = record { reports = are-true (CodeOf file) (options_of way); moves = moves-always bytes file (options_of way) a }
+sound-by : (options : Option Options) (bytes : List ℕ) (file : File) → Accepts bytes file → IsSoundBy options file
+sound-by (Some options) bytes file a = record { reports = are-true (CodeOf file) options; moves = moves-always bytes file options a }
+sound-by None bytes file a = file-agrees file
 
-begins : (line : Line) (bytes : List ℕ) (file : File) → Accepts bytes file → (w : (way : Way) × IsWayOf line (CodeOf file) way) → BeginsRun line (CodeOf file) []
-begins line bytes file a w = record { way = w.0; is_way = w.1; later = writes_for w.0 (CodeOf file); order = refl; sound = sound-run w.0 bytes file a }
+sound-way : (way : Way) (bytes : List ℕ) (file : File) → Accepts bytes file → IsSound way file
+sound-way way bytes file a = sound-by (options_of way) bytes file a
+
+begins : (line : Line) (bytes : List ℕ) (file : File) → Accepts bytes file → (w : (way : Way) × IsWayOf line file way) → Begins line file []
+begins line bytes file a w = record { way = w.0; is_way = w.1; later = writes_for w.0 (CodeOf file); order = refl; sound = sound-way w.0 bytes file a }
 
 module _ (line : Line) (bytes : List ℕ) (within : IsWithin line) where
   none-first : AreFirst line bytes []
-  none-first = record { runs = λ file a. begins line bytes file a (some-way line (CodeOf file) within); refused = λ none. refl }
+  none-first = record { accepted = λ file a. begins line bytes file a (some-way line file within); refused = λ none. refl }
 
   module _ (old new : Sinks) where
     -- a write failed behind these
@@ -100,46 +105,49 @@ module _ (line : Line) (bytes : List ℕ) (within : IsWithin line) where
     refusal-tells refusals.Memory r why (inr e) = by-want r e
 
   -- the file has this code
-  module _ (file : File) (code : Code) (accepted : Accepts bytes file) (is : code ≡ CodeOf file) (all : (other : File) → HasTypedTree bytes other → code ≡ CodeOf other) (way : Way) (is_way : IsWayOf line code way) where
+  module _ (file : File) (code : Code) (accepted : Accepts bytes file) (is : code ≡ CodeOf file) (only : IsOnly bytes file) (way : Way) (is_way : IsWayOf line file way) where
     first-of : (done more : List Write) → writes_for way code ≡ done ++ more → AreFirst line bytes done
     first-of done more split = record {
-      runs = λ other a. record {
+      accepted = λ other a. record {
         way = way;
-        is_way = subst (λ c. IsWayOf line c way) (all other a.typed) is_way;
+        is_way = subst (λ f. IsWayOf line f way) (sym (only other a.typed)) is_way;
         later = more;
-        order = ap (writes_for way) (sym (all other a.typed)) ∙ split;
-        sound = sound-run way bytes other a;
+        order = ap (λ f. writes_for way (CodeOf f)) (only other a.typed) ∙ ap (writes_for way) (sym is) ∙ split;
+        sound = sound-way way bytes other a;
       };
       refused = λ none. absurd (none file accepted);
     }
 
     module _ (old new : Sinks) where
-      whole-run : (r : Status) → r ≡ status_of code (options_of way) → Appends old.out new.out (out_for way code) → Appends old.err new.err (err_for way code) → RunsWhole line bytes r old new
-      whole-run r status out err = record {
+      goes-whole : (r : Status) → r ≡ status_for way code → Appends old.out new.out (out_for way code) → Appends old.err new.err (err_for way code) → GoesWhole line bytes r old new
+      goes-whole r status out err = record {
         file = file;
         accepts = accepted;
         way = way;
-        is_way = subst (λ c. IsWayOf line c way) is is_way;
-        status = status ∙ ap (λ c. status_of c (options_of way)) is;
+        is_way = is_way;
+        status = status ∙ ap (λ c. status_for way c) is;
         out = subst (λ c. Appends old.out new.out (out_for way c)) is out;
         err = subst (λ c. Appends old.err new.err (err_for way c)) is err;
-        sound = sound-run way bytes file accepted;
+        sound = sound-way way bytes file accepted;
       }
 
-      status-runs : (o : Option Ending) (b : Bool) → RunsWhole line bytes (status_by b o) old new → IsSteady old new → FileTells line bytes (status_by b o) old new
+      status-runs : (o : Option Ending) (b : Bool) → GoesWhole line bytes (status_by b o) old new → IsSteady old new → FileTells line bytes (status_by b o) old new
       status-runs (Some Ending.Returned) true h steady = record { means = h; causes = steady }
       status-runs (Some Ending.Returned) false h steady = record { means = h; causes = steady }
       status-runs (Some (Ending.Panicked kind g at)) b h steady = record { means = h; causes = steady }
       status-runs (Some Ending.Asleep) b h steady = record { means = h; causes = steady }
       status-runs None b h steady = record { means = h; causes = steady }
 
-      -- the run went to its end
-      pub ran-tells : (r : Status) → r ≡ status_of code (options_of way) → Appends old.out new.out (out_for way code) → Appends old.err new.err (err_for way code) → IsSteady old new → FileTells line bytes r old new
+      status-goes : (options : Option Options) → GoesWhole line bytes (status_by_options options code) old new → IsSteady old new → FileTells line bytes (status_by_options options code) old new
       unfolding status_of
-      ran-tells r status out err steady =
-          let options = options_of way in
+      status-goes (Some options) h steady = status-runs (ending (last_of code options)) (anyone_reported (reports_of code options)) h steady
+      status-goes None h steady = record { means = h; causes = steady }
+
+      -- it went to its end
+      pub went-tells : (r : Status) → r ≡ status_for way code → Appends old.out new.out (out_for way code) → Appends old.err new.err (err_for way code) → IsSteady old new → FileTells line bytes r old new
+      went-tells r status out err steady =
           subst (λ t. FileTells line bytes t old new) (sym status)
-          (status-runs (ending (last_of code options)) (anyone_reported (reports_of code options)) (subst (λ t. RunsWhole line bytes t old new) status (whole-run r status out err)) steady)
+          (status-goes (options_of way) (subst (λ t. GoesWhole line bytes t old new) status (goes-whole r status out err)) steady)
 
       -- a write failed in it
       pub failed-tells : (done rest : List Write) (cut : Write) → writes_for way code ≡ done ++ (cut ∷ rest) → Breaks old new done cut → FileTells line bytes s.WriteFault old new

@@ -8,7 +8,9 @@ use Rattle.golf_base.specs.declared.Memory.{Memory}
 use Rattle.golf_data.specs.declared.code.Code.{Code}
 use Rattle.golf_grammar.specs.declared.declarations.File.{File}
 use Rattle.golf_code_of.specs.Files.{CodeOf}
-use Rattle.golf_reader.specs.Refusals.{HasTypedTree}
+use Rattle.golf_function_meaning.specs.Files.{function_count}
+use Rattle.golf_texts.specs.Texts.{meaning_line}
+use Rattle.golf_reader.specs.Refusals.{IsOnly}
 use Rattle.golf_words.specs.declared.line.Line.{Line}
 use Rattle.golf_words.specs.Words.{IsWithin}
 use Rattle.golf_texts.specs.declared.status.Status.{Status}
@@ -18,11 +20,11 @@ use Rattle.golf_texts.specs.Writes.{Write}
 use Rattle.golf_run.specs.HasRun.{Sinks, sinks, GotWrites, WasCut}
 use Rattle.golf_command.specs.declared.texts.RunTexts.{RunTexts}
 use Rattle.golf_command.specs.Generating.{generated_writes}
-use Rattle.golf_command.specs.Ways.{Way, IsWayOf, out_for, err_for, writes_for}
-use Rattle.golf_command.specs.Written.{AreTextsOf, AreTextsByThreads, text_writes, WroteBoth, HasWritten}
+use Rattle.golf_command.specs.Ways.{Way, IsWayOf, AreTurns, out_for, err_for, writes_for}
+use Rattle.golf_command.specs.Written.{AreTextsOf, AreTextsByThreads, text_writes, WroteBoth, HasWritten, HasTold}
 use Rattle.golf_command.specs.Meaning.{Accepts}
-use Rattle.golf_command.specs.Means.{Says, FileTells}
-use Rattle.golf_command.proofs.Filing.{ran-tells, failed-tells, wanting-tells}
+use Rattle.golf_command.specs.Means.{Breaks, Says, FileTells}
+use Rattle.golf_command.proofs.Filing.{went-tells, failed-tells, wanting-tells}
 
 -- ---- both texts
 
@@ -79,37 +81,65 @@ unfolding generated_writes
 generated-last parts code = refl
 
 -- the file has this code, and its run goes in this way
-module _ (line : Line) (bytes : List ℕ) (within : IsWithin line) (file : File) (code : Code) (accepted : Accepts bytes file) (is : code ≡ CodeOf file) (all : (other : File) → HasTypedTree bytes other → code ≡ CodeOf other) where
-  module _ (way : Way) (is_way : IsWayOf line code way) (last : WritesLast way code) (of : RunTexts) (h : AreTextsOf of way code) (old new : Sinks) where
+module _ (line : Line) (bytes : List ℕ) (within : IsWithin line) (file : File) (code : Code) (accepted : Accepts bytes file) (is : code ≡ CodeOf file) (only : IsOnly bytes file) where
+  module _ (way : Way) (is_way : IsWayOf line file way) (last : WritesLast way code) (of : RunTexts) (h : AreTextsOf of way code) (old new : Sinks) where
     these : writes_for way code ≡ text_writes of
     these = last ∙ ap (λ t. Write.ToOut t ∷ Write.ToErr (err_for way code) ∷ []) (sym h.out) ∙ ap (λ t. Write.ToOut of.out ∷ Write.ToErr t ∷ []) (sym h.err)
 
     texts-tell : (r : Status) → HasWritten (Ok of) r old new → FileTells line bytes r old new
-    texts-tell r (inl w) = ran-tells line bytes within file code accepted is all way is_way old new r (w.0 ∙ h.status)
+    texts-tell r (inl w) = went-tells line bytes within file code accepted is only way is_way old new r (w.0 ∙ h.status)
         (subst (Appends old.out new.out) (append-nil of.out ∙ h.out) w.1.0)
         (subst (Appends old.err new.err) (append-nil of.err ∙ h.err) w.1.1) w.2
     texts-tell r (inr w) =
         subst (λ t. FileTells line bytes t old new) (sym w.0)
-        (failed-tells line bytes within file code accepted is all way is_way old new w.1.done w.1.later w.1.cut (these ∙ w.1.order)
+        (failed-tells line bytes within file code accepted is only way is_way old new w.1.done w.1.later w.1.cut (these ∙ w.1.order)
         (record { front = w.1.front; is_front = w.1.is_front; got = w.1.got; failed = w.1.failed }))
 
   -- texts of some way of the line, or none
   abbrev MadeOf : RunTexts → Type 0
-  MadeOf of = (way : Way) × IsWayOf line code way × WritesLast way code × AreTextsOf of way code
+  MadeOf of = (way : Way) × IsWayOf line file way × WritesLast way code × AreTextsOf of way code
 
   pub written-tells : (made : Result RunTexts Memory) (r : Status) (old new : Sinks) → IfOk made MadeOf → HasWritten made r old new → FileTells line bytes r old new
   written-tells (Ok of) r old new h w = texts-tell h.0 h.1 h.2 of h.3 old new r w
   written-tells (Err m) r old new h w = wanting-tells line bytes within old new r w
 
-pub made-of-parts : (parts : ℕ) (code : Code) (made : Result RunTexts Memory) → IfOk made (λ of. AreTextsOf of (Way.Generated parts) code)
-    → IfOk made (λ of. (way : Way) × IsWayOf (Line.Generate parts) code way × WritesLast way code × AreTextsOf of way code)
-made-of-parts parts code (Ok of) h = (Way.Generated parts, refl, generated-last parts code, h)
-made-of-parts parts code (Err m) h = tt
+pub made-of-parts : (parts : ℕ) (file : File) (code : Code) (made : Result RunTexts Memory) → IfOk made (λ of. AreTextsOf of (Way.Generated parts) code)
+    → IfOk made (λ of. (way : Way) × IsWayOf (Line.Generate parts) file way × WritesLast way code × AreTextsOf of way code)
+made-of-parts parts file code (Ok of) h = (Way.Generated parts, refl, generated-last parts code, h)
+made-of-parts parts file code (Err m) h = tt
 
-pub made-by-threads : (threads : ℕ) (code : Code) (made : Result RunTexts Memory) → IfOk made (λ of. AreTextsByThreads of threads code)
-    → IfOk made (λ of. (way : Way) × IsWayOf (Line.Threads threads) code way × WritesLast way code × AreTextsOf of way code)
-made-by-threads threads code (Ok of) h = (Way.ByThreads h.0, (h.0, refl, h.1), refl, h.2)
-made-by-threads threads code (Err m) h = tt
+pub made-by-threads : (threads : ℕ) (file : File) (code : Code) → code ≡ CodeOf file → (made : Result RunTexts Memory) → IfOk made (λ of. AreTextsByThreads of threads code)
+    → IfOk made (λ of. (way : Way) × IsWayOf (Line.Threads threads) file way × WritesLast way code × AreTextsOf of way code)
+made-by-threads threads file code is (Ok of) h = (Way.ByThreads h.0, (h.0, refl, subst (λ c. AreTurns c threads h.0) is h.1), refl, h.2)
+made-by-threads threads file code is (Err m) h = tt
+
+-- ---- the text of a line that runs nothing
+
+module _ (bytes : List ℕ) (file : File) (accepted : Accepts bytes file) (only : IsOnly bytes file) where
+  abbrev way : Way
+  way = Way.Compared (function_count file.declarations)
+
+  pub told-tells : (made : Result (List ℕ) Memory) (r : Status) (old new : Sinks) → IfOk made (λ text. text ≡ meaning_line (function_count file.declarations)) → HasTold made r old new → FileTells Line.Meaning bytes r old new
+  told-tells (Ok text) r old new is (inl w) =
+      went-tells Line.Meaning bytes tt file (CodeOf file) accepted refl only way refl old new r w.0
+      (subst (Appends old.out new.out) (append-nil text ∙ is) w.1.0) w.1.1 w.2
+  told-tells (Ok text) r old new is (inr w) =
+      subst (λ t. FileTells Line.Meaning bytes t old new) (sym w.0)
+      (failed-tells Line.Meaning bytes tt file (CodeOf file) accepted refl only way refl old new [] [] (Write.ToOut text) (ap (λ t. Write.ToOut t ∷ []) (sym is)) w.1)
+  told-tells (Err m) r old new is w = wanting-tells Line.Meaning bytes tt old new r w
+
+pub told-whole : (out out' err : Option (List ℕ)) (of of' ef : ℕ) (text : List ℕ) → Appends out out' text → of' ≡ of → HasTold (Ok text) s.Clean (sinks out of err ef) (sinks out' of' err ef)
+told-whole out out' err of of' ef text a e = inl (refl, (subst (Appends out out') (sym (append-nil text)) a, Appends-nil err), record { out = e; err = refl })
+
+pub told-cut : (out out' err : Option (List ℕ)) (of of' ef : ℕ) (text : List ℕ) → WritesFront out out' text → Rose of of' → HasTold (Ok text) s.WriteFault (sinks out of err ef) (sinks out' of' err ef)
+told-cut out out' err of of' ef text f rose = inr (refl, record { front = Write.ToOut f.0; is_front = (f.1, f.2); got = (subst (Appends out out') (sym (append-nil f.0)) f.3, Appends-nil err); failed = (rose, refl) })
+
+-- the text in other words
+pub same-text : (made : Result (List ℕ) Memory) (text now : List ℕ) (r : Status) (old new : Sinks) → made ≡ Ok text → now ≡ text → HasTold (Ok now) r old new → HasTold made r old new
+same-text made text now r old new e n told = subst (λ (x : Result (List ℕ) Memory). HasTold x r old new) (sym e) (subst (λ (t : List ℕ). HasTold (Ok t) r old new) n told)
+
+pub none-told : (made : Result (List ℕ) Memory) (m : Memory) (r : Status) (old new : Sinks) → made ≡ Err m → Says s.Memory NO_MEMORY.now r old new → HasTold made r old new
+none-told made m r old new e said = subst (λ (x : Result (List ℕ) Memory). HasTold x r old new) (sym e) said
 
 -- there are none
 pub none-written : (made : Result RunTexts Memory) (m : Memory) (r : Status) (old new : Sinks) → made ≡ Err m → Says s.Memory NO_MEMORY.now r old new → HasWritten made r old new

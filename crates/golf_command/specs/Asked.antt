@@ -8,5 +8,6 @@ abbrev pub threads_asked : Result (Option Line) Memory → Option ℕ
 threads_asked (Ok (Some (Line.Threads n))) = Some n
 threads_asked (Ok (Some (Line.Run options))) = None
 threads_asked (Ok (Some (Line.Generate n))) = None
+threads_asked (Ok (Some Line.Meaning)) = None
 threads_asked (Ok None) = None
 threads_asked (Err m) = None

@@ -19,8 +19,8 @@ use Rattle.golf_texts.specs.declared.status.Status.{Status}
 use Rattle.golf_texts.specs.declared.status.Status.TheVariants as s
 use Rattle.golf_texts.specs.declared.status.TheConstants.{LIMIT, USAGE, TOO_LONG}
 use Rattle.golf_texts.specs.Texts.{lexical_line, syntax_line, rule_line}
-use Rattle.golf_texts.specs.Meaning.{events_of, reports_of, status_of}
-use Rattle.golf_command.specs.Ways.{Way, IsWayOf, options_of, out_for, err_for}
+use Rattle.golf_texts.specs.Meaning.{events_of, reports_of}
+use Rattle.golf_command.specs.Ways.{Way, IsWayOf, status_for, out_for, err_for}
 
 -- ---- a line
 
@@ -37,12 +37,14 @@ abbrev pub Reads : Line → Type 0
 Reads (Line.Run options) = Unit {0}
 Reads (Line.Generate n) = ⊥
 Reads (Line.Threads n) = Unit {0}
+Reads Line.Meaning = Unit {0}
 
 -- its file is what the source had left, where that is told, or the generated one
 abbrev pub IsFileOf : Line → Option (List ℕ) → List ℕ → Type 0
 IsFileOf (Line.Run options) left bytes = IfSome left (λ known. known ≡ bytes)
 IsFileOf (Line.Generate n) left bytes = bytes ≡ generated_file n
 IsFileOf (Line.Threads n) left bytes = IfSome left (λ known. known ≡ bytes)
+IsFileOf Line.Meaning left bytes = IfSome left (λ known. known ≡ bytes)
 
 -- ---- a file
 
@@ -80,5 +82,5 @@ pub data RefusedBy (bytes : List ℕ) : List ℕ → Type 0 where
 pub data Meaning (words : List (List ℕ)) (left : Option (List ℕ)) : Status → List ℕ → List ℕ → Type 0 where
   Misused : IsNoLine words → Meaning words left s.Usage [] USAGE.now
   Refused : (line : Line) (bytes text : List ℕ) → IsLine words line → Reads line → IsFileOf line left bytes → RefusedBy bytes text → Meaning words left s.Refused [] text
-  Runs : (line : Line) (bytes : List ℕ) (file : File) (way : Way) → IsLine words line → IsFileOf line left bytes → Accepts bytes file → IsWayOf line (CodeOf file) way
-      → Meaning words left (status_of (CodeOf file) (options_of way)) (out_for way (CodeOf file)) (err_for way (CodeOf file))
+  Goes : (line : Line) (bytes : List ℕ) (file : File) (way : Way) → IsLine words line → IsFileOf line left bytes → Accepts bytes file → IsWayOf line file way
+      → Meaning words left (status_for way (CodeOf file)) (out_for way (CodeOf file)) (err_for way (CodeOf file))

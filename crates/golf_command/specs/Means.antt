@@ -1,5 +1,5 @@
 -- What the status of a call says of the words, of the file, of what the sinks got and of what failed.
-use Rattle.std.specs.Prelude.{◌≡◌, ℕ, ◌≤◌, ◌⊎◌, List, [], ◌∷◌, ◌++◌, map, Option, string_bytes}
+use Rattle.std.specs.Prelude.{◌≡◌, ℕ, ◌≤◌, ◌⊎◌, List, [], ◌∷◌, ◌++◌, map, Option, Some, None, string_bytes}
 use Rattle.std.specs.declared.string.String.{String}
 use Rattle.std.specs.declared.alloc.Global.{Global}
 use Rattle.std.specs.Io.KnownBytes.{Appends, Keeps, IsAtEnd}
@@ -7,14 +7,15 @@ use Rattle.golf_base.specs.Causes.{Rose}
 use Rattle.golf_data.specs.declared.code.Code.{Code}
 use Rattle.golf_grammar.specs.declared.declarations.File.{File}
 use Rattle.golf_code_of.specs.Files.{CodeOf}
+use Rattle.golf_meaning.specs.Judged.{FileAgrees}
+use Rattle.golf_schedules.specs.declared.options.Options.{Options}
 use Rattle.golf_words.specs.declared.line.Line.{Line}
 use Rattle.golf_texts.specs.declared.status.Status.{Status}
 use Rattle.golf_texts.specs.declared.status.Status.TheVariants as s
 use Rattle.golf_texts.specs.declared.status.TheConstants.{USAGE, READ_FAULT, NO_MEMORY}
-use Rattle.golf_texts.specs.Meaning.{status_of}
 use Rattle.golf_texts.specs.Writes.{Write}
 use Rattle.golf_run.specs.HasRun.{Sinks, GotWrites, IsFrontOf, HasFailed, IsSteady}
-use Rattle.golf_command.specs.Ways.{Way, IsWayOf, options_of, out_for, err_for, writes_for}
+use Rattle.golf_command.specs.Ways.{Way, IsWayOf, options_of, status_for, out_for, err_for, writes_for}
 use Rattle.golf_command.specs.Meaning.{IsLine, IsNoLine, Reads, IsFileOf, Accepts, AreTrue, MovesAlways, RefusedBy, Meaning}
 
 -- the bytes of the words
@@ -42,21 +43,29 @@ pub record Breaks (old new : Sinks) (done : List Write) (cut : Write) : Type 0 w
 -- ---- what a status says of a file
 
 -- the reports of the run of the code are true, and no turn of it is ever stuck
-pub record IsSound (way : Way) (code : Code) : Type 0 where
-  pub reports : AreTrue code (options_of way)
-  pub moves : MovesAlways code (options_of way)
+pub record IsSoundRun (code : Code) (options : Options) : Type 0 where
+  pub reports : AreTrue code options
+  pub moves : MovesAlways code options
 
--- the first writes of a sound run of the code, in a way of the line
-pub record BeginsRun (line : Line) (code : Code) (done : List Write) : Type 0 where
+-- what is said by what is written: of a run, its reports; else that the code of each function of the file agrees with its source, both ways
+abbrev pub IsSoundBy : Option Options → File → Type 0
+IsSoundBy (Some options) file = IsSoundRun (CodeOf file) options
+IsSoundBy None file = FileAgrees file
+
+abbrev pub IsSound : Way → File → Type 0
+IsSound way file = IsSoundBy (options_of way) file
+
+-- the first writes of a sound way of the line over the file
+pub record Begins (line : Line) (file : File) (done : List Write) : Type 0 where
   pub way : Way
-  pub is_way : IsWayOf line code way
+  pub is_way : IsWayOf line file way
   pub later : List Write
-  pub order : writes_for way code ≡ done ++ later
-  pub sound : IsSound way code
+  pub order : writes_for way (CodeOf file) ≡ done ++ later
+  pub sound : IsSound way file
 
--- the first writes of the file's run; none if no file is run
+-- the first writes over the file of these bytes; none if it is refused
 pub record AreFirst (line : Line) (bytes : List ℕ) (done : List Write) : Type 0 where
-  pub runs : (file : File) → Accepts bytes file → BeginsRun line (CodeOf file) done
+  pub accepted : (file : File) → Accepts bytes file → Begins line file done
   pub refused : ((file : File) → Accepts bytes file → ⊥) → done ≡ []
 
 -- the text of a cause, which may stand after them; only the file of a line that reads is refused
@@ -64,21 +73,21 @@ pub data IsCause (line : Line) (bytes : List ℕ) : List ℕ → Type 0 where
   Refusal : (text : List ℕ) → Reads line → RefusedBy bytes text → IsCause line bytes text
   Wanting : IsCause line bytes NO_MEMORY.now
 
--- what may be written after them: the next write of the run, or the text of a cause
+-- what may be written after them: the next write of the way, or the text of a cause
 pub data MayFollow (line : Line) (bytes : List ℕ) (done : List Write) : Write → Type 0 where
   Next : (write : Write) → AreFirst line bytes (done ++ write ∷ []) → MayFollow line bytes done write
   Cause : (text : List ℕ) → AreFirst line bytes done → IsCause line bytes text → MayFollow line bytes done (Write.ToErr text)
 
--- the file was run, and each sink got its whole text: what the machine that frees and reclaims nothing prints, and the reports of its book with the last line
-pub record RunsWhole (line : Line) (bytes : List ℕ) (answer : Status) (old new : Sinks) : Type 0 where
+-- The file was accepted, and each sink got its whole text: of a run, what the machine that frees and reclaims nothing prints, and the reports of its book with the last line; if nothing is run, the line that says how many functions agree, and nothing.
+pub record GoesWhole (line : Line) (bytes : List ℕ) (answer : Status) (old new : Sinks) : Type 0 where
   pub file : File
   pub accepts : Accepts bytes file
   pub way : Way
-  pub is_way : IsWayOf line (CodeOf file) way
-  pub status : answer ≡ status_of (CodeOf file) (options_of way)
+  pub is_way : IsWayOf line file way
+  pub status : answer ≡ status_for way (CodeOf file)
   pub out : Appends old.out new.out (out_for way (CodeOf file))
   pub err : Appends old.err new.err (err_for way (CodeOf file))
-  pub sound : IsSound way (CodeOf file)
+  pub sound : IsSound way file
 
 -- the file of a line that reads was refused, and standard error got the line that says why
 pub record IsRefused (line : Line) (bytes : List ℕ) (old new : Sinks) : Type 0 where
@@ -92,13 +101,14 @@ abbrev pub MayStand : Line → List Write → Type 0
 MayStand (Line.Run options) done = Unit {0}
 MayStand (Line.Generate n) done = done ≡ []
 MayStand (Line.Threads n) done = done ≡ []
+MayStand Line.Meaning done = done ≡ []
 
 -- What a status says of a file's bytes and of what the sinks got.
 abbrev pub FileMeans : Line → List ℕ → Status → Sinks → Sinks → Type 0
-FileMeans line bytes s.Clean old new = RunsWhole line bytes s.Clean old new
-FileMeans line bytes s.Found old new = RunsWhole line bytes s.Found old new
-FileMeans line bytes s.Crashed old new = RunsWhole line bytes s.Crashed old new
-FileMeans line bytes s.Spent old new = RunsWhole line bytes s.Spent old new
+FileMeans line bytes s.Clean old new = GoesWhole line bytes s.Clean old new
+FileMeans line bytes s.Found old new = GoesWhole line bytes s.Found old new
+FileMeans line bytes s.Crashed old new = GoesWhole line bytes s.Crashed old new
+FileMeans line bytes s.Spent old new = GoesWhole line bytes s.Spent old new
 FileMeans line bytes s.Refused old new = IsRefused line bytes old new
 FileMeans line bytes s.Usage old new = ⊥
 FileMeans line bytes s.ReadFault old new = ⊥
@@ -119,20 +129,20 @@ pub record IsUnread (line : Line) (answer : Status) (old new : View) : Type 0 wh
   pub failed : Rose old.read_faults new.read_faults
   pub says : Says s.ReadFault READ_FAULT.now answer old.sinks new.sinks
 
--- the status is that of a run
-abbrev pub IsRunEnd : Status → Type 0
-IsRunEnd s.Clean = Unit {0}
-IsRunEnd s.Found = Unit {0}
-IsRunEnd s.Crashed = Unit {0}
-IsRunEnd s.Spent = Unit {0}
-IsRunEnd _ = ⊥
+-- the status is that of a line whose file was accepted
+abbrev pub IsWholeEnd : Status → Type 0
+IsWholeEnd s.Clean = Unit {0}
+IsWholeEnd s.Found = Unit {0}
+IsWholeEnd s.Crashed = Unit {0}
+IsWholeEnd s.Spent = Unit {0}
+IsWholeEnd _ = ⊥
 
--- the line's file, of which the status tells; the source of a line that reads is at its end if the file was run
+-- the line's file, of which the status tells; the source of a line that reads is at its end if the file was accepted
 pub record TellsOfFile (line : Line) (answer : Status) (old new : View) : Type 0 where
   pub bytes : List ℕ
   pub is_file : IsFileOf line old.left bytes
   pub means : FileMeans line bytes answer old.sinks new.sinks
-  pub at_end : Reads line → IsRunEnd answer → IsAtEnd new.left
+  pub at_end : Reads line → IsWholeEnd answer → IsAtEnd new.left
 
 -- what a status says where the words are this line
 abbrev pub LineMeans : Line → Status → View → View → Type 0
@@ -174,7 +184,7 @@ pub record GotMeaning (words : List (List ℕ)) (answer : Status) (old new : Vie
 abbrev pub IsComplete : List (List ℕ) → Status → View → View → Type 0
 IsComplete words answer old new = IsQuiet old new → (answer ≡ s.Memory) ⊎ GotMeaning words answer old new
 
--- what the status of a run over a file's bytes says
+-- what a status says of a file's bytes
 pub record FileTells (line : Line) (bytes : List ℕ) (answer : Status) (old new : Sinks) : Type 0 where
   pub means : FileMeans line bytes answer old new
   pub causes : SinkCauses answer old new

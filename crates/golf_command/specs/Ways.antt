@@ -1,13 +1,18 @@
--- How the run of a line may go, and what it writes.
-use Rattle.std.specs.Prelude.{◌≡◌, ℕ, ◌<◌, ◌≤◌, false, List, [], ◌∷◌, ◌++◌, length, map, take, slice_get, Some, None}
+-- In which way a line may go, and what it writes then.
+use Rattle.std.specs.Prelude.{◌≡◌, ℕ, ◌<◌, ◌≤◌, false, List, [], ◌∷◌, ◌++◌, length, map, take, slice_get, Option, Some, None}
 use Rattle.golf_data.specs.declared.code.Code.{Code}
 use Rattle.golf_model.specs.State.{State, start, runnable, ending}
 use Rattle.golf_model.specs.Running.{Event, run}
+use Rattle.golf_grammar.specs.declared.declarations.File.{File}
+use Rattle.golf_code_of.specs.Files.{CodeOf}
+use Rattle.golf_function_meaning.specs.Files.{function_count}
 use Rattle.golf_schedules.specs.declared.schedule.Schedule.{Schedule}
 use Rattle.golf_schedules.specs.declared.options.Options.{Options}
 use Rattle.golf_words.specs.declared.line.Line.{Line}
-use Rattle.golf_texts.specs.Texts.{history_line}
-use Rattle.golf_texts.specs.Meaning.{events_of, out_of, end_of, err_of}
+use Rattle.golf_texts.specs.declared.status.Status.{Status}
+use Rattle.golf_texts.specs.declared.status.Status.TheVariants as s
+use Rattle.golf_texts.specs.Texts.{history_line, meaning_line}
+use Rattle.golf_texts.specs.Meaning.{events_of, status_of, out_of, end_of, err_of}
 use Rattle.golf_texts.specs.Writes.{Write, writes_of}
 use Rattle.golf_world.specs.History.{number_at}
 use Rattle.golf_command.specs.Generating.{generated_options, generated_summary, generated_writes}
@@ -42,37 +47,51 @@ pub record AreTurns (code : Code) (threads : ℕ) (ns : List ℕ) : Type 0 where
 
 -- ---- ways
 
--- a run goes by options, or as that of a generated file, or by threads whose turns had these numbers
+-- a run goes by options, or as that of a generated file, or by threads whose turns had these numbers; or nothing is run, and so many functions are compared with their source
 pub data Way : Type 0 where
   ByOptions : (options : Options) → Way
   Generated : (parts : ℕ) → Way
   ByThreads : (numbers : List ℕ) → Way
+  Compared : (functions : ℕ) → Way
 
--- a way in which the run of the line over this code may go
-abbrev pub IsWayOf : Line → Code → Way → Type 0
-IsWayOf (Line.Run options) code way = way ≡ Way.ByOptions options
-IsWayOf (Line.Generate n) code way = way ≡ Way.Generated n
-IsWayOf (Line.Threads n) code way = (ns : List ℕ) × (way ≡ Way.ByThreads ns) × AreTurns code n ns
+-- a way in which the line may go over this file
+abbrev pub IsWayOf : Line → File → Way → Type 0
+IsWayOf (Line.Run options) file way = way ≡ Way.ByOptions options
+IsWayOf (Line.Generate n) file way = way ≡ Way.Generated n
+IsWayOf (Line.Threads n) file way = (ns : List ℕ) × (way ≡ Way.ByThreads ns) × AreTurns (CodeOf file) n ns
+IsWayOf Line.Meaning file way = way ≡ Way.Compared (function_count file.declarations)
 
--- the options of a run that shows the same
-abbrev pub options_of : Way → Options
-options_of (Way.ByOptions options) = options
-options_of (Way.Generated n) = generated_options
-options_of (Way.ByThreads ns) = history_options ns
+-- the options of a run that shows the same, if anything is run
+abbrev pub options_of : Way → Option Options
+options_of (Way.ByOptions options) = Some options
+options_of (Way.Generated n) = Some generated_options
+options_of (Way.ByThreads ns) = Some (history_options ns)
+options_of (Way.Compared n) = None
 
--- what standard output gets of the run, and what standard error gets
+-- the status: that of the run, and 0 if nothing is run
+abbrev pub status_by_options : Option Options → Code → Status
+status_by_options (Some options) code = status_of code options
+status_by_options None code = s.Clean
+
+abbrev pub status_for : Way → Code → Status
+status_for way code = status_by_options (options_of way) code
+
+-- what standard output gets, and what standard error gets
 abbrev pub out_for : Way → Code → List ℕ
 out_for (Way.ByOptions options) code = out_of code options
 out_for (Way.Generated n) code = generated_summary n code
 out_for (Way.ByThreads ns) code = out_of code (history_options ns)
+out_for (Way.Compared n) code = meaning_line n
 
 abbrev pub err_for : Way → Code → List ℕ
 err_for (Way.ByOptions options) code = err_of code options
 err_for (Way.Generated n) code = end_of code generated_options
 err_for (Way.ByThreads ns) code = err_of code (history_options ns) ++ history_line ns
+err_for (Way.Compared n) code = []
 
--- what the run writes, in its order; threads write nothing before all turns are taken
+-- what is written, in its order; threads write nothing before all turns are taken
 abbrev pub writes_for : Way → Code → List Write
 writes_for (Way.ByOptions options) code = writes_of code options
 writes_for (Way.Generated n) code = generated_writes n code
 writes_for (Way.ByThreads ns) code = Write.ToOut (out_for (Way.ByThreads ns) code) ∷ Write.ToErr (err_for (Way.ByThreads ns) code) ∷ []
+writes_for (Way.Compared n) code = Write.ToOut (meaning_line n) ∷ []

@@ -5,16 +5,15 @@ use Rattle.golf_data.specs.declared.code.Code.{Code}
 use Rattle.golf_texts.specs.declared.status.Status.{Status}
 use Rattle.golf_texts.specs.declared.status.Status.TheVariants as s
 use Rattle.golf_texts.specs.declared.status.TheConstants.{NO_MEMORY}
-use Rattle.golf_texts.specs.Meaning.{status_of}
 use Rattle.golf_texts.specs.Writes.{Write}
 use Rattle.golf_run.specs.HasRun.{Sinks, GotWrites, IsSteady, WasCut}
 use Rattle.golf_command.specs.declared.texts.RunTexts.{RunTexts}
-use Rattle.golf_command.specs.Ways.{Way, AreTurns, options_of, out_for, err_for}
-use Rattle.golf_command.specs.Means.{Says}
+use Rattle.golf_command.specs.Ways.{Way, AreTurns, status_for, out_for, err_for}
+use Rattle.golf_command.specs.Means.{Breaks, Says}
 
 -- they are what the run writes that goes in this way, with its status
 pub record AreTextsOf (of : RunTexts) (way : Way) (code : Code) : Type 0 where
-  pub status : of.status ≡ status_of code (options_of way)
+  pub status : of.status ≡ status_for way code
   pub out : of.out ≡ out_for way code
   pub err : of.err ≡ err_for way code
 
@@ -35,3 +34,9 @@ abbrev pub HasWritten : Result RunTexts Memory → Status → Sinks → Sinks �
 HasWritten (Ok of) answer old new =
     ((answer ≡ of.status) × GotWrites (text_writes of) old new × IsSteady old new) ⊎ ((answer ≡ s.WriteFault) × WasCut (text_writes of) old new)
 HasWritten (Err m) answer old new = Says s.Memory NO_MEMORY.now answer old new
+
+-- the text was written to standard output, with status 0, or its write was cut; without a text the line that says so was written, and nothing else
+abbrev pub HasTold : Result (List ℕ) Memory → Status → Sinks → Sinks → Type 0
+HasTold (Ok text) answer old new =
+    ((answer ≡ s.Clean) × GotWrites (Write.ToOut text ∷ []) old new × IsSteady old new) ⊎ ((answer ≡ s.WriteFault) × Breaks old new [] (Write.ToOut text))
+HasTold (Err m) answer old new = Says s.Memory NO_MEMORY.now answer old new

@@ -7,6 +7,7 @@
 mod ends;
 mod generated;
 mod loading;
+mod meaning;
 mod texts;
 mod threads;
 mod top;

@@ -2,14 +2,27 @@
 
 ghost use Rattle.std.specs.Prelude.{IfOk};
 ghost use Rattle.golf_data.specs.Places.{HasPlaces};
-ghost use Rattle.golf_command.specs.Loads.{Loads};
+ghost use Rattle.golf_command.specs.Loads.{Fetches, Loads, LoadsTree};
 
 use crate::ends::{end, refuse};
-use golf_base::{ReadError, Sink, Source, read_file};
+use golf_base::{List, ReadError, Sink, Source, read_file};
+use golf_check::Checked;
 use golf_data::Code;
-use golf_reader::read;
+use golf_reader::{judge, read};
 use golf_texts::{LIMIT, NO_MEMORY, READ_FAULT, Status, TOO_LONG};
 use std::alloc::Global;
+
+// Reads the source to its end.
+fn fetch<S: Source, E: Sink>(alloc: Global, source: &mut S, err: &mut E) -> Result<List<u8>, Status>
+    ensures { Fetches result (S.left source.old) (S.left source.new) (S.faults source.old) (S.faults source.new) (E.written err.old) (E.written err.new) (E.faults err.old) (E.faults err.new) }
+{
+    match read_file(alloc, source, LIMIT) {
+        Ok(bytes) => Ok(bytes),
+        Err(ReadError::ReadFault) => Err(end(err, READ_FAULT, Status::ReadFault)),
+        Err(ReadError::TooLong) => Err(end(err, TOO_LONG, Status::Refused)),
+        Err(ReadError::Memory) => Err(end(err, NO_MEMORY, Status::Memory)),
+    }
+}
 
 /// Reads the source to its end and makes the code of its file. If there is none, a line says why, and the
 /// answer is how the program ends.
@@ -21,14 +34,31 @@ pub(crate) fn load<S: Source, E: Sink>(
     ensures places { IfOk result HasPlaces }
     ensures loads { Loads result (S.left source.old) (S.left source.new) (S.faults source.old) (S.faults source.new) (E.written err.old) (E.written err.new) (E.faults err.old) (E.faults err.new) }
 {
-    let bytes = match read_file(alloc, source, LIMIT) {
+    let bytes = match fetch(alloc, source, err) {
         Ok(bytes) => bytes,
-        Err(ReadError::ReadFault) => return Err(end(err, READ_FAULT, Status::ReadFault)),
-        Err(ReadError::TooLong) => return Err(end(err, TOO_LONG, Status::Refused)),
-        Err(ReadError::Memory) => return Err(end(err, NO_MEMORY, Status::Memory)),
+        Err(status) => return Err(status),
     };
     match read(alloc, bytes.as_slice()) {
         Ok(code) => Ok(code),
+        Err(refusal) => Err(refuse(alloc, err, refusal)),
+    }
+}
+
+/// Reads the source to its end and judges its file. If it is refused, a line says why, and the answer is how
+/// the program ends.
+pub(crate) fn load_tree<S: Source, E: Sink>(
+    alloc: Global,
+    source: &mut S,
+    err: &mut E,
+) -> Result<Checked, Status>
+    ensures { LoadsTree result (S.left source.old) (S.left source.new) (S.faults source.old) (S.faults source.new) (E.written err.old) (E.written err.new) (E.faults err.old) (E.faults err.new) }
+{
+    let bytes = match fetch(alloc, source, err) {
+        Ok(bytes) => bytes,
+        Err(status) => return Err(status),
+    };
+    match judge(alloc, bytes.as_slice()) {
+        Ok(checked) => Ok(checked),
         Err(refusal) => Err(refuse(alloc, err, refusal)),
     }
 }

@@ -1,7 +1,7 @@
-//! What is written of a run that is over: a text to each sink.
+//! What is written at the end of a line: of a run that is over, a text to each sink.
 
 ghost use Rattle.golf_run.specs.HasRun.{sinks};
-ghost use Rattle.golf_command.specs.Written.{HasWritten, WroteBoth};
+ghost use Rattle.golf_command.specs.Written.{HasTold, HasWritten, WroteBoth};
 
 use crate::ends::end;
 use golf_base::{List, Memory, Sink, write_all};
@@ -48,5 +48,26 @@ pub(crate) fn write_texts<O: Sink, E: Sink>(
         texts.status
     } else {
         Status::WriteFault
+    }
+}
+
+/// Writes the one text of a line that runs nothing, if there was memory to make it, and else the line that
+/// says so.
+pub(crate) fn write_told<O: Sink, E: Sink>(
+    out: &mut O,
+    err: &mut E,
+    made: Result<List<u8>, Memory>,
+) -> Status
+    ensures { HasTold made result
+        (sinks (O.written out.old) (O.faults out.old) (E.written err.old) (E.faults err.old))
+        (sinks (O.written out.new) (O.faults out.new) (E.written err.new) (E.faults err.new)) }
+{
+    let text = match made {
+        Ok(text) => text,
+        Err(_) => return end(err, NO_MEMORY, Status::Memory),
+    };
+    match write_all(out, text.as_slice()) {
+        Ok(()) => Status::Clean,
+        Err(_) => Status::WriteFault,
     }
 }

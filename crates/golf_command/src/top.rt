@@ -10,6 +10,7 @@ ghost use Rattle.golf_command.specs.Means.{words_of, seen, LineTells, Tells};
 use crate::ends::end;
 use crate::generated::run_generated;
 use crate::loading::load;
+use crate::meaning::serve_meaning;
 use crate::threads::serve_threads;
 use golf_base::{Gate, Memory, Sink, Source};
 use golf_run::{RunFault, run};
@@ -51,7 +52,7 @@ fn threads_of(line: &Result<Option<Line>, Memory>) -> Option<u32>
 {
     match line {
         Ok(Some(Line::Threads(threads))) => Some(*threads),
-        Ok(Some(Line::Run(_) | Line::Generate(_))) => None,
+        Ok(Some(Line::Run(_) | Line::Generate(_) | Line::Meaning)) => None,
         Ok(None) => None,
         Err(_) => None,
     }
@@ -75,6 +76,7 @@ fn serve<R: AllocGlobal + Threads + Sync, S: Source, O: Sink, E: Sink, G: Gate +
     match line {
         Ok(Some(Line::Run(options))) => run_source(rt, options, source, out, err, gate),
         Ok(Some(Line::Generate(parts))) => { run_generated(rt, rt.alloc(), parts, out, err, gate) }
+        Ok(Some(Line::Meaning)) => serve_meaning(rt.alloc(), source, out, err),
         Ok(Some(Line::Threads(_))) => unreachable!(),
         Ok(None) => end(err, USAGE, Status::Usage),
         Err(_) => end(err, NO_MEMORY, Status::Memory),
@@ -82,7 +84,7 @@ fn serve<R: AllocGlobal + Threads + Sync, S: Source, O: Sink, E: Sink, G: Gate +
 }
 
 /// All that the program does: it looks at the words, reads the file from `source`, judges it and
-/// runs it. What the file prints goes to `out`, everything else to `err`. A threads line may wait for the
+/// runs it, or compares its code with its source. What the file prints goes to `out`, everything else to `err`. A threads line may wait for the
 /// lock of its program; every other line is served by a call that returns.
 ///
 /// The clause is about what is seen of the source and the sinks before the call and after it: what

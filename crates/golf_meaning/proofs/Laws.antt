@@ -1,6 +1,7 @@
 -- Code with the same parameters, slots and body agrees with the source as well.
-use Rattle.std.proofs.Common.{◌≡◌, ℕ, ◌-◌, ◌<◌, ◌≤◌, pos, List, [], ◌++◌, length, replicate, refl, sym, ap, subst, ◌∙◌, slice_get, arith}
+use Rattle.std.proofs.Common.{◌≡◌, ◌↔◌, ◌⊎◌, inl, inr, ℕ, ◌+◌, ◌-◌, ◌<◌, ◌≤◌, pos, List, [], ◌++◌, length, replicate, refl, sym, ap, subst, ◌∙◌, slice_get, arith}
 use Rattle.std.specs.Prelude.{Option, Some, None}
+use Rattle.std.proofs.Math.Nat.{eq-or-lt_of_le}
 use Rattle.golf_grammar.specs.declared.declarations.Decl.{Decl}
 use Rattle.golf_grammar.specs.declared.declarations.File.{File}
 use Rattle.golf_data.specs.declared.value.Value.{Value}
@@ -14,7 +15,7 @@ use Rattle.golf_flat_meaning.specs.Laws.{Agree}
 use Rattle.golf_function_meaning.specs.Functions.{CodeMeaning, begins}
 use Rattle.golf_function_meaning.specs.Files.{function_count, MeaningOf}
 use Rattle.golf_function_meaning.proofs.WholeFiles.{files-agree}
-use Rattle.golf_meaning.specs.Judged.{HasSameBody, AreSame, IsCodeOf, IsNumbered, FunctionAgrees, Agrees}
+use Rattle.golf_meaning.specs.Judged.{HasSameBody, AreSame, AreSameTo, IsCodeOf, IsNumbered, FunctionAgrees, Agrees, AllAreCodeOf, AllAgree}
 
 -- what code means goes by its slots and its body
 means : ℕ → List Line → List Value → List Answer → ℕ → Told
@@ -56,9 +57,30 @@ same-as-itself file code k e h =
     subst (λ (c : Code). AreSame (slice_get c.functions k) (slice_get c.functions k)) (sym e)
     (own file k (slice_get (CodeOf file).functions k) (file-agrees file k h))
 
--- numbers up to how many functions and methods are declared
-pub is-numbered : (file : File) (xs : List Decl) (k n last : ℕ) → 0 < k → k ≤ n → n ≤ last
-    → last ≡ function_count xs → xs ≡ file.declarations → IsNumbered file k
-is-numbered file xs k n last lt le within e d =
-    let z : last ≡ function_count file.declarations = e ∙ ap function_count d in
-    (lt, omega (arith, le, within, z))
+-- the numbers of the functions and methods of a file are those up to how many they are
+pub all-same : (file : File) (code made : Code) (last : ℕ) (xs : List Decl) → made ≡ CodeOf file → last ≡ function_count xs → xs ≡ file.declarations
+    → AreSameTo last code.functions made.functions ↔ AllAreCodeOf file code
+all-same file code made last xs is count declared =
+    let z : last ≡ function_count file.declarations = count ∙ ap function_count declared in (
+      λ h k n. subst (λ (c : Code). AreSame (slice_get code.functions k) (slice_get c.functions k)) is (h k n.0 (omega (arith, n.1, z))),
+      λ h k lt le. subst (λ (c : Code). AreSame (slice_get code.functions k) (slice_get c.functions k)) (sym is) (h k (lt, omega (arith, le, z))),
+    )
+
+pub all-agree : (file : File) (code : Code) → AllAreCodeOf file code → AllAgree file code
+all-agree file code h = λ k n. body-agrees file code k (h k n) n
+
+-- the code of a file has each of its functions
+pub own-code : (file : File) (code : Code) → code ≡ CodeOf file → AllAreCodeOf file code
+own-code file code is = λ k n. subst (λ (c : Code). AreSame (slice_get code.functions k) (slice_get c.functions k)) is (same-as-itself file code k is n)
+
+-- ---- up to a number
+
+pub none-so-far : (fs gs : List Function) → AreSameTo 0 fs gs
+none-so-far fs gs = λ k lt le. absurd (omega (arith, lt, le))
+
+pub one-more : (fs gs : List Function) (n : ℕ) → AreSameTo n fs gs → AreSame (slice_get fs (n + 1)) (slice_get gs (n + 1)) → AreSameTo (n + 1) fs gs
+one-more fs gs n h s = λ k lt le. go k lt (eq-or-lt_of_le le)
+  where
+    go : (k : ℕ) → 0 < k → (k ≡ n + 1) ⊎ (k < n + 1) → AreSame (slice_get fs k) (slice_get gs k)
+    go k lt (inr less) = h k lt (omega (arith, less))
+    go k lt (inl same) = subst (λ m. AreSame (slice_get fs m) (slice_get gs m)) (sym same) s

@@ -41,3 +41,21 @@ FunctionAgrees file k (Some fn) =
 -- the code has a function of this number, which agrees with its source
 abbrev pub Agrees : File → Code → ℕ → Type 0
 Agrees file code k = FunctionAgrees file k (slice_get code.functions k)
+
+-- ---- all of them
+
+-- both have functions of the numbers from 1 to this one, with the same bodies
+abbrev pub AreSameTo : ℕ → List Function → List Function → Type 0
+AreSameTo last fs gs = (k : ℕ) → 0 < k → k ≤ last → AreSame (slice_get fs k) (slice_get gs k)
+
+-- the code has each function and method of the file as its code has it
+abbrev pub AllAreCodeOf : File → Code → Type 0
+AllAreCodeOf file code = (k : ℕ) → IsNumbered file k → IsCodeOf file code k
+
+-- each of them agrees with its source
+abbrev pub AllAgree : File → Code → Type 0
+AllAgree file code = (k : ℕ) → IsNumbered file k → Agrees file code k
+
+-- each function and method of a file has code that does what its source means, both ways
+abbrev pub FileAgrees : File → Type 0
+FileAgrees file = AllAgree file (CodeOf file)

@@ -1,7 +1,7 @@
 //! Whether functions of two codes have the same body.
 
 ghost use Rattle.std.specs.Prelude.{◌↔◌, IsTrue, slice_get};
-ghost use Rattle.golf_meaning.specs.Judged.{HasSameBody, AreSame};
+ghost use Rattle.golf_meaning.specs.Judged.{HasSameBody, AreSame, AreSameTo};
 
 use golf_data::{Code, Function, same_lines};
 
@@ -25,4 +25,16 @@ pub(crate) fn are_same(code: &Code, other: &Code, number: usize) -> bool
         (Some(function), Some(other)) => has_same_body(function, other),
         _ => false,
     }
+}
+
+/// The same for each number from 1 to `last`.
+pub(crate) fn are_all_same(code: &Code, other: &Code, last: usize) -> bool
+    ensures { IsTrue result ↔ AreSameTo last code.now.functions other.now.functions }
+{
+    for before in 0..last {
+        if !are_same(code, other, before + 1) {
+            return false;
+        }
+    }
+    true
 }

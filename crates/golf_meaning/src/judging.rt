@@ -1,13 +1,12 @@
 //! A function of a code, and all functions of a file, judged by the code of the file.
 
-ghost use Rattle.std.specs.Prelude.{◌≡◌, ◌↔◌, ◌<◌, ◌≤◌, ℕ, IfOk, IsTrue};
+ghost use Rattle.std.specs.Prelude.{◌≡◌, ◌↔◌, IfOk, IsTrue};
 ghost use Rattle.golf_types.specs.Files.{facts_in};
 ghost use Rattle.golf_check.specs.Heads.{scope_of};
-ghost use Rattle.golf_code_of.specs.Files.{CodeOf};
 ghost use Rattle.golf_function_meaning.specs.Files.{function_count as count_of};
-ghost use Rattle.golf_meaning.specs.Judged.{IsCodeOf, IsNumbered, Agrees};
+ghost use Rattle.golf_meaning.specs.Judged.{IsCodeOf, IsNumbered, Agrees, AllAreCodeOf, AllAgree};
 
-use crate::bodies::are_same;
+use crate::bodies::{are_all_same, are_same};
 use golf_base::Memory;
 use golf_check::Checked;
 use golf_code::generate;
@@ -37,8 +36,8 @@ pub fn check_body(
     Ok(are_same(code, &made, function as usize))
 }
 
-// How many functions and methods these declare.
-fn function_count(declarations: &[Decl]) -> usize
+/// How many functions and methods these declare.
+pub fn function_count(declarations: &[Decl]) -> usize
     ensures { result ≡ count_of declarations.now }
 {
     let mut count = 0;
@@ -51,20 +50,15 @@ fn function_count(declarations: &[Decl]) -> usize
     count
 }
 
-/// How many functions and methods of the file have code that agrees with their source: all of them. The code is made once.
-pub fn check_all(alloc: Global, checked: &Checked) -> Result<usize, Memory>
+/// Whether each function and method of the file has the code that the file gives it, as `check_body` judges one; then each agrees with
+/// its source, both ways. The code of the file is made once, so the cost is linear.
+pub fn check_all(alloc: Global, checked: &Checked, code: &Code) -> Result<bool, Memory>
     requires scope { checked.now.scope ≡ scope_of checked.now.file }
     requires facts { checked.now.facts ≡ facts_in checked.now.file }
-    ensures all { IfOk result (λ count. count ≡ count_of checked.now.file.declarations) }
-    ensures agrees { IfOk result (λ count. (k : ℕ) → 0 < k → k ≤ count → Agrees checked.now.file (CodeOf checked.now.file) k) }
+    ensures exact { IfOk result (λ same. IsTrue same ↔ AllAreCodeOf checked.now.file code.now) }
+    ensures agrees { IfOk result (λ same. IsTrue same → AllAgree checked.now.file code.now) }
 {
-    let code = generate(alloc, checked)?;
+    let made = generate(alloc, checked)?;
     let last = function_count(checked.file.declarations.as_slice());
-    let mut count = 0;
-    for before in 0..last {
-        if are_same(&code, &code, before + 1) {
-            count += 1;
-        }
-    }
-    Ok(count)
+    Ok(are_all_same(code, &made, last))
 }

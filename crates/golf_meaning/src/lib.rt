@@ -7,4 +7,4 @@
 mod bodies;
 mod judging;
 
-pub use judging::{check_all, check_body};
+pub use judging::{check_all, check_body, function_count};

@@ -8,7 +8,7 @@ use crate::sources::{METHOD, WORKER_POOL, checked, code_of};
 use golf_base::Memory;
 use golf_check::Checked;
 use golf_data::{Code, Instr, Line};
-use golf_meaning::{check_all, check_body};
+use golf_meaning::{check_all, check_body, function_count};
 use std::alloc::Global;
 use std::process::Abort;
 use std::test::Fail;
@@ -51,7 +51,7 @@ fn judged(rt: &impl Abort, alloc: Global, checked: &Checked, code: &Code, number
 {
     match check_body(alloc, checked, code, number) {
         Ok(same) => same,
-        Err(Memory) => panic!(rt; "memory is wanting"),
+        Err(Memory) => panic!(rt; "out of memory"),
     }
 }
 
@@ -76,13 +76,33 @@ fn there_is_no_such_function(rt: HostRuntime) -> Result<(), Fail> {
     Ok(())
 }
 
+// Whether all functions are judged to be those of the file.
+fn all_judged(rt: &impl Abort, alloc: Global, checked: &Checked, code: &Code) -> bool
+    requires scope { checked.now.scope ≡ scope_of checked.now.file }
+    requires facts { checked.now.facts ≡ facts_in checked.now.file }
+{
+    match check_all(alloc, checked, code) {
+        Ok(same) => same,
+        Err(Memory) => panic!(rt; "out of memory"),
+    }
+}
+
 #[test]
 fn all_functions_of_a_worker_pool_agree(rt: HostRuntime) -> Result<(), Fail> {
     let alloc = rt.alloc();
     let checked = checked(&rt, alloc, WORKER_POOL);
-    match check_all(alloc, &checked) {
-        Ok(count) => assert_eq!(rt; count, 5),
-        Err(Memory) => panic!(rt; "memory is wanting"),
-    }
+    let code = code_of(&rt, alloc, &checked);
+    assert!(rt; all_judged(&rt, alloc, &checked, &code));
+    assert_eq!(rt; function_count(checked.file.declarations.as_slice()), 5);
+    Ok(())
+}
+
+#[test]
+fn one_of_all_functions_is_another(rt: HostRuntime) -> Result<(), Fail> {
+    let alloc = rt.alloc();
+    let checked = checked(&rt, alloc, METHOD);
+    let mut code = code_of(&rt, alloc, &checked);
+    subtract(&rt, &mut code, UP);
+    assert!(rt; !all_judged(&rt, alloc, &checked, &code));
     Ok(())
 }

@@ -44,6 +44,6 @@ pub(crate) fn code_of(rt: &impl Abort, alloc: Global, checked: &Checked) -> Code
 {
     match generate(alloc, checked) {
         Ok(code) => code,
-        Err(Memory) => panic!(rt; "memory is wanting"),
+        Err(Memory) => panic!(rt; "out of memory"),
     }
 }

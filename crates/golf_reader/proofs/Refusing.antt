@@ -17,7 +17,7 @@ use Rattle.golf_code_of.specs.Files.{CodeOf}
 use Rattle.golf_code_places.proofs.Files.{files-have-places}
 use Rattle.golf_reader.specs.declared.refusal.Refusal.{Refusal}
 use Rattle.golf_reader.specs.declared.refusal.Refusal.TheVariants as refusals
-use Rattle.golf_reader.specs.Refusals.{HasTypedTree, IsNotTyped, IsUnlexed, HasCode, Parses, Keeps, WasParsed, WasTyped}
+use Rattle.golf_reader.specs.Refusals.{HasTypedTree, IsOnly, IsNotTyped, IsUnlexed, HasCode, Parses, Keeps, WasParsed, WasTyped}
 
 -- the bytes of a file lex
 unlexed-none : (bytes : List ℕ) (place : ℕ) → IsFault bytes place → IsNotTyped bytes
@@ -42,9 +42,14 @@ of-tokens bytes tokens (Err refusals.Memory) l p = tt
 untyped-none : (bytes : List ℕ) (file : File) (line rule : ℕ) → HasTree bytes file → IsFirst rule line (Broken file) → IsNotTyped bytes
 untyped-none bytes file line rule t first = λ other h. subst (IsFirst rule line) (ap Broken (one-tree bytes file other t h.tree) ∙ h.keeps) first
 
+is-only : (bytes : List ℕ) (file : File) → HasTree bytes file → IsOnly bytes file
+is-only bytes file t = λ other h. one-tree bytes other file h.tree t
+
 -- whether the tree of the bytes keeps the rules is whether the file is typed
 pub of-tree : (bytes : List ℕ) (file : File) (r : Result Checked Refusal) → HasTree bytes file → Keeps file r → WasTyped bytes r
-of-tree bytes file (Ok checked) t k = (subst (λ f. HasTypedTree bytes f) (sym k.0) (record { tree = t; keeps = k.3 }), k.1 ∙ ap scope_of (sym k.0), k.2 ∙ ap facts_in (sym k.0))
+of-tree bytes file (Ok checked) t k =
+    let typed : HasTypedTree bytes checked.file = subst (λ f. HasTypedTree bytes f) (sym k.0) (record { tree = t; keeps = k.3 }) in
+    (typed, is-only bytes checked.file typed.tree, k.1 ∙ ap scope_of (sym k.0), k.2 ∙ ap facts_in (sym k.0))
 of-tree bytes file (Err (refusals.Lexical line byte)) t k = absurd k
 of-tree bytes file (Err (refusals.Syntax line)) t k = absurd k
 of-tree bytes file (Err (refusals.Untyped line rule)) t k = record { file = file; tree = t; first = k; none = untyped-none bytes file line rule t k }
@@ -52,7 +57,7 @@ of-tree bytes file (Err refusals.Memory) t k = tt
 
 -- the code of the typed tree is that of each
 pub has-code : (bytes : List ℕ) (file : File) (code : Code) → HasTypedTree bytes file → code ≡ CodeOf file → HasCode bytes code
-has-code bytes file code h is = record { file = file; typed = h; is = is; only = λ other g. is ∙ ap CodeOf (one-tree bytes file other h.tree g.tree) }
+has-code bytes file code h is = record { file = file; typed = h; is = is; only = is-only bytes file h.tree }
 
 -- the code of the typed tree of few bytes has places
 pub has-places : (bytes : List ℕ) (file : File) (code : Code) → HasTypedTree bytes file → code ≡ CodeOf file → length bytes < 2 ^ 27 → HasPlaces code

@@ -18,6 +18,10 @@ pub record HasTypedTree (bytes : List ℕ) (file : File) : Type 0 where
   pub tree : HasTree bytes file
   pub keeps : Typed file
 
+-- no other typed file reads the bytes
+abbrev pub IsOnly : List ℕ → File → Type 0
+IsOnly bytes file = (other : File) → HasTypedTree bytes other → other ≡ file
+
 -- no typed file reads the bytes
 abbrev pub IsNotTyped : List ℕ → Type 0
 IsNotTyped bytes = (file : File) → HasTypedTree bytes file → ⊥
@@ -48,7 +52,7 @@ pub record HasCode (bytes : List ℕ) (code : Code) : Type 0 where
   pub file : File
   pub typed : HasTypedTree bytes file
   pub is : code ≡ CodeOf file
-  pub only : (other : File) → HasTypedTree bytes other → code ≡ CodeOf other
+  pub only : IsOnly bytes file
 
 -- the bytes are refused so; want of memory tells nothing
 abbrev pub IsRefusedBy : List ℕ → Refusal → Type 0
@@ -88,10 +92,7 @@ Keeps file (Err (refusals.Syntax line)) = ⊥
 Keeps file (Err (refusals.Untyped line rule)) = IsFirst rule line (Broken file)
 Keeps file (Err refusals.Memory) = Unit {0}
 
--- the tree of the bytes, which is typed, with the scope of its names and the facts of its parts; or why there is none
+-- the tree of the bytes, which alone is typed, with the scope of its names and the facts of its parts; or why there is none
 abbrev pub WasTyped : List ℕ → Result Checked Refusal → Type 0
-WasTyped bytes (Ok checked) = HasTypedTree bytes checked.file × (checked.scope ≡ scope_of checked.file) × (checked.facts ≡ facts_in checked.file)
-WasTyped bytes (Err (refusals.Lexical line byte)) = IsUnlexed bytes line byte
-WasTyped bytes (Err (refusals.Syntax line)) = IsUnparsed bytes line
-WasTyped bytes (Err (refusals.Untyped line rule)) = IsUntyped bytes line rule
-WasTyped bytes (Err refusals.Memory) = Unit {0}
+WasTyped bytes (Ok checked) = HasTypedTree bytes checked.file × IsOnly bytes checked.file × (checked.scope ≡ scope_of checked.file) × (checked.facts ≡ facts_in checked.file)
+WasTyped bytes (Err refusal) = IsRefusedBy bytes refusal

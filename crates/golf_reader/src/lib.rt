@@ -1,5 +1,6 @@
 //! From the bytes of a file to its code, or to why it has none.
 //!
+//! - `judge`: the typed tree of a file.
 //! - `read`: the code of a file.
 //! - `Refusal`: why a file is not run.
 #![tactic(auto)]
@@ -7,5 +8,5 @@
 mod reading;
 mod refusal;
 
-pub use reading::read;
+pub use reading::{judge, read};
 pub use refusal::Refusal;

@@ -49,8 +49,12 @@ fn judged(alloc: Global, file: File) -> Result<Checked, Refusal>
     }
 }
 
-// The typed tree of the file.
-fn typed(alloc: Global, bytes: &[u8]) -> Result<Checked, Refusal>
+/// The tree of a file, with what the checker found of it.
+///
+/// # Errors
+///
+/// As those of `read`.
+pub fn judge(alloc: Global, bytes: &[u8]) -> Result<Checked, Refusal>
     requires { length bytes.now < 2 ^ 32 - 1 }
     ensures { WasTyped bytes.now result }
 {
@@ -71,7 +75,7 @@ pub fn read(alloc: Global, bytes: &[u8]) -> Result<Code, Refusal>
     // The code can be run.
     ensures places { IfOk result HasPlaces }
 {
-    let checked = typed(alloc, bytes)?;
+    let checked = judge(alloc, bytes)?;
     let code = generate(alloc, &checked)?;
     Ok(code)
 }

@@ -14,6 +14,8 @@ mod limits;
 #[cfg(test)]
 mod markers;
 #[cfg(test)]
+mod meanings;
+#[cfg(test)]
 mod options;
 #[cfg(test)]
 mod panics;

@@ -146,6 +146,10 @@ numbers_text (n ∷ ns) = decimal n ++ more_numbers ns
 unfoldable pub history_line : List ℕ → List ℕ
 history_line ns = codes "history: " ++ (numbers_text ns ++ codes "\n")
 
+-- the line of a file each of whose functions agrees with its source: so many
+abbrev pub meaning_line : ℕ → List ℕ
+meaning_line functions = codes "meaning: " ++ (decimal functions ++ codes " functions agree\n")
+
 -- the line of a file whose bytes are no tokens from this byte on, which stands on this line
 abbrev pub lexical_line : ℕ → ℕ → List ℕ
 lexical_line line byte = codes "refused: line " ++ (decimal line ++ (codes ": byte " ++ (decimal byte ++ codes "\n")))

@@ -7,9 +7,11 @@ ghost use Rattle.golf_texts.specs.Texts.{
   more_numbers as more_bytes,
   numbers_text as numbers_bytes,
   history_line as history_bytes,
+  meaning_line as meaning_bytes,
 };
 
 use crate::lines::report_text;
+use crate::refusals::list_of;
 use golf_base::{List, Memory};
 use golf_data::Report;
 use std::alloc::Global;
@@ -84,4 +86,12 @@ pub fn history_line(alloc: Global, numbers: &[u64]) -> Result<List<u8>, Memory>
     add_numbers(alloc, &mut line, numbers)?;
     line.extend_from_slice(b"\n")?;
     Ok(line)
+}
+
+/// The line of a file of so many functions, each of which has code that agrees with its source.
+pub fn meaning_line(alloc: Global, functions: usize) -> Result<List<u8>, Memory>
+    ensures { IfOk result (λ line. line ≡ meaning_bytes functions) }
+{
+    let text = format!(in alloc; "meaning: {functions} functions agree\n")?;
+    list_of(alloc, text.as_bytes())
 }

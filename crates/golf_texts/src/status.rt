@@ -6,8 +6,8 @@ ghost use Rattle.golf_texts.specs.Codes.{code_of};
 /// The most bytes of a file.
 pub const LIMIT: u32 = 1_048_576;
 
-pub const USAGE: &[u8; 140] =
-    b"usage: golf run [--schedule S] [--turns N] [--every N] [--markers N] [--recover] [--why]\n       golf run --threads N\n       golf generate N\n";
+pub const USAGE: &[u8; 160] =
+    b"usage: golf run [--schedule S] [--turns N] [--every N] [--markers N] [--recover] [--why]\n       golf run --threads N\n       golf generate N\n       golf meaning\n";
 
 pub const READ_FAULT: &[u8; 11] = b"read fault\n";
 

@@ -107,3 +107,33 @@ four_numbers = refl
 no_number : numbers_of 3 (codes "0,") ≡ None
 unfolding numbers_of
 no_number = refl
+
+abbrev meaning_alone : List Text
+meaning_alone = codes "meaning" ∷ []
+
+meaning_alone_is : line_of meaning_alone ≡ Some Line.Meaning
+meaning_alone_is = refl
+
+abbrev meaning_and_hyphens : List Text
+meaning_and_hyphens = codes "meaning" ∷ codes "--" ∷ []
+
+meaning_and_hyphens_is : line_of meaning_and_hyphens ≡ Some Line.Meaning
+meaning_and_hyphens_is = refl
+
+abbrev meaning_and_a_word : List Text
+meaning_and_a_word = codes "meaning" ∷ codes "x" ∷ []
+
+meaning_and_a_word_is : line_of meaning_and_a_word ≡ None
+meaning_and_a_word_is = refl
+
+abbrev meaning_hyphens_and_a_word : List Text
+meaning_hyphens_and_a_word = codes "meaning" ∷ codes "--" ∷ codes "x" ∷ []
+
+meaning_hyphens_and_a_word_is : line_of meaning_hyphens_and_a_word ≡ None
+meaning_hyphens_and_a_word_is = refl
+
+abbrev meaning_twice_hyphens : List Text
+meaning_twice_hyphens = codes "meaning" ∷ codes "--" ∷ codes "--" ∷ []
+
+meaning_twice_hyphens_is : line_of meaning_twice_hyphens ≡ None
+meaning_twice_hyphens_is = refl

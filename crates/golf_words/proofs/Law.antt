@@ -10,13 +10,14 @@ use Rattle.clap.specs.Simple.{App, Shape, built, entered, names_of}
 use Rattle.clap.specs.Faults.{bundle_fault, check_fault, defaults_fault, entered_fault, flag_word_fault, level_fault, other_fault, settle_fault, step_fault, turn_fault, walk_fault}
 use Rattle.clap.proofs.WalkLemmas.{walk_stopped}
 use Rattle.golf_words.specs.Values.{Text}
-use Rattle.golf_words.specs.Words.{generate_of, line_of, run_of, uses_after}
+use Rattle.golf_words.specs.Words.{generate_of, line_of, meaning_of, run_of, uses_after}
 use Rattle.golf_words.specs.Splitting.{generate_by, golf_app, line_by, run_by, split_of, unless_fault}
 use Rattle.golf_words.specs.declared.line.Line.{Line}
 use Rattle.golf_words.proofs.Outcomes.{bundle_fails, fails, level_is, short_text, unless_fails, unless_none}
 use Rattle.golf_words.proofs.Runs.{run_shape, same_text}
 use Rattle.golf_words.proofs.RunLines.{run_line_is, settle_first}
 use Rattle.golf_words.proofs.Generates.{generate_line_is, generate_shape}
+use Rattle.golf_words.proofs.Meanings.{meaning_by, meaning_line_is, meaning_shape}
 
 abbrev app : App
 app = built golf_app
@@ -66,6 +67,14 @@ generate_stops : (rest : List Text) → stopped_at (codes "generate") rest ≡ w
 unfolding walked
 generate_stops rest = walk_stopped top.rules names (walk_from nothing_held) (codes "generate") [] rest
 
+at_meaning : (rest : List Text) → walk_fault top names (walk_from nothing_held) (codes "meaning" ∷ rest) ≡ []
+unfolding walk_fault walked
+at_meaning rest = left_to_it (codes "meaning") [] rest
+
+meaning_stops : (rest : List Text) → stopped_at (codes "meaning") rest ≡ walk top.rules names nothing_held (codes "meaning" ∷ rest)
+unfolding walked
+meaning_stops rest = walk_stopped top.rules names (walk_from nothing_held) (codes "meaning") [] rest
+
 abbrev rows_of_leaf : Shape → List Text → List Row
 rows_of_leaf s words = finished s.rules (walk s.rules [] nothing_held words).held
 
@@ -78,6 +87,11 @@ generate_entered : (rest : List Text) → found_at [] (stopped_at (codes "genera
     ≡ unless_fault (or_else (level_fault generate_shape [] nothing_held rest false []) []) (Some (codes "generate", rows_of_leaf generate_shape rest))
 unfolding defaults_fault
 generate_entered rest = refl
+
+meaning_entered : (rest : List Text) → found_at [] (stopped_at (codes "meaning") rest)
+    ≡ unless_fault (or_else (level_fault meaning_shape [] nothing_held rest false []) []) (Some (codes "meaning", rows_of_leaf meaning_shape rest))
+unfolding defaults_fault
+meaning_entered rest = refl
 
 -- the line by the rows of a subcommand, where nothing in its words is at fault
 line_found : (name : Text) (read : List Row → Option Line) (kinds : Kinds) (rows : List Row) → line_by (Some (name, rows)) ≡ read rows
@@ -98,6 +112,13 @@ generate_law rest utf8 =
     sym (ap line_by (split_is (codes "generate" ∷ rest) ∙ ap₂ (λ (k : Kinds) (f : Walk). found_at k f) (at_generate rest) (sym (generate_stops rest)) ∙ generate_entered rest)
     ∙ line_found (codes "generate") generate_by kinds (rows_of_leaf generate_shape rest) refl ∙ ap (option_and_then generate_by) (level_is generate_shape rest)
     ∙ generate_line_is rest utf8)
+
+meaning_law : (rest : List Text) → AllByRecursion IsUtf8 rest → line_of (codes "meaning" ∷ rest) ≡ line_by (split_of (codes "meaning" ∷ rest))
+meaning_law rest utf8 =
+    let kinds = level_fault meaning_shape [] nothing_held rest false [] in
+    sym (ap line_by (split_is (codes "meaning" ∷ rest) ∙ ap₂ (λ (k : Kinds) (f : Walk). found_at k f) (at_meaning rest) (sym (meaning_stops rest)) ∙ meaning_entered rest)
+    ∙ line_found (codes "meaning") meaning_by kinds (rows_of_leaf meaning_shape rest) refl ∙ ap (option_and_then meaning_by) (level_is meaning_shape rest)
+    ∙ meaning_line_is rest utf8)
 
 -- ---- any other first word
 
@@ -177,13 +198,14 @@ other_found word rest utf8 none = go (bytes_eq word (45 ∷ 45 ∷ [])) rest ref
     go true [] e = dashes_alone word none e
     go true (x ∷ xs) e = none_found (word ∷ x ∷ xs) (dashes_fault word x xs none e)
 
-no_subcommand : (word : Text) → bytes_eq (codes "run") word ≡ false → bytes_eq (codes "generate") word ≡ false → subcommand_met names idle word ≡ None
-no_subcommand word run generate = rw (run, generate) refl
+no_subcommand : (word : Text) → bytes_eq (codes "run") word ≡ false → bytes_eq (codes "generate") word ≡ false → bytes_eq (codes "meaning") word ≡ false → subcommand_met names idle word ≡ None
+no_subcommand word run generate meaning = rw (run, generate, meaning) refl
 
-no_line : (word : Text) (rest : List Text) → bytes_eq (codes "run") word ≡ false → bytes_eq (codes "generate") word ≡ false → line_of (word ∷ rest) ≡ None
-no_line word rest run generate =
+no_line : (word : Text) (rest : List Text) → bytes_eq (codes "run") word ≡ false → bytes_eq (codes "generate") word ≡ false → bytes_eq (codes "meaning") word ≡ false → line_of (word ∷ rest) ≡ None
+no_line word rest run generate meaning =
     ap₂ (λ (r g : Bool). cond r (option_and_then run_of (uses_after [] None rest))
-    (cond g (generate_of rest) None)) run generate
+    (cond g (generate_of rest) (cond (bytes_eq (codes "meaning") word) (meaning_of rest) None))) run generate
+    ∙ ap (λ (m : Bool). cond m (meaning_of rest) None) meaning
 
 -- ---- the law
 
@@ -192,12 +214,13 @@ nothing_found = sym (ap line_by (split_is [] ∙ unless_none (or_else (walk_faul
 
 pub line_law : (words : List Text) → AllByRecursion IsUtf8 words → line_of words ≡ line_by (split_of words)
 line_law [] utf8 = nothing_found
-line_law (word ∷ rest) utf8 = go (bytes_eq (codes "run") word) (bytes_eq (codes "generate") word) refl refl
+line_law (word ∷ rest) utf8 = go (bytes_eq (codes "run") word) (bytes_eq (codes "generate") word) (bytes_eq (codes "meaning") word) refl refl refl
   where
-    go : (r g : Bool) → bytes_eq (codes "run") word ≡ r → bytes_eq (codes "generate") word ≡ g → line_of (word ∷ rest) ≡ line_by (split_of (word ∷ rest))
-    go true g run generate = subst (λ w. line_of (w ∷ rest) ≡ line_by (split_of (w ∷ rest))) (same_text (codes "run") word run) (run_law rest utf8.1)
-    go false true run generate = subst (λ w. line_of (w ∷ rest) ≡ line_by (split_of (w ∷ rest))) (same_text (codes "generate") word generate) (generate_law rest utf8.1)
-    go false false run generate = no_line word rest run generate ∙ sym (ap line_by (other_found word rest utf8.0 (no_subcommand word run generate)))
+    go : (r g m : Bool) → bytes_eq (codes "run") word ≡ r → bytes_eq (codes "generate") word ≡ g → bytes_eq (codes "meaning") word ≡ m → line_of (word ∷ rest) ≡ line_by (split_of (word ∷ rest))
+    go true g m run generate meaning = subst (λ w. line_of (w ∷ rest) ≡ line_by (split_of (w ∷ rest))) (same_text (codes "run") word run) (run_law rest utf8.1)
+    go false true m run generate meaning = subst (λ w. line_of (w ∷ rest) ≡ line_by (split_of (w ∷ rest))) (same_text (codes "generate") word generate) (generate_law rest utf8.1)
+    go false false true run generate meaning = subst (λ w. line_of (w ∷ rest) ≡ line_by (split_of (w ∷ rest))) (same_text (codes "meaning") word meaning) (meaning_law rest utf8.1)
+    go false false false run generate meaning = no_line word rest run generate meaning ∙ sym (ap line_by (other_found word rest utf8.0 (no_subcommand word run generate meaning)))
 
 -- the words of a program are UTF-8
 pub words_are_utf8 : {Z : Type 0} (words : List (String Z)) → AllByRecursion IsUtf8 (map string_bytes words)

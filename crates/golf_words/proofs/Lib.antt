@@ -1,6 +1,7 @@
 mod Cuts
 mod Examples
 mod Generates
+mod Meanings
 mod Law
 pub mod Limits
 mod Numbers

@@ -4,7 +4,7 @@ use Rattle.std.proofs.lemmas.Bool.{and_parts}
 use Rattle.std.proofs.lemmas.Bool.Decides.{nat_tests}
 use Rattle.golf_schedules.specs.declared.schedule.Schedule.{Schedule}
 use Rattle.golf_words.specs.Values.{Text, if_within, number_of, number_within}
-use Rattle.golf_words.specs.Words.{Use, schedule_in, setting, value_in, is_used, every_in, markers_in, turns_in, has_others, run_by_options, run_by_threads, run_of, threads_by, uses_after, number_word, generate_of, line_of, IsWithin}
+use Rattle.golf_words.specs.Words.{Use, schedule_in, setting, value_in, is_used, every_in, markers_in, turns_in, has_others, run_by_options, run_by_threads, run_of, threads_by, uses_after, number_word, generate_of, meaning_of, line_of, IsWithin}
 use Rattle.golf_words.specs.declared.line.Line.{Line}
 
 true-le : (a b : ℕ) → nat_le a b ≡ true → a ≤ b
@@ -64,15 +64,27 @@ generate-within : (o : Option Text) → IfSome (option_and_then (λ n. option_ma
 generate-within None = tt
 generate-within (Some text) = number-within (number_within 1 5000 text) (within 1 5000 (number_of text))
 
-by-name : (a b : Bool) (x y : Option Line) → IfSome x IsWithin → IfSome y IsWithin → IfSome (if a then x else (if b then y else None)) IsWithin
-by-name true b x y h i = h
-by-name false true x y h i = i
-by-name false false x y h i = tt
+meaning-within : (words : List Text) → IfSome (meaning_of words) IsWithin
+meaning-within [] = tt
+meaning-within (word ∷ []) = go (bytes_eq word (codes "--"))
+  where
+    go : (b : Bool) → IfSome (if b then Some Line.Meaning else None) IsWithin
+    go true = tt
+    go false = tt
+meaning-within (a ∷ b ∷ rest) = tt
+
+by-name : (a b c : Bool) (x y z : Option Line) → IfSome x IsWithin → IfSome y IsWithin → IfSome z IsWithin → IfSome (if a then x else (if b then y else (if c then z else None))) IsWithin
+by-name true b c x y z h i j = h
+by-name false true c x y z h i j = i
+by-name false false true x y z h i j = j
+by-name false false false x y z h i j = tt
 
 -- every line
 pub line-within : (words : List Text) → IfSome (line_of words) IsWithin
 line-within [] = tt
-line-within (word ∷ rest) = by-name (bytes_eq (codes "run") word) (bytes_eq (codes "generate") word) (option_and_then run_of (uses_after [] None rest)) (generate_of rest) (run-within (uses_after [] None rest)) (generate-within (number_word rest))
+line-within (word ∷ rest) =
+    by-name (bytes_eq (codes "run") word) (bytes_eq (codes "generate") word) (bytes_eq (codes "meaning") word) (option_and_then run_of (uses_after [] None rest)) (generate_of rest) (meaning_of rest)
+    (run-within (uses_after [] None rest)) (generate-within (number_word rest)) (meaning-within rest)
 
 pub as_within : {E : Type 0} (words : List Text) (r : Result (Option Line) E) → IfOk r (λ line. line ≡ line_of words) → IfOk r (λ line. IfSome line IsWithin)
 as_within words (Ok line) h = subst (λ o. IfSome o IsWithin) (sym h) (line-within words)

@@ -28,6 +28,9 @@ run_app =
 abbrev pub generate_app : App
 generate_app = with_rule (new_app (codes "generate")) (positional (codes "number"))
 
+abbrev pub meaning_app : App
+meaning_app = new_app (codes "meaning")
+
 abbrev pub nameless_app : App
 nameless_app = on_top (λ s. record s { no_binary_name = true; disable_help_flag = true }) (new_app (codes "golf"))
 
@@ -35,7 +38,7 @@ abbrev pub program_app : App
 program_app = on_top (λ s. record s { disable_help_subcommand = true; disable_version_flag = true }) nameless_app
 
 abbrev pub golf_app : App
-golf_app = with_subcommand (with_subcommand program_app run_app.top) generate_app.top
+golf_app = with_subcommand (with_subcommand (with_subcommand program_app run_app.top) generate_app.top) meaning_app.top
 
 -- the subcommand that the words name, with what was found for its arguments; none exactly where `clap` names a fault, or no subcommand
 abbrev pub unless_fault : {X : Type 0} → Kinds → Option X → Option X
@@ -82,4 +85,7 @@ generate_by rows =
 
 abbrev pub line_by : Option (Text × List Row) → Option Line
 line_by None = None
-line_by (Some p) = if bytes_eq p.0 (codes "run") then run_by p.1 else (if bytes_eq p.0 (codes "generate") then generate_by p.1 else None)
+line_by (Some p) =
+    if bytes_eq p.0 (codes "run") then run_by p.1
+    else (if bytes_eq p.0 (codes "generate") then generate_by p.1
+    else (if bytes_eq p.0 (codes "meaning") then Some Line.Meaning else None))

@@ -130,12 +130,19 @@ number_word _ = None
 abbrev pub generate_of : List Text → Option Line
 generate_of words = option_and_then (λ n. option_map (λ number. Line.Generate number) (number_within 1 5000 n)) (number_word words)
 
+-- nothing, or one `--`
+abbrev pub meaning_of : List Text → Option Line
+meaning_of [] = Some Line.Meaning
+meaning_of (a ∷ []) = if bytes_eq a (codes "--") then Some Line.Meaning else None
+meaning_of _ = None
+
 -- the line that the words stand for
 abbrev pub line_of : List Text → Option Line
 line_of [] = None
 line_of (word ∷ rest) =
     if bytes_eq (codes "run") word then option_and_then run_of (uses_after [] None rest)
-    else (if bytes_eq (codes "generate") word then generate_of rest else None)
+    else (if bytes_eq (codes "generate") word then generate_of rest
+    else (if bytes_eq (codes "meaning") word then meaning_of rest else None))
 
 -- ---- limits
 
@@ -144,3 +151,4 @@ abbrev pub IsWithin : Line → Type 0
 IsWithin (Line.Run options) = IsWithinLimits options
 IsWithin (Line.Generate n) = (1 ≤ n) × (n ≤ 5000)
 IsWithin (Line.Threads n) = (1 ≤ n) × (n ≤ 16)
+IsWithin Line.Meaning = Unit {0}

@@ -11,4 +11,6 @@ pub enum Line {
     Generate(u32),
     /// It runs the file on standard input by so many threads, from 1 to 16.
     Threads(u32),
+    /// It compares the code of each function of the file on standard input with its source, and runs nothing.
+    Meaning,
 }

@@ -145,6 +145,7 @@ fn line_as_split(alloc: Global, words: &[String]) -> Result<Option<Line>, Memory
     match matches.subcommand() {
         Some((name, options)) if name == "run" => run_line(alloc, options),
         Some((name, number)) if name == "generate" => Ok(generate_line(number)),
+        Some((name, _)) if name == "meaning" => Ok(Some(Line::Meaning)),
         _ => Ok(None),
     }
 }

@@ -4,7 +4,7 @@ ghost use Rattle.std.specs.Prelude.{◌≡◌, IfOk, false, map, option_and_then
 ghost use Rattle.clap.specs.declared.builder.Command.TheViews.{out-Command};
 ghost use Rattle.clap.specs.Walk.{rule_of};
 ghost use Rattle.clap.specs.Simple.{app_of, subcommand_rows_of, with_rule};
-ghost use Rattle.golf_words.specs.Splitting.{flag as flag_rule, generate_app, golf_app, nameless_app, positional as positional_rule, program_app, run_app, split_of, valued};
+ghost use Rattle.golf_words.specs.Splitting.{flag as flag_rule, generate_app, golf_app, meaning_app, nameless_app, positional as positional_rule, program_app, run_app, split_of, valued};
 
 use clap::error::ErrorKind;
 use clap::{Arg, ArgAction, ArgMatches, Command};
@@ -69,6 +69,14 @@ fn generate_command<'a>(alloc: Global) -> Result<Command<'a>, AllocError>
     Ok(one)
 }
 
+// `meaning`, which takes nothing.
+fn meaning_command<'a>(alloc: Global) -> Command<'a>
+    ensures app { app_of result ≡ meaning_app }
+    ensures local { (out-Command result).has_globals ≡ false }
+{
+    Command::new(alloc, "meaning")
+}
+
 // The program without its subcommands, of words without its name, and without the flag of help.
 fn nameless<'a>(alloc: Global) -> Command<'a>
     ensures app { app_of result ≡ nameless_app }
@@ -98,7 +106,8 @@ fn whole<'a>(alloc: Global) -> Result<Command<'a>, AllocError>
     let one = bare.subcommand(run)?;
     let generate = generate_command(alloc)?;
     let two = one.subcommand(generate)?;
-    Ok(two)
+    let three = two.subcommand(meaning_command(alloc))?;
+    Ok(three)
 }
 
 /// What `clap` makes of the words; none where it refuses them.

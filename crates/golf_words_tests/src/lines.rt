@@ -235,3 +235,10 @@ fn threads_are_so_many_with_the_number_in_the_next_word_or_after_an_equals_sign(
     );
     Ok(())
 }
+
+#[test]
+fn a_meaning_line_is_its_name_alone_or_with_two_hyphens(rt: HostRuntime) -> Result<(), Fail> {
+    assert!(rt; matches!(line(&rt, &["meaning"])?, Some(Line::Meaning)));
+    assert!(rt; matches!(line(&rt, &["meaning", "--"])?, Some(Line::Meaning)));
+    Ok(())
+}

@@ -196,3 +196,17 @@ fn threads_stand_once_and_with_no_other_option(rt: HostRuntime) -> Result<(), Fa
     }
     Ok(())
 }
+
+#[test]
+fn a_meaning_line_has_no_other_words(rt: HostRuntime) -> Result<(), Fail> {
+    assert!(rt; is_refused(&rt, &["meaning", "x"])?);
+    assert!(rt; is_refused(&rt, &["meaning", ""])?);
+    assert!(rt; is_refused(&rt, &["meaning", "-x"])?);
+    assert!(rt; is_refused(&rt, &["meaning", "--help"])?);
+    assert!(rt; is_refused(&rt, &["meaning", "--", "x"])?);
+    assert!(rt; is_refused(&rt, &["meaning", "--", "--"])?);
+    assert!(rt; is_refused(&rt, &["meaning", "--threads", "2"])?);
+    assert!(rt; is_refused(&rt, &["Meaning"])?);
+    assert!(rt; is_refused(&rt, &["--", "meaning"])?);
+    Ok(())
+}

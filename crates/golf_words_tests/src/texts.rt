@@ -4,7 +4,8 @@ use golf_base::{GoroutineId, List, ObjectId};
 use golf_data::{Ending, Entry, PanicKind, Report, WaitKind};
 use golf_texts::{
     LIMIT, NO_MEMORY, READ_FAULT, Status, TOO_LONG, USAGE, certificate_line, code, ending_line,
-    lexical_line, list_of, reached_line, report_text, rule_line, stopped_line, syntax_line,
+    lexical_line, list_of, meaning_line, reached_line, report_text, rule_line, stopped_line,
+    syntax_line,
 };
 use golf_why::{Member, Reached};
 use std::alloc::Global;
@@ -160,7 +161,11 @@ fn ends_are_written_so(rt: &impl Abort, alloc: Global) -> Result<(), Fail> {
     );
     assert_eq!(rt;
         USAGE.as_slice(),
-        b"usage: golf run [--schedule S] [--turns N] [--every N] [--markers N] [--recover] [--why]\n       golf run --threads N\n       golf generate N\n".as_slice()
+        b"usage: golf run [--schedule S] [--turns N] [--every N] [--markers N] [--recover] [--why]\n       golf run --threads N\n       golf generate N\n       golf meaning\n".as_slice()
+    );
+    assert_eq!(rt;
+        meaning_line(alloc, 5)?.as_slice(),
+        b"meaning: 5 functions agree\n".as_slice()
     );
     assert_eq!(rt; READ_FAULT.as_slice(), b"read fault\n".as_slice());
     assert_eq!(rt;

@@ -23,7 +23,7 @@ returns-in-Ok-read g c =
     let same : bytes ≡ generated_file c.args.parts = c.as_slice.ensures ∙ c.in-Ok.ensures in
     let within : length bytes ≤ LIMIT = subst (λ (bs : List ℕ). length bs ≤ LIMIT) (sym same) (short c.args.parts c.requires.some c.requires.most) in
     same-file line bytes (generated_file c.args.parts) c.write_texts.result _ _ same
-    (written-tells line bytes (c.requires.some, c.requires.most) has.file code (record { within = within; typed = has.typed }) has.is has.only made c.write_texts.result _ _ (made-of-parts c.args.parts code made c.surveyed.ensures) c.write_texts.ensures)
+    (written-tells line bytes (c.requires.some, c.requires.most) has.file code (record { within = within; typed = has.typed }) has.is has.only made c.write_texts.result _ _ (made-of-parts c.args.parts has.file code made c.surveyed.ensures) c.write_texts.ensures)
 
 pub read-requires : goal.read-requires
 read-requires g c =

@@ -16,6 +16,10 @@ returns-in-Ok-Some-Generate g c words is = tells-generate words _ _ _ _ _ _ c.in
     (found-line words c.args.line c.in-Ok-Some-Generate.field-0 _ c.in-Ok-Some-Generate.is (c.in-Ok-Some-Generate.field-0-is ∙ ap (λ (l : Line). Some l) c.in-Ok-Some-Generate.field-0-0-is) is)
     (generated-line c.in-Ok-Some-Generate.parts _ _ c.run_generated.result _ _ c.run_generated.ensures) refl refl
 
+pub returns-in-Ok-Some-Meaning : goal.returns-in-Ok-Some-Meaning
+returns-in-Ok-Some-Meaning g c words is = tells-reading words _ _ _ _ _ _ Line.Meaning c.serve_meaning.result tt
+    (found-line words c.args.line c.in-Ok-Some-Meaning.field-0 _ c.in-Ok-Some-Meaning.is (c.in-Ok-Some-Meaning.field-0-is ∙ ap (λ (l : Line). Some l) c.in-Ok-Some-Meaning.field-0-0-is) is) c.serve_meaning.ensures
+
 pub returns-in-Ok-None : goal.returns-in-Ok-None
 returns-in-Ok-None g c words is = tells-usage words _ _ _ _ _ _ c.end.result (found-line words c.args.line c.in-Ok-None.field-0 _ c.in-Ok-None.is c.in-Ok-None.field-0-is is) (says _ _ _ _ _ _ s.Usage c.end.result USAGE.now c.end.ensures) refl refl
 

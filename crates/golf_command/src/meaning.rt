@@ -1,0 +1,52 @@
+//! The comparison of a file's code with its source.
+
+ghost use Rattle.std.specs.Prelude.{◌≡◌, IfOk};
+ghost use Rattle.golf_types.specs.Files.{facts_in};
+ghost use Rattle.golf_check.specs.Heads.{scope_of};
+ghost use Rattle.golf_function_meaning.specs.Files.{function_count as count_of};
+ghost use Rattle.golf_texts.specs.Texts.{meaning_line as meaning_bytes};
+ghost use Rattle.golf_run.specs.HasRun.{sinks};
+ghost use Rattle.golf_command.specs.Means.{seen, LineTells};
+ghost use Rattle.golf_words.specs.declared.line.Line.{Line};
+
+use crate::loading::load_tree;
+use crate::texts::write_told;
+use golf_base::{List, Memory, Sink, Source};
+use golf_check::Checked;
+use golf_code::generate;
+use golf_meaning::{check_all, function_count};
+use golf_texts::{Status, meaning_line};
+use std::alloc::Global;
+
+// The line that says how many functions agree with their source: all.
+fn agreement(alloc: Global, checked: &Checked) -> Result<List<u8>, Memory>
+    requires scope { checked.now.scope ≡ scope_of checked.now.file }
+    requires facts { checked.now.facts ≡ facts_in checked.now.file }
+    ensures { IfOk result (λ text. text ≡ meaning_bytes (count_of checked.now.file.declarations)) }
+{
+    let code = generate(alloc, checked)?;
+    let same = check_all(alloc, checked, &code)?;
+    if !same {
+        unreachable!()
+    }
+    meaning_line(alloc, function_count(checked.file.declarations.as_slice()))
+}
+
+/// Reads the file of a meaning line, and compares the code of each of its functions with its source. Nothing
+/// is run.
+pub(crate) fn serve_meaning<S: Source, O: Sink, E: Sink>(
+    alloc: Global,
+    source: &mut S,
+    out: &mut O,
+    err: &mut E,
+) -> Status
+    ensures { LineTells Line.Meaning result
+        (seen (S.left source.old) (S.faults source.old) (sinks (O.written out.old) (O.faults out.old) (E.written err.old) (E.faults err.old)))
+        (seen (S.left source.new) (S.faults source.new) (sinks (O.written out.new) (O.faults out.new) (E.written err.new) (E.faults err.new))) }
+{
+    let checked = match load_tree(alloc, source, err) {
+        Ok(checked) => checked,
+        Err(status) => return status,
+    };
+    write_told(out, err, agreement(alloc, &checked))
+}
