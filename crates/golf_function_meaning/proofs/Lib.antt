@@ -6,4 +6,5 @@ pub mod Samples
 pub mod Bodies
 pub mod BodiesOfCalls
 pub mod BodiesOfExpressions
+pub mod WholeFunctions
 pub mod Examples
