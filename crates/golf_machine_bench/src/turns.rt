@@ -1,9 +1,12 @@
 //! A run of turns and the time that it takes.
 
+ghost use Rattle.std.specs.Prelude.{◌≡◌, ◌-◌, ◌^◌};
+ghost use Rattle.golf_machine_bench.specs.Countdown.{counted_down};
+
 use crate::codes::{Kind, code_of};
 use golf_base::{List, Memory};
 use golf_data::{Channel, Code, Object, Side, Value, Wait, WaitKind};
-use golf_machine::{start, turn};
+use golf_machine::{Numbers, start, take_turns};
 use golf_state::State;
 use golf_trials::{BenchFault, can_run};
 use std::alloc::Global;
@@ -44,17 +47,33 @@ fn prepare(alloc: Global, code: &Code, blocked: u32) -> Result<State, Memory> {
     Ok(state)
 }
 
-// So many turns, each of the next number.
+// The numbers below this one, the last one first.
+#[derive(Drop)]
+struct Countdown {
+    left: u64,
+}
+
+impl Numbers for Countdown {
+    ghost left = { λ c. counted_down c.left };
+
+    ghost given = { λ c. 2 ^ 64 - c.left };
+
+    fn next(&mut self) -> Option<u64> {
+        self.left = self.left.checked_sub(1)?;
+        Some(self.left)
+    }
+}
+
+// So many turns.
 fn run(alloc: Global, code: &Code, state: &mut State, turns: u64) -> Result<(), Memory> {
     if !can_run(code) {
         return Ok(());
     }
-    for number in 0..turns {
-        if state.ending().is_some() {
-            break;
-        }
-        turn(alloc, code, state, number)?;
+    if state.ending().is_some() {
+        return Ok(());
     }
+    let mut numbers = Countdown { left: turns };
+    take_turns(alloc, code, state, &mut numbers)?;
     Ok(())
 }
 
