@@ -1,83 +1,96 @@
-//! Words that stand for no line.
+//! Rows of words that stand for no line.
 
 use crate::lines::line;
+use golf_words::parse;
+use std::alloc::Global;
+use std::process::Abort;
 use std::test::Fail;
 
-fn is_refused<R: AllocGlobal>(rt: &R, words: &[&str]) -> Result<bool, Fail> {
-    Ok(line(rt, words)?.is_none())
+// Each of these ends, behind this front, is a row that stands for no line.
+fn refuses(rt: &impl Abort, alloc: Global, front: &str, ends: &[&str]) -> Result<(), Fail> {
+    for end in ends {
+        let row = format!(in alloc; "{front}{end}")?;
+        assert!(rt; line(alloc, row.as_str())?.is_none(), "{row}");
+    }
+    Ok(())
 }
 
 #[test]
 fn no_words_and_unknown_words_are_refused(rt: HostRuntime) -> Result<(), Fail> {
-    assert!(rt; is_refused(&rt, &[])?);
-    assert!(rt; is_refused(&rt, &[""])?);
-    assert!(rt; is_refused(&rt, &["ru"])?);
-    assert!(rt; is_refused(&rt, &["RUN"])?);
-    assert!(rt; is_refused(&rt, &["help"])?);
-    assert!(rt; is_refused(&rt, &["--help"])?);
-    assert!(rt; is_refused(&rt, &["-h"])?);
-    assert!(rt; is_refused(&rt, &["--version"])?);
-    assert!(rt; is_refused(&rt, &["--", "run"])?);
-    assert!(rt; is_refused(&rt, &["--recover", "run"])?);
-    Ok(())
+    assert!(rt; parse(rt.alloc(), &Vec::new(rt.alloc()))?.is_none());
+    let rows = [
+        "",
+        "ru",
+        "RUN",
+        "help",
+        "--help",
+        "-h",
+        "--version",
+        "--|run",
+        "--recover|run",
+    ];
+    refuses(&rt, rt.alloc(), "", rows.as_slice())
 }
 
 #[test]
 fn a_run_line_has_no_other_words(rt: HostRuntime) -> Result<(), Fail> {
-    assert!(rt; is_refused(&rt, &["run", ""])?);
-    assert!(rt; is_refused(&rt, &["run", "run"])?);
-    assert!(rt; is_refused(&rt, &["run", "5"])?);
-    assert!(rt; is_refused(&rt, &["run", "help"])?);
-    assert!(rt; is_refused(&rt, &["run", "--help"])?);
-    assert!(rt; is_refused(&rt, &["run", "-h"])?);
-    assert!(rt; is_refused(&rt, &["run", "-"])?);
-    assert!(rt; is_refused(&rt, &["run", "-r"])?);
-    assert!(rt; is_refused(&rt, &["run", "--rec"])?);
-    assert!(rt; is_refused(&rt, &["run", "--Recover"])?);
-    assert!(rt; is_refused(&rt, &["run", "--turn", "2"])?);
-    assert!(rt; is_refused(&rt, &["run", "--=2"])?);
-    assert!(rt; is_refused(&rt, &["run", "--turns", "2", "3"])?);
-    Ok(())
+    let rows = [
+        "run|",
+        "run|run",
+        "run|5",
+        "run|help",
+        "run|--help",
+        "run|-h",
+        "run|-",
+        "run|-r",
+        "run|--rec",
+        "run|--Recover",
+        "run|--turn|2",
+        "run|--=2",
+        "run|--turns|2|3",
+    ];
+    refuses(&rt, rt.alloc(), "", rows.as_slice())
 }
 
 #[test]
 fn two_hyphens_stand_once_and_last(rt: HostRuntime) -> Result<(), Fail> {
-    assert!(rt; is_refused(&rt, &["run", "--", "--"])?);
-    assert!(rt; is_refused(&rt, &["run", "--", "--recover"])?);
-    assert!(rt; is_refused(&rt, &["run", "--turns", "--"])?);
-    assert!(rt; is_refused(&rt, &["run", "--turns", "--", "5"])?);
-    Ok(())
+    let rows = [
+        "run|--|--",
+        "run|--|--recover",
+        "run|--turns|--",
+        "run|--turns|--|5",
+    ];
+    refuses(&rt, rt.alloc(), "", rows.as_slice())
 }
 
 #[test]
 fn an_option_stands_at_most_once(rt: HostRuntime) -> Result<(), Fail> {
-    assert!(rt; is_refused(&rt, &["run", "--recover", "--recover"])?);
-    assert!(rt; is_refused(&rt, &["run", "--turns=2", "--turns=2"])?);
-    assert!(rt; is_refused(&rt, &["run", "--turns", "2", "--recover", "--turns", "2"])?);
-    assert!(rt;
-        is_refused(
-            &rt,
-            &["run", "--schedule=rotate", "--schedule", "rotate", "--"]
-        )?
-    );
-    Ok(())
+    let rows = [
+        "run|--recover|--recover",
+        "run|--turns=2|--turns=2",
+        "run|--turns|2|--recover|--turns|2",
+        "run|--schedule=rotate|--schedule|rotate|--",
+    ];
+    refuses(&rt, rt.alloc(), "", rows.as_slice())
 }
 
 #[test]
 fn an_option_has_a_value_where_it_takes_one(rt: HostRuntime) -> Result<(), Fail> {
-    assert!(rt; is_refused(&rt, &["run", "--turns"])?);
-    assert!(rt; is_refused(&rt, &["run", "--turns="])?);
-    assert!(rt; is_refused(&rt, &["run", "--turns", ""])?);
-    assert!(rt; is_refused(&rt, &["run", "--turns", "--recover"])?);
-    assert!(rt; is_refused(&rt, &["run", "--turns", "-"])?);
-    assert!(rt; is_refused(&rt, &["run", "--why", "--why"])?);
-    assert!(rt; is_refused(&rt, &["run", "--why=1"])?);
-    assert!(rt; is_refused(&rt, &["run", "--threads=2", "--why"])?);
-    assert!(rt; is_refused(&rt, &["generate", "3", "--why"])?);
-    assert!(rt; is_refused(&rt, &["run", "--recover="])?);
-    assert!(rt; is_refused(&rt, &["run", "--recover=true"])?);
-    assert!(rt; is_refused(&rt, &["run", "--recover", "true"])?);
-    Ok(())
+    let rows = [
+        "run|--turns",
+        "run|--turns=",
+        "run|--turns|",
+        "run|--turns|--recover",
+        "run|--turns|-",
+        "run|--why|--why",
+        "run|--why=1",
+        "run|--threads=2|--why",
+        "generate|3|--why",
+        "run|--recover=",
+        "run|--recover=true",
+        "run|--recover|true",
+    ];
+    refuses(&rt, rt.alloc(), "", rows.as_slice())
 }
 
 #[test]
@@ -97,15 +110,15 @@ fn numbers_are_decimal_digits_within_their_range(rt: HostRuntime) -> Result<(), 
         "18446744073709551616",
         "99999999999999999999",
     ];
-    for value in values.iter() {
-        assert!(rt; is_refused(&rt, &["run", "--turns", *value])?);
-        assert!(rt; is_refused(&rt, &["run", "--every", *value])?);
-        assert!(rt; is_refused(&rt, &["run", "--markers", *value])?);
-        assert!(rt; is_refused(&rt, &["generate", *value])?);
+    for front in [
+        "run|--turns|",
+        "run|--every|",
+        "run|--markers|",
+        "generate|",
+    ] {
+        refuses(&rt, rt.alloc(), front, values.as_slice())?;
     }
-    assert!(rt; is_refused(&rt, &["run", "--markers", "17"])?);
-    assert!(rt; is_refused(&rt, &["generate", "5001"])?);
-    Ok(())
+    refuses(&rt, rt.alloc(), "", &["run|--markers|17", "generate|5001"])
 }
 
 #[test]
@@ -130,21 +143,18 @@ fn schedules_are_rotate_seed_and_choices(rt: HostRuntime) -> Result<(), Fail> {
         "choices:1, 2",
         "other:1",
     ];
-    for value in values.iter() {
-        assert!(rt; is_refused(&rt, &["run", "--schedule", *value])?);
-    }
-    Ok(())
+    refuses(&rt, rt.alloc(), "run|--schedule|", values.as_slice())
 }
 
 #[test]
 fn more_than_four_thousand_and_ninety_six_choices_are_refused(rt: HostRuntime) -> Result<(), Fail> {
-    let mut value = String::from_str(rt.alloc(), "choices:0")?;
+    let mut row = String::from_str(rt.alloc(), "run|--schedule|choices:0")?;
     for _ in 0..4095 {
-        value.push_str(",0")?;
+        row.push_str(",0")?;
     }
-    assert!(rt; !is_refused(&rt, &["run", "--schedule", value.as_str()])?);
-    value.push_str(",0")?;
-    assert!(rt; is_refused(&rt, &["run", "--schedule", value.as_str()])?);
+    assert!(rt; line(rt.alloc(), row.as_str())?.is_some());
+    row.push_str(",0")?;
+    assert!(rt; line(rt.alloc(), row.as_str())?.is_none());
     Ok(())
 }
 
@@ -152,61 +162,69 @@ fn more_than_four_thousand_and_ninety_six_choices_are_refused(rt: HostRuntime) -
 fn a_generate_line_has_one_number_and_at_most_one_pair_of_hyphens(
     rt: HostRuntime,
 ) -> Result<(), Fail> {
-    assert!(rt; is_refused(&rt, &["generate"])?);
-    assert!(rt; is_refused(&rt, &["generate", "--"])?);
-    assert!(rt; is_refused(&rt, &["generate", "--", "--"])?);
-    assert!(rt; is_refused(&rt, &["generate", "--", "5", "--"])?);
-    assert!(rt; is_refused(&rt, &["generate", "5", "--", "--"])?);
-    assert!(rt; is_refused(&rt, &["generate", "5", "6"])?);
-    assert!(rt; is_refused(&rt, &["generate", "5", "--", "6"])?);
-    assert!(rt; is_refused(&rt, &["generate", "--recover", "5"])?);
-    assert!(rt; is_refused(&rt, &["generate", "5", "--recover"])?);
-    assert!(rt; is_refused(&rt, &["generate", "--number=5"])?);
-    assert!(rt; is_refused(&rt, &["generate", "--help"])?);
-    Ok(())
+    let rows = [
+        "generate",
+        "generate|--",
+        "generate|--|--",
+        "generate|--|5|--",
+        "generate|5|--|--",
+        "generate|5|6",
+        "generate|5|--|6",
+        "generate|--recover|5",
+        "generate|5|--recover",
+        "generate|--number=5",
+        "generate|--help",
+    ];
+    refuses(&rt, rt.alloc(), "", rows.as_slice())
 }
 
 #[test]
 fn a_number_of_threads_is_1_to_16(rt: HostRuntime) -> Result<(), Fail> {
-    assert!(rt; is_refused(&rt, &["run", "--threads"])?);
-    assert!(rt; is_refused(&rt, &["run", "--threads="])?);
-    assert!(rt; is_refused(&rt, &["run", "--threads", "0"])?);
-    assert!(rt; is_refused(&rt, &["run", "--threads=17"])?);
-    assert!(rt; is_refused(&rt, &["run", "--threads", "000000000000000000002"])?);
-    assert!(rt; is_refused(&rt, &["run", "--threads", "two"])?);
-    assert!(rt; is_refused(&rt, &["run", "--threads", "--", "2"])?);
-    assert!(rt; is_refused(&rt, &["run", "--threads=2", "--", "--"])?);
-    assert!(rt; is_refused(&rt, &["run", "--threads=2", "2"])?);
-    Ok(())
+    let rows = [
+        "run|--threads",
+        "run|--threads=",
+        "run|--threads|0",
+        "run|--threads=17",
+        "run|--threads|000000000000000000002",
+        "run|--threads|two",
+        "run|--threads|--|2",
+        "run|--threads=2|--|--",
+        "run|--threads=2|2",
+    ];
+    refuses(&rt, rt.alloc(), "", rows.as_slice())
 }
 
 #[test]
 fn threads_stand_once_and_with_no_other_option(rt: HostRuntime) -> Result<(), Fail> {
-    let others = [
-        "--threads=2",
-        "--schedule=rotate",
-        "--turns=1000000",
-        "--every=3",
-        "--markers=1",
-        "--recover",
+    let rows = [
+        "--threads=2|--threads=2",
+        "--threads=2|--schedule=rotate",
+        "--threads=2|--turns=1000000",
+        "--threads=2|--every=3",
+        "--threads=2|--markers=1",
+        "--threads=2|--recover",
+        "--threads=2|--threads|2|--",
+        "--schedule=rotate|--threads|2|--",
+        "--turns=1000000|--threads|2|--",
+        "--every=3|--threads|2|--",
+        "--markers=1|--threads|2|--",
+        "--recover|--threads|2|--",
     ];
-    for other in others {
-        assert!(rt; is_refused(&rt, &["run", "--threads=2", other])?);
-        assert!(rt; is_refused(&rt, &["run", other, "--threads", "2", "--"])?);
-    }
-    Ok(())
+    refuses(&rt, rt.alloc(), "run|", rows.as_slice())
 }
 
 #[test]
 fn a_meaning_line_has_no_other_words(rt: HostRuntime) -> Result<(), Fail> {
-    assert!(rt; is_refused(&rt, &["meaning", "x"])?);
-    assert!(rt; is_refused(&rt, &["meaning", ""])?);
-    assert!(rt; is_refused(&rt, &["meaning", "-x"])?);
-    assert!(rt; is_refused(&rt, &["meaning", "--help"])?);
-    assert!(rt; is_refused(&rt, &["meaning", "--", "x"])?);
-    assert!(rt; is_refused(&rt, &["meaning", "--", "--"])?);
-    assert!(rt; is_refused(&rt, &["meaning", "--threads", "2"])?);
-    assert!(rt; is_refused(&rt, &["Meaning"])?);
-    assert!(rt; is_refused(&rt, &["--", "meaning"])?);
-    Ok(())
+    let rows = [
+        "meaning|x",
+        "meaning|",
+        "meaning|-x",
+        "meaning|--help",
+        "meaning|--|x",
+        "meaning|--|--",
+        "meaning|--threads|2",
+        "Meaning",
+        "--|meaning",
+    ];
+    refuses(&rt, rt.alloc(), "", rows.as_slice())
 }

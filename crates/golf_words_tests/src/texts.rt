@@ -48,7 +48,7 @@ fn report_is_written_so(rt: &impl Abort, alloc: Global) -> Result<(), Fail> {
         reclaimed: 13,
         objects: 14,
     };
-    assert_eq!(rt; report_text(alloc, &report)?.as_slice(), REPORT);
+    is_written_so(rt, &report_text(alloc, &report)?, REPORT);
     Ok(())
 }
 
@@ -117,6 +117,11 @@ const FAULTS: [(PanicKind, &[u8]); 16] = [
     ),
 ];
 
+// A text is this one.
+fn is_written_so(rt: &impl Abort, text: &List<u8>, wanted: &[u8]) {
+    assert_eq!(rt; text.as_slice(), wanted);
+}
+
 fn faults_are_written_so(rt: &impl Abort, alloc: Global) -> Result<(), Fail> {
     let mut texts = List::new(alloc);
     texts.push(list_of(alloc, b"lost")?)?;
@@ -126,89 +131,99 @@ fn faults_are_written_so(rt: &impl Abort, alloc: Global) -> Result<(), Fail> {
             goroutine: GoroutineId(3),
             line: 5,
         };
-        assert_eq!(rt;
-            ending_line(alloc, texts.as_slice(), ending)?.as_slice(),
-            line
-        );
+        is_written_so(rt, &ending_line(alloc, texts.as_slice(), ending)?, line);
     }
     Ok(())
 }
 
 fn ends_are_written_so(rt: &impl Abort, alloc: Global) -> Result<(), Fail> {
-    assert_eq!(rt;
-        ending_line(alloc, &[], Ending::Returned)?.as_slice(),
-        b"".as_slice()
+    is_written_so(rt, &ending_line(alloc, &[], Ending::Returned)?, b"");
+    is_written_so(
+        rt,
+        &ending_line(alloc, &[], Ending::Asleep)?,
+        b"fatal error: all goroutines are asleep - deadlock!\n",
     );
-    assert_eq!(rt;
-        ending_line(alloc, &[], Ending::Asleep)?.as_slice(),
-        b"fatal error: all goroutines are asleep - deadlock!\n".as_slice()
-    );
-    assert_eq!(rt;
-        stopped_line(alloc, 1_000_000)?.as_slice(),
-        b"stopped after 1000000 turns\n".as_slice()
-    );
-    assert_eq!(rt;
-        lexical_line(alloc, 3, 36)?.as_slice(),
-        b"refused: line 3: byte 36\n".as_slice()
-    );
-    assert_eq!(rt;
-        syntax_line(alloc, 2)?.as_slice(),
-        b"refused: line 2: syntax\n".as_slice()
-    );
-    assert_eq!(rt;
-        rule_line(alloc, 3, 24)?.as_slice(),
-        b"refused: line 3: rule 24\n".as_slice()
-    );
-    assert_eq!(rt;
-        USAGE.as_slice(),
-        b"usage: golf run [--schedule S] [--turns N] [--every N] [--markers N] [--recover] [--why]\n       golf run --threads N\n       golf generate N\n       golf meaning\n".as_slice()
-    );
-    assert_eq!(rt;
-        meaning_line(alloc, 5)?.as_slice(),
-        b"meaning: 5 functions agree\n".as_slice()
-    );
-    assert_eq!(rt; READ_FAULT.as_slice(), b"read fault\n".as_slice());
-    assert_eq!(rt;
-        TOO_LONG.as_slice(),
-        b"refused: more than 1048576 bytes\n".as_slice()
-    );
-    assert_eq!(rt; NO_MEMORY.as_slice(), b"out of memory\n".as_slice());
-    assert_eq!(rt; LIMIT, 1_048_576);
     Ok(())
+}
+
+fn lines_with_numbers_are_written_so(rt: &impl Abort, alloc: Global) -> Result<(), Fail> {
+    is_written_so(
+        rt,
+        &stopped_line(alloc, 1_000_000)?,
+        b"stopped after 1000000 turns\n",
+    );
+    is_written_so(
+        rt,
+        &lexical_line(alloc, 3, 36)?,
+        b"refused: line 3: byte 36\n",
+    );
+    is_written_so(rt, &syntax_line(alloc, 2)?, b"refused: line 2: syntax\n");
+    is_written_so(rt, &rule_line(alloc, 3, 24)?, b"refused: line 3: rule 24\n");
+    is_written_so(
+        rt,
+        &meaning_line(alloc, 5)?,
+        b"meaning: 5 functions agree\n",
+    );
+    is_written_so(
+        rt,
+        &certificate_line(alloc, 3, 14)?,
+        b"certificate 3: 14 places\n",
+    );
+    Ok(())
+}
+
+fn fixed_lines_are_written_so(rt: &impl Abort) {
+    let rows: [(&[u8], &[u8]); 4] = [
+        (
+            USAGE.as_slice(),
+            b"usage: golf run [--schedule S] [--turns N] [--every N] [--markers N] [--recover] [--why]\n       golf run --threads N\n       golf generate N\n       golf meaning\n",
+        ),
+        (READ_FAULT.as_slice(), b"read fault\n"),
+        (TOO_LONG.as_slice(), b"refused: more than 1048576 bytes\n"),
+        (NO_MEMORY.as_slice(), b"out of memory\n"),
+    ];
+    for (text, wanted) in rows {
+        assert_eq!(rt; text, wanted);
+    }
+    assert!(rt; LIMIT == 1_048_576);
 }
 
 fn reasons_are_written_so(rt: &impl Abort, alloc: Global) -> Result<(), Fail> {
     let mut by = List::new(alloc);
-    by.push(Member::Object(ObjectId(1)))?;
-    by.push(Member::Goroutine(GoroutineId(2)))?;
-    by.push(Member::Object(ObjectId(30)))?;
+    by.extend_from_slice(&[
+        Member::Object(ObjectId(1)),
+        Member::Goroutine(GoroutineId(2)),
+        Member::Object(ObjectId(30)),
+    ])?;
     let reached = Reached {
         goroutine: GoroutineId(9),
         wait: WaitKind::Select,
         line: 8,
         by,
     };
-    assert_eq!(rt;
-        reached_line(alloc, &reached)?.as_slice(),
-        b"goroutine 9: select at line 8, reached by object 1, goroutine 2, object 30\n".as_slice()
-    );
-    assert_eq!(rt;
-        certificate_line(alloc, 3, 14)?.as_slice(),
-        b"certificate 3: 14 places\n".as_slice()
+    is_written_so(
+        rt,
+        &reached_line(alloc, &reached)?,
+        b"goroutine 9: select at line 8, reached by object 1, goroutine 2, object 30\n",
     );
     Ok(())
 }
 
 fn statuses_have_these_numbers(rt: &impl Abort) {
-    assert_eq!(rt; code(Status::Clean), 0);
-    assert_eq!(rt; code(Status::Found), 1);
-    assert_eq!(rt; code(Status::Crashed), 2);
-    assert_eq!(rt; code(Status::Spent), 3);
-    assert_eq!(rt; code(Status::Refused), 4);
-    assert_eq!(rt; code(Status::Usage), 5);
-    assert_eq!(rt; code(Status::ReadFault), 6);
-    assert_eq!(rt; code(Status::WriteFault), 7);
-    assert_eq!(rt; code(Status::Memory), 8);
+    let rows = [
+        (Status::Clean, 0),
+        (Status::Found, 1),
+        (Status::Crashed, 2),
+        (Status::Spent, 3),
+        (Status::Refused, 4),
+        (Status::Usage, 5),
+        (Status::ReadFault, 6),
+        (Status::WriteFault, 7),
+        (Status::Memory, 8),
+    ];
+    for (status, number) in rows {
+        assert!(rt; code(status) == number, "{number}");
+    }
 }
 
 #[test]
@@ -216,6 +231,8 @@ fn each_text_the_limit_and_each_status_is_this_one(rt: HostRuntime) -> Result<()
     report_is_written_so(&rt, rt.alloc())?;
     faults_are_written_so(&rt, rt.alloc())?;
     ends_are_written_so(&rt, rt.alloc())?;
+    lines_with_numbers_are_written_so(&rt, rt.alloc())?;
+    fixed_lines_are_written_so(&rt);
     reasons_are_written_so(&rt, rt.alloc())?;
     statuses_have_these_numbers(&rt);
     Ok(())
