@@ -1,9 +1,10 @@
 //! The dense graph that a collection marks.
 
-ghost use Rattle.std.specs.Prelude.{◌≡◌, ◌<◌, slice_get, Some};
-ghost use Rattle.golf_model.specs.Graph.{IsInRange, node_count, sleeper_count, children_of, goroutine_at, sleeper_waits, sleeper_references};
+ghost use Rattle.std.specs.Prelude.{◌≡◌, ◌<◌, [], slice_get, Some};
+ghost use Rattle.golf_model.specs.Graph.{IsInRange, AreNodes, node_count, sleeper_count, children_of, goroutine_at, sleeper_waits, sleeper_references};
 
 use golf_base::{GoroutineId, List, ObjectId};
+use std::alloc::Global;
 use std::marker::Model;
 
 /// A blocked goroutine that may be awakened.
@@ -54,6 +55,17 @@ impl Graph {
         ensures { result ≡ parts }
     {
         Graph { parts }
+    }
+
+    /// The graph of the same nodes with these roots, and no sleeper.
+    pub fn without_sleepers(mut self, alloc: Global, roots: List<u32>) -> Graph
+        requires { AreNodes self roots }
+        ensures { result ≡ record self { roots = roots; sleepers = [] } }
+    {
+        let none = List::new(alloc);
+        self.parts.roots = roots;
+        self.parts.sleepers = none;
+        self
     }
 
     /// How many nodes there are.
