@@ -1,7 +1,7 @@
 #!/usr/bin/env python3
 """bench/certificates.py PROGRAM: the time of certificates and reasons beside that of the marking.
 
-It runs the built program (crates/golf_bench/out/golf_bench) on a list, a tree, a star, random nodes and a relay (half of its places are
+It runs the built program (crates/golf_bench_marking/out/golf_bench_marking) on a list, a tree, a star, random nodes and a relay (half of its places are
 sleepers, each of which waits on one node and refers to the next) of 1,000 to 1,000,000 places, and prints milliseconds: of the plain
 marking in one thread, of the certificate of its marking, of the check of that certificate, and of what the reasons of all sleepers
 need. Each is the best of five runs by the clock; the word says how the check ended."""

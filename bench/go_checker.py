@@ -1,7 +1,7 @@
 #!/usr/bin/env python3
 """bench/go_checker.py PROGRAM [COUNT [SEED]]: compares which files the built program accepts with which Go's own checker does.
 
-It takes the texts of crates/golf_check_tests and examples/, changes each a little, COUNT times in all (2,000 by default), and hands each
+It takes the texts of crates/golf_tests_check and examples/, changes each a little, COUNT times in all (2,000 by default), and hands each
 text to the program and to go/types. It prints each text that the program accepts and Go refuses, but for the differences that
 docs/LANGUAGE.md lists, and each that Go accepts and the program refuses by a rule that is mostly Go's own (as a function that is no value here);
 and at the end how many there were of each kind. Variables and imports that nobody uses count for nothing. It needs `go` on the path."""
@@ -96,7 +96,7 @@ AN_OPERATOR = re.compile(r'(?<= )(?:[-+*/%]|==|!=|<=?|>=?|&&|\|\||:?=|\+=)(?= )'
 def texts():
     """The files of the checker's tests, and the examples."""
     found = []
-    for name in sorted(glob.glob(f'{TOP}/crates/golf_check_tests/src/*.rt')):
+    for name in sorted(glob.glob(f'{TOP}/crates/golf_tests_check/src/*.rt')):
         with open(name, encoding='utf-8') as file:
             calls = re.findall(r'(expect\w*)\(\s*&rt,\s*rt\.alloc\(\),\s*r(#+)"(.*?)"\2', file.read(), re.S)
         for call, _, rows in calls:

@@ -1,7 +1,7 @@
 #!/usr/bin/env python3
 """bench/machine.py PROGRAM: the time of a turn and of a collection, side by side.
 
-It runs the built program (crates/golf_machine_bench/out/golf_machine_bench). Turns, with 10, 1,000, 10,000 and 100,000 goroutines blocked
+It runs the built program (crates/golf_bench_machine/out/golf_bench_machine). Turns, with 10, 1,000, 10,000 and 100,000 goroutines blocked
 on channels of their own: a loop of loads, sums, comparisons and jumps; two goroutines that send to each other on unbuffered channels;
 two that lock and unlock a mutex. The same loop in Python and, where it is there, in Lua stands beside it, in nanoseconds for each of the
 13 instructions that it has here. Times of turns are processor time, less that of a run without a turn. Collections, of 1,000, 10,000 and

@@ -3,7 +3,7 @@
 
 use golf_base::{OpenGate, StdErrSink, StdSink, StdSource};
 use golf_command::{end, golf};
-use golf_texts::{NO_MEMORY, Status, USAGE, code};
+use golf_run_texts::{NO_MEMORY, Status, USAGE, code};
 use std::env;
 use std::io::ErrorKind;
 use std::process::ExitCode;

@@ -1,24 +1,24 @@
 -- Heads of functions, the scope behind one, the scope with the written types, and the passes over a file.
 use Rattle.std.proofs.Common.{◌≡◌, ℕ, List, [], ◌∷◌, ◌++◌, map, refl, sym, ap, subst, ◌∙◌, append-nil}
 use Rattle.std.specs.Prelude.{Option, Some, None, Result, flat_map}
-use Rattle.golf_grammar.specs.declared.declarations.Receiver.{Receiver}
-use Rattle.golf_grammar.specs.declared.declarations.Func.{Func}
-use Rattle.golf_grammar.specs.declared.declarations.Decl.{Decl}
-use Rattle.golf_grammar.specs.declared.declarations.Import.{Import}
-use Rattle.golf_grammar.specs.declared.declarations.File.{File}
-use Rattle.golf_grammar.specs.declared.statements.Var.{Var}
-use Rattle.golf_types.specs.declared.fault.TypeFault.{TypeFault}
-use Rattle.golf_types.specs.declared.types.GoType.{GoType}
-use Rattle.golf_types.specs.declared.operands.Signature.{Signature}
-use Rattle.golf_types.specs.declared.facts.Fact.{Fact}
-use Rattle.golf_types.specs.declared.scopes.FileScope.{FileScope}
-use Rattle.golf_types.specs.declared.scopes.Imports.{Imports}
-use Rattle.golf_types.specs.declared.scopes.Scope.{Scope}
-use Rattle.golf_types.specs.Faults.{Tells}
-use Rattle.golf_types.specs.Statements.{Walk, Walked, Walks, in_order, behind}
-use Rattle.golf_types.specs.Files.{receiver_walk, parameter_walk, all_typed_names, result_type, head_scope, of_function, func_walk, initial_walk, outside, struct_types, global_types, function_types, with_types, bare_file, file_scope, import_faults, no_imports, with_imports, walk_faults, walk_facts, decl_faults, Broken, facts_in}
-use Rattle.golf_types.proofs.Seams.{tells_behind}
-use Rattle.golf_types.proofs.WalkLaws.{then_tells}
+use Rattle.golf_syntax_trees.specs.declared.declarations.Receiver.{Receiver}
+use Rattle.golf_syntax_trees.specs.declared.declarations.Func.{Func}
+use Rattle.golf_syntax_trees.specs.declared.declarations.Decl.{Decl}
+use Rattle.golf_syntax_trees.specs.declared.declarations.Import.{Import}
+use Rattle.golf_syntax_trees.specs.declared.declarations.File.{File}
+use Rattle.golf_syntax_trees.specs.declared.statements.Var.{Var}
+use Rattle.golf_check_types.specs.declared.fault.TypeFault.{TypeFault}
+use Rattle.golf_check_types.specs.declared.types.GoType.{GoType}
+use Rattle.golf_check_types.specs.declared.operands.Signature.{Signature}
+use Rattle.golf_check_types.specs.declared.facts.Fact.{Fact}
+use Rattle.golf_check_types.specs.declared.scopes.FileScope.{FileScope}
+use Rattle.golf_check_types.specs.declared.scopes.Imports.{Imports}
+use Rattle.golf_check_types.specs.declared.scopes.Scope.{Scope}
+use Rattle.golf_check_types.specs.Faults.{Tells}
+use Rattle.golf_check_types.specs.Statements.{Walk, Walked, Walks, in_order, behind}
+use Rattle.golf_check_types.specs.Files.{receiver_walk, parameter_walk, all_typed_names, result_type, head_scope, of_function, func_walk, initial_walk, outside, struct_types, global_types, function_types, with_types, bare_file, file_scope, import_faults, no_imports, with_imports, walk_faults, walk_facts, decl_faults, Broken, facts_in}
+use Rattle.golf_check_types.proofs.Seams.{tells_behind}
+use Rattle.golf_check_types.proofs.WalkLaws.{then_tells}
 use Rattle.golf_check.specs.declared.files.Found.{Found}
 use Rattle.golf_check.specs.Heads.{receiver_name, optional_parameter, inner_walks, function_walked, Stays, scope_of, typed_file, named_faults}
 

@@ -1,17 +1,17 @@
 -- What the head of a function declares (Go specification, "Function declarations", "Method declarations"), what the answers for declarations tell, and the passes over the declarations of a file.
 use Rattle.std.specs.Prelude.{◌≡◌, ℕ, List, ◌∷◌, ◌++◌, [], map, flat_map, Option, Some, None, Result}
-use Rattle.golf_grammar.specs.declared.declarations.Receiver.{Receiver}
-use Rattle.golf_grammar.specs.declared.declarations.Func.{Func}
-use Rattle.golf_grammar.specs.declared.declarations.Decl.{Decl}
-use Rattle.golf_grammar.specs.declared.declarations.File.{File}
-use Rattle.golf_types.specs.declared.fault.TypeFault.{TypeFault}
-use Rattle.golf_types.specs.declared.types.GoType.{GoType}
-use Rattle.golf_types.specs.declared.facts.Fact.{Fact}
-use Rattle.golf_types.specs.declared.scopes.FileScope.{FileScope}
-use Rattle.golf_types.specs.declared.scopes.Scope.{Scope}
-use Rattle.golf_types.specs.Faults.{Fault, Tells}
-use Rattle.golf_types.specs.Statements.{Walk, Walked, nothing, breaks, behind, in_order, walk}
-use Rattle.golf_types.specs.Files.{receiver_type, parameter_walk, end_faults, of_function, names_faults, none_above, type_faults, main_faults, with_types, with_forms, walk_faults, outside, file_scope, with_imports, no_imports}
+use Rattle.golf_syntax_trees.specs.declared.declarations.Receiver.{Receiver}
+use Rattle.golf_syntax_trees.specs.declared.declarations.Func.{Func}
+use Rattle.golf_syntax_trees.specs.declared.declarations.Decl.{Decl}
+use Rattle.golf_syntax_trees.specs.declared.declarations.File.{File}
+use Rattle.golf_check_types.specs.declared.fault.TypeFault.{TypeFault}
+use Rattle.golf_check_types.specs.declared.types.GoType.{GoType}
+use Rattle.golf_check_types.specs.declared.facts.Fact.{Fact}
+use Rattle.golf_check_types.specs.declared.scopes.FileScope.{FileScope}
+use Rattle.golf_check_types.specs.declared.scopes.Scope.{Scope}
+use Rattle.golf_check_types.specs.Faults.{Fault, Tells}
+use Rattle.golf_check_types.specs.Statements.{Walk, Walked, nothing, breaks, behind, in_order, walk}
+use Rattle.golf_check_types.specs.Files.{receiver_type, parameter_walk, end_faults, of_function, names_faults, none_above, type_faults, main_faults, with_types, with_forms, walk_faults, outside, file_scope, with_imports, no_imports}
 
 -- a receiver's name with its type
 abbrev pub receiver_name : Scope → Option Receiver → Option (List ℕ × Option GoType)

@@ -1,9 +1,9 @@
 //! Whether a file keeps the rules.
 
 ghost use Rattle.std.specs.Prelude.{◌≡◌, ◌++◌, IfOk};
-ghost use Rattle.golf_types.specs.Faults.{Tells};
-ghost use Rattle.golf_types.specs.Facts.{types_told};
-ghost use Rattle.golf_types.specs.Files.{outside, decl_walked, walk_faults, walk_facts, decl_faults, file_scope, Broken, facts_in};
+ghost use Rattle.golf_check_types.specs.Faults.{Tells};
+ghost use Rattle.golf_check_types.specs.Facts.{types_told};
+ghost use Rattle.golf_check_types.specs.Files.{outside, decl_walked, walk_faults, walk_facts, decl_faults, file_scope, Broken, facts_in};
 ghost use Rattle.golf_check.specs.Heads.{Stays, scope_of, typed_file, named_faults};
 
 use crate::functions::func_at;
@@ -12,8 +12,8 @@ use crate::scopes::{add_types, bare_scope};
 use golf_base::{List, Memory};
 use golf_check_forms::next_global;
 use golf_check_names::{imported, main_is_there, names_are_good, types_are_there};
-use golf_grammar::{Decl, File};
-use golf_types::{Fact, GoType, Imports, Scope, TypeFault, type_of};
+use golf_syntax_trees::{Decl, File};
+use golf_check_types::{Fact, GoType, Imports, Scope, TypeFault, type_of};
 use std::alloc::Global;
 
 /// A file that keeps the rules, and what was found of its parts: constants, initialisers and
@@ -145,7 +145,7 @@ fn found_of_decls(alloc: Global, imports: Imports, decls: &[Decl]) -> Result<Fou
     }
 }
 
-#[tactic(auto, unfolding(golf_types::specs::Files::Broken, golf_types::specs::Files::facts_in))]
+#[tactic(auto, unfolding(golf_check_types::specs::Files::Broken, golf_check_types::specs::Files::facts_in))]
 fn found_of_file(alloc: Global, file: &File) -> Result<Found, TypeFault>
     ensures { Tells result (Broken file.now) (λ f. (f.scope ≡ scope_of file.now) × (f.facts ≡ facts_in file.now)) }
 {

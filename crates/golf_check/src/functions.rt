@@ -1,18 +1,18 @@
 //! Whether functions and methods keep the rules.
 
 ghost use Rattle.std.specs.Prelude.{◌≡◌, [], map, IfOk, OnOk};
-ghost use Rattle.golf_types.specs.Faults.{Tells};
-ghost use Rattle.golf_types.specs.Statements.{Moves, Walks, behind, in_order};
-ghost use Rattle.golf_types.specs.Files.{parameter as parameter_of, parameter_walk, end_faults, func_walk, outside as outside_of};
+ghost use Rattle.golf_check_types.specs.Faults.{Tells};
+ghost use Rattle.golf_check_types.specs.Statements.{Moves, Walks, behind, in_order};
+ghost use Rattle.golf_check_types.specs.Files.{parameter as parameter_of, parameter_walk, end_faults, func_walk, outside as outside_of};
 ghost use Rattle.golf_check.specs.Heads.{receiver_name as receiver_name_of, optional_parameter as optional_parameter_of, body_walks, inner_walks, head_walks, arguments as arguments_of, function_walked, Counts, Stays};
 
 use golf_base::{List, Memory};
 use golf_check_forms::{TypedName, result_type, typed_names};
 use golf_check_operands::{plain_type, pointer_to};
 use golf_check_statements::all;
-use golf_endings::all_ending;
-use golf_grammar::{Func, Receiver};
-use golf_types::{
+use golf_check_endings::all_ending;
+use golf_syntax_trees::{Func, Receiver};
+use golf_check_types::{
     Fact, GoType, Scope, TypeFault, copy_name, copy_optional, declare, may_be_declared, meaning_at,
     require,
 };
@@ -45,7 +45,7 @@ fn typed_parameter(
     parameter(alloc, line, scope, named.0.as_slice(), t)
 }
 
-#[tactic(auto, using(golf_types::proofs::WalkLaws::stays))]
+#[tactic(auto, using(golf_check_types::proofs::WalkLaws::stays))]
 fn optional_parameter(
     alloc: Global,
     line: u32,
@@ -158,7 +158,7 @@ fn leave(alloc: Global, scope: &mut Scope) -> Result<(), Memory>
 }
 
 // A function of these types, and the fact that counts its slots and facts.
-#[tactic(auto, using(crate::proofs::Laws::left_scope, golf_types::proofs::Seams::function_filled))]
+#[tactic(auto, using(crate::proofs::Laws::left_scope, golf_check_types::proofs::Seams::function_filled))]
 fn typed_func(
     alloc: Global,
     scope: &mut Scope,

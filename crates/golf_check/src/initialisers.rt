@@ -1,17 +1,17 @@
 //! Whether constants and what globals begin with keep the rules.
 
 ghost use Rattle.std.specs.Prelude.{◌≡◌};
-ghost use Rattle.golf_types.specs.Statements.{Adds, judges};
-ghost use Rattle.golf_types.specs.Files.{const_faults, const_facts, initial_walk};
+ghost use Rattle.golf_check_types.specs.Statements.{Adds, judges};
+ghost use Rattle.golf_check_types.specs.Files.{const_faults, const_facts, initial_walk};
 ghost use Rattle.golf_check.specs.Heads.{Stays};
-ghost use Rattle.golf_grammar.specs.declared.statements.VarContent.TheVariants as content_as;
+ghost use Rattle.golf_syntax_trees.specs.declared.statements.VarContent.TheVariants as content_as;
 
 use golf_base::List;
 use golf_check_expressions::given;
 use golf_check_operands::{assignable, int_value, written_type};
 use golf_check_simple::is_nil;
-use golf_grammar::{Const, Expr, TypeExpr, Var, VarContent};
-use golf_types::{Fact, Scope, TypeFault, require};
+use golf_syntax_trees::{Const, Expr, TypeExpr, Var, VarContent};
+use golf_check_types::{Fact, Scope, TypeFault, require};
 use std::alloc::Global;
 
 /// A constant, and the fact of its value where it is an integer: rule 19.

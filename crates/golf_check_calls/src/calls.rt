@@ -2,13 +2,13 @@
 
 ghost use Rattle.std.specs.Prelude.{◌≡◌, slice_get, IfOk};
 ghost use Rattle.std.specs.List.{list_all};
-ghost use Rattle.golf_types.specs.Faults.{Tells};
-ghost use Rattle.golf_types.specs.Types.{type_given as type_given_of, has_base as has_base_of, has_layer, is_any, takes};
-ghost use Rattle.golf_types.specs.Calls.{argument_faults, same_number as same_number_of, parameter_faults, signature_faults, of_result as of_result_of, signature_result, parameters_of as parameters_of_of, all_first, built_in_faults, rule_unless as rule_unless_of, prints as prints_of, is_struct_base as is_struct_base_of, is_struct_type as is_struct_type_of, is_struct_pointer as is_struct_pointer_of, same_known as same_known_of, takes_alone as takes_alone_of, signature_takes, finalises_by as finalises_by_of, finalises as finalises_of, late_rule as late_rule_of, built_in_result as built_in_result_of, is_steady as is_steady_of, steady_faults, sets_finaliser as sets_finaliser_of, call_faults, called as called_of};
+ghost use Rattle.golf_check_types.specs.Faults.{Tells};
+ghost use Rattle.golf_check_types.specs.Types.{type_given as type_given_of, has_base as has_base_of, has_layer, is_any, takes};
+ghost use Rattle.golf_check_types.specs.Calls.{argument_faults, same_number as same_number_of, parameter_faults, signature_faults, of_result as of_result_of, signature_result, parameters_of as parameters_of_of, all_first, built_in_faults, rule_unless as rule_unless_of, prints as prints_of, is_struct_base as is_struct_base_of, is_struct_type as is_struct_type_of, is_struct_pointer as is_struct_pointer_of, same_known as same_known_of, takes_alone as takes_alone_of, signature_takes, finalises_by as finalises_by_of, finalises as finalises_of, late_rule as late_rule_of, built_in_result as built_in_result_of, is_steady as is_steady_of, steady_faults, sets_finaliser as sets_finaliser_of, call_faults, called as called_of};
 
 use golf_base::{List, Memory};
 use golf_check_operands::{assignable, can_take, has_any, has_base};
-use golf_types::{
+use golf_check_types::{
     Base, BuiltIn, FileScope, Given, GoType, Layer, Operand, Signature, TypeFault, copy_optional,
     plain, require, same_type,
 };

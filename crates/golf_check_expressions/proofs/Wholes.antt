@@ -1,22 +1,22 @@
 -- What the answer for an expression with a list of parts tells.
 use Rattle.std.proofs.Common.{◌≡◌, ℕ, List, map, sym, ap, subst, ◌∙◌}
 use Rattle.std.specs.Prelude.{Result}
-use Rattle.golf_grammar.specs.declared.types.TypeExpr.{TypeExpr}
-use Rattle.golf_grammar.specs.declared.expressions.Expr.{Expr}
-use Rattle.golf_grammar.specs.declared.expressions.Element.{Element}
-use Rattle.golf_grammar.specs.declared.expressions.Expr.TheVariants as ex
-use Rattle.golf_types.specs.declared.fault.TypeFault.{TypeFault}
-use Rattle.golf_types.specs.declared.types.Layer.TheVariants as layer
-use Rattle.golf_types.specs.declared.facts.Fact.{Fact}
-use Rattle.golf_types.specs.declared.operands.Operand.{Operand}
-use Rattle.golf_types.specs.declared.scopes.Scope.{Scope}
-use Rattle.golf_types.specs.Types.{with_layer}
-use Rattle.golf_types.specs.Scopes.{meaning}
-use Rattle.golf_types.specs.Written.{write, pointer_to}
-use Rattle.golf_types.specs.Expressions.{Judged, struct_literal, slice_literal}
-use Rattle.golf_types.specs.Calls.{call_judged}
-use Rattle.golf_types.specs.Judging.{judge, judge_at, value_at, Judges}
-use Rattle.golf_types.proofs.JudgeLaws.{judge-Call, judge-SliceLiteral, judge-StructLiteral}
+use Rattle.golf_syntax_trees.specs.declared.types.TypeExpr.{TypeExpr}
+use Rattle.golf_syntax_trees.specs.declared.expressions.Expr.{Expr}
+use Rattle.golf_syntax_trees.specs.declared.expressions.Element.{Element}
+use Rattle.golf_syntax_trees.specs.declared.expressions.Expr.TheVariants as ex
+use Rattle.golf_check_types.specs.declared.fault.TypeFault.{TypeFault}
+use Rattle.golf_check_types.specs.declared.types.Layer.TheVariants as layer
+use Rattle.golf_check_types.specs.declared.facts.Fact.{Fact}
+use Rattle.golf_check_types.specs.declared.operands.Operand.{Operand}
+use Rattle.golf_check_types.specs.declared.scopes.Scope.{Scope}
+use Rattle.golf_check_types.specs.Types.{with_layer}
+use Rattle.golf_check_types.specs.Scopes.{meaning}
+use Rattle.golf_check_types.specs.Written.{write, pointer_to}
+use Rattle.golf_check_types.specs.Expressions.{Judged, struct_literal, slice_literal}
+use Rattle.golf_check_types.specs.Calls.{call_judged}
+use Rattle.golf_check_types.specs.Judging.{judge, judge_at, value_at, Judges}
+use Rattle.golf_check_types.proofs.JudgeLaws.{judge-Call, judge-SliceLiteral, judge-StructLiteral}
 
 module _ (r : Result Operand TypeFault) (l : ℕ) (s : Scope) (e : Expr) (old new : List Fact) where
   same_judged : (i j : Judged) → i ≡ j → Judges r i old new → Judges r j old new

@@ -1,12 +1,12 @@
 //! What expressions are, and whether they keep the rules.
 
 ghost use Rattle.std.specs.Prelude.{◌≡◌, ◌∷◌, map};
-ghost use Rattle.golf_types.specs.Types.{with_layer as with_layer_of};
-ghost use Rattle.golf_types.specs.Scopes.{meaning as meaning_of};
-ghost use Rattle.golf_types.specs.Written.{write, pointer_to as pointer_to_of};
-ghost use Rattle.golf_types.specs.Expressions.{integer as integer_of, unary_judged, binary_judged, index_judged, selector, struct_literal, slice_literal, made as made_of, made_sized as made_sized_of};
-ghost use Rattle.golf_types.specs.Calls.{plain_call, finaliser_call, called_with, call_judged};
-ghost use Rattle.golf_types.specs.Judging.{judge, judge_at, value_at, Judges, JudgesWhole, Finds, Gives, Takes, GivesAll, Puts};
+ghost use Rattle.golf_check_types.specs.Types.{with_layer as with_layer_of};
+ghost use Rattle.golf_check_types.specs.Scopes.{meaning as meaning_of};
+ghost use Rattle.golf_check_types.specs.Written.{write, pointer_to as pointer_to_of};
+ghost use Rattle.golf_check_types.specs.Expressions.{integer as integer_of, unary_judged, binary_judged, index_judged, selector, struct_literal, slice_literal, made as made_of, made_sized as made_sized_of};
+ghost use Rattle.golf_check_types.specs.Calls.{plain_call, finaliser_call, called_with, call_judged};
+ghost use Rattle.golf_check_types.specs.Judging.{judge, judge_at, value_at, Judges, JudgesWhole, Finds, Gives, Takes, GivesAll, Puts};
 
 use golf_base::List;
 use golf_check_calls::{call, finalises, keeps_steady, rule_unless, sets_finaliser};
@@ -15,8 +15,8 @@ use golf_check_operands::{
     made, made_sized, made_struct, made_sync, named, plain_type, pointer_to, select, unary, value,
     without_package, written,
 };
-use golf_grammar::{BinaryOperator, Element, Expr, TypeExpr, UnaryOperator};
-use golf_types::{
+use golf_syntax_trees::{BinaryOperator, Element, Expr, TypeExpr, UnaryOperator};
+use golf_check_types::{
     Base, Fact, Given, Layer, Operand, Scope, TypeFault, copy_operand, meaning_at, require,
     value_of, with_layer,
 };
@@ -46,7 +46,7 @@ fn made_at(alloc: Global, line: u32, scope: &Scope, t: &TypeExpr) -> Result<Oper
 
 /// What an expression is; its fact and those of its parts are added.
 #[cycle(judging)]
-#[tactic(auto, using(golf_types::proofs::Seams::expression_filled))]
+#[tactic(auto, using(golf_check_types::proofs::Seams::expression_filled))]
 pub fn operand(
     alloc: Global,
     line: u32,
@@ -73,7 +73,7 @@ pub fn operand(
 
 // The same; the facts of its parts alone are added.
 #[cycle(judging)]
-#[tactic(auto, unfolding(golf_types::specs::Judging::judge))]
+#[tactic(auto, unfolding(golf_check_types::specs::Judging::judge))]
 fn whole(
     alloc: Global,
     line: u32,

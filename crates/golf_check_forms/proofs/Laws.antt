@@ -4,31 +4,31 @@ use Rattle.std.specs.Prelude.{Option, Some, None, Result, Ok, Err, slice_set, tr
 use Rattle.std.specs.Str.{bytes_eq}
 use Rattle.std.proofs.Math.Seq.{set_out}
 use Rattle.golf_base.specs.declared.Memory.{Memory}
-use Rattle.golf_grammar.specs.declared.declarations.Decl.{Decl}
-use Rattle.golf_grammar.specs.declared.declarations.Decl.TheVariants as d
-use Rattle.golf_types.specs.declared.fault.TypeFault.{TypeFault}
-use Rattle.golf_types.specs.declared.fault.TypeFault.TheVariants as answers
-use Rattle.golf_types.specs.declared.types.Layer.{Layer}
-use Rattle.golf_types.specs.declared.types.Base.{Base}
-use Rattle.golf_types.specs.declared.types.Base.TheVariants as base
-use Rattle.golf_types.specs.declared.types.GoType.{GoType}
-use Rattle.golf_types.specs.declared.operands.Operand.{Operand}
-use Rattle.golf_types.specs.declared.operands.Operand.TheVariants as operand
-use Rattle.golf_types.specs.declared.operands.BuiltIn.{BuiltIn}
-use Rattle.golf_types.specs.declared.operands.BuiltIn.TheVariants as built_in
-use Rattle.golf_types.specs.declared.operands.Package.{Package}
-use Rattle.golf_types.specs.declared.operands.Given.{Given}
-use Rattle.golf_types.specs.declared.operands.Given.TheVariants as given_as
-use Rattle.golf_types.specs.declared.scopes.Member.{Member}
-use Rattle.golf_types.specs.declared.scopes.Member.TheVariants as members
-use Rattle.golf_types.specs.declared.scopes.FileScope.{FileScope}
-use Rattle.golf_types.specs.declared.scopes.Scope.{Scope}
-use Rattle.golf_types.specs.Faults.{IsFirst, Tells}
-use Rattle.golf_types.specs.Types.{given, given_type, type_of, type_given}
-use Rattle.golf_types.specs.Scopes.{member}
-use Rattle.golf_types.specs.Expressions.{Judged, leaf, value, called_name, struct_member, condition_member, condition_method, mutex_method, group_method, read_method, base_member, type_member, value_member, has_type, package_selected, selected_from, package_member, without_package}
-use Rattle.golf_types.specs.Calls.{called_with}
-use Rattle.golf_types.specs.Files.{with_forms, globals_above}
+use Rattle.golf_syntax_trees.specs.declared.declarations.Decl.{Decl}
+use Rattle.golf_syntax_trees.specs.declared.declarations.Decl.TheVariants as d
+use Rattle.golf_check_types.specs.declared.fault.TypeFault.{TypeFault}
+use Rattle.golf_check_types.specs.declared.fault.TypeFault.TheVariants as answers
+use Rattle.golf_check_types.specs.declared.types.Layer.{Layer}
+use Rattle.golf_check_types.specs.declared.types.Base.{Base}
+use Rattle.golf_check_types.specs.declared.types.Base.TheVariants as base
+use Rattle.golf_check_types.specs.declared.types.GoType.{GoType}
+use Rattle.golf_check_types.specs.declared.operands.Operand.{Operand}
+use Rattle.golf_check_types.specs.declared.operands.Operand.TheVariants as operand
+use Rattle.golf_check_types.specs.declared.operands.BuiltIn.{BuiltIn}
+use Rattle.golf_check_types.specs.declared.operands.BuiltIn.TheVariants as built_in
+use Rattle.golf_check_types.specs.declared.operands.Package.{Package}
+use Rattle.golf_check_types.specs.declared.operands.Given.{Given}
+use Rattle.golf_check_types.specs.declared.operands.Given.TheVariants as given_as
+use Rattle.golf_check_types.specs.declared.scopes.Member.{Member}
+use Rattle.golf_check_types.specs.declared.scopes.Member.TheVariants as members
+use Rattle.golf_check_types.specs.declared.scopes.FileScope.{FileScope}
+use Rattle.golf_check_types.specs.declared.scopes.Scope.{Scope}
+use Rattle.golf_check_types.specs.Faults.{IsFirst, Tells}
+use Rattle.golf_check_types.specs.Types.{given, given_type, type_of, type_given}
+use Rattle.golf_check_types.specs.Scopes.{member}
+use Rattle.golf_check_types.specs.Expressions.{Judged, leaf, value, called_name, struct_member, condition_member, condition_method, mutex_method, group_method, read_method, base_member, type_member, value_member, has_type, package_selected, selected_from, package_member, without_package}
+use Rattle.golf_check_types.specs.Calls.{called_with}
+use Rattle.golf_check_types.specs.Files.{with_forms, globals_above}
 use Rattle.golf_check_forms.specs.Forms.{without_late, Forms, called_form, formed_decl}
 
 given_late : (m : Operand) → given (without_late m) ≡ given m

@@ -2,21 +2,21 @@
 use Rattle.std.proofs.Common.{◌≡◌, ℕ, List, map, sym, ap, subst, ◌∙◌}
 use Rattle.std.specs.Prelude.{Result}
 use Rattle.golf_base.specs.declared.Memory.{Memory}
-use Rattle.golf_grammar.specs.declared.types.TypeExpr.{TypeExpr}
-use Rattle.golf_grammar.specs.declared.expressions.Expr.{Expr}
-use Rattle.golf_grammar.specs.declared.expressions.Element.{Element}
-use Rattle.golf_grammar.specs.declared.expressions.Expr.TheVariants as ex
-use Rattle.golf_types.specs.declared.types.Layer.TheVariants as layer
-use Rattle.golf_types.specs.declared.operands.Operand.{Operand}
-use Rattle.golf_types.specs.declared.operands.Operand.TheVariants as operand
-use Rattle.golf_types.specs.declared.scopes.Scope.{Scope}
-use Rattle.golf_types.specs.Types.{with_layer}
-use Rattle.golf_types.specs.Scopes.{meaning}
-use Rattle.golf_types.specs.Written.{write, pointer_to}
-use Rattle.golf_types.specs.Expressions.{Judged, pointer_value}
-use Rattle.golf_types.specs.Calls.{called_with}
-use Rattle.golf_types.specs.Judging.{judge, judge_at}
-use Rattle.golf_types.proofs.JudgeLaws.{judge-Call, judge-SliceLiteral, judge-StructLiteral}
+use Rattle.golf_syntax_trees.specs.declared.types.TypeExpr.{TypeExpr}
+use Rattle.golf_syntax_trees.specs.declared.expressions.Expr.{Expr}
+use Rattle.golf_syntax_trees.specs.declared.expressions.Element.{Element}
+use Rattle.golf_syntax_trees.specs.declared.expressions.Expr.TheVariants as ex
+use Rattle.golf_check_types.specs.declared.types.Layer.TheVariants as layer
+use Rattle.golf_check_types.specs.declared.operands.Operand.{Operand}
+use Rattle.golf_check_types.specs.declared.operands.Operand.TheVariants as operand
+use Rattle.golf_check_types.specs.declared.scopes.Scope.{Scope}
+use Rattle.golf_check_types.specs.Types.{with_layer}
+use Rattle.golf_check_types.specs.Scopes.{meaning}
+use Rattle.golf_check_types.specs.Written.{write, pointer_to}
+use Rattle.golf_check_types.specs.Expressions.{Judged, pointer_value}
+use Rattle.golf_check_types.specs.Calls.{called_with}
+use Rattle.golf_check_types.specs.Judging.{judge, judge_at}
+use Rattle.golf_check_types.proofs.JudgeLaws.{judge-Call, judge-SliceLiteral, judge-StructLiteral}
 use Rattle.golf_check_forms.specs.Forms.{Forms}
 
 module _ (r : Result Operand Memory) (l : ℕ) (s : Scope) (e : Expr) where

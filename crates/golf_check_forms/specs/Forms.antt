@@ -1,13 +1,13 @@
 -- What an expression is by its form, whatever rules it breaks (Go specification, "Variable declarations": a variable has the type of its initialiser).
 use Rattle.std.specs.Prelude.{◌≡◌, ℕ, slice_get, None, Result, Ok, Err}
 use Rattle.golf_base.specs.declared.Memory.{Memory}
-use Rattle.golf_grammar.specs.declared.declarations.Decl.{Decl}
-use Rattle.golf_grammar.specs.declared.declarations.Decl.TheVariants as d
-use Rattle.golf_types.specs.declared.operands.Operand.{Operand}
-use Rattle.golf_types.specs.declared.operands.Operand.TheVariants as operand
-use Rattle.golf_types.specs.declared.scopes.FileScope.{FileScope}
-use Rattle.golf_types.specs.Calls.{signature_result, built_in_result}
-use Rattle.golf_types.specs.Files.{formed_content}
+use Rattle.golf_syntax_trees.specs.declared.declarations.Decl.{Decl}
+use Rattle.golf_syntax_trees.specs.declared.declarations.Decl.TheVariants as d
+use Rattle.golf_check_types.specs.declared.operands.Operand.{Operand}
+use Rattle.golf_check_types.specs.declared.operands.Operand.TheVariants as operand
+use Rattle.golf_check_types.specs.declared.scopes.FileScope.{FileScope}
+use Rattle.golf_check_types.specs.Calls.{signature_result, built_in_result}
+use Rattle.golf_check_types.specs.Files.{formed_content}
 
 -- a call without a result, whatever rule its arguments break
 abbrev pub without_late : Operand → Operand

@@ -1,12 +1,12 @@
 //! What expressions are by their form, whatever rules they break.
 
 ghost use Rattle.std.specs.Prelude.{◌≡◌, IfOk, List, slice_get};
-ghost use Rattle.golf_types.specs.Types.{element as element_of, with_layer as with_layer_of};
-ghost use Rattle.golf_types.specs.Scopes.{meaning as meaning_of};
-ghost use Rattle.golf_types.specs.Written.{write, pointer_to as pointer_to_of};
-ghost use Rattle.golf_types.specs.Expressions.{Judged, given_by, named as named_of, pointer_value, unary_meaning, selected_from, in_parens};
-ghost use Rattle.golf_types.specs.Calls.{signature_result, called_with};
-ghost use Rattle.golf_types.specs.Judging.{judge};
+ghost use Rattle.golf_check_types.specs.Types.{element as element_of, with_layer as with_layer_of};
+ghost use Rattle.golf_check_types.specs.Scopes.{meaning as meaning_of};
+ghost use Rattle.golf_check_types.specs.Written.{write, pointer_to as pointer_to_of};
+ghost use Rattle.golf_check_types.specs.Expressions.{Judged, given_by, named as named_of, pointer_value, unary_meaning, selected_from, in_parens};
+ghost use Rattle.golf_check_types.specs.Calls.{signature_result, called_with};
+ghost use Rattle.golf_check_types.specs.Judging.{judge};
 ghost use Rattle.golf_check_forms.specs.Forms.{Forms, called_form};
 
 use golf_base::Memory;
@@ -14,8 +14,8 @@ use golf_check_operands::{
     element, made_base, plain_type, pointer_to, result_base, select, value, without_package,
     written_type,
 };
-use golf_grammar::{Expr, TypeExpr, UnaryOperator};
-use golf_types::{
+use golf_syntax_trees::{Expr, TypeExpr, UnaryOperator};
+use golf_check_types::{
     Base, BuiltIn, FileScope, Given, Layer, Operand, Scope, TypeFault, copy_optional, is_blank,
     meaning_at, value_of, with_layer,
 };
@@ -174,7 +174,7 @@ fn call_form(alloc: Global, line: u32, scope: &Scope, f: &Expr) -> Result<Operan
 
 /// What an expression is by its form; of a call without a result not which rule it breaks.
 #[cycle(forming)]
-#[tactic(auto, unfolding(golf_types::specs::Judging::judge))]
+#[tactic(auto, unfolding(golf_check_types::specs::Judging::judge))]
 pub fn form(alloc: Global, line: u32, scope: &Scope, e: &Expr) -> Result<Operand, Memory>
     ensures { Forms result (judge e.now line scope.now).meaning }
 {

@@ -1,16 +1,16 @@
 //! The types of globals without a written type.
 
 ghost use Rattle.std.specs.Prelude.{◌≡◌, slice_set, IfOk, OnOk};
-ghost use Rattle.golf_types.specs.Types.{type_given};
-ghost use Rattle.golf_types.specs.Expressions.{given_by};
-ghost use Rattle.golf_types.specs.Judging.{judge};
-ghost use Rattle.golf_types.specs.Files.{outside, formed_content, globals_above, with_forms};
+ghost use Rattle.golf_check_types.specs.Types.{type_given};
+ghost use Rattle.golf_check_types.specs.Expressions.{given_by};
+ghost use Rattle.golf_check_types.specs.Judging.{judge};
+ghost use Rattle.golf_check_types.specs.Files.{outside, formed_content, globals_above, with_forms};
 ghost use Rattle.golf_check_forms.specs.Forms.{formed_decl};
 
 use crate::forms::form;
 use golf_base::Memory;
-use golf_grammar::{Decl, Expr, VarContent};
-use golf_types::{GoType, Scope, type_of};
+use golf_syntax_trees::{Decl, Expr, VarContent};
+use golf_check_types::{GoType, Scope, type_of};
 use std::alloc::Global;
 
 #[tactic(auto, using(crate::proofs::Laws::same_given, crate::proofs::Laws::type_of_given))]

@@ -1,13 +1,13 @@
 //! The types of fields, globals and functions, as they are written.
 
 ghost use Rattle.std.specs.Prelude.{◌≡◌, ◌++◌, flat_map, IfOk, OnOk};
-ghost use Rattle.golf_types.specs.Written.{write_at};
-ghost use Rattle.golf_types.specs.Files.{typed_names as typed_names_of, all_typed_names, types_alone as types_alone_of, struct_types as struct_types_of, content_type as content_type_of, global_types as global_types_of, result_type as result_type_of, signature_of as signature_of_of, function_types as function_types_of};
+ghost use Rattle.golf_check_types.specs.Written.{write_at};
+ghost use Rattle.golf_check_types.specs.Files.{typed_names as typed_names_of, all_typed_names, types_alone as types_alone_of, struct_types as struct_types_of, content_type as content_type_of, global_types as global_types_of, result_type as result_type_of, signature_of as signature_of_of, function_types as function_types_of};
 
 use golf_base::{List, Memory};
 use golf_check_operands::written_type;
-use golf_grammar::{Decl, Field, Func, Name, OwnedType, VarContent};
-use golf_types::{GoType, Scope, Signature, copy_name, copy_optional};
+use golf_syntax_trees::{Decl, Field, Func, Name, OwnedType, VarContent};
+use golf_check_types::{GoType, Scope, Signature, copy_name, copy_optional};
 use std::alloc::Global;
 
 /// A name of a field or parameter, and its type, `None` where it is not known.

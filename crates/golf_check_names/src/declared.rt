@@ -1,31 +1,31 @@
 //! Methods, the declared names, the written types, `main`.
 
 ghost use Rattle.std.specs.Prelude.{◌≡◌, flat_map, slice_get, OnOk, option_and_then};
-ghost use Rattle.golf_types.specs.Faults.{Tells, broken as broken_of};
-ghost use Rattle.golf_types.specs.Scopes.{meaning_in};
-ghost use Rattle.golf_types.specs.Names.{number_of, is_number as is_number_of};
-ghost use Rattle.golf_types.specs.Files.{struct_number as struct_number_of, receiver_struct as receiver_struct_of, with_method, method_added, methods_added, may_be_named as may_be_named_of, kind_of as kind_of_of, is_field as is_field_of, is_method as is_method_of, fields_are as fields_are_of, method_is as method_is_of, function_faults, name_faults, names_faults, none_above, names_in as names_in_of, structs_in as structs_in_of, functions_in as functions_in_of, field_fault, content_faults, result_fault, type_faults, is_main as is_main_of, fits_main as fits_main_of, declares_main as declares_main_of, line_of as line_of_of, main_faults};
+ghost use Rattle.golf_check_types.specs.Faults.{Tells, broken as broken_of};
+ghost use Rattle.golf_check_types.specs.Scopes.{meaning_in};
+ghost use Rattle.golf_check_types.specs.Names.{number_of, is_number as is_number_of};
+ghost use Rattle.golf_check_types.specs.Files.{struct_number as struct_number_of, receiver_struct as receiver_struct_of, with_method, method_added, methods_added, may_be_named as may_be_named_of, kind_of as kind_of_of, is_field as is_field_of, is_method as is_method_of, fields_are as fields_are_of, method_is as method_is_of, function_faults, name_faults, names_faults, none_above, names_in as names_in_of, structs_in as structs_in_of, functions_in as functions_in_of, field_fault, content_faults, result_fault, type_faults, is_main as is_main_of, fits_main as fits_main_of, declares_main as declares_main_of, line_of as line_of_of, main_faults};
 
 use crate::names::names_of;
 use golf_base::{List, Memory};
 use golf_check_operands::type_is_there;
-use golf_grammar::{Decl, Field, Func, Name, OwnedType, Receiver, VarContent};
-use golf_types::{
-    FileScope, Meaning, Member, Members, Naming, Scope, Table, TypeFault, is_blank, is_reserved,
+use golf_syntax_trees::{Decl, Field, Func, Name, OwnedType, Receiver, VarContent};
+use golf_check_types::{
+    FileScope, Entity, Member, Members, Naming, Scope, Table, TypeFault, is_blank, is_reserved,
     kind_at, require,
 };
 use std::alloc::Global;
 
 // The struct of the file with this name.
-fn struct_named(names: &Table, meanings: &[Meaning], name: &[u8]) -> Option<u32>
-    ensures { result ≡ struct_number_of (option_and_then (slice_get meanings.now) (number_of names.now name.now)) }
+fn struct_named(names: &Table, entities: &[Entity], name: &[u8]) -> Option<u32>
+    ensures { result ≡ struct_number_of (option_and_then (slice_get entities.now) (number_of names.now name.now)) }
 {
     match names.number_of(name) {
         None => None,
-        Some(number) => match meanings.get(number) {
+        Some(number) => match entities.get(number) {
             None => None,
             Some(meaning) => match meaning {
-                Meaning::Struct(number) => Some(*number),
+                Entity::Struct(number) => Some(*number),
                 _ => None,
             },
         },
@@ -39,7 +39,7 @@ fn receiver_struct(naming: &Naming, receiver: &Option<Receiver>) -> Option<u32>
         None => None,
         Some(receiver) => struct_named(
             &naming.names,
-            naming.meanings.as_slice(),
+            naming.entities.as_slice(),
             receiver.type_name.as_slice(),
         ),
     }
@@ -103,7 +103,7 @@ fn is_number(found: Option<usize>, number: usize) -> bool
     }
 }
 
-#[tactic(auto, unfolding(golf_types::specs::Files::may_be_named))]
+#[tactic(auto, unfolding(golf_check_types::specs::Files::may_be_named))]
 fn may_be_named(file: &FileScope, at: usize, name: &[u8]) -> bool
     ensures { result ≡ may_be_named_of file.now at name.now }
 {
@@ -175,7 +175,7 @@ fn method_is_named(
 {
     let owner = struct_named(
         &file.names,
-        file.meanings.as_slice(),
+        file.entities.as_slice(),
         receiver.type_name.as_slice(),
     );
     require(
@@ -373,7 +373,7 @@ pub fn types_are_there(alloc: Global, scope: &Scope, decls: &[Decl]) -> Result<(
     Ok(())
 }
 
-#[tactic(auto, unfolding(golf_types::specs::Files::is_main))]
+#[tactic(auto, unfolding(golf_check_types::specs::Files::is_main))]
 fn is_main(name: &[u8]) -> bool
     ensures { result ≡ is_main_of name.now }
 {

@@ -1,11 +1,11 @@
 //! What the names of a file are.
 
 ghost use Rattle.std.specs.Prelude.{◌≡◌, ◌∷◌, ◌++◌, ◌+◌, [], fold, flat_map, length, IfOk, OnOk};
-ghost use Rattle.golf_types.specs.Files.{const_base as const_base_of, field_names, with_field as with_field_of, members_of as members_of_of, name_added, function_added, decl_added, naming_of as naming_of_of};
+ghost use Rattle.golf_check_types.specs.Files.{const_base as const_base_of, field_names, with_field as with_field_of, members_of as members_of_of, name_added, function_added, decl_added, naming_of as naming_of_of};
 
 use golf_base::{List, Memory};
-use golf_grammar::{Const, Decl, Field, Name, Receiver};
-use golf_types::{Base, Meaning, Member, Members, Naming, Table, copy_name};
+use golf_syntax_trees::{Const, Decl, Field, Name, Receiver};
+use golf_check_types::{Base, Entity, Member, Members, Naming, Table, copy_name};
 use std::alloc::Global;
 
 /// The type of a constant.
@@ -83,28 +83,28 @@ fn members_of(alloc: Global, fields: &[Field]) -> Result<Members, Memory>
     Ok(members)
 }
 
-fn add_name(alloc: Global, naming: &mut Naming, name: &[u8], meaning: Meaning) -> Result<(), Memory>
+fn add_name(alloc: Global, naming: &mut Naming, name: &[u8], meaning: Entity) -> Result<(), Memory>
     ensures { OnOk result (naming.new ≡ name_added naming.old name.now meaning) }
 {
-    let place = naming.meanings.len();
+    let place = naming.entities.len();
     naming.names.add(alloc, name, place)?;
-    naming.meanings.push(meaning)?;
+    naming.entities.push(meaning)?;
     Ok(())
 }
 
 fn add_constant(alloc: Global, naming: &mut Naming, name: &[u8], base: Base) -> Result<(), Memory>
-    ensures { OnOk result (naming.new ≡ record (name_added naming.old name.now (Meaning.Constant naming.old.constants base)) { constants = naming.old.constants + 1 }) }
+    ensures { OnOk result (naming.new ≡ record (name_added naming.old name.now (Entity.Constant naming.old.constants base)) { constants = naming.old.constants + 1 }) }
 {
-    let meaning = Meaning::Constant(naming.constants, base);
+    let meaning = Entity::Constant(naming.constants, base);
     add_name(alloc, naming, name, meaning)?;
     naming.constants = naming.constants.checked_add(1).ok_or(Memory)?;
     Ok(())
 }
 
 fn add_global(alloc: Global, naming: &mut Naming, name: &[u8]) -> Result<(), Memory>
-    ensures { OnOk result (naming.new ≡ record (name_added naming.old name.now (Meaning.Global naming.old.globals)) { globals = naming.old.globals + 1 }) }
+    ensures { OnOk result (naming.new ≡ record (name_added naming.old name.now (Entity.Global naming.old.globals)) { globals = naming.old.globals + 1 }) }
 {
-    let meaning = Meaning::Global(naming.globals);
+    let meaning = Entity::Global(naming.globals);
     add_name(alloc, naming, name, meaning)?;
     naming.globals = naming.globals.checked_add(1).ok_or(Memory)?;
     Ok(())
@@ -116,9 +116,9 @@ fn add_struct(
     name: &[u8],
     fields: &[Field],
 ) -> Result<(), Memory>
-    ensures { OnOk result (naming.new ≡ record (name_added naming.old name.now (Meaning.Struct (length naming.old.structs))) { structs = naming.old.structs ++ members_of_of fields.now ∷ [] }) }
+    ensures { OnOk result (naming.new ≡ record (name_added naming.old name.now (Entity.Struct (length naming.old.structs))) { structs = naming.old.structs ++ members_of_of fields.now ∷ [] }) }
 {
-    let meaning = Meaning::Struct(number(naming.structs.len())?);
+    let meaning = Entity::Struct(number(naming.structs.len())?);
     add_name(alloc, naming, name, meaning)?;
     naming.structs.push(members_of(alloc, fields)?)?;
     Ok(())
@@ -136,7 +136,7 @@ fn add_function(
     match receiver {
         Some(_) => {}
         None => {
-            let meaning = Meaning::Function(naming.functions);
+            let meaning = Entity::Function(naming.functions);
             add_name(alloc, naming, name, meaning)?;
         }
     }
@@ -168,7 +168,7 @@ pub fn naming_of(alloc: Global, decls: &[Decl]) -> Result<Naming, Memory>
         globals: 0,
         functions: 0,
         names: Table::new(alloc),
-        meanings: List::new(alloc),
+        entities: List::new(alloc),
         structs: List::new(alloc),
     };
     for decl in decls {

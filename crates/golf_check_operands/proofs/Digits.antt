@@ -1,6 +1,6 @@
 -- The numbers that digits stand for.
 use Rattle.std.proofs.Common.{ℕ, suc, ◌+◌, ◌-◌, ◌*◌, ◌≤◌, ◌<◌, List, [], ◌∷◌, drop, length, get_or, arith, drop-cons}
-use Rattle.golf_types.specs.Expressions.{value_from}
+use Rattle.golf_check_types.specs.Expressions.{value_from}
 
 -- more digits make no smaller number
 pub value_from-grows : (n : ℕ) (ds : List ℕ) → n ≤ value_from n ds

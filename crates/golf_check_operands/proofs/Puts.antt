@@ -2,11 +2,11 @@
 use Rattle.std.proofs.Common.{◌≡◌, ℕ, ◌+◌, ◌<◌, ◌≤◌, List, [], ◌∷◌, ◌++◌, map, drop, length, get_or, sym, ap, ◌∙◌, arith}
 use Rattle.std.specs.Prelude.{Option}
 use Rattle.std.proofs.lemmas.List.{at_drop_more}
-use Rattle.golf_grammar.specs.declared.expressions.Element.{Element}
-use Rattle.golf_types.specs.declared.types.Base.{Base}
-use Rattle.golf_types.specs.declared.operands.Given.{Given}
-use Rattle.golf_types.specs.declared.scopes.FileScope.{FileScope}
-use Rattle.golf_types.specs.Expressions.{field_type, put_faults, all_put_faults}
+use Rattle.golf_syntax_trees.specs.declared.expressions.Element.{Element}
+use Rattle.golf_check_types.specs.declared.types.Base.{Base}
+use Rattle.golf_check_types.specs.declared.operands.Given.{Given}
+use Rattle.golf_check_types.specs.declared.scopes.FileScope.{FileScope}
+use Rattle.golf_check_types.specs.Expressions.{field_type, put_faults, all_put_faults}
 
 pub first_put : (l : ℕ) (f : FileScope) (b : Option Base) (xs : List Element) (vs : List Given) (i : ℕ) (x : Element) (v : Given) → i < length xs → x ≡ get_or xs i x → 1 ≤ length vs → v ≡ get_or vs 0 v → all_put_faults l f b (map (λ e. e.field) (drop i xs)) vs ≡ put_faults l (field_type f b x.field) v ++ all_put_faults l f b (map (λ e. e.field) (drop (i + 1) xs)) (drop 1 vs)
 first_put l f b xs [] i x v lt is len at = absurd (omega arith)

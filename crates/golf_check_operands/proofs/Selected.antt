@@ -1,16 +1,16 @@
 -- What the answer for what stands behind the dot of a value tells.
 use Rattle.std.proofs.Common.{◌≡◌, ℕ, List, [], refl, subst}
 use Rattle.std.specs.Prelude.{Result}
-use Rattle.golf_types.specs.declared.fault.TypeFault.{TypeFault}
-use Rattle.golf_types.specs.declared.operands.Operand.{Operand}
-use Rattle.golf_types.specs.declared.operands.Operand.TheVariants as operand
-use Rattle.golf_types.specs.declared.operands.Package.{Package}
-use Rattle.golf_types.specs.declared.operands.Given.{Given}
-use Rattle.golf_types.specs.declared.scopes.FileScope.{FileScope}
-use Rattle.golf_types.specs.Types.{given}
-use Rattle.golf_types.specs.Expressions.{value_faults, value_member, selected_from}
-use Rattle.golf_types.specs.Judging.{Finds}
-use Rattle.golf_types.proofs.Seams.{tells_behind}
+use Rattle.golf_check_types.specs.declared.fault.TypeFault.{TypeFault}
+use Rattle.golf_check_types.specs.declared.operands.Operand.{Operand}
+use Rattle.golf_check_types.specs.declared.operands.Operand.TheVariants as operand
+use Rattle.golf_check_types.specs.declared.operands.Package.{Package}
+use Rattle.golf_check_types.specs.declared.operands.Given.{Given}
+use Rattle.golf_check_types.specs.declared.scopes.FileScope.{FileScope}
+use Rattle.golf_check_types.specs.Types.{given}
+use Rattle.golf_check_types.specs.Expressions.{value_faults, value_member, selected_from}
+use Rattle.golf_check_types.specs.Judging.{Finds}
+use Rattle.golf_check_types.proofs.Seams.{tells_behind}
 
 pub selected_value : (r : Result Operand TypeFault) (l : ℕ) (f : FileScope) (n : List ℕ) (m : Operand) (v : Given) → ((p : Package) → m ≡ operand.Package p → ⊥) → value_faults l m ≡ [] → v ≡ given m → Finds r (value_member l f n v) → Finds r (selected_from l f n m)
 selected_value r l f n (operand.Package p) v other none is h = absurd (other p refl)

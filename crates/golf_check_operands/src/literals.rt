@@ -3,18 +3,18 @@
 ghost use Rattle.std.specs.Prelude.{◌≡◌, ◌≤◌, ◌++◌, [], pos, map, flat_map, SomeIff, IfOk, is_some, slice_get, option_and_then};
 ghost use Rattle.std.specs.List.{list_any};
 ghost use Rattle.std.specs.Str.{bytes_eq};
-ghost use Rattle.golf_types.specs.Faults.{Tells, broken as broken_of};
-ghost use Rattle.golf_types.specs.Types.{given as given_of, has_base as has_base_of, has_layer, is_any, is_channel, assignable as assignable_of};
-ghost use Rattle.golf_types.specs.Expressions.{named as named_of, known_name, found_name, reads_global as reads_global_of, is_above as is_above_of, value_from, fits_int as fits_int_of, struct_of as struct_of_of, field_place as field_place_of, made_struct as made_struct_of, field_type as field_type_of, field_of_member as field_of_member_of, put_faults, all_put_faults, fields_differ as fields_differ_of};
-ghost use Rattle.golf_types.specs.Judging.{Finds};
-ghost use Rattle.golf_types.specs.Scopes.{meaning as meaning_of, type_at as type_at_of};
-ghost use Rattle.golf_types.specs.Written.{pointer_to as pointer_to_of};
+ghost use Rattle.golf_check_types.specs.Faults.{Tells, broken as broken_of};
+ghost use Rattle.golf_check_types.specs.Types.{given as given_of, has_base as has_base_of, has_layer, is_any, is_channel, assignable as assignable_of};
+ghost use Rattle.golf_check_types.specs.Expressions.{named as named_of, known_name, found_name, reads_global as reads_global_of, is_above as is_above_of, value_from, fits_int as fits_int_of, struct_of as struct_of_of, field_place as field_place_of, made_struct as made_struct_of, field_type as field_type_of, field_of_member as field_of_member_of, put_faults, all_put_faults, fields_differ as fields_differ_of};
+ghost use Rattle.golf_check_types.specs.Judging.{Finds};
+ghost use Rattle.golf_check_types.specs.Scopes.{meaning as meaning_of, type_at as type_at_of};
+ghost use Rattle.golf_check_types.specs.Written.{pointer_to as pointer_to_of};
 
 use crate::values::{assignable, has_any, has_base, has_channel};
 use crate::written_types::{plain_type, pointer_to};
 use golf_base::Memory;
-use golf_grammar::Element;
-use golf_types::{
+use golf_syntax_trees::Element;
+use golf_check_types::{
     Base, FileScope, Given, GoType, Member, Operand, Scope, TypeFault, Where, copy_optional,
     given_type, is_blank, meaning_at, member_at, require, type_at,
 };
@@ -95,7 +95,7 @@ fn small_value(digits: &[u8]) -> Option<u64>
 }
 
 /// The number that digits stand for: rule 19.
-#[tactic(auto, unfolding(golf_types::specs::Expressions::fits_int))]
+#[tactic(auto, unfolding(golf_check_types::specs::Expressions::fits_int))]
 pub fn int_value(line: u32, digits: &[u8]) -> Result<i64, TypeFault>
     ensures { Tells result (broken_of line 19 (fits_int_of digits.now)) (λ n. n ≡ pos (value_from 0 digits.now)) }
 {
@@ -152,7 +152,7 @@ pub fn type_of_field(
     }
 }
 
-#[tactic(auto, unfolding(golf_types::specs::Expressions::field_type))]
+#[tactic(auto, unfolding(golf_check_types::specs::Expressions::field_type))]
 fn field_type(
     alloc: Global,
     file: &FileScope,

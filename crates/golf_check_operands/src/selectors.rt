@@ -1,16 +1,16 @@
 //! Selectors: fields, methods, and what packages have.
 
 ghost use Rattle.std.specs.Prelude.{◌≡◌};
-ghost use Rattle.golf_types.specs.Judging.{Finds};
-ghost use Rattle.golf_types.specs.Expressions.{fmt_member as fmt_member_of, runtime_member as runtime_member_of, sync_member as sync_member_of, package_member as package_member_of, has_type as has_type_of, package_selected as package_selected_of, called_name as called_name_of, mutex_method as mutex_method_of, group_method as group_method_of, write_method as write_method_of, read_method as read_method_of, condition_method as condition_method_of, condition_member as condition_member_of, struct_member as struct_member_of, base_member as base_member_of, value_member as value_member_of, selected_from};
+ghost use Rattle.golf_check_types.specs.Judging.{Finds};
+ghost use Rattle.golf_check_types.specs.Expressions.{fmt_member as fmt_member_of, runtime_member as runtime_member_of, sync_member as sync_member_of, package_member as package_member_of, has_type as has_type_of, package_selected as package_selected_of, called_name as called_name_of, mutex_method as mutex_method_of, group_method as group_method_of, write_method as write_method_of, read_method as read_method_of, condition_method as condition_method_of, condition_member as condition_member_of, struct_member as struct_member_of, base_member as base_member_of, value_member as value_member_of, selected_from};
 
 use crate::literals::type_of_field;
 use crate::operators::{as_value, value};
 use crate::written_types::sync_base;
-use golf_types::{Base, BuiltIn, FileScope, Given, Member, Operand, Package, TypeFault, member_at};
+use golf_check_types::{Base, BuiltIn, FileScope, Given, Member, Operand, Package, TypeFault, member_at};
 use std::alloc::Global;
 
-#[tactic(auto, unfolding(golf_types::specs::Expressions::fmt_member))]
+#[tactic(auto, unfolding(golf_check_types::specs::Expressions::fmt_member))]
 fn fmt_member(name: &[u8]) -> Option<BuiltIn>
     ensures { result ≡ fmt_member_of name.now }
 {
@@ -20,7 +20,7 @@ fn fmt_member(name: &[u8]) -> Option<BuiltIn>
     None
 }
 
-#[tactic(auto, unfolding(golf_types::specs::Expressions::runtime_member))]
+#[tactic(auto, unfolding(golf_check_types::specs::Expressions::runtime_member))]
 fn runtime_member(name: &[u8]) -> Option<BuiltIn>
     ensures { result ≡ runtime_member_of name.now }
 {
@@ -33,7 +33,7 @@ fn runtime_member(name: &[u8]) -> Option<BuiltIn>
     None
 }
 
-#[tactic(auto, unfolding(golf_types::specs::Expressions::sync_member))]
+#[tactic(auto, unfolding(golf_check_types::specs::Expressions::sync_member))]
 fn sync_member(name: &[u8]) -> Option<BuiltIn>
     ensures { result ≡ sync_member_of name.now }
 {
@@ -82,7 +82,7 @@ fn package_selected(line: u32, from: Package, name: &[u8]) -> Result<Operand, Ty
     called_name(line, package_member(from, name))
 }
 
-#[tactic(auto, unfolding(golf_types::specs::Expressions::mutex_method))]
+#[tactic(auto, unfolding(golf_check_types::specs::Expressions::mutex_method))]
 fn mutex_method(name: &[u8]) -> Option<BuiltIn>
     ensures { result ≡ mutex_method_of name.now }
 {
@@ -95,7 +95,7 @@ fn mutex_method(name: &[u8]) -> Option<BuiltIn>
     None
 }
 
-#[tactic(auto, unfolding(golf_types::specs::Expressions::group_method))]
+#[tactic(auto, unfolding(golf_check_types::specs::Expressions::group_method))]
 fn group_method(name: &[u8]) -> Option<BuiltIn>
     ensures { result ≡ group_method_of name.now }
 {
@@ -111,7 +111,7 @@ fn group_method(name: &[u8]) -> Option<BuiltIn>
     None
 }
 
-#[tactic(auto, unfolding(golf_types::specs::Expressions::write_method))]
+#[tactic(auto, unfolding(golf_check_types::specs::Expressions::write_method))]
 fn write_method(name: &[u8]) -> Option<BuiltIn>
     ensures { result ≡ write_method_of name.now }
 {
@@ -124,7 +124,7 @@ fn write_method(name: &[u8]) -> Option<BuiltIn>
     None
 }
 
-#[tactic(auto, unfolding(golf_types::specs::Expressions::read_method))]
+#[tactic(auto, unfolding(golf_check_types::specs::Expressions::read_method))]
 fn read_method(name: &[u8]) -> Option<BuiltIn>
     ensures { result ≡ read_method_of name.now }
 {
@@ -137,7 +137,7 @@ fn read_method(name: &[u8]) -> Option<BuiltIn>
     write_method(name)
 }
 
-#[tactic(auto, unfolding(golf_types::specs::Expressions::condition_method))]
+#[tactic(auto, unfolding(golf_check_types::specs::Expressions::condition_method))]
 fn condition_method(name: &[u8]) -> Option<BuiltIn>
     ensures { result ≡ condition_method_of name.now }
 {
@@ -153,7 +153,7 @@ fn condition_method(name: &[u8]) -> Option<BuiltIn>
     None
 }
 
-#[tactic(auto, unfolding(golf_types::specs::Expressions::condition_member))]
+#[tactic(auto, unfolding(golf_check_types::specs::Expressions::condition_member))]
 fn condition_member(alloc: Global, line: u32, name: &[u8]) -> Result<Operand, TypeFault>
     ensures { Finds result (condition_member_of line name.now) }
 {

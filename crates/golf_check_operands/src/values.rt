@@ -2,9 +2,9 @@
 //! is not known passes all.
 
 ghost use Rattle.std.specs.Prelude.{◌≡◌};
-ghost use Rattle.golf_types.specs.Types.{has_base as has_base_of, has_layer, starts_with, is_slice, is_channel, is_any, gives, takes, element as element_of, takes_nil as takes_nil_of, narrows as narrows_of, assignable_type as assignable_type_of, assignable_to as assignable_to_of, assignable as assignable_of, comparable as comparable_of};
+ghost use Rattle.golf_check_types.specs.Types.{has_base as has_base_of, has_layer, starts_with, is_slice, is_channel, is_any, gives, takes, element as element_of, takes_nil as takes_nil_of, narrows as narrows_of, assignable_type as assignable_type_of, assignable_to as assignable_to_of, assignable as assignable_of, comparable as comparable_of};
 
-use golf_types::{Base, Given, GoType, Layer, same_base, same_layers, same_type};
+use golf_check_types::{Base, Given, GoType, Layer, same_base, same_layers, same_type};
 
 /// Whether a value has this type without layers.
 pub fn has_base(base: Base, given: &Given) -> bool

@@ -1,20 +1,20 @@
 //! Types as they are written.
 
 ghost use Rattle.std.specs.Prelude.{◌≡◌, IfOk, option_map};
-ghost use Rattle.golf_types.specs.Faults.{Tells};
-ghost use Rattle.golf_types.specs.Types.{plain as plain_of};
-ghost use Rattle.golf_types.specs.Written.{named_base as named_base_of, made_base as made_base_of, sync_base as sync_base_of, pointer_to as pointer_to_of, of_sync, write};
-ghost use Rattle.golf_types.specs.Expressions.{made_sync as made_sync_of};
-ghost use Rattle.golf_types.specs.Judging.{Finds};
+ghost use Rattle.golf_check_types.specs.Faults.{Tells};
+ghost use Rattle.golf_check_types.specs.Types.{plain as plain_of};
+ghost use Rattle.golf_check_types.specs.Written.{named_base as named_base_of, made_base as made_base_of, sync_base as sync_base_of, pointer_to as pointer_to_of, of_sync, write};
+ghost use Rattle.golf_check_types.specs.Expressions.{made_sync as made_sync_of};
+ghost use Rattle.golf_check_types.specs.Judging.{Finds};
 
 use golf_base::Memory;
-use golf_grammar::TypeExpr;
-use golf_types::{
+use golf_syntax_trees::TypeExpr;
+use golf_check_types::{
     Base, GoType, Layer, Operand, Scope, TypeFault, meaning_at, plain, require, with_layer,
 };
 use std::alloc::Global;
 
-#[tactic(auto, unfolding(golf_types::specs::Written::named_base))]
+#[tactic(auto, unfolding(golf_check_types::specs::Written::named_base))]
 fn named_base(name: &[u8]) -> Option<Base>
     ensures { result ≡ named_base_of name.now }
 {
@@ -31,7 +31,7 @@ fn named_base(name: &[u8]) -> Option<Base>
 }
 
 /// What package sync has and `new` makes.
-#[tactic(auto, unfolding(golf_types::specs::Written::made_base))]
+#[tactic(auto, unfolding(golf_check_types::specs::Written::made_base))]
 pub fn made_base(name: &[u8]) -> Option<Base>
     ensures { result ≡ made_base_of name.now }
 {
@@ -48,7 +48,7 @@ pub fn made_base(name: &[u8]) -> Option<Base>
 }
 
 /// What package sync has.
-#[tactic(auto, unfolding(golf_types::specs::Written::sync_base))]
+#[tactic(auto, unfolding(golf_check_types::specs::Written::sync_base))]
 pub fn sync_base(name: &[u8]) -> Option<Base>
     ensures { result ≡ sync_base_of name.now }
 {
@@ -82,7 +82,7 @@ pub fn plain_type(alloc: Global, base: Option<Base>) -> Option<GoType>
 }
 
 /// The type that is written, where it is one of the language's.
-#[tactic(auto, unfolding(golf_types::specs::Written::write))]
+#[tactic(auto, unfolding(golf_check_types::specs::Written::write))]
 pub fn written_type(
     alloc: Global,
     line: u32,
@@ -130,7 +130,7 @@ fn sync_type_is_there(line: u32, imported: bool, base: Option<Base>) -> Result<(
 }
 
 /// Whether a written type is one of the language's: rules 3 and 4.
-#[tactic(auto, unfolding(golf_types::specs::Written::write))]
+#[tactic(auto, unfolding(golf_check_types::specs::Written::write))]
 pub fn type_is_there(alloc: Global, line: u32, scope: &Scope, t: &TypeExpr) -> Result<(), TypeFault>
     ensures { Tells result (write t.now line scope.now).faults (λ _. Unit {0}) }
 {

@@ -1,14 +1,14 @@
 //! Names left of `:=` and `=` beside a receive.
 
 ghost use Rattle.std.specs.Prelude.{◌≡◌, ◌∷◌, [], IfOk, unwrap_or};
-ghost use Rattle.golf_types.specs.Faults.{Tells};
-ghost use Rattle.golf_types.specs.Facts.{new_target as new_target_of};
-ghost use Rattle.golf_types.specs.Statements.{Adds, Walks, declares_one, kept_local as kept_local_of, kept_faults, is_new as is_new_of, pair_differs as pair_differs_of, kept_pair_faults, pair_faults, new_or_kept as new_or_kept_of, assigned as assigned_of, then, pair as pair_of, bool_type, put_in_faults, takes_value as takes_value_of, assigned_faults, assigned_pair_faults, assign_name as assign_name_of, assign_pair as assign_pair_of, define_name as define_name_of};
+ghost use Rattle.golf_check_types.specs.Faults.{Tells};
+ghost use Rattle.golf_check_types.specs.Facts.{new_target as new_target_of};
+ghost use Rattle.golf_check_types.specs.Statements.{Adds, Walks, declares_one, kept_local as kept_local_of, kept_faults, is_new as is_new_of, pair_differs as pair_differs_of, kept_pair_faults, pair_faults, new_or_kept as new_or_kept_of, assigned as assigned_of, then, pair as pair_of, bool_type, put_in_faults, takes_value as takes_value_of, assigned_faults, assigned_pair_faults, assign_name as assign_name_of, assign_pair as assign_pair_of, define_name as define_name_of};
 
 use crate::simple_statements::is_place;
 use golf_base::{List, Memory};
 use golf_check_operands::assignable;
-use golf_types::{
+use golf_check_types::{
     Base, Fact, GoType, Local, Operand, Scope, TypeFault, Where, assigned_name, copy_optional,
     declare, given_type, is_new, is_reserved, may_be_declared, plain, require, type_of,
 };
@@ -32,7 +32,7 @@ fn keep_local(
 }
 
 // Rule 9 of a name that is there in this block.
-#[tactic(auto, unfolding(golf_types::specs::Statements::kept_faults))]
+#[tactic(auto, unfolding(golf_check_types::specs::Statements::kept_faults))]
 fn keep(
     alloc: Global,
     line: u32,
@@ -48,7 +48,7 @@ fn keep(
     }
 }
 
-#[tactic(auto, unfolding(golf_types::specs::Statements::pair_differs))]
+#[tactic(auto, unfolding(golf_check_types::specs::Statements::pair_differs))]
 fn pair_differs(scope: &Scope, first: &[u8], second: &[u8]) -> bool
     ensures { result ≡ pair_differs_of scope.now first.now second.now }
 {
@@ -127,7 +127,7 @@ pub fn declare_told(
 
 /// Declares a variable where it is new, and adds the fact of what is stored to: its slot, or what
 /// was kept. On an `Err` nothing is said of the scope.
-#[tactic(auto, using(golf_types::proofs::WalkLaws::stays))]
+#[tactic(auto, using(golf_check_types::proofs::WalkLaws::stays))]
 pub fn new_or_kept(
     alloc: Global,
     scope: &mut Scope,
@@ -194,7 +194,7 @@ pub fn define_pair(
     declare_both(alloc, scope, first, second, t, facts)
 }
 
-#[tactic(auto, unfolding(golf_types::specs::Statements::put_in_faults))]
+#[tactic(auto, unfolding(golf_check_types::specs::Statements::put_in_faults))]
 fn operand_fits(
     alloc: Global,
     line: u32,
@@ -214,7 +214,7 @@ fn operand_fits(
 }
 
 // Rule 9.
-#[tactic(auto, unfolding(golf_types::specs::Statements::put_in_faults))]
+#[tactic(auto, unfolding(golf_check_types::specs::Statements::put_in_faults))]
 fn put_in_fits(
     alloc: Global,
     line: u32,

@@ -1,9 +1,9 @@
 //! Simple statements.
 
 ghost use Rattle.std.specs.Prelude.{◌≡◌, ◌++◌};
-ghost use Rattle.golf_types.specs.Faults.{Tells, broken as broken_of};
-ghost use Rattle.golf_types.specs.Types.{is_nil as is_nil_of, assignable as assignable_of, type_of as type_of_of};
-ghost use Rattle.golf_types.specs.Statements.{Adds, Walks, action_faults, action as action_of, send_faults, send as send_of, is_place as is_place_of, step_faults, step as step_of, update_faults, update as update_of, left_faults, assign_faults, assignment as assignment_of, definition as definition_of, received as received_of, carried, define_received as define_received_of, assign_received as assign_received_of, simple_walk};
+ghost use Rattle.golf_check_types.specs.Faults.{Tells, broken as broken_of};
+ghost use Rattle.golf_check_types.specs.Types.{is_nil as is_nil_of, assignable as assignable_of, type_of as type_of_of};
+ghost use Rattle.golf_check_types.specs.Statements.{Adds, Walks, action_faults, action as action_of, send_faults, send as send_of, is_place as is_place_of, step_faults, step as step_of, update_faults, update as update_of, left_faults, assign_faults, assignment as assignment_of, definition as definition_of, received as received_of, carried, define_received as define_received_of, assign_received as assign_received_of, simple_walk};
 
 use crate::pairs::{assign_pair, declare_told, define_pair};
 use golf_base::List;
@@ -11,8 +11,8 @@ use golf_check_expressions::{callee, given, operand};
 use golf_check_operands::{
     assignable, can_give, can_take, element, has_base, has_channel, is_value, late,
 };
-use golf_grammar::{Expr, Simple, SimpleKind};
-use golf_types::{
+use golf_syntax_trees::{Expr, Simple, SimpleKind};
+use golf_check_types::{
     Base, Fact, Given, GoType, Operand, Scope, TypeFault, is_blank, is_here, is_reserved, require,
     type_of, value_of,
 };
@@ -258,7 +258,7 @@ fn assign_received(
 }
 
 /// A simple statement: what it declares and its facts are added.
-#[tactic(auto, using(golf_types::proofs::WalkLaws::stays))]
+#[tactic(auto, using(golf_check_types::proofs::WalkLaws::stays))]
 pub fn simple(
     alloc: Global,
     scope: &mut Scope,

@@ -2,15 +2,15 @@
 use Rattle.std.proofs.Common.{◌≡◌, ℕ, List, map, sym, ap, subst, ◌∙◌}
 use Rattle.std.specs.Prelude.{Result}
 use Rattle.std.proofs.lemmas.Simd.{map-map}
-use Rattle.golf_grammar.specs.declared.statements.Stmt.{Stmt}
-use Rattle.golf_grammar.specs.declared.statements.Stmt.TheVariants as st
-use Rattle.golf_grammar.specs.declared.statements.Clause.{Clause}
-use Rattle.golf_grammar.specs.declared.statements.Clause.TheOpen as S
-use Rattle.golf_grammar.specs.declared.statements.Clause.TheFolds.{fold-roll-Stmt}
-use Rattle.golf_types.specs.declared.fault.TypeFault.{TypeFault}
-use Rattle.golf_types.specs.declared.facts.Fact.{Fact}
-use Rattle.golf_types.specs.declared.scopes.Scope.{Scope}
-use Rattle.golf_types.specs.Statements.{Walk, in_order, clause_step, stmt_step, walk, walk_clause, walk_clause_at, Walks}
+use Rattle.golf_syntax_trees.specs.declared.statements.Stmt.{Stmt}
+use Rattle.golf_syntax_trees.specs.declared.statements.Stmt.TheVariants as st
+use Rattle.golf_syntax_trees.specs.declared.statements.Clause.{Clause}
+use Rattle.golf_syntax_trees.specs.declared.statements.Clause.TheOpen as S
+use Rattle.golf_syntax_trees.specs.declared.statements.Clause.TheFolds.{fold-roll-Stmt}
+use Rattle.golf_check_types.specs.declared.fault.TypeFault.{TypeFault}
+use Rattle.golf_check_types.specs.declared.facts.Fact.{Fact}
+use Rattle.golf_check_types.specs.declared.scopes.Scope.{Scope}
+use Rattle.golf_check_types.specs.Statements.{Walk, in_order, clause_step, stmt_step, walk, walk_clause, walk_clause_at, Walks}
 
 pub walk-Select : (l : ℕ) (cs : List Clause) (s : Scope) → walk (st.Select l cs) s ≡ in_order (map (walk_clause_at l) cs) s
 unfolding walk walk_clause

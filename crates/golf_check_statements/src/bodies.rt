@@ -1,11 +1,11 @@
 //! What stands in statements beside other statements.
 
 ghost use Rattle.std.specs.Prelude.{◌≡◌, ◌<◌, ◌-◌, ◌++◌, [], length, slice_set};
-ghost use Rattle.golf_types.specs.Faults.{Tells};
-ghost use Rattle.golf_types.specs.Types.{starts_with, type_given as type_given_of, is_slice as is_slice_layer, is_channel as is_channel_layer};
-ghost use Rattle.golf_types.specs.Expressions.{given_by};
-ghost use Rattle.golf_types.specs.Judging.{judge};
-ghost use Rattle.golf_types.specs.Statements.{Adds, Moves, Walks, zero as zero_of, typed as typed_of, untyped as untyped_of, var_content, may_be_begun as may_be_begun_of, done_faults, begin_call as begin_call_of, result_faults, returned as returned_of, condition as condition_of, optional as optional_of, optional_test as optional_test_of, counted, range_names_differ as range_names_differ_of, are_two as are_two_of, only_takes, is_outer, range_faults, hidden, hides, range_name as range_name_of, first_type as first_type_of, range_names as range_names_of, range_head as range_head_of, range_slots as range_slots_of, communication as communication_of, received as received_of, then};
+ghost use Rattle.golf_check_types.specs.Faults.{Tells};
+ghost use Rattle.golf_check_types.specs.Types.{starts_with, type_given as type_given_of, is_slice as is_slice_layer, is_channel as is_channel_layer};
+ghost use Rattle.golf_check_types.specs.Expressions.{given_by};
+ghost use Rattle.golf_check_types.specs.Judging.{judge};
+ghost use Rattle.golf_check_types.specs.Statements.{Adds, Moves, Walks, zero as zero_of, typed as typed_of, untyped as untyped_of, var_content, may_be_begun as may_be_begun_of, done_faults, begin_call as begin_call_of, result_faults, returned as returned_of, condition as condition_of, optional as optional_of, optional_test as optional_test_of, counted, range_names_differ as range_names_differ_of, are_two as are_two_of, only_takes, is_outer, range_faults, hidden, hides, range_name as range_name_of, first_type as first_type_of, range_names as range_names_of, range_head as range_head_of, range_slots as range_slots_of, communication as communication_of, received as received_of, then};
 
 use golf_base::List;
 use golf_check_expressions::{called, callee, given};
@@ -17,8 +17,8 @@ use golf_check_simple::{
     assign_name, declare_told, define_name, define_received, is_nil, new_or_kept, received, send,
     simple,
 };
-use golf_grammar::{Communication, Expr, OwnedExpr, OwnedSimple, RangeNames, TypeExpr, VarContent};
-use golf_types::{
+use golf_syntax_trees::{Communication, Expr, OwnedExpr, OwnedSimple, RangeNames, TypeExpr, VarContent};
+use golf_check_types::{
     Base, BuiltIn, Fact, Given, GoType, Layer, Operand, Scope, TypeFault, copy_optional, hide,
     is_blank, is_reserved, may_be_declared, plain, require,
 };
@@ -215,7 +215,7 @@ pub fn count_part(facts: &mut List<Fact>, at: usize)
 }
 
 /// A simple statement, where there is one.
-#[tactic(auto, using(golf_types::proofs::WalkLaws::stays))]
+#[tactic(auto, using(golf_check_types::proofs::WalkLaws::stays))]
 pub fn optional(
     alloc: Global,
     scope: &mut Scope,
@@ -231,7 +231,7 @@ pub fn optional(
 }
 
 /// The last statement of a header, where there is one: its facts are counted.
-#[tactic(auto, using(golf_types::proofs::Seams::part_filled))]
+#[tactic(auto, using(golf_check_types::proofs::Seams::part_filled))]
 pub fn post(
     alloc: Global,
     scope: &mut Scope,
@@ -247,7 +247,7 @@ pub fn post(
     Ok(())
 }
 
-#[tactic(auto, unfolding(golf_types::specs::Statements::range_names_differ))]
+#[tactic(auto, unfolding(golf_check_types::specs::Statements::range_names_differ))]
 fn range_names_differ(names: &RangeNames) -> bool
     ensures { result ≡ range_names_differ_of names.now }
 {
@@ -374,7 +374,7 @@ fn two_names(
     range_name(alloc, scope, second, second_type, facts)
 }
 
-#[tactic(auto, using(golf_types::proofs::WalkLaws::stays))]
+#[tactic(auto, using(golf_check_types::proofs::WalkLaws::stays))]
 fn range_names(
     alloc: Global,
     scope: &mut Scope,
@@ -465,7 +465,7 @@ fn receive(
 }
 
 /// The communication of a clause, on the line of `select`, and its names on that of `case`.
-#[tactic(auto, using(golf_types::proofs::WalkLaws::stays))]
+#[tactic(auto, using(golf_check_types::proofs::WalkLaws::stays))]
 pub fn communication(
     alloc: Global,
     line: u32,

@@ -1,7 +1,7 @@
 //! Whether statements keep the rules.
 
 ghost use Rattle.std.specs.Prelude.{map};
-ghost use Rattle.golf_types.specs.Statements.{Walks, in_order, block as block_of, loop_body as loop_body_of, then_walk, if_walk, else_walk, behind_test, behind_optional, steps as steps_of, then, optional as optional_of, range_walk, header_walk, for_walk, case_walk, default_walk, counted, breaking as breaking_of, in_block, communication as communication_of, walk, walk_clause, walk_clause_at};
+ghost use Rattle.golf_check_types.specs.Statements.{Walks, in_order, block as block_of, loop_body as loop_body_of, then_walk, if_walk, else_walk, behind_test, behind_optional, steps as steps_of, then, optional as optional_of, range_walk, header_walk, for_walk, case_walk, default_walk, counted, breaking as breaking_of, in_block, communication as communication_of, walk, walk_clause, walk_clause_at};
 
 use crate::bodies::{
     begin_call, communication, condition, count_part, optional, optional_test, post as post_at,
@@ -9,8 +9,8 @@ use crate::bodies::{
 };
 use golf_base::List;
 use golf_check_simple::simple;
-use golf_grammar::{Clause, Communication, Expr, Header, OwnedExpr, OwnedSimple, RangeNames, Stmt};
-use golf_types::{Fact, Scope, TypeFault, begin, end, require};
+use golf_syntax_trees::{Clause, Communication, Expr, Header, OwnedExpr, OwnedSimple, RangeNames, Stmt};
+use golf_check_types::{Fact, Scope, TypeFault, begin, end, require};
 use std::alloc::Global;
 
 /// Statements in order, in one block.
@@ -319,7 +319,7 @@ fn case_block(
 
 // A case, whose facts are counted.
 #[cycle(walking)]
-#[tactic(auto, using(golf_types::proofs::Seams::part_filled))]
+#[tactic(auto, using(golf_check_types::proofs::Seams::part_filled))]
 fn case_at(
     alloc: Global,
     line: u32,
@@ -355,7 +355,7 @@ fn default_block(
 
 // The default clause, whose facts are counted.
 #[cycle(walking)]
-#[tactic(auto, using(golf_types::proofs::Seams::part_filled))]
+#[tactic(auto, using(golf_check_types::proofs::Seams::part_filled))]
 fn default_at(
     alloc: Global,
     scope: &mut Scope,
@@ -372,7 +372,7 @@ fn default_at(
 }
 
 #[cycle(walking)]
-#[tactic(auto, unfolding(golf_types::specs::Statements::walk_clause, golf_types::specs::Statements::walk))]
+#[tactic(auto, unfolding(golf_check_types::specs::Statements::walk_clause, golf_check_types::specs::Statements::walk))]
 fn clause_at(
     alloc: Global,
     line: u32,
@@ -416,7 +416,7 @@ fn clauses_at(
 
 /// Whether a statement keeps the rules; what it declares and its facts are added.
 #[cycle(walking)]
-#[tactic(auto, unfolding(golf_types::specs::Statements::walk))]
+#[tactic(auto, unfolding(golf_check_types::specs::Statements::walk))]
 pub fn statement(
     alloc: Global,
     scope: &mut Scope,

@@ -1,14 +1,14 @@
 //! The code of a file.
 
 ghost use Rattle.std.specs.Prelude.{◌≡◌, IfOk};
-ghost use Rattle.golf_types.specs.Files.{facts_in};
+ghost use Rattle.golf_check_types.specs.Files.{facts_in};
 ghost use Rattle.golf_code_of.specs.Files.{CodeOf};
 ghost use Rattle.golf_check.specs.Heads.{scope_of};
 
 use golf_base::Memory;
 use golf_check::Checked;
 use golf_data::Code;
-use golf_write_files::code;
+use golf_code_files::code;
 use std::alloc::Global;
 
 /// The code of a typed file.

@@ -1,13 +1,13 @@
 -- The code of each kind of expression, as an equation.
 use Rattle.std.proofs.Common.{◌≡◌, ℕ, List, [], ◌∷◌, map, refl, ap, sym, ◌∙◌}
-use Rattle.golf_grammar.specs.declared.types.TypeExpr.{TypeExpr}
-use Rattle.golf_grammar.specs.declared.expressions.UnaryOperator.{UnaryOperator}
-use Rattle.golf_grammar.specs.declared.expressions.BinaryOperator.{BinaryOperator}
-use Rattle.golf_grammar.specs.declared.expressions.Expr.{Expr}
-use Rattle.golf_grammar.specs.declared.expressions.Element.{Element}
-use Rattle.golf_grammar.specs.declared.expressions.Expr.TheVariants as ex
-use Rattle.golf_grammar.specs.declared.expressions.Expr.TheOpen as F
-use Rattle.golf_grammar.specs.declared.expressions.Expr.TheFolds.{fold-Element, fold-roll-Expr, fold-roll-Element}
+use Rattle.golf_syntax_trees.specs.declared.types.TypeExpr.{TypeExpr}
+use Rattle.golf_syntax_trees.specs.declared.expressions.UnaryOperator.{UnaryOperator}
+use Rattle.golf_syntax_trees.specs.declared.expressions.BinaryOperator.{BinaryOperator}
+use Rattle.golf_syntax_trees.specs.declared.expressions.Expr.{Expr}
+use Rattle.golf_syntax_trees.specs.declared.expressions.Element.{Element}
+use Rattle.golf_syntax_trees.specs.declared.expressions.Expr.TheVariants as ex
+use Rattle.golf_syntax_trees.specs.declared.expressions.Expr.TheOpen as F
+use Rattle.golf_syntax_trees.specs.declared.expressions.Expr.TheFolds.{fold-Element, fold-roll-Expr, fold-roll-Element}
 use Rattle.golf_code_of.specs.declared.tables.Tables.{Tables}
 use Rattle.golf_code_of.specs.Coding.{Coded, CodedPut, coded, coded_step, element_coded_step}
 

@@ -1,14 +1,14 @@
 -- What each kind of expression is, as an equation.
 use Rattle.std.proofs.Common.{◌≡◌, ℕ, List, [], ◌∷◌, map, refl, ap, sym, ◌∙◌}
-use Rattle.golf_grammar.specs.declared.types.TypeExpr.{TypeExpr}
-use Rattle.golf_grammar.specs.declared.expressions.UnaryOperator.{UnaryOperator}
-use Rattle.golf_grammar.specs.declared.expressions.BinaryOperator.{BinaryOperator}
-use Rattle.golf_grammar.specs.declared.expressions.Expr.{Expr}
-use Rattle.golf_grammar.specs.declared.expressions.Element.{Element}
-use Rattle.golf_grammar.specs.declared.expressions.Expr.TheVariants as ex
-use Rattle.golf_grammar.specs.declared.expressions.Expr.TheOpen as F
-use Rattle.golf_grammar.specs.declared.expressions.Expr.TheFolds.{fold-Element, fold-roll-Expr, fold-roll-Element}
-use Rattle.golf_types.specs.Judging.{Judge, Put, judge, judge_step, element_step}
+use Rattle.golf_syntax_trees.specs.declared.types.TypeExpr.{TypeExpr}
+use Rattle.golf_syntax_trees.specs.declared.expressions.UnaryOperator.{UnaryOperator}
+use Rattle.golf_syntax_trees.specs.declared.expressions.BinaryOperator.{BinaryOperator}
+use Rattle.golf_syntax_trees.specs.declared.expressions.Expr.{Expr}
+use Rattle.golf_syntax_trees.specs.declared.expressions.Element.{Element}
+use Rattle.golf_syntax_trees.specs.declared.expressions.Expr.TheVariants as ex
+use Rattle.golf_syntax_trees.specs.declared.expressions.Expr.TheOpen as F
+use Rattle.golf_syntax_trees.specs.declared.expressions.Expr.TheFolds.{fold-Element, fold-roll-Expr, fold-roll-Element}
+use Rattle.golf_check_types.specs.Judging.{Judge, Put, judge, judge_step, element_step}
 
 -- an element of a struct literal
 abbrev pub put_of : Element → Put

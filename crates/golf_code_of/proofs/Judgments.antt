@@ -1,11 +1,11 @@
 -- What code takes an expression for is what the checker takes it for.
 use Rattle.std.proofs.Common.{◌≡◌, ℕ, List, [], ◌∷◌, map, refl, sym, ap, ◌∙◌, subst}
-use Rattle.golf_grammar.specs.declared.expressions.Expr.{Expr, roll-Expr}
-use Rattle.golf_grammar.specs.declared.expressions.Element.{Element, roll-Element}
-use Rattle.golf_grammar.specs.declared.expressions.Expr.TheOpen.{Expr-F, Element-F}
-use Rattle.golf_grammar.specs.declared.expressions.Expr.TheOpen as F
-use Rattle.golf_grammar.specs.declared.expressions.Expr.TheFolds.{fold-Element, fold-roll-Expr, fold-roll-Element, ind-Expr, map-Expr, map-Element}
-use Rattle.golf_types.specs.Judging.{Judge, Put, judge, judge_step, element_step}
+use Rattle.golf_syntax_trees.specs.declared.expressions.Expr.{Expr, roll-Expr}
+use Rattle.golf_syntax_trees.specs.declared.expressions.Element.{Element, roll-Element}
+use Rattle.golf_syntax_trees.specs.declared.expressions.Expr.TheOpen.{Expr-F, Element-F}
+use Rattle.golf_syntax_trees.specs.declared.expressions.Expr.TheOpen as F
+use Rattle.golf_syntax_trees.specs.declared.expressions.Expr.TheFolds.{fold-Element, fold-roll-Expr, fold-roll-Element, ind-Expr, map-Expr, map-Element}
+use Rattle.golf_check_types.specs.Judging.{Judge, Put, judge, judge_step, element_step}
 use Rattle.golf_code_of.specs.declared.tables.Tables.{Tables}
 use Rattle.golf_code_of.specs.Coding.{Coded, CodedPut, put_judge, coded, coded_step, element_coded_step}
 use Rattle.golf_code_of.specs.Laws.{JudgmentsAgree}

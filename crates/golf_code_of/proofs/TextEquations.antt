@@ -1,24 +1,24 @@
 -- The texts of each kind of expression and statement, as equations.
 use Rattle.std.proofs.Common.{◌≡◌, ℕ, List, [], ◌∷◌, map, refl, ap, sym, ◌∙◌}
 use Rattle.std.specs.Prelude.{Option}
-use Rattle.golf_grammar.specs.declared.types.TypeExpr.{TypeExpr}
-use Rattle.golf_grammar.specs.declared.expressions.UnaryOperator.{UnaryOperator}
-use Rattle.golf_grammar.specs.declared.expressions.BinaryOperator.{BinaryOperator}
-use Rattle.golf_grammar.specs.declared.expressions.Expr.{Expr}
-use Rattle.golf_grammar.specs.declared.expressions.Element.{Element}
-use Rattle.golf_grammar.specs.declared.expressions.Expr.TheVariants as ex
-use Rattle.golf_grammar.specs.declared.expressions.Expr.TheOpen as E
-use Rattle.golf_grammar.specs.declared.expressions.Expr.TheFolds.{fold-Element, fold-roll-Expr, fold-roll-Element}
-use Rattle.golf_grammar.specs.declared.statements.Simple.{Simple}
-use Rattle.golf_grammar.specs.declared.statements.Var.{Var}
-use Rattle.golf_grammar.specs.declared.statements.Header.{Header}
-use Rattle.golf_grammar.specs.declared.statements.Communication.{Communication}
-use Rattle.golf_grammar.specs.declared.statements.Stmt.{Stmt}
-use Rattle.golf_grammar.specs.declared.statements.Stmt.TheVariants as st
-use Rattle.golf_grammar.specs.declared.statements.Clause.{Clause}
-use Rattle.golf_grammar.specs.declared.statements.Clause.TheVariants as cl
-use Rattle.golf_grammar.specs.declared.statements.Clause.TheOpen as F
-use Rattle.golf_grammar.specs.declared.statements.Clause.TheFolds.{fold-Clause, fold-roll-Stmt, fold-roll-Clause}
+use Rattle.golf_syntax_trees.specs.declared.types.TypeExpr.{TypeExpr}
+use Rattle.golf_syntax_trees.specs.declared.expressions.UnaryOperator.{UnaryOperator}
+use Rattle.golf_syntax_trees.specs.declared.expressions.BinaryOperator.{BinaryOperator}
+use Rattle.golf_syntax_trees.specs.declared.expressions.Expr.{Expr}
+use Rattle.golf_syntax_trees.specs.declared.expressions.Element.{Element}
+use Rattle.golf_syntax_trees.specs.declared.expressions.Expr.TheVariants as ex
+use Rattle.golf_syntax_trees.specs.declared.expressions.Expr.TheOpen as E
+use Rattle.golf_syntax_trees.specs.declared.expressions.Expr.TheFolds.{fold-Element, fold-roll-Expr, fold-roll-Element}
+use Rattle.golf_syntax_trees.specs.declared.statements.Simple.{Simple}
+use Rattle.golf_syntax_trees.specs.declared.statements.Var.{Var}
+use Rattle.golf_syntax_trees.specs.declared.statements.Header.{Header}
+use Rattle.golf_syntax_trees.specs.declared.statements.Communication.{Communication}
+use Rattle.golf_syntax_trees.specs.declared.statements.Stmt.{Stmt}
+use Rattle.golf_syntax_trees.specs.declared.statements.Stmt.TheVariants as st
+use Rattle.golf_syntax_trees.specs.declared.statements.Clause.{Clause}
+use Rattle.golf_syntax_trees.specs.declared.statements.Clause.TheVariants as cl
+use Rattle.golf_syntax_trees.specs.declared.statements.Clause.TheOpen as F
+use Rattle.golf_syntax_trees.specs.declared.statements.Clause.TheFolds.{fold-Clause, fold-roll-Stmt, fold-roll-Clause}
 use Rattle.golf_code_of.specs.Table.{Texts}
 use Rattle.golf_code_of.specs.Texts.{expr_texts, expr_texts_step, element_texts_step, stmt_texts, stmt_texts_step, clause_texts_step}
 

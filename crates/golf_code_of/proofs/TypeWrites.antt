@@ -1,10 +1,10 @@
 -- Each kind of written type, as an equation.
 use Rattle.std.proofs.Common.{◌≡◌, ℕ, List, ap, sym, ◌∙◌}
-use Rattle.golf_grammar.specs.declared.types.TypeExpr.{TypeExpr}
-use Rattle.golf_grammar.specs.declared.types.TypeExpr.TheVariants as ty
-use Rattle.golf_grammar.specs.declared.types.TypeExpr.TheOpen as F
-use Rattle.golf_grammar.specs.declared.types.TypeExpr.TheFolds.{fold-roll-TypeExpr}
-use Rattle.golf_types.specs.Written.{Write, write, write_step}
+use Rattle.golf_syntax_trees.specs.declared.types.TypeExpr.{TypeExpr}
+use Rattle.golf_syntax_trees.specs.declared.types.TypeExpr.TheVariants as ty
+use Rattle.golf_syntax_trees.specs.declared.types.TypeExpr.TheOpen as F
+use Rattle.golf_syntax_trees.specs.declared.types.TypeExpr.TheFolds.{fold-roll-TypeExpr}
+use Rattle.golf_check_types.specs.Written.{Write, write, write_step}
 
 pub write-Named : (n : List ℕ) → write (ty.Named n) ≡ write_step (F.Named n)
 unfolding write

@@ -1,15 +1,15 @@
 -- What code knows behind a statement is what the checker knows there.
 use Rattle.std.proofs.Common.{◌≡◌, ℕ, List, [], ◌∷◌, map, Option, Some, None, refl, sym, ap, ◌∙◌, subst}
-use Rattle.golf_grammar.specs.declared.statements.Simple.{Simple}
-use Rattle.golf_grammar.specs.declared.statements.Header.{Header}
-use Rattle.golf_grammar.specs.declared.statements.Header.TheVariants as header
-use Rattle.golf_grammar.specs.declared.statements.Stmt.{Stmt, roll-Stmt}
-use Rattle.golf_grammar.specs.declared.statements.Clause.{Clause, roll-Clause}
-use Rattle.golf_grammar.specs.declared.statements.Clause.TheOpen.{Stmt-F, Clause-F}
-use Rattle.golf_grammar.specs.declared.statements.Clause.TheOpen as F
-use Rattle.golf_grammar.specs.declared.statements.Clause.TheFolds.{fold-roll-Stmt, fold-roll-Clause, ind-Stmt, ind-Clause, map-Stmt, map-Clause}
-use Rattle.golf_types.specs.Statements as W
-use Rattle.golf_types.specs.Statements.{Walk, walk, walk_clause, clause_step, stmt_step}
+use Rattle.golf_syntax_trees.specs.declared.statements.Simple.{Simple}
+use Rattle.golf_syntax_trees.specs.declared.statements.Header.{Header}
+use Rattle.golf_syntax_trees.specs.declared.statements.Header.TheVariants as header
+use Rattle.golf_syntax_trees.specs.declared.statements.Stmt.{Stmt, roll-Stmt}
+use Rattle.golf_syntax_trees.specs.declared.statements.Clause.{Clause, roll-Clause}
+use Rattle.golf_syntax_trees.specs.declared.statements.Clause.TheOpen.{Stmt-F, Clause-F}
+use Rattle.golf_syntax_trees.specs.declared.statements.Clause.TheOpen as F
+use Rattle.golf_syntax_trees.specs.declared.statements.Clause.TheFolds.{fold-roll-Stmt, fold-roll-Clause, ind-Stmt, ind-Clause, map-Stmt, map-Clause}
+use Rattle.golf_check_types.specs.Statements as W
+use Rattle.golf_check_types.specs.Statements.{Walk, walk, walk_clause, clause_step, stmt_step}
 use Rattle.golf_code_of.specs.declared.tables.Tables.{Tables}
 use Rattle.golf_code_of.specs.Statements.{Part, optional}
 use Rattle.golf_code_of.specs.Loops.{header_part}

@@ -1,16 +1,16 @@
 -- The code of calls (Go specification, "Calls", "Built-in functions"; packages fmt, runtime and sync).
 use Rattle.std.specs.Prelude.{ℕ, ◌+◌, negsuc, cond, List, [], ◌∷◌, length, map, Option, Some, None}
 use Rattle.golf_data.specs.declared.code.Instr.{Instr}
-use Rattle.golf_types.specs.declared.types.Base.{Base}
-use Rattle.golf_types.specs.declared.types.Base.TheVariants as base
-use Rattle.golf_types.specs.declared.types.GoType.{GoType}
-use Rattle.golf_types.specs.declared.operands.Operand.{Operand}
-use Rattle.golf_types.specs.declared.operands.Operand.TheVariants as operand
-use Rattle.golf_types.specs.declared.operands.BuiltIn.{BuiltIn}
-use Rattle.golf_types.specs.declared.operands.BuiltIn.TheVariants as built_in
-use Rattle.golf_types.specs.Types.{plain, type_given, given}
-use Rattle.golf_types.specs.Calls.{sets_finaliser}
-use Rattle.golf_layout.specs.Piece.{Piece, all, op}
+use Rattle.golf_check_types.specs.declared.types.Base.{Base}
+use Rattle.golf_check_types.specs.declared.types.Base.TheVariants as base
+use Rattle.golf_check_types.specs.declared.types.GoType.{GoType}
+use Rattle.golf_check_types.specs.declared.operands.Operand.{Operand}
+use Rattle.golf_check_types.specs.declared.operands.Operand.TheVariants as operand
+use Rattle.golf_check_types.specs.declared.operands.BuiltIn.{BuiltIn}
+use Rattle.golf_check_types.specs.declared.operands.BuiltIn.TheVariants as built_in
+use Rattle.golf_check_types.specs.Types.{plain, type_given, given}
+use Rattle.golf_check_types.specs.Calls.{sets_finaliser}
+use Rattle.golf_code_layout.specs.Piece.{Piece, all, op}
 use Rattle.golf_code_of.specs.declared.making.Making.{Making}
 use Rattle.golf_code_of.specs.Expressions.{Made, only}
 

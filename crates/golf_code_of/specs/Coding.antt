@@ -1,17 +1,17 @@
 -- The code of an expression on a line, where these names are known: one equation a construct.
 use Rattle.std.specs.Prelude.{ℕ, pos, List, map}
-use Rattle.golf_grammar.specs.declared.expressions.Expr.{Expr}
-use Rattle.golf_grammar.specs.declared.expressions.Expr.TheOpen.{Expr-F, Element-F, Integer, Text, Name, Parens, StructLiteral, SyncLiteral, SliceLiteral, EmptyLiteral, Make, MakeSized, New, NewSync, Selector, Index, Call, Unary, Binary}
-use Rattle.golf_grammar.specs.declared.expressions.Expr.TheFolds.{fold-Expr, map-Expr}
+use Rattle.golf_syntax_trees.specs.declared.expressions.Expr.{Expr}
+use Rattle.golf_syntax_trees.specs.declared.expressions.Expr.TheOpen.{Expr-F, Element-F, Integer, Text, Name, Parens, StructLiteral, SyncLiteral, SliceLiteral, EmptyLiteral, Make, MakeSized, New, NewSync, Selector, Index, Call, Unary, Binary}
+use Rattle.golf_syntax_trees.specs.declared.expressions.Expr.TheFolds.{fold-Expr, map-Expr}
 use Rattle.golf_data.specs.declared.code.Instr.{Instr}
-use Rattle.golf_types.specs.declared.types.Layer.TheVariants as layer
-use Rattle.golf_types.specs.declared.scopes.Scope.{Scope}
-use Rattle.golf_types.specs.Types.{with_layer}
-use Rattle.golf_types.specs.Scopes.{meaning}
-use Rattle.golf_types.specs.Written.{write_at, pointer_to, made_base}
-use Rattle.golf_types.specs.Expressions.{value_from, named, selected_from}
-use Rattle.golf_types.specs.Judging.{Judge, Put, judge_step}
-use Rattle.golf_layout.specs.Piece.{Piece, op}
+use Rattle.golf_check_types.specs.declared.types.Layer.TheVariants as layer
+use Rattle.golf_check_types.specs.declared.scopes.Scope.{Scope}
+use Rattle.golf_check_types.specs.Types.{with_layer}
+use Rattle.golf_check_types.specs.Scopes.{meaning}
+use Rattle.golf_check_types.specs.Written.{write_at, pointer_to, made_base}
+use Rattle.golf_check_types.specs.Expressions.{value_from, named, selected_from}
+use Rattle.golf_check_types.specs.Judging.{Judge, Put, judge_step}
+use Rattle.golf_code_layout.specs.Piece.{Piece, op}
 use Rattle.golf_code_of.specs.Table.{text_number}
 use Rattle.golf_code_of.specs.declared.tables.Tables.{Tables}
 use Rattle.golf_code_of.specs.Expressions.{Made, only, name, struct_literal, new_struct, new_sync, slice_literal, made, made_sized, selector, index, unary_operator, binary_operator}

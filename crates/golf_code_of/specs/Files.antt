@@ -1,27 +1,27 @@
 -- The code of a file: function 0 runs the initialisers of the globals and calls `main`; the functions and methods of the file follow in
 -- source order, and behind them those that are made for `go` and `defer` (Go specification, "Package initialization", "Program execution"; profile).
 use Rattle.std.specs.Prelude.{ℕ, ◌+◌, Bool, false, is_some, List, [], ◌∷◌, ◌++◌, length, map, flat_map, cond, Option, Some, None, codes}
-use Rattle.golf_grammar.specs.declared.statements.VarContent.{VarContent}
-use Rattle.golf_grammar.specs.declared.statements.VarContent.TheVariants as content
-use Rattle.golf_grammar.specs.declared.declarations.Const.{Const}
-use Rattle.golf_grammar.specs.declared.declarations.Func.{Func}
-use Rattle.golf_grammar.specs.declared.declarations.Decl.{Decl}
-use Rattle.golf_grammar.specs.declared.declarations.Decl.TheVariants as d
-use Rattle.golf_grammar.specs.declared.declarations.File.{File}
+use Rattle.golf_syntax_trees.specs.declared.statements.VarContent.{VarContent}
+use Rattle.golf_syntax_trees.specs.declared.statements.VarContent.TheVariants as content
+use Rattle.golf_syntax_trees.specs.declared.declarations.Const.{Const}
+use Rattle.golf_syntax_trees.specs.declared.declarations.Func.{Func}
+use Rattle.golf_syntax_trees.specs.declared.declarations.Decl.{Decl}
+use Rattle.golf_syntax_trees.specs.declared.declarations.Decl.TheVariants as d
+use Rattle.golf_syntax_trees.specs.declared.declarations.File.{File}
 use Rattle.golf_data.specs.declared.code.Code.{Code}
 use Rattle.golf_data.specs.declared.code.Function.{Function}
 use Rattle.golf_data.specs.declared.code.Instr.{Instr}
-use Rattle.golf_types.specs.declared.types.GoType.{GoType}
-use Rattle.golf_types.specs.declared.operands.Signature.{Signature}
-use Rattle.golf_types.specs.declared.scopes.Meaning.{Meaning}
-use Rattle.golf_types.specs.declared.scopes.Meaning.TheVariants as meant
-use Rattle.golf_types.specs.declared.scopes.FileScope.{FileScope}
-use Rattle.golf_types.specs.declared.scopes.Scope.{Scope}
-use Rattle.golf_types.specs.Scopes.{meaning_in}
-use Rattle.golf_types.specs.Statements.{behind}
-use Rattle.golf_types.specs.Files.{result_type, outside, body_scope, file_scope, with_imports, no_imports, declares_main, line_of}
-use Rattle.golf_layout.specs.Piece.{Piece, all, op, placed}
-use Rattle.golf_layout.specs.Depth.{depth}
+use Rattle.golf_check_types.specs.declared.types.GoType.{GoType}
+use Rattle.golf_check_types.specs.declared.operands.Signature.{Signature}
+use Rattle.golf_check_types.specs.declared.scopes.Entity.{Entity}
+use Rattle.golf_check_types.specs.declared.scopes.Entity.TheVariants as meant
+use Rattle.golf_check_types.specs.declared.scopes.FileScope.{FileScope}
+use Rattle.golf_check_types.specs.declared.scopes.Scope.{Scope}
+use Rattle.golf_check_types.specs.Scopes.{meaning_in}
+use Rattle.golf_check_types.specs.Statements.{behind}
+use Rattle.golf_check_types.specs.Files.{result_type, outside, body_scope, file_scope, with_imports, no_imports, declares_main, line_of}
+use Rattle.golf_code_layout.specs.Piece.{Piece, all, op, placed}
+use Rattle.golf_code_layout.specs.Depth.{depth}
 use Rattle.golf_live.specs.Live.{live}
 use Rattle.golf_code_of.specs.Texts.{texts_of}
 use Rattle.golf_code_of.specs.declared.tables.Tables.{Tables}
@@ -103,7 +103,7 @@ entry_body t f main line xs = all (initials t f 0 xs ∷ op line (Instr.Call mai
 
 -- `main`.
 
-abbrev pub number_of_function : Option Meaning → ℕ
+abbrev pub number_of_function : Option Entity → ℕ
 number_of_function (Some (meant.Function k)) = k + 1
 number_of_function _ = 0
 

@@ -1,10 +1,10 @@
 -- The laws of the definitions of code, as statements: what an expression is, and what is known behind a statement, are the checker's.
 use Rattle.std.specs.Prelude.{◌≡◌}
-use Rattle.golf_grammar.specs.declared.expressions.Expr.{Expr}
-use Rattle.golf_grammar.specs.declared.statements.Stmt.{Stmt}
-use Rattle.golf_grammar.specs.declared.statements.Clause.{Clause}
-use Rattle.golf_types.specs.Judging.{judge}
-use Rattle.golf_types.specs.Statements.{walk, walk_clause}
+use Rattle.golf_syntax_trees.specs.declared.expressions.Expr.{Expr}
+use Rattle.golf_syntax_trees.specs.declared.statements.Stmt.{Stmt}
+use Rattle.golf_syntax_trees.specs.declared.statements.Clause.{Clause}
+use Rattle.golf_check_types.specs.Judging.{judge}
+use Rattle.golf_check_types.specs.Statements.{walk, walk_clause}
 use Rattle.golf_code_of.specs.declared.tables.Tables.{Tables}
 use Rattle.golf_code_of.specs.Coding.{coded}
 use Rattle.golf_code_of.specs.Laying.{stmt_part, clause_part}

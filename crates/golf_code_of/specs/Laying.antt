@@ -1,9 +1,9 @@
 -- The code of a statement: one equation a construct.
-use Rattle.golf_grammar.specs.declared.statements.Stmt.{Stmt}
-use Rattle.golf_grammar.specs.declared.statements.Clause.{Clause}
-use Rattle.golf_grammar.specs.declared.statements.Clause.TheOpen as S
-use Rattle.golf_grammar.specs.declared.statements.Clause.TheOpen.{Stmt-F, Clause-F}
-use Rattle.golf_grammar.specs.declared.statements.Clause.TheFolds.{fold-Stmt, fold-Clause}
+use Rattle.golf_syntax_trees.specs.declared.statements.Stmt.{Stmt}
+use Rattle.golf_syntax_trees.specs.declared.statements.Clause.{Clause}
+use Rattle.golf_syntax_trees.specs.declared.statements.Clause.TheOpen as S
+use Rattle.golf_syntax_trees.specs.declared.statements.Clause.TheOpen.{Stmt-F, Clause-F}
+use Rattle.golf_syntax_trees.specs.declared.statements.Clause.TheFolds.{fold-Stmt, fold-Clause}
 use Rattle.golf_data.specs.declared.code.Instr.{Instr}
 use Rattle.golf_code_of.specs.declared.tables.Tables.{Tables}
 use Rattle.golf_code_of.specs.Statements.{Part, block, simple_part, var_part, begin_part, return_part, break_part, continue_part, if_part, else_part}

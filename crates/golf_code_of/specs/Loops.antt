@@ -1,21 +1,21 @@
 -- The code of loops (Go specification, "For statements", "For statements with range clause", "Break statements", "Continue statements").
 use Rattle.std.specs.Prelude.{ℕ, ◌+◌, pos, true, cond, List, [], ◌∷◌, Option, Some, None}
-use Rattle.golf_grammar.specs.declared.expressions.Expr.{Expr}
-use Rattle.golf_grammar.specs.declared.statements.Simple.{Simple}
-use Rattle.golf_grammar.specs.declared.statements.Header.{Header}
-use Rattle.golf_grammar.specs.declared.statements.Header.TheVariants as header
-use Rattle.golf_grammar.specs.declared.statements.RangeNames.{RangeNames}
-use Rattle.golf_grammar.specs.declared.statements.RangeNames.TheVariants as range
+use Rattle.golf_syntax_trees.specs.declared.expressions.Expr.{Expr}
+use Rattle.golf_syntax_trees.specs.declared.statements.Simple.{Simple}
+use Rattle.golf_syntax_trees.specs.declared.statements.Header.{Header}
+use Rattle.golf_syntax_trees.specs.declared.statements.Header.TheVariants as header
+use Rattle.golf_syntax_trees.specs.declared.statements.RangeNames.{RangeNames}
+use Rattle.golf_syntax_trees.specs.declared.statements.RangeNames.TheVariants as range
 use Rattle.golf_data.specs.declared.code.Instr.{Instr}
-use Rattle.golf_types.specs.declared.operands.Given.{Given}
-use Rattle.golf_types.specs.declared.scopes.Scope.{Scope}
-use Rattle.golf_types.specs.Types.{is_slice, type_given}
-use Rattle.golf_types.specs.Names.{is_blank}
-use Rattle.golf_types.specs.Expressions.{given_by}
-use Rattle.golf_types.specs.Judging.{judge_at}
-use Rattle.golf_types.specs.Statements as W
-use Rattle.golf_types.specs.Statements.{behind, is_outer, hides, hidden, range_name, int_type}
-use Rattle.golf_layout.specs.Piece.{Piece, all, op}
+use Rattle.golf_check_types.specs.declared.operands.Given.{Given}
+use Rattle.golf_check_types.specs.declared.scopes.Scope.{Scope}
+use Rattle.golf_check_types.specs.Types.{is_slice, type_given}
+use Rattle.golf_check_types.specs.Names.{is_blank}
+use Rattle.golf_check_types.specs.Expressions.{given_by}
+use Rattle.golf_check_types.specs.Judging.{judge_at}
+use Rattle.golf_check_types.specs.Statements as W
+use Rattle.golf_check_types.specs.Statements.{behind, is_outer, hides, hidden, range_name, int_type}
+use Rattle.golf_code_layout.specs.Piece.{Piece, all, op}
 use Rattle.golf_code_of.specs.declared.tables.Tables.{Tables}
 use Rattle.golf_code_of.specs.Coding.{piece_at}
 use Rattle.golf_code_of.specs.Statements.{Lay, Part, wrapped, past, then, in_block, block, optional}

@@ -1,15 +1,15 @@
 -- The code of `select` (Go specification, "Select statements"). The operands and the choice are on the line of `select`, the rest of a clause on its own.
 use Rattle.std.specs.Prelude.{ℕ, ◌+◌, true, List, [], ◌∷◌, ◌++◌, length, map, Option, Some, None}
-use Rattle.golf_grammar.specs.declared.statements.Communication.{Communication}
-use Rattle.golf_grammar.specs.declared.statements.Communication.TheVariants as comm
+use Rattle.golf_syntax_trees.specs.declared.statements.Communication.{Communication}
+use Rattle.golf_syntax_trees.specs.declared.statements.Communication.TheVariants as comm
 use Rattle.golf_data.specs.declared.code.Instr.{Instr}
 use Rattle.golf_data.specs.declared.code.SelectCase.{SelectCase}
 use Rattle.golf_data.specs.declared.code.CaseKind.{CaseKind}
-use Rattle.golf_types.specs.declared.scopes.Scope.{Scope}
-use Rattle.golf_types.specs.Scopes.{begun}
-use Rattle.golf_types.specs.Statements as W
-use Rattle.golf_types.specs.Statements.{Walk, behind, carried}
-use Rattle.golf_layout.specs.Piece.{Piece, all, op}
+use Rattle.golf_check_types.specs.declared.scopes.Scope.{Scope}
+use Rattle.golf_check_types.specs.Scopes.{begun}
+use Rattle.golf_check_types.specs.Statements as W
+use Rattle.golf_check_types.specs.Statements.{Walk, behind, carried}
+use Rattle.golf_code_layout.specs.Piece.{Piece, all, op}
 use Rattle.golf_code_of.specs.declared.tables.Tables.{Tables}
 use Rattle.golf_code_of.specs.Coding.{piece_at}
 use Rattle.golf_code_of.specs.declared.making.Around.{Around}

@@ -1,24 +1,24 @@
 -- The code of statements (Go specification, "Statements"), beside their walks, over the same scopes.
 use Rattle.std.specs.Prelude.{ℕ, ◌+◌, pos, cond, List, [], ◌∷◌, ◌++◌, length, map, Option, Some, None}
-use Rattle.golf_grammar.specs.declared.expressions.Expr.{Expr}
-use Rattle.golf_grammar.specs.declared.statements.UpdateOperator.{UpdateOperator}
-use Rattle.golf_grammar.specs.declared.statements.UpdateOperator.TheVariants as update
-use Rattle.golf_grammar.specs.declared.statements.Simple.{Simple}
-use Rattle.golf_grammar.specs.declared.statements.SimpleKind.{SimpleKind}
-use Rattle.golf_grammar.specs.declared.statements.SimpleKind.TheVariants as simple
-use Rattle.golf_grammar.specs.declared.statements.VarContent.{VarContent}
-use Rattle.golf_grammar.specs.declared.statements.VarContent.TheVariants as content
+use Rattle.golf_syntax_trees.specs.declared.expressions.Expr.{Expr}
+use Rattle.golf_syntax_trees.specs.declared.statements.UpdateOperator.{UpdateOperator}
+use Rattle.golf_syntax_trees.specs.declared.statements.UpdateOperator.TheVariants as update
+use Rattle.golf_syntax_trees.specs.declared.statements.Simple.{Simple}
+use Rattle.golf_syntax_trees.specs.declared.statements.SimpleKind.{SimpleKind}
+use Rattle.golf_syntax_trees.specs.declared.statements.SimpleKind.TheVariants as simple
+use Rattle.golf_syntax_trees.specs.declared.statements.VarContent.{VarContent}
+use Rattle.golf_syntax_trees.specs.declared.statements.VarContent.TheVariants as content
 use Rattle.golf_data.specs.declared.code.Instr.{Instr}
-use Rattle.golf_types.specs.declared.types.GoType.{GoType}
-use Rattle.golf_types.specs.declared.operands.Operand.{Operand}
-use Rattle.golf_types.specs.declared.operands.Operand.TheVariants as operand
-use Rattle.golf_types.specs.declared.scopes.Scope.{Scope}
-use Rattle.golf_types.specs.Scopes.{begun}
-use Rattle.golf_types.specs.Written.{write_at}
-use Rattle.golf_types.specs.Judging.{judge_at}
-use Rattle.golf_types.specs.Statements as W
-use Rattle.golf_types.specs.Statements.{Walk, behind, is_new, assigned_name, carried, one_new}
-use Rattle.golf_layout.specs.Piece.{Piece, all, op}
+use Rattle.golf_check_types.specs.declared.types.GoType.{GoType}
+use Rattle.golf_check_types.specs.declared.operands.Operand.{Operand}
+use Rattle.golf_check_types.specs.declared.operands.Operand.TheVariants as operand
+use Rattle.golf_check_types.specs.declared.scopes.Scope.{Scope}
+use Rattle.golf_check_types.specs.Scopes.{begun}
+use Rattle.golf_check_types.specs.Written.{write_at}
+use Rattle.golf_check_types.specs.Judging.{judge_at}
+use Rattle.golf_check_types.specs.Statements as W
+use Rattle.golf_check_types.specs.Statements.{Walk, behind, is_new, assigned_name, carried, one_new}
+use Rattle.golf_code_layout.specs.Piece.{Piece, all, op}
 use Rattle.golf_code_of.specs.declared.making.Around.{Around}
 use Rattle.golf_code_of.specs.declared.tables.Tables.{Tables}
 use Rattle.golf_code_of.specs.Values.{push, zero_value}

@@ -1,26 +1,26 @@
 -- The texts of a file: the empty one, and then each different one in the order of first appearance (Go specification, "String literals"; profile).
 use Rattle.std.specs.Prelude.{flat_map, List, [], ◌∷◌, ◌++◌, Option, Some, None}
-use Rattle.golf_grammar.specs.declared.expressions.Expr.{Expr}
-use Rattle.golf_grammar.specs.declared.expressions.Expr.TheOpen as E
-use Rattle.golf_grammar.specs.declared.expressions.Expr.TheOpen.{Expr-F, Element-F}
-use Rattle.golf_grammar.specs.declared.expressions.Expr.TheFolds.{fold-Expr}
-use Rattle.golf_grammar.specs.declared.statements.Simple.{Simple}
-use Rattle.golf_grammar.specs.declared.statements.SimpleKind.{SimpleKind}
-use Rattle.golf_grammar.specs.declared.statements.SimpleKind.TheVariants as simple
-use Rattle.golf_grammar.specs.declared.statements.VarContent.{VarContent}
-use Rattle.golf_grammar.specs.declared.statements.VarContent.TheVariants as content
-use Rattle.golf_grammar.specs.declared.statements.Header.{Header}
-use Rattle.golf_grammar.specs.declared.statements.Header.TheVariants as header
-use Rattle.golf_grammar.specs.declared.statements.Communication.{Communication}
-use Rattle.golf_grammar.specs.declared.statements.Communication.TheVariants as comm
-use Rattle.golf_grammar.specs.declared.statements.Stmt.{Stmt}
-use Rattle.golf_grammar.specs.declared.statements.Clause.TheOpen as S
-use Rattle.golf_grammar.specs.declared.statements.Clause.TheOpen.{Stmt-F, Clause-F}
-use Rattle.golf_grammar.specs.declared.statements.Clause.TheFolds.{fold-Stmt}
-use Rattle.golf_grammar.specs.declared.declarations.Const.{Const}
-use Rattle.golf_grammar.specs.declared.declarations.Const.TheVariants as const
-use Rattle.golf_grammar.specs.declared.declarations.Decl.{Decl}
-use Rattle.golf_grammar.specs.declared.declarations.Decl.TheVariants as d
+use Rattle.golf_syntax_trees.specs.declared.expressions.Expr.{Expr}
+use Rattle.golf_syntax_trees.specs.declared.expressions.Expr.TheOpen as E
+use Rattle.golf_syntax_trees.specs.declared.expressions.Expr.TheOpen.{Expr-F, Element-F}
+use Rattle.golf_syntax_trees.specs.declared.expressions.Expr.TheFolds.{fold-Expr}
+use Rattle.golf_syntax_trees.specs.declared.statements.Simple.{Simple}
+use Rattle.golf_syntax_trees.specs.declared.statements.SimpleKind.{SimpleKind}
+use Rattle.golf_syntax_trees.specs.declared.statements.SimpleKind.TheVariants as simple
+use Rattle.golf_syntax_trees.specs.declared.statements.VarContent.{VarContent}
+use Rattle.golf_syntax_trees.specs.declared.statements.VarContent.TheVariants as content
+use Rattle.golf_syntax_trees.specs.declared.statements.Header.{Header}
+use Rattle.golf_syntax_trees.specs.declared.statements.Header.TheVariants as header
+use Rattle.golf_syntax_trees.specs.declared.statements.Communication.{Communication}
+use Rattle.golf_syntax_trees.specs.declared.statements.Communication.TheVariants as comm
+use Rattle.golf_syntax_trees.specs.declared.statements.Stmt.{Stmt}
+use Rattle.golf_syntax_trees.specs.declared.statements.Clause.TheOpen as S
+use Rattle.golf_syntax_trees.specs.declared.statements.Clause.TheOpen.{Stmt-F, Clause-F}
+use Rattle.golf_syntax_trees.specs.declared.statements.Clause.TheFolds.{fold-Stmt}
+use Rattle.golf_syntax_trees.specs.declared.declarations.Const.{Const}
+use Rattle.golf_syntax_trees.specs.declared.declarations.Const.TheVariants as const
+use Rattle.golf_syntax_trees.specs.declared.declarations.Decl.{Decl}
+use Rattle.golf_syntax_trees.specs.declared.declarations.Decl.TheVariants as d
 use Rattle.golf_code_of.specs.Table.{Texts, table_of}
 
 abbrev pub joined : List Texts → Texts

@@ -1,15 +1,15 @@
 -- Zero values, and values that are pushed (Go specification, "The zero value", "Constants").
 use Rattle.std.specs.Prelude.{ℕ, pos, neg_ℤ, true, false, List, [], ◌∷◌, Option, Some, None, unwrap_or, slice_get}
-use Rattle.golf_grammar.specs.declared.declarations.Const.{Const}
-use Rattle.golf_grammar.specs.declared.declarations.Const.TheVariants as const
+use Rattle.golf_syntax_trees.specs.declared.declarations.Const.{Const}
+use Rattle.golf_syntax_trees.specs.declared.declarations.Const.TheVariants as const
 use Rattle.golf_data.specs.declared.value.Value.{Value}
 use Rattle.golf_data.specs.declared.code.Instr.{Instr}
-use Rattle.golf_types.specs.declared.types.Layer.{Layer}
-use Rattle.golf_types.specs.declared.types.Layer.TheVariants as layer
-use Rattle.golf_types.specs.declared.types.Base.{Base}
-use Rattle.golf_types.specs.declared.types.Base.TheVariants as base
-use Rattle.golf_types.specs.declared.types.GoType.{GoType}
-use Rattle.golf_types.specs.Expressions.{value_from}
+use Rattle.golf_check_types.specs.declared.types.Layer.{Layer}
+use Rattle.golf_check_types.specs.declared.types.Layer.TheVariants as layer
+use Rattle.golf_check_types.specs.declared.types.Base.{Base}
+use Rattle.golf_check_types.specs.declared.types.Base.TheVariants as base
+use Rattle.golf_check_types.specs.declared.types.GoType.{GoType}
+use Rattle.golf_check_types.specs.Expressions.{value_from}
 use Rattle.golf_code_of.specs.declared.tables.Tables.{Tables}
 use Rattle.golf_code_of.specs.Table.{Texts, text_number}
 

@@ -1,7 +1,7 @@
 //! What the code of a statement is told, and what it asks for.
 
 use golf_base::List;
-use golf_types::{BuiltIn, GoType};
+use golf_check_types::{BuiltIn, GoType};
 
 /// A function that is made for `go` or `defer` of a built-in call: what it does, the types of its
 /// parameters with the receiver first, and the line of the statement.

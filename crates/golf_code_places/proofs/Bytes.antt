@@ -1,19 +1,19 @@
 -- Bytes have at most two tokens for each of them: one for each lexeme that is a token, and a semicolon behind it.
 use Rattle.std.proofs.Common.{◌≡◌, ℕ, suc, ◌+◌, ◌*◌, ◌<◌, ◌≤◌, Bool, true, false, cond, List, [], ◌∷◌, ◌++◌, length, refl, ap, arith, length-append}
 use Rattle.std.specs.Prelude.{◌&&◌, nat_eq, codes}
-use Rattle.golf_tokens.specs.declared.token.Token.{Token}
-use Rattle.golf_tokens.specs.declared.token.TokenKind.{TokenKind}
-use Rattle.golf_tokens.specs.declared.token.TokenKind.TheVariants as kinds
-use Rattle.golf_tokens.specs.declared.token.Keyword.{Keyword}
-use Rattle.golf_tokens.specs.declared.token.Keyword.TheVariants as keywords
-use Rattle.golf_tokens.specs.declared.token.Mark.{Mark}
-use Rattle.golf_tokens.specs.declared.token.Mark.TheVariants as marks
-use Rattle.golf_tokens.specs.Bytes.{newlines}
-use Rattle.golf_tokens.specs.Spelling.{keyword_text, mark_text, is_word, is_integer, parts_text, Spells}
-use Rattle.golf_tokens.specs.Lexemes.{Class, Lexeme, lexemes_text, Forms, Cut}
-use Rattle.golf_tokens.specs.Lexemes as class
-use Rattle.golf_tokens.specs.Semicolons.{Item, newline_in, lexeme_items, items, may_end, line_ends, semicolon, semicolon_behind, inserted, is_separator, closes, without_optional}
-use Rattle.golf_tokens.specs.Semicolons as item
+use Rattle.golf_lex_tokens.specs.declared.token.Token.{Token}
+use Rattle.golf_lex_tokens.specs.declared.token.TokenKind.{TokenKind}
+use Rattle.golf_lex_tokens.specs.declared.token.TokenKind.TheVariants as kinds
+use Rattle.golf_lex_tokens.specs.declared.token.Keyword.{Keyword}
+use Rattle.golf_lex_tokens.specs.declared.token.Keyword.TheVariants as keywords
+use Rattle.golf_lex_tokens.specs.declared.token.Punctuation.{Punctuation}
+use Rattle.golf_lex_tokens.specs.declared.token.Punctuation.TheVariants as punctuations
+use Rattle.golf_lex_tokens.specs.Bytes.{newlines}
+use Rattle.golf_lex_tokens.specs.Spelling.{keyword_text, punctuation_text, is_word, is_integer, parts_text, Spells}
+use Rattle.golf_lex_tokens.specs.Lexemes.{Class, Lexeme, lexemes_text, Forms, Cut}
+use Rattle.golf_lex_tokens.specs.Lexemes as class
+use Rattle.golf_lex_tokens.specs.Semicolons.{Item, newline_in, lexeme_items, items, may_end, line_ends, semicolon, semicolon_behind, inserted, is_separator, closes, without_optional}
+use Rattle.golf_lex_tokens.specs.Semicolons as item
 use Rattle.golf_code_places.specs.Laws.{TokensAreFew}
 
 -- A token has a byte.
@@ -45,42 +45,42 @@ keyword-bytes keywords.Interface = omega arith
 keyword-bytes keywords.Map = omega arith
 keyword-bytes keywords.Switch = omega arith
 
-mark-bytes : (m : Mark) → 0 < length (mark_text m)
-mark-bytes marks.Plus = omega arith
-mark-bytes marks.Minus = omega arith
-mark-bytes marks.Star = omega arith
-mark-bytes marks.Slash = omega arith
-mark-bytes marks.Percent = omega arith
-mark-bytes marks.Equal = omega arith
-mark-bytes marks.NotEqual = omega arith
-mark-bytes marks.Less = omega arith
-mark-bytes marks.AtMost = omega arith
-mark-bytes marks.Greater = omega arith
-mark-bytes marks.AtLeast = omega arith
-mark-bytes marks.And = omega arith
-mark-bytes marks.Or = omega arith
-mark-bytes marks.Not = omega arith
-mark-bytes marks.Arrow = omega arith
-mark-bytes marks.Ampersand = omega arith
-mark-bytes marks.OpenParen = omega arith
-mark-bytes marks.CloseParen = omega arith
-mark-bytes marks.OpenBracket = omega arith
-mark-bytes marks.CloseBracket = omega arith
-mark-bytes marks.OpenBrace = omega arith
-mark-bytes marks.CloseBrace = omega arith
-mark-bytes marks.Comma = omega arith
-mark-bytes marks.Semicolon = omega arith
-mark-bytes marks.Colon = omega arith
-mark-bytes marks.Dot = omega arith
-mark-bytes marks.Assign = omega arith
-mark-bytes marks.Define = omega arith
-mark-bytes marks.PlusAssign = omega arith
-mark-bytes marks.MinusAssign = omega arith
-mark-bytes marks.StarAssign = omega arith
-mark-bytes marks.SlashAssign = omega arith
-mark-bytes marks.PercentAssign = omega arith
-mark-bytes marks.Increment = omega arith
-mark-bytes marks.Decrement = omega arith
+punctuation-bytes : (m : Punctuation) → 0 < length (punctuation_text m)
+punctuation-bytes punctuations.Plus = omega arith
+punctuation-bytes punctuations.Minus = omega arith
+punctuation-bytes punctuations.Star = omega arith
+punctuation-bytes punctuations.Slash = omega arith
+punctuation-bytes punctuations.Percent = omega arith
+punctuation-bytes punctuations.Equal = omega arith
+punctuation-bytes punctuations.NotEqual = omega arith
+punctuation-bytes punctuations.Less = omega arith
+punctuation-bytes punctuations.AtMost = omega arith
+punctuation-bytes punctuations.Greater = omega arith
+punctuation-bytes punctuations.AtLeast = omega arith
+punctuation-bytes punctuations.And = omega arith
+punctuation-bytes punctuations.Or = omega arith
+punctuation-bytes punctuations.Not = omega arith
+punctuation-bytes punctuations.Arrow = omega arith
+punctuation-bytes punctuations.Ampersand = omega arith
+punctuation-bytes punctuations.OpenParen = omega arith
+punctuation-bytes punctuations.CloseParen = omega arith
+punctuation-bytes punctuations.OpenBracket = omega arith
+punctuation-bytes punctuations.CloseBracket = omega arith
+punctuation-bytes punctuations.OpenBrace = omega arith
+punctuation-bytes punctuations.CloseBrace = omega arith
+punctuation-bytes punctuations.Comma = omega arith
+punctuation-bytes punctuations.Semicolon = omega arith
+punctuation-bytes punctuations.Colon = omega arith
+punctuation-bytes punctuations.Dot = omega arith
+punctuation-bytes punctuations.Assign = omega arith
+punctuation-bytes punctuations.Define = omega arith
+punctuation-bytes punctuations.PlusAssign = omega arith
+punctuation-bytes punctuations.MinusAssign = omega arith
+punctuation-bytes punctuations.StarAssign = omega arith
+punctuation-bytes punctuations.SlashAssign = omega arith
+punctuation-bytes punctuations.PercentAssign = omega arith
+punctuation-bytes punctuations.Increment = omega arith
+punctuation-bytes punctuations.Decrement = omega arith
 
 word-bytes : (bs : List ℕ) → is_word bs ≡ true → 0 < length bs
 word-bytes [] h = cc
@@ -95,7 +95,7 @@ token-bytes (kinds.Name n) bytes h = let e = ap length h.spelled in let i = word
 token-bytes (kinds.Integer digits) bytes h = let e = ap length h.0 in let i = integer-bytes digits h.1 in omega (arith, e, i)
 token-bytes (kinds.Text content) bytes h = let e = ap length h.spelled in let f = length-append (codes "\"") (parts_text h.parts ++ codes "\"") in omega (arith, e, f)
 token-bytes (kinds.Keyword k) bytes h = let e = ap length h in let i = keyword-bytes k in omega (arith, e, i)
-token-bytes (kinds.Mark m) bytes h = let e = ap length h in let i = mark-bytes m in omega (arith, e, i)
+token-bytes (kinds.Punctuation m) bytes h = let e = ap length h in let i = punctuation-bytes m in omega (arith, e, i)
 
 -- how many tokens there are among tokens and newlines
 held : List Item → ℕ

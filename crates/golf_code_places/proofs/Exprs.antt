@@ -1,21 +1,21 @@
 -- The code of every expression is small beside its words: one step for each kind of expression, and an induction.
 use Rattle.std.proofs.Common.{◌≡◌, ℕ, ◌*◌, ◌≤◌, List, [], ◌∷◌, ◌++◌, length, map, refl, sym, ap, subst, arith, length-append}
-use Rattle.golf_tokens.specs.declared.token.Mark.TheVariants as marks
-use Rattle.golf_grammar.specs.declared.expressions.Expr.{Expr, roll-Expr}
-use Rattle.golf_grammar.specs.declared.expressions.Element.{Element, roll-Element}
-use Rattle.golf_grammar.specs.declared.expressions.Expr.TheOpen.{Expr-F, Element-F}
-use Rattle.golf_grammar.specs.declared.expressions.Expr.TheOpen as F
-use Rattle.golf_grammar.specs.declared.expressions.Expr.TheFolds.{fold-Element, fold-roll-Expr, fold-roll-Element, ind-Expr, map-Expr, map-Element}
-use Rattle.golf_grammar.specs.Words.{Word, mark, separated, name as word_name}
-use Rattle.golf_grammar.specs.Types.{print_type}
-use Rattle.golf_grammar.specs.Expressions.{binary_mark, print_step, print_element_step, print_expr, print_element}
-use Rattle.golf_types.specs.declared.types.Layer.TheVariants as layer
-use Rattle.golf_types.specs.declared.scopes.Scope.{Scope}
-use Rattle.golf_types.specs.Types.{with_layer}
-use Rattle.golf_types.specs.Scopes.{meaning}
-use Rattle.golf_types.specs.Written.{write_at, pointer_to, made_base}
-use Rattle.golf_types.specs.Expressions.{named, selected_from}
-use Rattle.golf_layout.specs.Piece.{Piece, size, all}
+use Rattle.golf_lex_tokens.specs.declared.token.Punctuation.TheVariants as punctuations
+use Rattle.golf_syntax_trees.specs.declared.expressions.Expr.{Expr, roll-Expr}
+use Rattle.golf_syntax_trees.specs.declared.expressions.Element.{Element, roll-Element}
+use Rattle.golf_syntax_trees.specs.declared.expressions.Expr.TheOpen.{Expr-F, Element-F}
+use Rattle.golf_syntax_trees.specs.declared.expressions.Expr.TheOpen as F
+use Rattle.golf_syntax_trees.specs.declared.expressions.Expr.TheFolds.{fold-Element, fold-roll-Expr, fold-roll-Element, ind-Expr, map-Expr, map-Element}
+use Rattle.golf_syntax_trees.specs.Words.{Word, punctuation, separated, name as word_name}
+use Rattle.golf_syntax_trees.specs.Types.{print_type}
+use Rattle.golf_syntax_trees.specs.Expressions.{binary_punctuation, print_step, print_element_step, print_expr, print_element}
+use Rattle.golf_check_types.specs.declared.types.Layer.TheVariants as layer
+use Rattle.golf_check_types.specs.declared.scopes.Scope.{Scope}
+use Rattle.golf_check_types.specs.Types.{with_layer}
+use Rattle.golf_check_types.specs.Scopes.{meaning}
+use Rattle.golf_check_types.specs.Written.{write_at, pointer_to, made_base}
+use Rattle.golf_check_types.specs.Expressions.{named, selected_from}
+use Rattle.golf_code_layout.specs.Piece.{Piece, size, all}
 use Rattle.golf_code_of.specs.declared.tables.Tables.{Tables}
 use Rattle.golf_code_of.specs.Calls.{Argument}
 use Rattle.golf_code_of.specs.Coding.{Coded, CodedPut, coded, coded_step, element_coded_step, code_step, argument}
@@ -83,41 +83,41 @@ module _ (t : Tables) where
     at (F.Name n) = on-name l t (named l s n).meaning
     at (F.Parens e) =
         let h = e.1 l s in
-        let w = length-append (print_expr e.0) (mark marks.CloseParen ∷ []) in
+        let w = length-append (print_expr e.0) (punctuation punctuations.CloseParen ∷ []) in
         record { piece = omega (arith, h.piece, w); place = omega (arith, h.place, w) }
     at (F.StructLiteral n xs) =
-        let few = separated-length marks.Comma (element-words xs) in
-        let w = length-append (separated marks.Comma (element-words xs)) (mark marks.CloseBrace ∷ []) in
+        let few = separated-length punctuations.Comma (element-words xs) in
+        let w = length-append (separated punctuations.Comma (element-words xs)) (punctuation punctuations.CloseBrace ∷ []) in
         on-struct-literal l s.file (pointer_to (meaning s n)) _ (element-pieces xs) (element-words xs) _ (element-beside xs) (omega (arith, few, w))
     at (F.SyncLiteral n) = on-new-sync l (made_base n) _ (omega arith)
     at (F.SliceLiteral w xs) =
-        let few = separated-length marks.Comma (words xs) in
-        let behind = length-append (separated marks.Comma (words xs)) (mark marks.CloseBrace ∷ []) in
-        let type = length-append (print_type w) (mark marks.OpenBrace ∷ (separated marks.Comma (words xs) ++ mark marks.CloseBrace ∷ [])) in
+        let few = separated-length punctuations.Comma (words xs) in
+        let behind = length-append (separated punctuations.Comma (words xs)) (punctuation punctuations.CloseBrace ∷ []) in
+        let type = length-append (print_type w) (punctuation punctuations.OpenBrace ∷ (separated punctuations.Comma (words xs) ++ punctuation punctuations.CloseBrace ∷ [])) in
         on-slice-literal l (with_layer layer.Slice (write_at l s w).type) (pieces xs) (words xs) _ (beside xs) (omega (arith, few, behind, type))
     at F.EmptyLiteral = alone _ _ (omega arith)
     at (F.Make w) = alone _ _ (omega arith)
     at (F.MakeSized w e) =
         let h = (e.1 l s).piece in
-        let inner = length-append (print_type w) (mark marks.Comma ∷ print_expr e.0) in
-        let whole = length-append (print_type w ++ mark marks.Comma ∷ print_expr e.0) (mark marks.CloseParen ∷ []) in
+        let inner = length-append (print_type w) (punctuation punctuations.Comma ∷ print_expr e.0) in
+        let whole = length-append (print_type w ++ punctuation punctuations.Comma ∷ print_expr e.0) (punctuation punctuations.CloseParen ∷ []) in
         alone _ _ (omega (arith, h, inner, whole))
     at (F.New n) = alone _ _ (omega arith)
     at (F.NewSync n) = on-new-sync l (made_base n) _ (omega arith)
-    at (F.Selector e n) = on-selector l (selected_from l s.file n ((coded t e.0).judge l s).meaning).meaning ((coded t e.0).code l s) _ _ (e.1 l s) (let w = length-append (print_expr e.0) (mark marks.Dot ∷ word_name n ∷ []) in omega (arith, w))
+    at (F.Selector e n) = on-selector l (selected_from l s.file n ((coded t e.0).judge l s).meaning).meaning ((coded t e.0).code l s) _ _ (e.1 l s) (let w = length-append (print_expr e.0) (punctuation punctuations.Dot ∷ word_name n ∷ []) in omega (arith, w))
     at (F.Index a i) =
-        let inner = length-append (print_expr i.0) (mark marks.CloseBracket ∷ []) in
-        let whole = length-append (print_expr a.0) (mark marks.OpenBracket ∷ (print_expr i.0 ++ mark marks.CloseBracket ∷ [])) in
+        let inner = length-append (print_expr i.0) (punctuation punctuations.CloseBracket ∷ []) in
+        let whole = length-append (print_expr a.0) (punctuation punctuations.OpenBracket ∷ (print_expr i.0 ++ punctuation punctuations.CloseBracket ∷ [])) in
         on-index l ((coded t a.0).code l s) ((coded t i.0).code l s) _ _ _ (a.1 l s) (i.1 l s) (omega (arith, inner, whole))
     at (F.Call f xs) =
-        let few = separated-length marks.Comma (words xs) in
-        let inner = length-append (separated marks.Comma (words xs)) (mark marks.CloseParen ∷ []) in
-        let whole = length-append (print_expr f.0) (mark marks.OpenParen ∷ (separated marks.Comma (words xs) ++ mark marks.CloseParen ∷ [])) in
+        let few = separated-length punctuations.Comma (words xs) in
+        let inner = length-append (separated punctuations.Comma (words xs)) (punctuation punctuations.CloseParen ∷ []) in
+        let whole = length-append (print_expr f.0) (punctuation punctuations.OpenParen ∷ (separated punctuations.Comma (words xs) ++ punctuation punctuations.CloseParen ∷ [])) in
         let args = subst (λ ps. size (all ps) ≤ 8 * total (words xs)) (sym (pushed-are xs)) (all-small (pieces xs) (words xs) (beside xs)) in
         on-call l ((coded t f.0).judge l s).meaning ((coded t f.0).code l s) _ (words xs) _ _ (f.1 l s) args (omega (arith, few, inner, whole))
     at (F.Unary o e) = on-unary l o ((coded t e.0).code l s) _ _ (e.1 l s) (omega arith)
     at (F.Binary o a b) =
-        let whole = length-append (print_expr a.0) (mark (binary_mark o) ∷ print_expr b.0) in
+        let whole = length-append (print_expr a.0) (punctuation (binary_punctuation o) ∷ print_expr b.0) in
         on-binary l o ((coded t a.0).code l s) ((coded t b.0).code l s) _ _ _ (a.1 l s) (b.1 l s) (omega (arith, whole))
 
   rolled : (y : Expr-F E D) → P (roll-Expr (bare y))

@@ -1,30 +1,30 @@
 -- Each body of the code of a file has at most eight instructions for each word that the file prints; so its places fit.
 use Rattle.std.proofs.Common.{◌≡◌, ℕ, zero, suc, ◌+◌, ◌*◌, ◌^◌, ◌<◌, ◌≤◌, Bool, List, [], ◌∷◌, ◌++◌, length, map, Option, Some, None, refl, sym, ap, arith, length-append}
 use Rattle.std.specs.Prelude.{slice_get}
-use Rattle.golf_tokens.specs.declared.token.Token.{Token}
-use Rattle.golf_tokens.specs.declared.token.Mark.TheVariants as marks
-use Rattle.golf_tokens.specs.declared.token.Keyword.TheVariants as keywords
-use Rattle.golf_grammar.specs.declared.statements.Stmt.{Stmt}
-use Rattle.golf_grammar.specs.declared.statements.VarContent.{VarContent}
-use Rattle.golf_grammar.specs.declared.statements.VarContent.TheVariants as content
-use Rattle.golf_grammar.specs.declared.declarations.Func.{Func}
-use Rattle.golf_grammar.specs.declared.declarations.Decl.{Decl}
-use Rattle.golf_grammar.specs.declared.declarations.Decl.TheVariants as d
-use Rattle.golf_grammar.specs.declared.declarations.File.{File}
-use Rattle.golf_grammar.specs.Words.{Word, mark, keyword, name, separated, closed, Spells}
-use Rattle.golf_grammar.specs.Types.{print_type}
-use Rattle.golf_grammar.specs.Expressions.{parens, print_expr}
-use Rattle.golf_grammar.specs.Simple.{print_content, optional}
-use Rattle.golf_grammar.specs.Statements.{print_block, print_stmt}
-use Rattle.golf_grammar.specs.Declarations.{print_field, print_receiver, print_func, print_decl, print_import, print_file}
+use Rattle.golf_lex_tokens.specs.declared.token.Token.{Token}
+use Rattle.golf_lex_tokens.specs.declared.token.Punctuation.TheVariants as punctuations
+use Rattle.golf_lex_tokens.specs.declared.token.Keyword.TheVariants as keywords
+use Rattle.golf_syntax_trees.specs.declared.statements.Stmt.{Stmt}
+use Rattle.golf_syntax_trees.specs.declared.statements.VarContent.{VarContent}
+use Rattle.golf_syntax_trees.specs.declared.statements.VarContent.TheVariants as content
+use Rattle.golf_syntax_trees.specs.declared.declarations.Func.{Func}
+use Rattle.golf_syntax_trees.specs.declared.declarations.Decl.{Decl}
+use Rattle.golf_syntax_trees.specs.declared.declarations.Decl.TheVariants as d
+use Rattle.golf_syntax_trees.specs.declared.declarations.File.{File}
+use Rattle.golf_syntax_trees.specs.Words.{Word, punctuation, keyword, name, separated, closed, Spells}
+use Rattle.golf_syntax_trees.specs.Types.{print_type}
+use Rattle.golf_syntax_trees.specs.Expressions.{parens, print_expr}
+use Rattle.golf_syntax_trees.specs.Simple.{print_content, optional}
+use Rattle.golf_syntax_trees.specs.Statements.{print_block, print_stmt}
+use Rattle.golf_syntax_trees.specs.Declarations.{print_field, print_receiver, print_func, print_decl, print_import, print_file}
 use Rattle.golf_data.specs.declared.code.Function.{Function}
 use Rattle.golf_data.specs.Places.{IsShort}
-use Rattle.golf_types.specs.declared.types.GoType.{GoType}
-use Rattle.golf_types.specs.declared.scopes.FileScope.{FileScope}
-use Rattle.golf_types.specs.declared.scopes.Scope.{Scope}
-use Rattle.golf_types.specs.Files.{outside, result_type, file_scope, with_imports, no_imports, body_scope}
-use Rattle.golf_layout.specs.Piece.{size, all}
-use Rattle.golf_layout.proofs.Sizes.{placed-size}
+use Rattle.golf_check_types.specs.declared.types.GoType.{GoType}
+use Rattle.golf_check_types.specs.declared.scopes.FileScope.{FileScope}
+use Rattle.golf_check_types.specs.declared.scopes.Scope.{Scope}
+use Rattle.golf_check_types.specs.Files.{outside, result_type, file_scope, with_imports, no_imports, body_scope}
+use Rattle.golf_code_layout.specs.Piece.{size, all}
+use Rattle.golf_code_layout.proofs.Sizes.{placed-size}
 use Rattle.golf_code_of.specs.declared.tables.Tables.{Tables}
 use Rattle.golf_code_of.specs.declared.making.Making.{Making}
 use Rattle.golf_code_of.specs.Laying.{stmt_part}
@@ -71,8 +71,8 @@ func-words f =
     let inner = block-words (map print_stmt f.body) in
     let result = length-append (optional print_type f.result) (print_block (map print_stmt f.body)) in
     let rest = optional print_type f.result ++ print_block (map print_stmt f.body) in
-    let fields = separated marks.Comma (map print_field f.parameters) in
-    let between = length-append fields (mark marks.CloseParen ∷ rest) in
+    let fields = separated punctuations.Comma (map print_field f.parameters) in
+    let between = length-append fields (punctuation punctuations.CloseParen ∷ rest) in
     let whole = length-append (optional print_receiver f.receiver) (name f.name ∷ parens fields rest) in
     let line = line-length f.line (keyword keywords.Func ∷ (optional print_receiver f.receiver ++ name f.name ∷ parens fields rest)) in
     omega (arith, inner, result, between, whole, line)
@@ -137,7 +137,7 @@ initial-small : (t : Tables) (s : Scope) (g l : ℕ) (x : VarContent) → size (
 initial-small t s g l (content.Zero e) = omega arith
 initial-small t s g l (content.Typed e v) =
     let h = (expr-small t v l s).piece in
-    let w = length-append (print_type e) (mark marks.Assign ∷ print_expr v) in
+    let w = length-append (print_type e) (punctuation punctuations.Assign ∷ print_expr v) in
     omega (arith, h, w)
 initial-small t s g l (content.Untyped v) = let h = (expr-small t v l s).piece in omega (arith, h)
 

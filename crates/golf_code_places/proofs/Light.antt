@@ -1,28 +1,28 @@
 -- The code of statements in which no loop and no select stands has at most eight instructions and made parameters for each of its words.
 use Rattle.std.proofs.Common.{◌≡◌, ℕ, ◌+◌, ◌*◌, ◌≤◌, Bool, true, false, cond, List, [], ◌∷◌, ◌++◌, length, map, Option, Some, None, arith, length-append}
 use Rattle.std.proofs.lemmas.List.{length-map}
-use Rattle.golf_tokens.specs.declared.token.Mark.TheVariants as marks
-use Rattle.golf_grammar.specs.declared.expressions.Expr.{Expr}
-use Rattle.golf_grammar.specs.declared.statements.Simple.{Simple}
-use Rattle.golf_grammar.specs.declared.statements.SimpleKind.{SimpleKind}
-use Rattle.golf_grammar.specs.declared.statements.SimpleKind.TheVariants as simple
-use Rattle.golf_grammar.specs.declared.statements.VarContent.{VarContent}
-use Rattle.golf_grammar.specs.declared.statements.VarContent.TheVariants as content
-use Rattle.golf_grammar.specs.Words.{Word, mark}
-use Rattle.golf_grammar.specs.Types.{print_type}
-use Rattle.golf_grammar.specs.Expressions.{print_expr}
-use Rattle.golf_grammar.specs.Simple.{update_mark, print_simple_kind, print_simple, print_content}
+use Rattle.golf_lex_tokens.specs.declared.token.Punctuation.TheVariants as punctuations
+use Rattle.golf_syntax_trees.specs.declared.expressions.Expr.{Expr}
+use Rattle.golf_syntax_trees.specs.declared.statements.Simple.{Simple}
+use Rattle.golf_syntax_trees.specs.declared.statements.SimpleKind.{SimpleKind}
+use Rattle.golf_syntax_trees.specs.declared.statements.SimpleKind.TheVariants as simple
+use Rattle.golf_syntax_trees.specs.declared.statements.VarContent.{VarContent}
+use Rattle.golf_syntax_trees.specs.declared.statements.VarContent.TheVariants as content
+use Rattle.golf_syntax_trees.specs.Words.{Word, punctuation}
+use Rattle.golf_syntax_trees.specs.Types.{print_type}
+use Rattle.golf_syntax_trees.specs.Expressions.{print_expr}
+use Rattle.golf_syntax_trees.specs.Simple.{update_punctuation, print_simple_kind, print_simple, print_content}
 use Rattle.golf_data.specs.declared.code.Instr.{Instr}
-use Rattle.golf_types.specs.declared.types.GoType.{GoType}
-use Rattle.golf_types.specs.declared.types.Base.{Base}
-use Rattle.golf_types.specs.declared.operands.Operand.{Operand}
-use Rattle.golf_types.specs.declared.operands.Operand.TheVariants as operand
-use Rattle.golf_types.specs.declared.scopes.Scope.{Scope}
-use Rattle.golf_types.specs.Types.{type_given, given}
-use Rattle.golf_types.specs.Scopes.{begun}
-use Rattle.golf_types.specs.Judging.{judge_at}
-use Rattle.golf_types.specs.Statements.{behind, is_new, assigned_name, carried, one_new}
-use Rattle.golf_layout.specs.Piece.{Piece, size, op}
+use Rattle.golf_check_types.specs.declared.types.GoType.{GoType}
+use Rattle.golf_check_types.specs.declared.types.Base.{Base}
+use Rattle.golf_check_types.specs.declared.operands.Operand.{Operand}
+use Rattle.golf_check_types.specs.declared.operands.Operand.TheVariants as operand
+use Rattle.golf_check_types.specs.declared.scopes.Scope.{Scope}
+use Rattle.golf_check_types.specs.Types.{type_given, given}
+use Rattle.golf_check_types.specs.Scopes.{begun}
+use Rattle.golf_check_types.specs.Judging.{judge_at}
+use Rattle.golf_check_types.specs.Statements.{behind, is_new, assigned_name, carried, one_new}
+use Rattle.golf_code_layout.specs.Piece.{Piece, size, op}
 use Rattle.golf_code_of.specs.declared.tables.Tables.{Tables}
 use Rattle.golf_code_of.specs.declared.making.Making.{Making}
 use Rattle.golf_code_of.specs.declared.making.Around.{Around}
@@ -127,25 +127,25 @@ module _ (t : Tables) (l : ℕ) where
   simple-light (simple.Send c e) s =
       let h = (expr-small t c l s).piece in
       let i = (expr-small t e l s).piece in
-      let w = length-append (print_expr c) (mark marks.Arrow ∷ print_expr e) in
+      let w = length-append (print_expr c) (punctuation punctuations.Arrow ∷ print_expr e) in
       omega (arith, h, i, w)
   simple-light (simple.Increment p) s =
       let h = (expr-small t p l s).place in
-      let w = length-append (print_expr p) (mark marks.Increment ∷ []) in
+      let w = length-append (print_expr p) (punctuation punctuations.Increment ∷ []) in
       omega (arith, h, w)
   simple-light (simple.Decrement p) s =
       let h = (expr-small t p l s).place in
-      let w = length-append (print_expr p) (mark marks.Decrement ∷ []) in
+      let w = length-append (print_expr p) (punctuation punctuations.Decrement ∷ []) in
       omega (arith, h, w)
   simple-light (simple.Assign p e) s =
       let h = (expr-small t p l s).place in
       let i = (expr-small t e l s).piece in
-      let w = length-append (print_expr p) (mark marks.Assign ∷ print_expr e) in
+      let w = length-append (print_expr p) (punctuation punctuations.Assign ∷ print_expr e) in
       omega (arith, h, i, w)
   simple-light (simple.Update p o e) s =
       let h = (expr-small t p l s).place in
       let i = (expr-small t e l s).piece in
-      let w = length-append (print_expr p) (mark (update_mark o) ∷ print_expr e) in
+      let w = length-append (print_expr p) (punctuation (update_punctuation o) ∷ print_expr e) in
       omega (arith, h, i, w)
   simple-light (simple.Define n e) s = let h = (expr-small t e l s).piece in omega (arith, h)
   simple-light (simple.DefineReceived n m e) s =
@@ -164,7 +164,7 @@ module _ (t : Tables) (l : ℕ) where
   first-light (content.Zero e) s = omega arith
   first-light (content.Typed e v) s =
       let h = (expr-small t v l s).piece in
-      let w = length-append (print_type e) (mark marks.Assign ∷ print_expr v) in
+      let w = length-append (print_type e) (punctuation punctuations.Assign ∷ print_expr v) in
       omega (arith, h, w)
   first-light (content.Untyped v) s = let h = (expr-small t v l s).piece in omega (arith, h)
 

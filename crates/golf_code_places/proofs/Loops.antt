@@ -1,19 +1,19 @@
 -- The code of loops has at most eight instructions and made parameters for each of its words.
 use Rattle.std.proofs.Common.{ℕ, ◌+◌, ◌*◌, ◌≤◌, Bool, true, false, cond, List, [], ◌∷◌, length, Option, Some, None, arith}
-use Rattle.golf_grammar.specs.declared.expressions.Expr.{Expr}
-use Rattle.golf_grammar.specs.declared.statements.RangeNames.{RangeNames}
-use Rattle.golf_grammar.specs.declared.statements.RangeNames.TheVariants as range
-use Rattle.golf_grammar.specs.Expressions.{print_expr}
+use Rattle.golf_syntax_trees.specs.declared.expressions.Expr.{Expr}
+use Rattle.golf_syntax_trees.specs.declared.statements.RangeNames.{RangeNames}
+use Rattle.golf_syntax_trees.specs.declared.statements.RangeNames.TheVariants as range
+use Rattle.golf_syntax_trees.specs.Expressions.{print_expr}
 use Rattle.golf_data.specs.declared.code.Instr.{Instr}
-use Rattle.golf_types.specs.declared.operands.Given.{Given}
-use Rattle.golf_types.specs.declared.scopes.Scope.{Scope}
-use Rattle.golf_types.specs.Names.{is_blank}
-use Rattle.golf_types.specs.Types.{is_slice}
-use Rattle.golf_types.specs.Expressions.{given_by}
-use Rattle.golf_types.specs.Judging.{judge_at}
-use Rattle.golf_types.specs.Statements as W
-use Rattle.golf_types.specs.Statements.{behind, is_outer, range_name, int_type}
-use Rattle.golf_layout.specs.Piece.{Piece, size, all, op}
+use Rattle.golf_check_types.specs.declared.operands.Given.{Given}
+use Rattle.golf_check_types.specs.declared.scopes.Scope.{Scope}
+use Rattle.golf_check_types.specs.Names.{is_blank}
+use Rattle.golf_check_types.specs.Types.{is_slice}
+use Rattle.golf_check_types.specs.Expressions.{given_by}
+use Rattle.golf_check_types.specs.Judging.{judge_at}
+use Rattle.golf_check_types.specs.Statements as W
+use Rattle.golf_check_types.specs.Statements.{behind, is_outer, range_name, int_type}
+use Rattle.golf_code_layout.specs.Piece.{Piece, size, all, op}
 use Rattle.golf_code_of.specs.declared.tables.Tables.{Tables}
 use Rattle.golf_code_of.specs.Coding.{piece_at}
 use Rattle.golf_code_of.specs.Statements.{Part, past, block}

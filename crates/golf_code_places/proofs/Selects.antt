@@ -1,16 +1,16 @@
 -- The code of `select` has at most eight instructions and made parameters for each of its words.
 use Rattle.std.proofs.Common.{ℕ, ◌+◌, ◌*◌, ◌≤◌, true, List, [], ◌∷◌, length, map, arith, length-append}
-use Rattle.golf_tokens.specs.declared.token.Mark.TheVariants as marks
-use Rattle.golf_grammar.specs.declared.statements.Communication.{Communication}
-use Rattle.golf_grammar.specs.declared.statements.Communication.TheVariants as comm
-use Rattle.golf_grammar.specs.Words.{mark}
-use Rattle.golf_grammar.specs.Expressions.{print_expr}
-use Rattle.golf_grammar.specs.Simple.{print_comm}
-use Rattle.golf_grammar.specs.Statements.{ClauseWords}
-use Rattle.golf_types.specs.declared.scopes.Scope.{Scope}
-use Rattle.golf_types.specs.Scopes.{begun}
-use Rattle.golf_types.specs.Statements.{behind, carried}
-use Rattle.golf_layout.specs.Piece.{Piece, size, all}
+use Rattle.golf_lex_tokens.specs.declared.token.Punctuation.TheVariants as punctuations
+use Rattle.golf_syntax_trees.specs.declared.statements.Communication.{Communication}
+use Rattle.golf_syntax_trees.specs.declared.statements.Communication.TheVariants as comm
+use Rattle.golf_syntax_trees.specs.Words.{punctuation}
+use Rattle.golf_syntax_trees.specs.Expressions.{print_expr}
+use Rattle.golf_syntax_trees.specs.Simple.{print_comm}
+use Rattle.golf_syntax_trees.specs.Statements.{ClauseWords}
+use Rattle.golf_check_types.specs.declared.scopes.Scope.{Scope}
+use Rattle.golf_check_types.specs.Scopes.{begun}
+use Rattle.golf_check_types.specs.Statements.{behind, carried}
+use Rattle.golf_code_layout.specs.Piece.{Piece, size, all}
 use Rattle.golf_code_of.specs.declared.tables.Tables.{Tables}
 use Rattle.golf_code_of.specs.declared.making.Around.{Around}
 use Rattle.golf_code_of.specs.Statements.{Part, past, in_order}
@@ -32,7 +32,7 @@ operands-light : (t : Tables) (c : Communication) (l : ℕ) (s : Scope) → size
 operands-light t (comm.Send c e) l s =
     let h = (expr-small t c l s).piece in
     let i = (expr-small t e l s).piece in
-    let w = length-append (print_expr c) (mark marks.Arrow ∷ print_expr e) in
+    let w = length-append (print_expr c) (punctuation punctuations.Arrow ∷ print_expr e) in
     omega (arith, h, i, w)
 operands-light t (comm.Receive e) l s = let h = (expr-small t e l s).piece in omega (arith, h)
 operands-light t (comm.Define n e) l s = let h = (expr-small t e l s).piece in omega (arith, h)

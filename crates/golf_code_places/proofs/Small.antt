@@ -1,21 +1,21 @@
 -- The code of each kind of expression has at most eight instructions for each of its words, where its parts have.
 use Rattle.std.proofs.Common.{ℕ, ◌+◌, ◌*◌, ◌≤◌, Bool, true, false, cond, List, [], ◌∷◌, length, Option, Some, None, arith}
-use Rattle.golf_grammar.specs.declared.expressions.UnaryOperator.{UnaryOperator}
-use Rattle.golf_grammar.specs.declared.expressions.BinaryOperator.{BinaryOperator}
-use Rattle.golf_grammar.specs.declared.expressions.BinaryOperator.TheVariants as binary
-use Rattle.golf_grammar.specs.Words.{Word}
-use Rattle.golf_types.specs.declared.types.Base.{Base}
-use Rattle.golf_types.specs.declared.types.Base.TheVariants as base
-use Rattle.golf_types.specs.declared.types.GoType.{GoType}
-use Rattle.golf_types.specs.declared.operands.Operand.{Operand}
-use Rattle.golf_types.specs.declared.operands.Operand.TheVariants as operand
-use Rattle.golf_types.specs.declared.operands.Where.{Where}
-use Rattle.golf_types.specs.declared.operands.Where.TheVariants as place
-use Rattle.golf_types.specs.declared.operands.BuiltIn.{BuiltIn}
-use Rattle.golf_types.specs.declared.operands.BuiltIn.TheVariants as built_in
-use Rattle.golf_types.specs.declared.scopes.FileScope.{FileScope}
-use Rattle.golf_types.specs.Calls.{sets_finaliser}
-use Rattle.golf_layout.specs.Piece.{Piece, size, all}
+use Rattle.golf_syntax_trees.specs.declared.expressions.UnaryOperator.{UnaryOperator}
+use Rattle.golf_syntax_trees.specs.declared.expressions.BinaryOperator.{BinaryOperator}
+use Rattle.golf_syntax_trees.specs.declared.expressions.BinaryOperator.TheVariants as binary
+use Rattle.golf_syntax_trees.specs.Words.{Word}
+use Rattle.golf_check_types.specs.declared.types.Base.{Base}
+use Rattle.golf_check_types.specs.declared.types.Base.TheVariants as base
+use Rattle.golf_check_types.specs.declared.types.GoType.{GoType}
+use Rattle.golf_check_types.specs.declared.operands.Operand.{Operand}
+use Rattle.golf_check_types.specs.declared.operands.Operand.TheVariants as operand
+use Rattle.golf_check_types.specs.declared.operands.Where.{Where}
+use Rattle.golf_check_types.specs.declared.operands.Where.TheVariants as place
+use Rattle.golf_check_types.specs.declared.operands.BuiltIn.{BuiltIn}
+use Rattle.golf_check_types.specs.declared.operands.BuiltIn.TheVariants as built_in
+use Rattle.golf_check_types.specs.declared.scopes.FileScope.{FileScope}
+use Rattle.golf_check_types.specs.Calls.{sets_finaliser}
+use Rattle.golf_code_layout.specs.Piece.{Piece, size, all}
 use Rattle.golf_code_of.specs.declared.tables.Tables.{Tables}
 use Rattle.golf_code_of.specs.Expressions.{Made, only, variable, name, puts, struct_literal, new_sync, elements, slice_literal, selector, index, unary_operator, binary_piece, binary_operator}
 use Rattle.golf_code_of.specs.Calls.{Argument, operation, calling, pushes, finaliser, finalising, call}

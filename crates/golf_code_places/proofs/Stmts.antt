@@ -2,24 +2,24 @@
 use Rattle.std.proofs.Common.{◌≡◌, ℕ, ◌+◌, ◌≤◌, List, [], ◌∷◌, ◌++◌, length, map, Option, Some, None, refl, sym, subst, arith, length-append}
 use Rattle.std.proofs.lemmas.List.{length-map}
 use Rattle.golf_data.specs.declared.code.Instr.{Instr}
-use Rattle.golf_tokens.specs.declared.token.Mark.TheVariants as marks
-use Rattle.golf_tokens.specs.declared.token.Keyword.TheVariants as keywords
-use Rattle.golf_grammar.specs.declared.expressions.Expr.{Expr}
-use Rattle.golf_grammar.specs.declared.statements.Simple.{Simple}
-use Rattle.golf_grammar.specs.declared.statements.Header.{Header}
-use Rattle.golf_grammar.specs.declared.statements.Header.TheVariants as header
-use Rattle.golf_grammar.specs.declared.statements.Stmt.{Stmt, roll-Stmt}
-use Rattle.golf_grammar.specs.declared.statements.Clause.{Clause, roll-Clause}
-use Rattle.golf_grammar.specs.declared.statements.Clause.TheOpen.{Stmt-F, Clause-F}
-use Rattle.golf_grammar.specs.declared.statements.Clause.TheOpen as F
-use Rattle.golf_grammar.specs.declared.statements.Clause.TheFolds.{fold-roll-Stmt, fold-roll-Clause, ind-Stmt, map-Stmt, map-Clause}
-use Rattle.golf_grammar.specs.Words.{Word, mark, keyword, separated}
-use Rattle.golf_grammar.specs.Expressions.{parens, print_expr}
-use Rattle.golf_grammar.specs.Simple.{print_simple, print_range_names, print_header, print_comm}
-use Rattle.golf_grammar.specs.Simple as G
-use Rattle.golf_grammar.specs.Statements as words
-use Rattle.golf_grammar.specs.Statements.{print_call, ClauseWords, print_block, print_stmt_step, print_clause_step, print_stmt, print_clause}
-use Rattle.golf_types.specs.Scopes.{begun}
+use Rattle.golf_lex_tokens.specs.declared.token.Punctuation.TheVariants as punctuations
+use Rattle.golf_lex_tokens.specs.declared.token.Keyword.TheVariants as keywords
+use Rattle.golf_syntax_trees.specs.declared.expressions.Expr.{Expr}
+use Rattle.golf_syntax_trees.specs.declared.statements.Simple.{Simple}
+use Rattle.golf_syntax_trees.specs.declared.statements.Header.{Header}
+use Rattle.golf_syntax_trees.specs.declared.statements.Header.TheVariants as header
+use Rattle.golf_syntax_trees.specs.declared.statements.Stmt.{Stmt, roll-Stmt}
+use Rattle.golf_syntax_trees.specs.declared.statements.Clause.{Clause, roll-Clause}
+use Rattle.golf_syntax_trees.specs.declared.statements.Clause.TheOpen.{Stmt-F, Clause-F}
+use Rattle.golf_syntax_trees.specs.declared.statements.Clause.TheOpen as F
+use Rattle.golf_syntax_trees.specs.declared.statements.Clause.TheFolds.{fold-roll-Stmt, fold-roll-Clause, ind-Stmt, map-Stmt, map-Clause}
+use Rattle.golf_syntax_trees.specs.Words.{Word, punctuation, keyword, separated}
+use Rattle.golf_syntax_trees.specs.Expressions.{parens, print_expr}
+use Rattle.golf_syntax_trees.specs.Simple.{print_simple, print_range_names, print_header, print_comm}
+use Rattle.golf_syntax_trees.specs.Simple as G
+use Rattle.golf_syntax_trees.specs.Statements as words
+use Rattle.golf_syntax_trees.specs.Statements.{print_call, ClauseWords, print_block, print_stmt_step, print_clause_step, print_stmt, print_clause}
+use Rattle.golf_check_types.specs.Scopes.{begun}
 use Rattle.golf_code_of.specs.declared.tables.Tables.{Tables}
 use Rattle.golf_code_of.specs.Statements.{Part, block, in_order, in_block, optional, behind_test, then}
 use Rattle.golf_code_of.specs.Loops.{header_part, in_loop, stepping}
@@ -34,24 +34,24 @@ use Rattle.golf_code_places.proofs.Selects.{ClauseLight, EachClauseLight, light-
 
 call-words : (f : Expr) (xs : List Expr) → length (print_expr f) + (total (map print_expr xs) + length xs) ≤ length (print_call f xs)
 call-words f xs =
-    let few = separated-length marks.Comma (map print_expr xs) in
+    let few = separated-length punctuations.Comma (map print_expr xs) in
     let count = length-map xs print_expr in
-    let inner = length-append (separated marks.Comma (map print_expr xs)) (mark marks.CloseParen ∷ []) in
-    let whole = length-append (print_expr f) (parens (separated marks.Comma (map print_expr xs)) []) in
+    let inner = length-append (separated punctuations.Comma (map print_expr xs)) (punctuation punctuations.CloseParen ∷ []) in
+    let whole = length-append (print_expr f) (parens (separated punctuations.Comma (map print_expr xs)) []) in
     omega (arith, few, count, inner, whole)
 
 pub block-words : (ws : List (List Word)) → total ws + 2 ≤ length (print_block ws)
 block-words ws =
-    let few = separated-total marks.Semicolon ws in
-    let inner = length-append (separated marks.Semicolon ws) (mark marks.CloseBrace ∷ []) in
+    let few = separated-total punctuations.Semicolon ws in
+    let inner = length-append (separated punctuations.Semicolon ws) (punctuation punctuations.CloseBrace ∷ []) in
     omega (arith, few, inner)
 
 abbrev first_words : Option Simple → List Word
-first_words o = G.optional (λ (x : Simple). print_simple x ++ mark marks.Semicolon ∷ []) o
+first_words o = G.optional (λ (x : Simple). print_simple x ++ punctuation punctuations.Semicolon ∷ []) o
 
 first-length : (o : Option Simple) → optional_words o ≤ length (first_words o)
 first-length None = omega arith
-first-length (Some x) = let w = length-append (print_simple x) (mark marks.Semicolon ∷ []) in omega (arith, w)
+first-length (Some x) = let w = length-append (print_simple x) (punctuation punctuations.Semicolon ∷ []) in omega (arith, w)
 
 optional-length : (o : Option Simple) → optional_words o ≡ length (G.optional print_simple o)
 optional-length None = refl
@@ -105,8 +105,8 @@ module _ (t : Tables) where
       let f = optional-length first in
       let e = test-length test in
       let p = optional-length post in
-      let inner = length-append (G.optional print_expr test) (mark marks.Semicolon ∷ G.optional print_simple post) in
-      let whole = length-append (G.optional print_simple first) (mark marks.Semicolon ∷ (G.optional print_expr test ++ mark marks.Semicolon ∷ G.optional print_simple post)) in
+      let inner = length-append (G.optional print_expr test) (punctuation punctuations.Semicolon ∷ G.optional print_simple post) in
+      let whole = length-append (G.optional print_simple first) (punctuation punctuations.Semicolon ∷ (G.optional print_expr test ++ punctuation punctuations.Semicolon ∷ G.optional print_simple post)) in
       light-then (optional t first) (stepping t l test (optional t post) (in_loop 2 0 (block (parts xs)))) (optional_words first) (test_words test + optional_words post + total (texts xs) + 1) k
       (light-optional t first _ (omega arith))
       (light-stepping t l test (optional t post) (in_loop 2 0 (block (parts xs))) (optional_words post) (total (texts xs)) _ (light-optional t post _ (omega arith)) (light-loop 2 0 (block (parts xs)) _ (body xs)) (omega arith))
@@ -167,11 +167,11 @@ module _ (t : Tables) where
       loop l h xs _ (omega (arith, w, whole))
   at (F.Select l cs) =
       let few = clauses-length (clause-words cs) in
-      let inner = length-append (words.clauses (clause-words cs)) (mark marks.CloseBrace ∷ []) in
+      let inner = length-append (words.clauses (clause-words cs)) (punctuation punctuations.CloseBrace ∷ []) in
       light-select l (map (clause_part t) (map (λ (p : K). p.0) cs)) (clause-words cs) _ (clauses cs) (omega (arith, few, inner))
 
   clause-at : (y : Clause-F K S) → ClauseLight (clause_total (print_clause_step (map-Clause Clause Stmt ClauseWords (List Word) print_clause print_stmt (bare-clause y)))) (clause_part_step t (map-Clause Clause Stmt ClausePart Part (clause_part t) (stmt_part t) (bare-clause y)))
-  clause-at (F.Case k c xs) = light-case t k c (parts xs) (total (texts xs)) _ (order xs) (let w = length-append (print_comm c) (mark marks.Colon ∷ []) in omega (arith, w))
+  clause-at (F.Case k c xs) = light-case t k c (parts xs) (total (texts xs)) _ (order xs) (let w = length-append (print_comm c) (punctuation punctuations.Colon ∷ []) in omega (arith, w))
   clause-at (F.Default k xs) = light-default k (parts xs) (total (texts xs)) _ (order xs) (omega arith)
 
   rolled : (y : Stmt-F K S) → P (roll-Stmt (bare y))

@@ -2,11 +2,11 @@
 use Rattle.std.specs.Prelude.{ℕ, ◌*◌, ◌^◌, ◌<◌, ◌≤◌, List, length, slice_get, Option, Some, None}
 use Rattle.golf_data.specs.declared.code.Function.{Function}
 use Rattle.golf_data.specs.Places.{HasPlaces}
-use Rattle.golf_tokens.specs.declared.token.Token.{Token}
-use Rattle.golf_tokens.specs.Lexes.{Lexes}
-use Rattle.golf_grammar.specs.declared.declarations.File.{File}
-use Rattle.golf_grammar.specs.Declarations.{print_file}
-use Rattle.golf_grammar.specs.Reads.{Reads}
+use Rattle.golf_lex_tokens.specs.declared.token.Token.{Token}
+use Rattle.golf_lex_tokens.specs.Lexes.{Lexes}
+use Rattle.golf_syntax_trees.specs.declared.declarations.File.{File}
+use Rattle.golf_syntax_trees.specs.Declarations.{print_file}
+use Rattle.golf_syntax_trees.specs.Reads.{Reads}
 use Rattle.golf_code_of.specs.Files.{CodeOf}
 
 -- at most eight instructions for each of so many tokens

@@ -5,29 +5,29 @@ use Rattle.std.proofs.lemmas.Bool.{eqb-true}
 use Rattle.std.specs.Prelude.{flat_map}
 use Rattle.golf_theory.specs.Membership.{Every}
 use Rattle.golf_data.specs.declared.code.Instr.{Instr}
-use Rattle.golf_grammar.specs.declared.expressions.Expr.{Expr}
-use Rattle.golf_types.specs.declared.types.Base.{Base}
-use Rattle.golf_types.specs.declared.types.Base.TheVariants as base
-use Rattle.golf_types.specs.declared.types.GoType.{GoType}
-use Rattle.golf_types.specs.declared.operands.BuiltIn.{BuiltIn}
-use Rattle.golf_types.specs.declared.operands.BuiltIn.TheVariants as built_in
-use Rattle.golf_types.specs.declared.operands.Given.{Given}
-use Rattle.golf_types.specs.declared.operands.Given.TheVariants as given_as
-use Rattle.golf_types.specs.declared.operands.Operand.{Operand}
-use Rattle.golf_types.specs.declared.operands.Operand.TheVariants as operand
-use Rattle.golf_types.specs.declared.scopes.Scope.{Scope}
-use Rattle.golf_types.specs.Faults.{broken}
-use Rattle.golf_types.specs.Types.{plain, given, type_given, has_layer, takes, assignable}
-use Rattle.golf_types.specs.Expressions.{Judged, used, named_or_used, given_by}
-use Rattle.golf_types.specs.Calls.{argument_faults, same_number, parameter_faults, called_with, call_judged, built_in_faults, all_first}
-use Rattle.golf_types.specs.Judging.{Judge, judge, judge_at}
-use Rattle.golf_types.specs.Statements as W
-use Rattle.golf_types.specs.Statements.{done_faults, may_be_begun}
-use Rattle.golf_shapes.specs.Types.{ValueType, Shape, Signature, FunctionTypes, Types}
-use Rattle.golf_shapes.specs.Shapes.{InstructionFits, TakesArguments, pushed}
-use Rattle.golf_layout.specs.Piece.{Piece, all, op}
-use Rattle.golf_layout_shapes.specs.Has.{shape, filled}
-use Rattle.golf_layout_shapes.proofs.Pieces.{has-empty, has-op, has-then}
+use Rattle.golf_syntax_trees.specs.declared.expressions.Expr.{Expr}
+use Rattle.golf_check_types.specs.declared.types.Base.{Base}
+use Rattle.golf_check_types.specs.declared.types.Base.TheVariants as base
+use Rattle.golf_check_types.specs.declared.types.GoType.{GoType}
+use Rattle.golf_check_types.specs.declared.operands.BuiltIn.{BuiltIn}
+use Rattle.golf_check_types.specs.declared.operands.BuiltIn.TheVariants as built_in
+use Rattle.golf_check_types.specs.declared.operands.Given.{Given}
+use Rattle.golf_check_types.specs.declared.operands.Given.TheVariants as given_as
+use Rattle.golf_check_types.specs.declared.operands.Operand.{Operand}
+use Rattle.golf_check_types.specs.declared.operands.Operand.TheVariants as operand
+use Rattle.golf_check_types.specs.declared.scopes.Scope.{Scope}
+use Rattle.golf_check_types.specs.Faults.{broken}
+use Rattle.golf_check_types.specs.Types.{plain, given, type_given, has_layer, takes, assignable}
+use Rattle.golf_check_types.specs.Expressions.{Judged, used, named_or_used, given_by}
+use Rattle.golf_check_types.specs.Calls.{argument_faults, same_number, parameter_faults, called_with, call_judged, built_in_faults, all_first}
+use Rattle.golf_check_types.specs.Judging.{Judge, judge, judge_at}
+use Rattle.golf_check_types.specs.Statements as W
+use Rattle.golf_check_types.specs.Statements.{done_faults, may_be_begun}
+use Rattle.golf_model_typing.specs.Types.{ValueType, Shape, Signature, FunctionTypes, Types}
+use Rattle.golf_model_typing.specs.Shapes.{InstructionFits, TakesArguments, pushed}
+use Rattle.golf_code_layout.specs.Piece.{Piece, all, op}
+use Rattle.golf_code_shapes_layout.specs.Has.{shape, filled}
+use Rattle.golf_code_shapes_layout.proofs.Pieces.{has-empty, has-op, has-then}
 use Rattle.golf_code_of.specs.declared.tables.Tables.{Tables}
 use Rattle.golf_code_of.specs.Expressions.{Made}
 use Rattle.golf_code_of.specs.Calls.{Argument, pushes, receiver_base, with_receiver, begun_parameters, makings, beginning}

@@ -2,21 +2,21 @@
 use Rattle.std.proofs.Common.{◌≡◌, ℕ, suc, ◌+◌, true, List, [], ◌∷◌, ◌++◌, length, Option, Some, None, refl, sym, ap, ◌∙◌, subst, slice_get, arith, append_assoc}
 use Rattle.golf_theory.specs.Membership.{In, Every}
 use Rattle.golf_theory.proofs.Lists.{Every-append}
-use Rattle.golf_grammar.specs.declared.expressions.Expr.{Expr}
-use Rattle.golf_types.specs.declared.types.Base.TheVariants as base
-use Rattle.golf_types.specs.declared.scopes.Scope.{Scope}
-use Rattle.golf_types.specs.Expressions.{used, given_by}
-use Rattle.golf_types.specs.Scopes.{begun}
-use Rattle.golf_types.specs.Judging.{judge}
-use Rattle.golf_types.specs.declared.locals.Local.{Local}
-use Rattle.golf_types.specs.declared.facts.Fact.{Fact}
-use Rattle.golf_types.specs.Faults.{Fault}
-use Rattle.golf_types.specs.Statements as W
-use Rattle.golf_types.specs.Statements.{Walk, Walked, both, behind}
-use Rattle.golf_shapes.specs.Types.{ValueType, Shape, FunctionTypes, Types}
-use Rattle.golf_layout.specs.Piece.{Piece, all}
-use Rattle.golf_layout_shapes.specs.Has.{shape, Has, Reaches}
-use Rattle.golf_layout_shapes.proofs.Pieces.{every-self, has-empty, has-then, has-weaker, has-exit, has-unless, has-block, has-again}
+use Rattle.golf_syntax_trees.specs.declared.expressions.Expr.{Expr}
+use Rattle.golf_check_types.specs.declared.types.Base.TheVariants as base
+use Rattle.golf_check_types.specs.declared.scopes.Scope.{Scope}
+use Rattle.golf_check_types.specs.Expressions.{used, given_by}
+use Rattle.golf_check_types.specs.Scopes.{begun}
+use Rattle.golf_check_types.specs.Judging.{judge}
+use Rattle.golf_check_types.specs.declared.locals.Local.{Local}
+use Rattle.golf_check_types.specs.declared.facts.Fact.{Fact}
+use Rattle.golf_check_types.specs.Faults.{Fault}
+use Rattle.golf_check_types.specs.Statements as W
+use Rattle.golf_check_types.specs.Statements.{Walk, Walked, both, behind}
+use Rattle.golf_model_typing.specs.Types.{ValueType, Shape, FunctionTypes, Types}
+use Rattle.golf_code_layout.specs.Piece.{Piece, all}
+use Rattle.golf_code_shapes_layout.specs.Has.{shape, Has, Reaches}
+use Rattle.golf_code_shapes_layout.proofs.Pieces.{every-self, has-empty, has-then, has-weaker, has-exit, has-unless, has-block, has-again}
 use Rattle.golf_code_of.specs.declared.tables.Tables.{Tables}
 use Rattle.golf_code_of.specs.Coding.{piece_at}
 use Rattle.golf_code_of.specs.declared.making.Around.{Around}

@@ -6,26 +6,26 @@ use Rattle.std.specs.List.{list_all}
 use Rattle.std.specs.Option.{option_map}
 use Rattle.golf_theory.specs.Membership.{Every}
 use Rattle.golf_data.specs.declared.code.Instr.{Instr}
-use Rattle.golf_types.specs.declared.types.Layer.{Layer}
-use Rattle.golf_types.specs.declared.types.Base.{Base}
-use Rattle.golf_types.specs.declared.types.Base.TheVariants as base
-use Rattle.golf_types.specs.declared.types.GoType.{GoType}
-use Rattle.golf_types.specs.declared.operands.BuiltIn.{BuiltIn}
-use Rattle.golf_types.specs.declared.operands.BuiltIn.TheVariants as built_in
-use Rattle.golf_types.specs.declared.operands.Operand.{Operand}
-use Rattle.golf_types.specs.declared.operands.Operand.TheVariants as operand
-use Rattle.golf_types.specs.declared.operands.Given.{Given}
-use Rattle.golf_types.specs.declared.operands.Given.TheVariants as given_as
-use Rattle.golf_types.specs.declared.scopes.Scope.{Scope}
-use Rattle.golf_types.specs.Faults.{broken}
-use Rattle.golf_types.specs.Types.{plain, has_layer, has_base, is_any, takes, assignable, type_given}
-use Rattle.golf_types.specs.Expressions.{Judged, used, named_or_used, given_by}
-use Rattle.golf_types.specs.Calls.{argument_faults, same_number, parameter_faults, signature_faults, signature_result, of_result, built_in_faults, all_first, prints, rule_unless, steady_faults, call_faults, called, plain_call, finaliser_call, finalises, finalises_by, signature_takes, takes_alone, same_known, is_struct_pointer, is_struct_type, called_with, sets_finaliser}
-use Rattle.golf_shapes.specs.Types.{ValueType, Shape, Signature, FunctionTypes, Types}
-use Rattle.golf_shapes.specs.Shapes.{InstructionFits, pushed, IsPrintable}
-use Rattle.golf_layout.specs.Piece.{Piece, all, op}
-use Rattle.golf_layout_shapes.specs.Has.{shape, filled, To, Has}
-use Rattle.golf_layout_shapes.proofs.Pieces.{has-empty, has-op, has-then}
+use Rattle.golf_check_types.specs.declared.types.Layer.{Layer}
+use Rattle.golf_check_types.specs.declared.types.Base.{Base}
+use Rattle.golf_check_types.specs.declared.types.Base.TheVariants as base
+use Rattle.golf_check_types.specs.declared.types.GoType.{GoType}
+use Rattle.golf_check_types.specs.declared.operands.BuiltIn.{BuiltIn}
+use Rattle.golf_check_types.specs.declared.operands.BuiltIn.TheVariants as built_in
+use Rattle.golf_check_types.specs.declared.operands.Operand.{Operand}
+use Rattle.golf_check_types.specs.declared.operands.Operand.TheVariants as operand
+use Rattle.golf_check_types.specs.declared.operands.Given.{Given}
+use Rattle.golf_check_types.specs.declared.operands.Given.TheVariants as given_as
+use Rattle.golf_check_types.specs.declared.scopes.Scope.{Scope}
+use Rattle.golf_check_types.specs.Faults.{broken}
+use Rattle.golf_check_types.specs.Types.{plain, has_layer, has_base, is_any, takes, assignable, type_given}
+use Rattle.golf_check_types.specs.Expressions.{Judged, used, named_or_used, given_by}
+use Rattle.golf_check_types.specs.Calls.{argument_faults, same_number, parameter_faults, signature_faults, signature_result, of_result, built_in_faults, all_first, prints, rule_unless, steady_faults, call_faults, called, plain_call, finaliser_call, finalises, finalises_by, signature_takes, takes_alone, same_known, is_struct_pointer, is_struct_type, called_with, sets_finaliser}
+use Rattle.golf_model_typing.specs.Types.{ValueType, Shape, Signature, FunctionTypes, Types}
+use Rattle.golf_model_typing.specs.Shapes.{InstructionFits, pushed, IsPrintable}
+use Rattle.golf_code_layout.specs.Piece.{Piece, all, op}
+use Rattle.golf_code_shapes_layout.specs.Has.{shape, filled, To, Has}
+use Rattle.golf_code_shapes_layout.proofs.Pieces.{has-empty, has-op, has-then}
 use Rattle.golf_code_of.specs.declared.tables.Tables.{Tables}
 use Rattle.golf_code_of.specs.Expressions.{Made, only}
 use Rattle.golf_code_of.specs.Calls.{Argument, pushes, operation, finaliser, finalising, receiver_base, call}

@@ -5,23 +5,23 @@ use Rattle.golf_theory.specs.Membership.{In, Every}
 use Rattle.golf_theory.proofs.Lists.{Every-from, Every-append}
 use Rattle.golf_data.specs.declared.code.Instr.{Instr}
 use Rattle.golf_data.specs.declared.code.CaseKind.{CaseKind}
-use Rattle.golf_grammar.specs.declared.expressions.Expr.{Expr}
-use Rattle.golf_grammar.specs.declared.statements.Communication.{Communication}
-use Rattle.golf_grammar.specs.declared.statements.Communication.TheVariants as comm
-use Rattle.golf_types.specs.declared.types.GoType.{GoType}
-use Rattle.golf_types.specs.declared.scopes.Scope.{Scope}
-use Rattle.golf_types.specs.Faults.{broken}
-use Rattle.golf_types.specs.Types.{element, assignable}
-use Rattle.golf_types.specs.Scopes.{begun}
-use Rattle.golf_types.specs.Expressions.{used, given_by}
-use Rattle.golf_types.specs.Judging.{judge}
-use Rattle.golf_types.specs.Statements as W
-use Rattle.golf_types.specs.Statements.{Walk, Walked, both, behind, carried, received, pair, pair_faults, assigned_name, assigned_faults, put_in_faults}
-use Rattle.golf_shapes.specs.Types.{ValueType, Shape, FunctionTypes, Types}
-use Rattle.golf_shapes.specs.Shapes.{case_takes, case_leaves}
-use Rattle.golf_layout.specs.Piece.{Piece, all, op}
-use Rattle.golf_layout_shapes.specs.Has.{shape, Has, Reaches, CasesReach, DefaultReaches}
-use Rattle.golf_layout_shapes.proofs.Pieces.{every-self, has-empty, has-op, has-then, has-weaker, has-exit, has-choose, has-block}
+use Rattle.golf_syntax_trees.specs.declared.expressions.Expr.{Expr}
+use Rattle.golf_syntax_trees.specs.declared.statements.Communication.{Communication}
+use Rattle.golf_syntax_trees.specs.declared.statements.Communication.TheVariants as comm
+use Rattle.golf_check_types.specs.declared.types.GoType.{GoType}
+use Rattle.golf_check_types.specs.declared.scopes.Scope.{Scope}
+use Rattle.golf_check_types.specs.Faults.{broken}
+use Rattle.golf_check_types.specs.Types.{element, assignable}
+use Rattle.golf_check_types.specs.Scopes.{begun}
+use Rattle.golf_check_types.specs.Expressions.{used, given_by}
+use Rattle.golf_check_types.specs.Judging.{judge}
+use Rattle.golf_check_types.specs.Statements as W
+use Rattle.golf_check_types.specs.Statements.{Walk, Walked, both, behind, carried, received, pair, pair_faults, assigned_name, assigned_faults, put_in_faults}
+use Rattle.golf_model_typing.specs.Types.{ValueType, Shape, FunctionTypes, Types}
+use Rattle.golf_model_typing.specs.Shapes.{case_takes, case_leaves}
+use Rattle.golf_code_layout.specs.Piece.{Piece, all, op}
+use Rattle.golf_code_shapes_layout.specs.Has.{shape, Has, Reaches, CasesReach, DefaultReaches}
+use Rattle.golf_code_shapes_layout.proofs.Pieces.{every-self, has-empty, has-op, has-then, has-weaker, has-exit, has-choose, has-block}
 use Rattle.golf_code_of.specs.declared.tables.Tables.{Tables}
 use Rattle.golf_code_of.specs.Coding.{piece_at}
 use Rattle.golf_code_of.specs.declared.making.Around.{Around}
@@ -36,7 +36,7 @@ use Rattle.golf_code_shapes.proofs.Branches.{further}
 use Rattle.golf_code_shapes.proofs.Flows.{Right, then-in, locals-wider, slotted-left, slotted-right, made-left, made-right, quiet, scope-quiet}
 use Rattle.golf_code_shapes.proofs.Simples.{value-of}
 use Rattle.golf_code_shapes.proofs.Receives.{pair-taken, stores-assigned}
-use Rattle.golf_types.proofs.NamesAlone.{judged-by-names}
+use Rattle.golf_check_types.proofs.NamesAlone.{judged-by-names}
 
 -- what a clause leaves at its target, and what it takes, where it is on a channel of this type; `default` takes and leaves nothing
 abbrev leaves_of : Option CaseKind → ValueType → List ValueType

@@ -1,22 +1,22 @@
 -- The code of every expression that breaks no rule has shapes: one step for each kind of expression, and an induction.
 use Rattle.std.proofs.Common.{◌≡◌, ℕ, ◌<◌, List, [], ◌∷◌, map, refl, sym, ap, ◌∙◌, subst, arith, pos}
 use Rattle.golf_data.specs.declared.code.Instr.{Instr}
-use Rattle.golf_grammar.specs.declared.expressions.Expr.{Expr, roll-Expr}
-use Rattle.golf_grammar.specs.declared.expressions.Element.{Element, roll-Element}
-use Rattle.golf_grammar.specs.declared.expressions.Expr.TheOpen.{Expr-F, Element-F}
-use Rattle.golf_grammar.specs.declared.expressions.Expr.TheOpen as F
-use Rattle.golf_grammar.specs.declared.expressions.Expr.TheFolds.{fold-Element, fold-roll-Expr, fold-roll-Element, ind-Expr, map-Expr, map-Element}
-use Rattle.golf_types.specs.declared.operands.Operand.{Operand}
-use Rattle.golf_types.specs.declared.operands.Operand.TheVariants as operand
-use Rattle.golf_types.specs.declared.scopes.Scope.{Scope}
-use Rattle.golf_types.specs.declared.types.Layer.TheVariants as layer
-use Rattle.golf_types.specs.Types.{with_layer}
-use Rattle.golf_types.specs.Scopes.{meaning}
-use Rattle.golf_types.specs.Written.{write, pointer_to}
-use Rattle.golf_types.specs.Expressions.{without_package, used, named_or_used, value_from, pointer_value, struct_literal, slice_literal, selected_from}
-use Rattle.golf_types.specs.Calls.{called_with}
-use Rattle.golf_types.specs.Judging.{Judge, Put, judge, judge_step, element_step}
-use Rattle.golf_shapes.specs.Types.{ValueType, FunctionTypes, Types}
+use Rattle.golf_syntax_trees.specs.declared.expressions.Expr.{Expr, roll-Expr}
+use Rattle.golf_syntax_trees.specs.declared.expressions.Element.{Element, roll-Element}
+use Rattle.golf_syntax_trees.specs.declared.expressions.Expr.TheOpen.{Expr-F, Element-F}
+use Rattle.golf_syntax_trees.specs.declared.expressions.Expr.TheOpen as F
+use Rattle.golf_syntax_trees.specs.declared.expressions.Expr.TheFolds.{fold-Element, fold-roll-Expr, fold-roll-Element, ind-Expr, map-Expr, map-Element}
+use Rattle.golf_check_types.specs.declared.operands.Operand.{Operand}
+use Rattle.golf_check_types.specs.declared.operands.Operand.TheVariants as operand
+use Rattle.golf_check_types.specs.declared.scopes.Scope.{Scope}
+use Rattle.golf_check_types.specs.declared.types.Layer.TheVariants as layer
+use Rattle.golf_check_types.specs.Types.{with_layer}
+use Rattle.golf_check_types.specs.Scopes.{meaning}
+use Rattle.golf_check_types.specs.Written.{write, pointer_to}
+use Rattle.golf_check_types.specs.Expressions.{without_package, used, named_or_used, value_from, pointer_value, struct_literal, slice_literal, selected_from}
+use Rattle.golf_check_types.specs.Calls.{called_with}
+use Rattle.golf_check_types.specs.Judging.{Judge, Put, judge, judge_step, element_step}
+use Rattle.golf_model_typing.specs.Types.{ValueType, FunctionTypes, Types}
 use Rattle.golf_code_of.specs.Table.{text_number}
 use Rattle.golf_code_of.specs.declared.tables.Tables.{Tables}
 use Rattle.golf_code_of.specs.Expressions.{Made}

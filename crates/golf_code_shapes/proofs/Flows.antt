@@ -3,18 +3,18 @@ use Rattle.std.proofs.Common.{◌≡◌, inl, inr, ℕ, ◌+◌, List, [], ◌�
 use Rattle.golf_theory.specs.Membership.{In, Every}
 use Rattle.golf_theory.proofs.Lists.{Every-weaker, Every-at, Every-from, Every-append}
 use Rattle.golf_data.specs.declared.code.Instr.{Instr}
-use Rattle.golf_types.specs.declared.types.GoType.{GoType}
-use Rattle.golf_types.specs.declared.locals.Local.{Local}
-use Rattle.golf_types.specs.declared.scopes.Scope.{Scope}
-use Rattle.golf_types.specs.Scopes.{begun}
-use Rattle.golf_types.specs.Scopes.{variable as variable_of}
-use Rattle.golf_types.specs.Statements as W
-use Rattle.golf_types.specs.Statements.{Walk, Walked, both, behind}
-use Rattle.golf_shapes.specs.Types.{Shape, FunctionTypes, Types}
-use Rattle.golf_shapes.specs.Shapes.{slot_types}
-use Rattle.golf_layout.specs.Piece.{Piece, all, op}
-use Rattle.golf_layout_shapes.specs.Has.{shape, Has, Reaches}
-use Rattle.golf_layout_shapes.proofs.Pieces.{every-self, has-empty, has-op, has-then, has-weaker}
+use Rattle.golf_check_types.specs.declared.types.GoType.{GoType}
+use Rattle.golf_check_types.specs.declared.locals.Local.{Local}
+use Rattle.golf_check_types.specs.declared.scopes.Scope.{Scope}
+use Rattle.golf_check_types.specs.Scopes.{begun}
+use Rattle.golf_check_types.specs.Scopes.{variable as variable_of}
+use Rattle.golf_check_types.specs.Statements as W
+use Rattle.golf_check_types.specs.Statements.{Walk, Walked, both, behind}
+use Rattle.golf_model_typing.specs.Types.{Shape, FunctionTypes, Types}
+use Rattle.golf_model_typing.specs.Shapes.{slot_types}
+use Rattle.golf_code_layout.specs.Piece.{Piece, all, op}
+use Rattle.golf_code_shapes_layout.specs.Has.{shape, Has, Reaches}
+use Rattle.golf_code_shapes_layout.proofs.Pieces.{every-self, has-empty, has-op, has-then, has-weaker}
 use Rattle.golf_code_of.specs.declared.tables.Tables.{Tables}
 use Rattle.golf_code_of.specs.declared.making.Making.{Making}
 use Rattle.golf_code_of.specs.Statements.{Lay, Part, laid, nothing, then, then_lay, lay_all, in_order, in_block, past}

@@ -6,22 +6,22 @@ use Rattle.std.specs.Option.{option_map}
 use Rattle.golf_theory.specs.Membership.{In, Every}
 use Rattle.golf_theory.proofs.Lists.{Every-from, Every-append}
 use Rattle.golf_data.specs.declared.code.Instr.{Instr}
-use Rattle.golf_grammar.specs.declared.statements.Stmt.{Stmt}
-use Rattle.golf_grammar.specs.declared.declarations.Receiver.{Receiver}
-use Rattle.golf_grammar.specs.Statements.{stmts_good, stmt_form}
-use Rattle.golf_types.specs.declared.types.GoType.{GoType}
-use Rattle.golf_types.specs.declared.operands.BuiltIn.{BuiltIn}
-use Rattle.golf_types.specs.declared.operands.BuiltIn.TheVariants as built_in
-use Rattle.golf_types.specs.declared.scopes.Scope.{Scope}
-use Rattle.golf_types.specs.Statements as W
-use Rattle.golf_types.specs.Statements.{behind, walk}
-use Rattle.golf_types.specs.Files.{outside, result_type, receiver_walk, receiver_type, parameter_walk, all_typed_names}
-use Rattle.golf_shapes.specs.Types.{ValueType, Shape, FunctionTypes, Types, with_shapes}
-use Rattle.golf_shapes.specs.Shapes.{InstructionFits, slot_types, pushed}
-use Rattle.golf_layout.specs.Piece.{Piece, all, op}
-use Rattle.golf_layout_shapes.specs.Has.{shape, filled, To, Has, Ends}
-use Rattle.golf_layout_shapes.proofs.Pieces.{has-empty, has-op, has-then}
-use Rattle.golf_layout_shapes.proofs.Bodies.{ends-op, ends-then, ends-last, bodies-fit}
+use Rattle.golf_syntax_trees.specs.declared.statements.Stmt.{Stmt}
+use Rattle.golf_syntax_trees.specs.declared.declarations.Receiver.{Receiver}
+use Rattle.golf_syntax_trees.specs.Statements.{stmts_good, stmt_form}
+use Rattle.golf_check_types.specs.declared.types.GoType.{GoType}
+use Rattle.golf_check_types.specs.declared.operands.BuiltIn.{BuiltIn}
+use Rattle.golf_check_types.specs.declared.operands.BuiltIn.TheVariants as built_in
+use Rattle.golf_check_types.specs.declared.scopes.Scope.{Scope}
+use Rattle.golf_check_types.specs.Statements as W
+use Rattle.golf_check_types.specs.Statements.{behind, walk}
+use Rattle.golf_check_types.specs.Files.{outside, result_type, receiver_walk, receiver_type, parameter_walk, all_typed_names}
+use Rattle.golf_model_typing.specs.Types.{ValueType, Shape, FunctionTypes, Types, with_shapes}
+use Rattle.golf_model_typing.specs.Shapes.{InstructionFits, slot_types, pushed}
+use Rattle.golf_code_layout.specs.Piece.{Piece, all, op}
+use Rattle.golf_code_shapes_layout.specs.Has.{shape, filled, To, Has, Ends}
+use Rattle.golf_code_shapes_layout.proofs.Pieces.{has-empty, has-op, has-then}
+use Rattle.golf_code_shapes_layout.proofs.Bodies.{ends-op, ends-then, ends-last, bodies-fit}
 use Rattle.golf_code_of.specs.declared.tables.Tables.{Tables}
 use Rattle.golf_code_of.specs.Values.{zero_value}
 use Rattle.golf_code_of.specs.Calls.{operation}

@@ -6,29 +6,29 @@ use Rattle.std.specs.List.{list_any}
 use Rattle.std.specs.Str.{bytes_eq}
 use Rattle.std.specs.Option.{option_map}
 use Rattle.golf_data.specs.declared.code.Instr.{Instr}
-use Rattle.golf_grammar.specs.declared.types.TypeExpr.{TypeExpr, roll-TypeExpr}
-use Rattle.golf_grammar.specs.declared.types.TypeExpr.TheOpen.{TypeExpr-F}
-use Rattle.golf_grammar.specs.declared.types.TypeExpr.TheOpen as F
-use Rattle.golf_grammar.specs.declared.types.TypeExpr.TheFolds.{fold-roll-TypeExpr, ind-TypeExpr, map-TypeExpr}
-use Rattle.golf_types.specs.declared.types.Layer.{Layer}
-use Rattle.golf_types.specs.declared.types.Layer.TheVariants as layer
-use Rattle.golf_types.specs.declared.types.Base.{Base}
-use Rattle.golf_types.specs.declared.types.Base.TheVariants as base
-use Rattle.golf_types.specs.declared.types.GoType.{GoType}
-use Rattle.golf_types.specs.declared.operands.Operand.{Operand}
-use Rattle.golf_types.specs.declared.operands.Operand.TheVariants as operand
-use Rattle.golf_types.specs.declared.operands.Given.{Given}
-use Rattle.golf_types.specs.declared.scopes.Member.{Member}
-use Rattle.golf_types.specs.declared.scopes.Member.TheVariants as members
-use Rattle.golf_types.specs.declared.scopes.Scope.{Scope}
-use Rattle.golf_types.specs.Faults.{broken}
-use Rattle.golf_types.specs.Types.{plain, with_layer, given, has_layer, is_channel, is_any, starts_with, assignable}
-use Rattle.golf_types.specs.Scopes.{meaning, member}
-use Rattle.golf_types.specs.Written.{Written, Write, write, write_step, made_base, of_base, pointer_to}
-use Rattle.golf_types.specs.Expressions.{Judged, used, given_by, made_sync, made_struct, pointer_value, field_type, field_of_member, put_faults, all_put_faults, fields_differ, struct_literal, slice_literal, made, made_sized, place_of, field_place}
+use Rattle.golf_syntax_trees.specs.declared.types.TypeExpr.{TypeExpr, roll-TypeExpr}
+use Rattle.golf_syntax_trees.specs.declared.types.TypeExpr.TheOpen.{TypeExpr-F}
+use Rattle.golf_syntax_trees.specs.declared.types.TypeExpr.TheOpen as F
+use Rattle.golf_syntax_trees.specs.declared.types.TypeExpr.TheFolds.{fold-roll-TypeExpr, ind-TypeExpr, map-TypeExpr}
+use Rattle.golf_check_types.specs.declared.types.Layer.{Layer}
+use Rattle.golf_check_types.specs.declared.types.Layer.TheVariants as layer
+use Rattle.golf_check_types.specs.declared.types.Base.{Base}
+use Rattle.golf_check_types.specs.declared.types.Base.TheVariants as base
+use Rattle.golf_check_types.specs.declared.types.GoType.{GoType}
+use Rattle.golf_check_types.specs.declared.operands.Operand.{Operand}
+use Rattle.golf_check_types.specs.declared.operands.Operand.TheVariants as operand
+use Rattle.golf_check_types.specs.declared.operands.Given.{Given}
+use Rattle.golf_check_types.specs.declared.scopes.Member.{Member}
+use Rattle.golf_check_types.specs.declared.scopes.Member.TheVariants as members
+use Rattle.golf_check_types.specs.declared.scopes.Scope.{Scope}
+use Rattle.golf_check_types.specs.Faults.{broken}
+use Rattle.golf_check_types.specs.Types.{plain, with_layer, given, has_layer, is_channel, is_any, starts_with, assignable}
+use Rattle.golf_check_types.specs.Scopes.{meaning, member}
+use Rattle.golf_check_types.specs.Written.{Written, Write, write, write_step, made_base, of_base, pointer_to}
+use Rattle.golf_check_types.specs.Expressions.{Judged, used, given_by, made_sync, made_struct, pointer_value, field_type, field_of_member, put_faults, all_put_faults, fields_differ, struct_literal, slice_literal, made, made_sized, place_of, field_place}
 use Rattle.golf_model.specs.Values.{zero_of}
-use Rattle.golf_shapes.specs.Types.{ValueType, FunctionTypes, Types, ValueFits}
-use Rattle.golf_layout.specs.Piece.{Piece, all, op}
+use Rattle.golf_model_typing.specs.Types.{ValueType, FunctionTypes, Types, ValueFits}
+use Rattle.golf_code_layout.specs.Piece.{Piece, all, op}
 use Rattle.golf_code_of.specs.declared.tables.Tables.{Tables}
 use Rattle.golf_code_of.specs.Values.{type_zero, new_container}
 use Rattle.golf_code_of.specs.Expressions as C

@@ -6,28 +6,28 @@ use Rattle.std.specs.Str.{bytes_eq}
 use Rattle.golf_theory.specs.Membership.{In, Every}
 use Rattle.golf_data.specs.declared.value.Value.{Value}
 use Rattle.golf_data.specs.declared.code.Instr.{Instr}
-use Rattle.golf_types.specs.declared.types.Base.{Base}
-use Rattle.golf_types.specs.declared.types.GoType.{GoType}
-use Rattle.golf_types.specs.declared.operands.Where.TheVariants as place
-use Rattle.golf_types.specs.declared.operands.BuiltIn.TheVariants as built_in
-use Rattle.golf_types.specs.declared.operands.Package.TheVariants as packages
-use Rattle.golf_types.specs.declared.operands.Operand.{Operand}
-use Rattle.golf_types.specs.declared.operands.Operand.TheVariants as operand
-use Rattle.golf_types.specs.declared.operands.Given.{Given}
-use Rattle.golf_types.specs.declared.operands.Given.TheVariants as given_as
-use Rattle.golf_types.specs.declared.locals.Local.{Local}
-use Rattle.golf_types.specs.declared.scopes.Imports.{Imports}
-use Rattle.golf_types.specs.declared.scopes.Scope.{Scope}
-use Rattle.golf_types.specs.Types.{given, has_base, has_layer, is_slice, is_any, gives, takes, element, assignable, type_of}
-use Rattle.golf_types.specs.Names.{look_from, look, is_blank}
-use Rattle.golf_types.specs.Scopes.{or_else, type_name, value_name, call_name, package_name, predeclared, local_operand, file_operand, meaning}
-use Rattle.golf_types.specs.Expressions.{Judged, value_faults, used, given_by, leaf, known_name, named}
-use Rattle.golf_types.specs.Statements.{is_place}
-use Rattle.golf_shapes.specs.Types.{ValueType, FunctionTypes, Types, ValueFits}
-use Rattle.golf_shapes.specs.Shapes.{slot_types}
-use Rattle.golf_layout.specs.Piece.{Piece, op}
-use Rattle.golf_layout_shapes.specs.Has.{shape, filled, To}
-use Rattle.golf_layout_shapes.proofs.Pieces.{has-empty}
+use Rattle.golf_check_types.specs.declared.types.Base.{Base}
+use Rattle.golf_check_types.specs.declared.types.GoType.{GoType}
+use Rattle.golf_check_types.specs.declared.operands.Where.TheVariants as place
+use Rattle.golf_check_types.specs.declared.operands.BuiltIn.TheVariants as built_in
+use Rattle.golf_check_types.specs.declared.operands.Package.TheVariants as packages
+use Rattle.golf_check_types.specs.declared.operands.Operand.{Operand}
+use Rattle.golf_check_types.specs.declared.operands.Operand.TheVariants as operand
+use Rattle.golf_check_types.specs.declared.operands.Given.{Given}
+use Rattle.golf_check_types.specs.declared.operands.Given.TheVariants as given_as
+use Rattle.golf_check_types.specs.declared.locals.Local.{Local}
+use Rattle.golf_check_types.specs.declared.scopes.Imports.{Imports}
+use Rattle.golf_check_types.specs.declared.scopes.Scope.{Scope}
+use Rattle.golf_check_types.specs.Types.{given, has_base, has_layer, is_slice, is_any, gives, takes, element, assignable, type_of}
+use Rattle.golf_check_types.specs.Names.{look_from, look, is_blank}
+use Rattle.golf_check_types.specs.Scopes.{or_else, type_name, value_name, call_name, package_name, predeclared, local_operand, file_operand, meaning}
+use Rattle.golf_check_types.specs.Expressions.{Judged, value_faults, used, given_by, leaf, known_name, named}
+use Rattle.golf_check_types.specs.Statements.{is_place}
+use Rattle.golf_model_typing.specs.Types.{ValueType, FunctionTypes, Types, ValueFits}
+use Rattle.golf_model_typing.specs.Shapes.{slot_types}
+use Rattle.golf_code_layout.specs.Piece.{Piece, op}
+use Rattle.golf_code_shapes_layout.specs.Has.{shape, filled, To}
+use Rattle.golf_code_shapes_layout.proofs.Pieces.{has-empty}
 use Rattle.golf_code_of.specs.declared.tables.Tables.{Tables}
 use Rattle.golf_code_of.specs.Values.{push, constant}
 use Rattle.golf_code_of.specs.Expressions.{Made, variable, name}

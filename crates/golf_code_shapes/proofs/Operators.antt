@@ -2,25 +2,25 @@
 use Rattle.std.proofs.Common.{◌≡◌, inl, inr, ℕ, ◌+◌, true, false, ◌&&◌, ◌||◌, not, List, [], ◌∷◌, Some, refl, sym, subst}
 use Rattle.std.proofs.lemmas.Bool.{and_parts, or_cases}
 use Rattle.golf_data.specs.declared.code.Instr.{Instr}
-use Rattle.golf_grammar.specs.declared.expressions.UnaryOperator.{UnaryOperator}
-use Rattle.golf_grammar.specs.declared.expressions.UnaryOperator.TheVariants as unary
-use Rattle.golf_grammar.specs.declared.expressions.BinaryOperator.{BinaryOperator}
-use Rattle.golf_grammar.specs.declared.expressions.BinaryOperator.TheVariants as binary
-use Rattle.golf_types.specs.declared.types.Base.{Base}
-use Rattle.golf_types.specs.declared.types.Base.TheVariants as base
-use Rattle.golf_types.specs.declared.types.GoType.{GoType}
-use Rattle.golf_types.specs.declared.operands.Operand.{Operand}
-use Rattle.golf_types.specs.declared.operands.Operand.TheVariants as operand
-use Rattle.golf_types.specs.declared.operands.Given.{Given}
-use Rattle.golf_types.specs.declared.operands.Given.TheVariants as given_as
-use Rattle.golf_types.specs.declared.scopes.Scope.{Scope}
-use Rattle.golf_types.specs.Types.{has_base, has_layer, is_slice, starts_with, gives, element, comparable, assignable_type}
-use Rattle.golf_types.specs.Expressions.{Judged, used, given_by, unary_judged, unary_faults, unary_meaning, binary_judged, binary_fits, result_base, index_judged}
-use Rattle.golf_shapes.specs.Types.{ValueType, Shape, FunctionTypes, Types}
-use Rattle.golf_shapes.specs.Shapes.{InstructionFits}
-use Rattle.golf_layout.specs.Piece.{Piece, all, op}
-use Rattle.golf_layout_shapes.specs.Has.{shape, filled, To}
-use Rattle.golf_layout_shapes.proofs.Pieces.{has-op}
+use Rattle.golf_syntax_trees.specs.declared.expressions.UnaryOperator.{UnaryOperator}
+use Rattle.golf_syntax_trees.specs.declared.expressions.UnaryOperator.TheVariants as unary
+use Rattle.golf_syntax_trees.specs.declared.expressions.BinaryOperator.{BinaryOperator}
+use Rattle.golf_syntax_trees.specs.declared.expressions.BinaryOperator.TheVariants as binary
+use Rattle.golf_check_types.specs.declared.types.Base.{Base}
+use Rattle.golf_check_types.specs.declared.types.Base.TheVariants as base
+use Rattle.golf_check_types.specs.declared.types.GoType.{GoType}
+use Rattle.golf_check_types.specs.declared.operands.Operand.{Operand}
+use Rattle.golf_check_types.specs.declared.operands.Operand.TheVariants as operand
+use Rattle.golf_check_types.specs.declared.operands.Given.{Given}
+use Rattle.golf_check_types.specs.declared.operands.Given.TheVariants as given_as
+use Rattle.golf_check_types.specs.declared.scopes.Scope.{Scope}
+use Rattle.golf_check_types.specs.Types.{has_base, has_layer, is_slice, starts_with, gives, element, comparable, assignable_type}
+use Rattle.golf_check_types.specs.Expressions.{Judged, used, given_by, unary_judged, unary_faults, unary_meaning, binary_judged, binary_fits, result_base, index_judged}
+use Rattle.golf_model_typing.specs.Types.{ValueType, Shape, FunctionTypes, Types}
+use Rattle.golf_model_typing.specs.Shapes.{InstructionFits}
+use Rattle.golf_code_layout.specs.Piece.{Piece, all, op}
+use Rattle.golf_code_shapes_layout.specs.Has.{shape, filled, To}
+use Rattle.golf_code_shapes_layout.proofs.Pieces.{has-op}
 use Rattle.golf_code_of.specs.declared.tables.Tables.{Tables}
 use Rattle.golf_code_of.specs.Expressions.{Made, unary_operator, binary_operator, binary_piece, index}
 use Rattle.golf_code_shapes.specs.Types.{base_type, value_type}

@@ -1,14 +1,14 @@
 -- A loop over a `range` leads on.
 use Rattle.std.proofs.Common.{ℕ, List, ◌++◌, refl}
 use Rattle.golf_theory.specs.Membership.{Every}
-use Rattle.golf_grammar.specs.declared.expressions.Expr.{Expr}
-use Rattle.golf_grammar.specs.declared.statements.RangeNames.{RangeNames}
-use Rattle.golf_types.specs.Scopes.{begun}
-use Rattle.golf_types.specs.Expressions.{used, given_by}
-use Rattle.golf_types.specs.Judging.{judge}
-use Rattle.golf_types.specs.Statements as W
-use Rattle.golf_types.specs.Statements.{behind, range_faults}
-use Rattle.golf_shapes.specs.Types.{FunctionTypes, Types}
+use Rattle.golf_syntax_trees.specs.declared.expressions.Expr.{Expr}
+use Rattle.golf_syntax_trees.specs.declared.statements.RangeNames.{RangeNames}
+use Rattle.golf_check_types.specs.Scopes.{begun}
+use Rattle.golf_check_types.specs.Expressions.{used, given_by}
+use Rattle.golf_check_types.specs.Judging.{judge}
+use Rattle.golf_check_types.specs.Statements as W
+use Rattle.golf_check_types.specs.Statements.{behind, range_faults}
+use Rattle.golf_model_typing.specs.Types.{FunctionTypes, Types}
 use Rattle.golf_code_of.specs.declared.tables.Tables.{Tables}
 use Rattle.golf_code_of.specs.Coding.{piece_at}
 use Rattle.golf_code_of.specs.Statements.{Part, block, in_block}

@@ -3,26 +3,26 @@ use Rattle.std.proofs.Common.{◌≡◌, inl, inr, ℕ, ◌+◌, Bool, true, fal
 use Rattle.golf_theory.specs.Membership.{In, Every}
 use Rattle.golf_theory.proofs.Lists.{Every-at, Every-from, Every-append}
 use Rattle.golf_data.specs.declared.code.Instr.{Instr}
-use Rattle.golf_grammar.specs.declared.statements.RangeNames.{RangeNames}
-use Rattle.golf_grammar.specs.declared.statements.RangeNames.TheVariants as range
-use Rattle.golf_types.specs.declared.types.Layer.{Layer}
-use Rattle.golf_types.specs.declared.types.Layer.TheVariants as layer
-use Rattle.golf_types.specs.declared.types.Base.{Base}
-use Rattle.golf_types.specs.declared.types.Base.TheVariants as base
-use Rattle.golf_types.specs.declared.types.GoType.{GoType}
-use Rattle.golf_types.specs.declared.operands.Given.{Given}
-use Rattle.golf_types.specs.declared.operands.Given.TheVariants as given_as
-use Rattle.golf_types.specs.declared.scopes.Scope.{Scope}
-use Rattle.golf_types.specs.Faults.{broken}
-use Rattle.golf_types.specs.Types.{plain}
-use Rattle.golf_types.specs.Names.{is_blank}
-use Rattle.golf_types.specs.Statements as W
-use Rattle.golf_types.specs.Statements.{behind, are_two, range_names_differ, range_faults, range_name, int_type}
-use Rattle.golf_shapes.specs.Types.{ValueType, Shape, FunctionTypes, Types}
-use Rattle.golf_shapes.specs.Shapes.{slot_types}
-use Rattle.golf_layout.specs.Piece.{Piece, all, op}
-use Rattle.golf_layout_shapes.specs.Has.{shape, Has, Reaches}
-use Rattle.golf_layout_shapes.proofs.Pieces.{every-self, has-empty, has-op, has-then, has-weaker, has-exit, has-unless, has-block, has-again}
+use Rattle.golf_syntax_trees.specs.declared.statements.RangeNames.{RangeNames}
+use Rattle.golf_syntax_trees.specs.declared.statements.RangeNames.TheVariants as range
+use Rattle.golf_check_types.specs.declared.types.Layer.{Layer}
+use Rattle.golf_check_types.specs.declared.types.Layer.TheVariants as layer
+use Rattle.golf_check_types.specs.declared.types.Base.{Base}
+use Rattle.golf_check_types.specs.declared.types.Base.TheVariants as base
+use Rattle.golf_check_types.specs.declared.types.GoType.{GoType}
+use Rattle.golf_check_types.specs.declared.operands.Given.{Given}
+use Rattle.golf_check_types.specs.declared.operands.Given.TheVariants as given_as
+use Rattle.golf_check_types.specs.declared.scopes.Scope.{Scope}
+use Rattle.golf_check_types.specs.Faults.{broken}
+use Rattle.golf_check_types.specs.Types.{plain}
+use Rattle.golf_check_types.specs.Names.{is_blank}
+use Rattle.golf_check_types.specs.Statements as W
+use Rattle.golf_check_types.specs.Statements.{behind, are_two, range_names_differ, range_faults, range_name, int_type}
+use Rattle.golf_model_typing.specs.Types.{ValueType, Shape, FunctionTypes, Types}
+use Rattle.golf_model_typing.specs.Shapes.{slot_types}
+use Rattle.golf_code_layout.specs.Piece.{Piece, all, op}
+use Rattle.golf_code_shapes_layout.specs.Has.{shape, Has, Reaches}
+use Rattle.golf_code_shapes_layout.proofs.Pieces.{every-self, has-empty, has-op, has-then, has-weaker, has-exit, has-unless, has-block, has-again}
 use Rattle.golf_code_of.specs.declared.tables.Tables.{Tables}
 use Rattle.golf_code_of.specs.Loops.{slice_names, over_slice, channel_name, over_channel, behind_hidden, range_piece}
 use Rattle.golf_code_shapes.specs.Types.{layers_type, value_type}

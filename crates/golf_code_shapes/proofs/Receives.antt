@@ -7,24 +7,24 @@ use Rattle.std.specs.Option.{option_map}
 use Rattle.golf_theory.specs.Membership.{In, Every}
 use Rattle.golf_theory.proofs.Lists.{Every-from, Every-append}
 use Rattle.golf_data.specs.declared.code.Instr.{Instr}
-use Rattle.golf_types.specs.declared.types.Base.TheVariants as base
-use Rattle.golf_types.specs.declared.types.GoType.{GoType}
-use Rattle.golf_types.specs.declared.operands.Given.TheVariants as given_as
-use Rattle.golf_types.specs.declared.operands.Where.TheVariants as place
-use Rattle.golf_types.specs.declared.operands.Operand.{Operand}
-use Rattle.golf_types.specs.declared.operands.Operand.TheVariants as operand
-use Rattle.golf_types.specs.declared.locals.Local.{Local}
-use Rattle.golf_types.specs.declared.scopes.Scope.{Scope}
-use Rattle.golf_types.specs.Faults.{broken}
-use Rattle.golf_types.specs.Types.{plain, type_of, assignable}
-use Rattle.golf_types.specs.Names.{look, is_blank}
-use Rattle.golf_types.specs.Scopes.{meaning, or_else, local_operand, is_reserved, is_here, is_at_depth}
-use Rattle.golf_types.specs.Statements.{behind, is_new, kept_local, kept_faults, pair_differs, kept_pair_faults, pair_faults, one_new, pair, bool_type, assigned_name, put_in_faults, takes_value}
-use Rattle.golf_shapes.specs.Types.{ValueType, Shape, FunctionTypes, Types}
-use Rattle.golf_shapes.specs.Shapes.{slot_types}
-use Rattle.golf_layout.specs.Piece.{Piece, op}
-use Rattle.golf_layout_shapes.specs.Has.{shape, Has}
-use Rattle.golf_layout_shapes.proofs.Pieces.{every-self, has-empty, has-op, has-then}
+use Rattle.golf_check_types.specs.declared.types.Base.TheVariants as base
+use Rattle.golf_check_types.specs.declared.types.GoType.{GoType}
+use Rattle.golf_check_types.specs.declared.operands.Given.TheVariants as given_as
+use Rattle.golf_check_types.specs.declared.operands.Where.TheVariants as place
+use Rattle.golf_check_types.specs.declared.operands.Operand.{Operand}
+use Rattle.golf_check_types.specs.declared.operands.Operand.TheVariants as operand
+use Rattle.golf_check_types.specs.declared.locals.Local.{Local}
+use Rattle.golf_check_types.specs.declared.scopes.Scope.{Scope}
+use Rattle.golf_check_types.specs.Faults.{broken}
+use Rattle.golf_check_types.specs.Types.{plain, type_of, assignable}
+use Rattle.golf_check_types.specs.Names.{look, is_blank}
+use Rattle.golf_check_types.specs.Scopes.{meaning, or_else, local_operand, is_reserved, is_here, is_at_depth}
+use Rattle.golf_check_types.specs.Statements.{behind, is_new, kept_local, kept_faults, pair_differs, kept_pair_faults, pair_faults, one_new, pair, bool_type, assigned_name, put_in_faults, takes_value}
+use Rattle.golf_model_typing.specs.Types.{ValueType, Shape, FunctionTypes, Types}
+use Rattle.golf_model_typing.specs.Shapes.{slot_types}
+use Rattle.golf_code_layout.specs.Piece.{Piece, op}
+use Rattle.golf_code_shapes_layout.specs.Has.{shape, Has}
+use Rattle.golf_code_shapes_layout.proofs.Pieces.{every-self, has-empty, has-op, has-then}
 use Rattle.golf_code_of.specs.declared.tables.Tables.{Tables}
 use Rattle.golf_code_of.specs.Expressions.{name}
 use Rattle.golf_code_of.specs.Statements.{stores_to, stores_name, stores_new, stores_pair}

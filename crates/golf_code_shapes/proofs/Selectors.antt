@@ -1,26 +1,26 @@
 -- The code of selectors has shapes.
 use Rattle.std.proofs.Common.{◌≡◌, ℕ, Bool, true, false, cond, List, [], ◌∷◌, Option, Some, None, refl, sym, subst, slice_get}
 use Rattle.golf_data.specs.declared.code.Instr.{Instr}
-use Rattle.golf_types.specs.declared.types.Layer.{Layer}
-use Rattle.golf_types.specs.declared.types.Base.{Base}
-use Rattle.golf_types.specs.declared.types.Base.TheVariants as base
-use Rattle.golf_types.specs.declared.operands.BuiltIn.{BuiltIn}
-use Rattle.golf_types.specs.declared.operands.BuiltIn.TheVariants as built_in
-use Rattle.golf_types.specs.declared.operands.Package.{Package}
-use Rattle.golf_types.specs.declared.operands.Package.TheVariants as packages
-use Rattle.golf_types.specs.declared.operands.Operand.{Operand}
-use Rattle.golf_types.specs.declared.operands.Operand.TheVariants as operand
-use Rattle.golf_types.specs.declared.operands.Given.{Given}
-use Rattle.golf_types.specs.declared.operands.Given.TheVariants as given_as
-use Rattle.golf_types.specs.declared.scopes.Member.{Member}
-use Rattle.golf_types.specs.declared.scopes.Member.TheVariants as members
-use Rattle.golf_types.specs.declared.scopes.Scope.{Scope}
-use Rattle.golf_types.specs.Types.{given}
-use Rattle.golf_types.specs.Scopes.{member}
-use Rattle.golf_types.specs.Expressions.{Judged, value_faults, value_member, type_member, base_member, struct_member, called_name, condition_member, condition_method, mutex_method, group_method, read_method, write_method, package_member, has_type, fmt_member, runtime_member, sync_member, selected_from, leaf, value}
-use Rattle.golf_shapes.specs.Types.{ValueType, FunctionTypes, Types}
-use Rattle.golf_layout.specs.Piece.{Piece, op}
-use Rattle.golf_layout_shapes.proofs.Pieces.{has-op}
+use Rattle.golf_check_types.specs.declared.types.Layer.{Layer}
+use Rattle.golf_check_types.specs.declared.types.Base.{Base}
+use Rattle.golf_check_types.specs.declared.types.Base.TheVariants as base
+use Rattle.golf_check_types.specs.declared.operands.BuiltIn.{BuiltIn}
+use Rattle.golf_check_types.specs.declared.operands.BuiltIn.TheVariants as built_in
+use Rattle.golf_check_types.specs.declared.operands.Package.{Package}
+use Rattle.golf_check_types.specs.declared.operands.Package.TheVariants as packages
+use Rattle.golf_check_types.specs.declared.operands.Operand.{Operand}
+use Rattle.golf_check_types.specs.declared.operands.Operand.TheVariants as operand
+use Rattle.golf_check_types.specs.declared.operands.Given.{Given}
+use Rattle.golf_check_types.specs.declared.operands.Given.TheVariants as given_as
+use Rattle.golf_check_types.specs.declared.scopes.Member.{Member}
+use Rattle.golf_check_types.specs.declared.scopes.Member.TheVariants as members
+use Rattle.golf_check_types.specs.declared.scopes.Scope.{Scope}
+use Rattle.golf_check_types.specs.Types.{given}
+use Rattle.golf_check_types.specs.Scopes.{member}
+use Rattle.golf_check_types.specs.Expressions.{Judged, value_faults, value_member, type_member, base_member, struct_member, called_name, condition_member, condition_method, mutex_method, group_method, read_method, write_method, package_member, has_type, fmt_member, runtime_member, sync_member, selected_from, leaf, value}
+use Rattle.golf_model_typing.specs.Types.{ValueType, FunctionTypes, Types}
+use Rattle.golf_code_layout.specs.Piece.{Piece, op}
+use Rattle.golf_code_shapes_layout.proofs.Pieces.{has-op}
 use Rattle.golf_code_of.specs.declared.tables.Tables.{Tables}
 use Rattle.golf_code_of.specs.Expressions.{Made, selector}
 use Rattle.golf_code_of.specs.Calls.{receiver_base}

@@ -3,24 +3,24 @@ use Rattle.std.proofs.Common.{◌≡◌, ℕ, ◌&&◌, List, [], ◌∷◌, Opt
 use Rattle.std.proofs.lemmas.Bool.{and_parts}
 use Rattle.std.specs.Prelude.{is_some}
 use Rattle.golf_data.specs.declared.code.Instr.{Instr}
-use Rattle.golf_grammar.specs.declared.expressions.Expr.{Expr}
-use Rattle.golf_grammar.specs.declared.statements.UpdateOperator.TheVariants as update
-use Rattle.golf_grammar.specs.declared.statements.Simple.{Simple}
-use Rattle.golf_grammar.specs.declared.statements.SimpleKind.{SimpleKind}
-use Rattle.golf_grammar.specs.declared.statements.SimpleKind.TheVariants as simple
-use Rattle.golf_types.specs.declared.types.Base.TheVariants as base
-use Rattle.golf_types.specs.declared.types.GoType.{GoType}
-use Rattle.golf_types.specs.declared.scopes.Scope.{Scope}
-use Rattle.golf_types.specs.Faults.{broken}
-use Rattle.golf_types.specs.Types.{plain}
-use Rattle.golf_types.specs.Expressions.{used, given_by}
-use Rattle.golf_types.specs.Judging.{judge}
-use Rattle.golf_types.specs.Statements as W
-use Rattle.golf_types.specs.Statements.{both, behind, carried, pair_faults, pair, bool_type, assigned_name, put_in_faults, takes_value, assigned_pair_faults, received}
-use Rattle.golf_shapes.specs.Types.{ValueType, FunctionTypes, Types}
-use Rattle.golf_layout.specs.Piece.{Piece, all, op}
-use Rattle.golf_layout_shapes.specs.Has.{shape}
-use Rattle.golf_layout_shapes.proofs.Pieces.{has-empty, has-then}
+use Rattle.golf_syntax_trees.specs.declared.expressions.Expr.{Expr}
+use Rattle.golf_syntax_trees.specs.declared.statements.UpdateOperator.TheVariants as update
+use Rattle.golf_syntax_trees.specs.declared.statements.Simple.{Simple}
+use Rattle.golf_syntax_trees.specs.declared.statements.SimpleKind.{SimpleKind}
+use Rattle.golf_syntax_trees.specs.declared.statements.SimpleKind.TheVariants as simple
+use Rattle.golf_check_types.specs.declared.types.Base.TheVariants as base
+use Rattle.golf_check_types.specs.declared.types.GoType.{GoType}
+use Rattle.golf_check_types.specs.declared.scopes.Scope.{Scope}
+use Rattle.golf_check_types.specs.Faults.{broken}
+use Rattle.golf_check_types.specs.Types.{plain}
+use Rattle.golf_check_types.specs.Expressions.{used, given_by}
+use Rattle.golf_check_types.specs.Judging.{judge}
+use Rattle.golf_check_types.specs.Statements as W
+use Rattle.golf_check_types.specs.Statements.{both, behind, carried, pair_faults, pair, bool_type, assigned_name, put_in_faults, takes_value, assigned_pair_faults, received}
+use Rattle.golf_model_typing.specs.Types.{ValueType, FunctionTypes, Types}
+use Rattle.golf_code_layout.specs.Piece.{Piece, all, op}
+use Rattle.golf_code_shapes_layout.specs.Has.{shape}
+use Rattle.golf_code_shapes_layout.proofs.Pieces.{has-empty, has-then}
 use Rattle.golf_code_of.specs.declared.tables.Tables.{Tables}
 use Rattle.golf_code_of.specs.Coding.{piece_at}
 use Rattle.golf_code_of.specs.Statements as C

@@ -3,21 +3,21 @@ use Rattle.std.proofs.Common.{◌≡◌, ℕ, true, not, List, [], ◌∷◌, ma
 use Rattle.std.proofs.lemmas.Bool.{and_parts}
 use Rattle.std.specs.List.{list_all}
 use Rattle.golf_data.specs.declared.code.Instr.{Instr}
-use Rattle.golf_grammar.specs.declared.statements.Simple.{Simple}
-use Rattle.golf_grammar.specs.declared.statements.SimpleKind.{SimpleKind}
-use Rattle.golf_grammar.specs.declared.statements.SimpleKind.TheVariants as simple
-use Rattle.golf_grammar.specs.declared.statements.Header.{Header}
-use Rattle.golf_grammar.specs.declared.statements.Header.TheVariants as header
-use Rattle.golf_grammar.specs.declared.statements.Stmt.{Stmt, roll-Stmt}
-use Rattle.golf_grammar.specs.declared.statements.Clause.{Clause, roll-Clause}
-use Rattle.golf_grammar.specs.declared.statements.Clause.TheOpen.{Stmt-F, Clause-F}
-use Rattle.golf_grammar.specs.declared.statements.Clause.TheOpen as F
-use Rattle.golf_grammar.specs.declared.statements.Clause.TheFolds.{fold-roll-Stmt, fold-roll-Clause, ind-Stmt, map-Stmt, map-Clause}
-use Rattle.golf_grammar.specs.Simple.{simple_form, header_simple, header_expr, post_simple, all_of, header_good, comm_good}
-use Rattle.golf_grammar.specs.Statements.{StmtForm, ClauseForm, stmts_good, stmt_form_step, clause_form_step, stmt_form, clause_form}
-use Rattle.golf_types.specs.declared.scopes.Scope.{Scope}
-use Rattle.golf_types.specs.Statements as W
-use Rattle.golf_shapes.specs.Types.{FunctionTypes, Types}
+use Rattle.golf_syntax_trees.specs.declared.statements.Simple.{Simple}
+use Rattle.golf_syntax_trees.specs.declared.statements.SimpleKind.{SimpleKind}
+use Rattle.golf_syntax_trees.specs.declared.statements.SimpleKind.TheVariants as simple
+use Rattle.golf_syntax_trees.specs.declared.statements.Header.{Header}
+use Rattle.golf_syntax_trees.specs.declared.statements.Header.TheVariants as header
+use Rattle.golf_syntax_trees.specs.declared.statements.Stmt.{Stmt, roll-Stmt}
+use Rattle.golf_syntax_trees.specs.declared.statements.Clause.{Clause, roll-Clause}
+use Rattle.golf_syntax_trees.specs.declared.statements.Clause.TheOpen.{Stmt-F, Clause-F}
+use Rattle.golf_syntax_trees.specs.declared.statements.Clause.TheOpen as F
+use Rattle.golf_syntax_trees.specs.declared.statements.Clause.TheFolds.{fold-roll-Stmt, fold-roll-Clause, ind-Stmt, map-Stmt, map-Clause}
+use Rattle.golf_syntax_trees.specs.Simple.{simple_form, header_simple, header_expr, post_simple, all_of, header_good, comm_good}
+use Rattle.golf_syntax_trees.specs.Statements.{StmtForm, ClauseForm, stmts_good, stmt_form_step, clause_form_step, stmt_form, clause_form}
+use Rattle.golf_check_types.specs.declared.scopes.Scope.{Scope}
+use Rattle.golf_check_types.specs.Statements as W
+use Rattle.golf_model_typing.specs.Types.{FunctionTypes, Types}
 use Rattle.golf_code_of.specs.declared.tables.Tables.{Tables}
 use Rattle.golf_code_of.specs.Statements as C
 use Rattle.golf_code_of.specs.Statements.{Part, block, in_order, in_block, optional}

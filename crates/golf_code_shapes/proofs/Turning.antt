@@ -1,11 +1,11 @@
 -- Code that turns operands of some types into others, put together.
 use Rattle.std.proofs.Common.{ℕ, ◌+◌, List, [], ◌∷◌, ◌++◌, refl}
 use Rattle.golf_data.specs.declared.code.Instr.{Instr}
-use Rattle.golf_shapes.specs.Types.{ValueType, Shape, FunctionTypes, Types}
-use Rattle.golf_shapes.specs.Shapes.{InstructionFits}
-use Rattle.golf_layout.specs.Piece.{Piece, all, op}
-use Rattle.golf_layout_shapes.specs.Has.{shape, filled, To}
-use Rattle.golf_layout_shapes.proofs.Pieces.{every-self, has-empty, has-op, has-then, has-exit, has-unless, has-block}
+use Rattle.golf_model_typing.specs.Types.{ValueType, Shape, FunctionTypes, Types}
+use Rattle.golf_model_typing.specs.Shapes.{InstructionFits}
+use Rattle.golf_code_layout.specs.Piece.{Piece, all, op}
+use Rattle.golf_code_shapes_layout.specs.Has.{shape, filled, To}
+use Rattle.golf_code_shapes_layout.proofs.Pieces.{every-self, has-empty, has-op, has-then, has-exit, has-unless, has-block}
 use Rattle.golf_code_of.specs.Expressions.{either}
 use Rattle.golf_code_shapes.specs.Sound.{Turns}
 

@@ -1,17 +1,17 @@
 -- What the tests of the checker say of the types of shapes.
 use Rattle.std.proofs.Common.{◌≡◌, ◌⊎◌, inl, inr, ℕ, Bool, true, false, not, ◌&&◌, ◌||◌, ◌==◌, List, [], ◌∷◌, ◌++◌, Some, refl, ap, ◌∙◌, arith}
 use Rattle.std.proofs.lemmas.Bool.{and_parts, or_cases}
-use Rattle.golf_types.specs.declared.types.Layer.{Layer}
-use Rattle.golf_types.specs.declared.types.Layer.TheVariants as layer
-use Rattle.golf_types.specs.declared.types.Base.{Base}
-use Rattle.golf_types.specs.declared.types.Base.TheVariants as base
-use Rattle.golf_types.specs.declared.types.GoType.{GoType}
-use Rattle.golf_types.specs.declared.operands.Given.{Given}
-use Rattle.golf_types.specs.declared.operands.Given.TheVariants as given_as
-use Rattle.golf_types.specs.Types.{same_layers, same_base, same_type, narrows, assignable_type, assignable, takes_nil, has_layer, is_slice, is_channel, is_any, gives, takes, starts_with, inside, element}
-use Rattle.golf_types.specs.Faults.{broken}
-use Rattle.golf_types.specs.Statements.{is_carried}
-use Rattle.golf_shapes.specs.Types.{ValueType, IsNilable}
+use Rattle.golf_check_types.specs.declared.types.Layer.{Layer}
+use Rattle.golf_check_types.specs.declared.types.Layer.TheVariants as layer
+use Rattle.golf_check_types.specs.declared.types.Base.{Base}
+use Rattle.golf_check_types.specs.declared.types.Base.TheVariants as base
+use Rattle.golf_check_types.specs.declared.types.GoType.{GoType}
+use Rattle.golf_check_types.specs.declared.operands.Given.{Given}
+use Rattle.golf_check_types.specs.declared.operands.Given.TheVariants as given_as
+use Rattle.golf_check_types.specs.Types.{same_layers, same_base, same_type, narrows, assignable_type, assignable, takes_nil, has_layer, is_slice, is_channel, is_any, gives, takes, starts_with, inside, element}
+use Rattle.golf_check_types.specs.Faults.{broken}
+use Rattle.golf_check_types.specs.Statements.{is_carried}
+use Rattle.golf_model_typing.specs.Types.{ValueType, IsNilable}
 use Rattle.golf_code_shapes.specs.Types.{base_type, layers_type, value_type}
 
 -- faults that are none

@@ -8,30 +8,30 @@ use Rattle.golf_theory.proofs.Lists.{Every-append}
 use Rattle.golf_data.specs.declared.value.Value.{Value}
 use Rattle.golf_data.specs.declared.code.Instr.{Instr}
 use Rattle.golf_data.specs.declared.code.Function.{Function}
-use Rattle.golf_grammar.specs.declared.statements.VarContent.{VarContent}
-use Rattle.golf_grammar.specs.declared.statements.VarContent.TheVariants as content
-use Rattle.golf_grammar.specs.declared.declarations.Decl.{Decl}
-use Rattle.golf_grammar.specs.declared.declarations.Decl.TheVariants as d
-use Rattle.golf_grammar.specs.Simple.{all_of}
-use Rattle.golf_grammar.specs.Types.{type_form}
-use Rattle.golf_grammar.specs.Statements.{stmts_good, stmt_form}
-use Rattle.golf_grammar.specs.Declarations.{field_good, decl_good}
+use Rattle.golf_syntax_trees.specs.declared.statements.VarContent.{VarContent}
+use Rattle.golf_syntax_trees.specs.declared.statements.VarContent.TheVariants as content
+use Rattle.golf_syntax_trees.specs.declared.declarations.Decl.{Decl}
+use Rattle.golf_syntax_trees.specs.declared.declarations.Decl.TheVariants as d
+use Rattle.golf_syntax_trees.specs.Simple.{all_of}
+use Rattle.golf_syntax_trees.specs.Types.{type_form}
+use Rattle.golf_syntax_trees.specs.Statements.{stmts_good, stmt_form}
+use Rattle.golf_syntax_trees.specs.Declarations.{field_good, decl_good}
 use Rattle.golf_model.specs.Values.{zeros_of}
-use Rattle.golf_types.specs.declared.types.GoType.{GoType}
-use Rattle.golf_types.specs.declared.scopes.FileScope.{FileScope}
-use Rattle.golf_types.specs.declared.scopes.Scope.{Scope}
-use Rattle.golf_types.specs.Types.{assignable}
-use Rattle.golf_types.specs.Expressions.{used, given_by}
-use Rattle.golf_types.specs.Judging.{judge}
-use Rattle.golf_types.specs.Files.{outside, globals_above, initial_walk, decl_walked, walk_faults, formed_content, with_forms, with_types, bare_file, function_types, import_faults, names_faults, none_above, type_faults, main_faults, with_imports, no_imports, Broken}
-use Rattle.golf_shapes.specs.Types.{ValueType, Shape, Signature, FunctionTypes, Types, with_shapes, ValueFits, ValuesFit}
+use Rattle.golf_check_types.specs.declared.types.GoType.{GoType}
+use Rattle.golf_check_types.specs.declared.scopes.FileScope.{FileScope}
+use Rattle.golf_check_types.specs.declared.scopes.Scope.{Scope}
+use Rattle.golf_check_types.specs.Types.{assignable}
+use Rattle.golf_check_types.specs.Expressions.{used, given_by}
+use Rattle.golf_check_types.specs.Judging.{judge}
+use Rattle.golf_check_types.specs.Files.{outside, globals_above, initial_walk, decl_walked, walk_faults, formed_content, with_forms, with_types, bare_file, function_types, import_faults, names_faults, none_above, type_faults, main_faults, with_imports, no_imports, Broken}
+use Rattle.golf_model_typing.specs.Types.{ValueType, Shape, Signature, FunctionTypes, Types, with_shapes, ValueFits, ValuesFit}
 use Rattle.golf_live.specs.Live.{live}
-use Rattle.golf_shapes.proofs.NeededSlots.{masked-fit}
-use Rattle.golf_shapes.specs.Shapes.{FunctionFits, MasksCover, HasShapes, pushed, GoesOn}
-use Rattle.golf_layout.specs.Piece.{Piece, all, op}
-use Rattle.golf_layout_shapes.specs.Has.{shape, filled, Has}
-use Rattle.golf_layout_shapes.proofs.Pieces.{has-empty, has-op, has-then}
-use Rattle.golf_layout_shapes.proofs.Bodies.{ends-op, ends-then, ends-last, bodies-fit}
+use Rattle.golf_model_typing.proofs.NeededSlots.{masked-fit}
+use Rattle.golf_model_typing.specs.Shapes.{FunctionFits, MasksCover, HasShapes, pushed, GoesOn}
+use Rattle.golf_code_layout.specs.Piece.{Piece, all, op}
+use Rattle.golf_code_shapes_layout.specs.Has.{shape, filled, Has}
+use Rattle.golf_code_shapes_layout.proofs.Pieces.{has-empty, has-op, has-then}
+use Rattle.golf_code_shapes_layout.proofs.Bodies.{ends-op, ends-then, ends-last, bodies-fit}
 use Rattle.golf_code_of.specs.Table.{Texts, with_text, table_of, number_from, text_number}
 use Rattle.golf_code_of.specs.Texts.{decl_texts, texts_of}
 use Rattle.golf_code_of.specs.declared.tables.Tables.{Tables}

@@ -2,27 +2,27 @@
 use Rattle.std.specs.List.{list_all}
 use Rattle.golf_theory.specs.Membership.{Every}
 use Rattle.std.specs.Prelude.{◌≡◌, ℕ, ◌+◌, true, List, [], ◌∷◌, ◌++◌, length, map, Option, Some, None, slice_get}
-use Rattle.golf_grammar.specs.declared.statements.VarContent.{VarContent}
-use Rattle.golf_grammar.specs.declared.statements.VarContent.TheVariants as content
-use Rattle.golf_grammar.specs.declared.declarations.Receiver.{Receiver}
-use Rattle.golf_grammar.specs.declared.declarations.Func.{Func}
-use Rattle.golf_grammar.specs.declared.declarations.Decl.{Decl}
-use Rattle.golf_grammar.specs.declared.declarations.Decl.TheVariants as d
-use Rattle.golf_grammar.specs.declared.declarations.File.{File}
-use Rattle.golf_grammar.specs.Declarations.{decl_good}
-use Rattle.golf_types.specs.declared.types.GoType.{GoType}
-use Rattle.golf_types.specs.declared.scopes.FileScope.{FileScope}
-use Rattle.golf_types.specs.declared.scopes.Scope.{Scope}
-use Rattle.golf_types.specs.Types.{type_given}
-use Rattle.golf_types.specs.Written.{write_at}
-use Rattle.golf_types.specs.Expressions.{given_by}
-use Rattle.golf_types.specs.Judging.{judge_at}
-use Rattle.golf_types.specs.declared.operands.Operand.{Operand}
-use Rattle.golf_types.specs.declared.scopes.Member.{Member}
-use Rattle.golf_types.specs.Scopes.{file_operand, member}
-use Rattle.golf_types.specs.Files.{outside, file_scope, with_imports, no_imports, globals_above, receiver_type, all_typed_names, Typed}
-use Rattle.golf_shapes.specs.Types.{Shape, Signature, Types}
-use Rattle.golf_shapes.specs.Shapes.{HasShapes}
+use Rattle.golf_syntax_trees.specs.declared.statements.VarContent.{VarContent}
+use Rattle.golf_syntax_trees.specs.declared.statements.VarContent.TheVariants as content
+use Rattle.golf_syntax_trees.specs.declared.declarations.Receiver.{Receiver}
+use Rattle.golf_syntax_trees.specs.declared.declarations.Func.{Func}
+use Rattle.golf_syntax_trees.specs.declared.declarations.Decl.{Decl}
+use Rattle.golf_syntax_trees.specs.declared.declarations.Decl.TheVariants as d
+use Rattle.golf_syntax_trees.specs.declared.declarations.File.{File}
+use Rattle.golf_syntax_trees.specs.Declarations.{decl_good}
+use Rattle.golf_check_types.specs.declared.types.GoType.{GoType}
+use Rattle.golf_check_types.specs.declared.scopes.FileScope.{FileScope}
+use Rattle.golf_check_types.specs.declared.scopes.Scope.{Scope}
+use Rattle.golf_check_types.specs.Types.{type_given}
+use Rattle.golf_check_types.specs.Written.{write_at}
+use Rattle.golf_check_types.specs.Expressions.{given_by}
+use Rattle.golf_check_types.specs.Judging.{judge_at}
+use Rattle.golf_check_types.specs.declared.operands.Operand.{Operand}
+use Rattle.golf_check_types.specs.declared.scopes.Member.{Member}
+use Rattle.golf_check_types.specs.Scopes.{file_operand, member}
+use Rattle.golf_check_types.specs.Files.{outside, file_scope, with_imports, no_imports, globals_above, receiver_type, all_typed_names, Typed}
+use Rattle.golf_model_typing.specs.Types.{Shape, Signature, Types}
+use Rattle.golf_model_typing.specs.Shapes.{HasShapes}
 use Rattle.golf_code_of.specs.declared.tables.Tables.{Tables}
 use Rattle.golf_code_of.specs.declared.making.Making.{Making}
 use Rattle.golf_code_of.specs.Files.{functions_from, main_number, tables_of, giving, CodeOf}

@@ -1,15 +1,15 @@
 -- What is said of the code of statements: it leads from the slots that are assigned before it to those behind it.
 use Rattle.std.specs.Prelude.{◌≡◌, ℕ, ◌+◌, true, List, [], ◌∷◌, Option, Some, slice_get}
 use Rattle.golf_theory.specs.Membership.{In, Every}
-use Rattle.golf_types.specs.declared.types.GoType.{GoType}
-use Rattle.golf_types.specs.declared.operands.BuiltIn.{BuiltIn}
-use Rattle.golf_types.specs.declared.operands.BuiltIn.TheVariants as built_in
-use Rattle.golf_types.specs.declared.scopes.Scope.{Scope}
-use Rattle.golf_types.specs.Statements.{Walk, behind}
-use Rattle.golf_shapes.specs.Types.{ValueType, Shape, Signature, FunctionTypes, Types}
-use Rattle.golf_shapes.specs.Shapes.{slot_types}
-use Rattle.golf_layout.specs.Piece.{Piece}
-use Rattle.golf_layout_shapes.specs.Has.{shape, Has, Reaches}
+use Rattle.golf_check_types.specs.declared.types.GoType.{GoType}
+use Rattle.golf_check_types.specs.declared.operands.BuiltIn.{BuiltIn}
+use Rattle.golf_check_types.specs.declared.operands.BuiltIn.TheVariants as built_in
+use Rattle.golf_check_types.specs.declared.scopes.Scope.{Scope}
+use Rattle.golf_check_types.specs.Statements.{Walk, behind}
+use Rattle.golf_model_typing.specs.Types.{ValueType, Shape, Signature, FunctionTypes, Types}
+use Rattle.golf_model_typing.specs.Shapes.{slot_types}
+use Rattle.golf_code_layout.specs.Piece.{Piece}
+use Rattle.golf_code_shapes_layout.specs.Has.{shape, Has, Reaches}
 use Rattle.golf_code_of.specs.declared.tables.Tables.{Tables}
 use Rattle.golf_code_of.specs.declared.making.Making.{Making}
 use Rattle.golf_code_of.specs.declared.making.Around.{Around}

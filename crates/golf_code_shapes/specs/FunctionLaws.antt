@@ -2,17 +2,17 @@
 use Rattle.std.specs.Prelude.{◌≡◌, ℕ, Bool, true, List, [], ◌++◌, map, Option, Some, None}
 use Rattle.std.specs.Option.{option_map}
 use Rattle.golf_theory.specs.Membership.{Every}
-use Rattle.golf_grammar.specs.declared.declarations.Receiver.{Receiver}
-use Rattle.golf_grammar.specs.declared.declarations.Func.{Func}
-use Rattle.golf_grammar.specs.Statements.{stmts_good, stmt_form}
-use Rattle.golf_types.specs.declared.types.GoType.{GoType}
-use Rattle.golf_types.specs.declared.scopes.FileScope.{FileScope}
-use Rattle.golf_types.specs.declared.scopes.Scope.{Scope}
-use Rattle.golf_types.specs.Statements as W
-use Rattle.golf_types.specs.Statements.{behind}
-use Rattle.golf_types.specs.Files.{outside, result_type, receiver_walk, receiver_type, parameter_walk, all_typed_names, func_walk, body_scope}
-use Rattle.golf_shapes.specs.Types.{Shape, Signature, Types, with_shapes}
-use Rattle.golf_shapes.specs.Shapes.{FunctionFits}
+use Rattle.golf_syntax_trees.specs.declared.declarations.Receiver.{Receiver}
+use Rattle.golf_syntax_trees.specs.declared.declarations.Func.{Func}
+use Rattle.golf_syntax_trees.specs.Statements.{stmts_good, stmt_form}
+use Rattle.golf_check_types.specs.declared.types.GoType.{GoType}
+use Rattle.golf_check_types.specs.declared.scopes.FileScope.{FileScope}
+use Rattle.golf_check_types.specs.declared.scopes.Scope.{Scope}
+use Rattle.golf_check_types.specs.Statements as W
+use Rattle.golf_check_types.specs.Statements.{behind}
+use Rattle.golf_check_types.specs.Files.{outside, result_type, receiver_walk, receiver_type, parameter_walk, all_typed_names, func_walk, body_scope}
+use Rattle.golf_model_typing.specs.Types.{Shape, Signature, Types, with_shapes}
+use Rattle.golf_model_typing.specs.Shapes.{FunctionFits}
 use Rattle.golf_code_of.specs.declared.tables.Tables.{Tables}
 use Rattle.golf_code_of.specs.declared.making.Making.{Making}
 use Rattle.golf_code_of.specs.Files.{body_part, body_laid, function_of, made_function}

@@ -1,12 +1,12 @@
 -- The laws of the code of a file, as statements: what breaks no rule has shapes.
 use Rattle.std.specs.Prelude.{◌≡◌, ℕ, true, List, []}
-use Rattle.golf_grammar.specs.declared.expressions.Expr.{Expr}
-use Rattle.golf_grammar.specs.declared.statements.Stmt.{Stmt}
-use Rattle.golf_grammar.specs.Statements.{stmt_form}
-use Rattle.golf_types.specs.declared.scopes.Scope.{Scope}
-use Rattle.golf_types.specs.Judging.{Judge, judge}
-use Rattle.golf_types.specs.Statements.{walk}
-use Rattle.golf_shapes.specs.Types.{FunctionTypes, Types}
+use Rattle.golf_syntax_trees.specs.declared.expressions.Expr.{Expr}
+use Rattle.golf_syntax_trees.specs.declared.statements.Stmt.{Stmt}
+use Rattle.golf_syntax_trees.specs.Statements.{stmt_form}
+use Rattle.golf_check_types.specs.declared.scopes.Scope.{Scope}
+use Rattle.golf_check_types.specs.Judging.{Judge, judge}
+use Rattle.golf_check_types.specs.Statements.{walk}
+use Rattle.golf_model_typing.specs.Types.{FunctionTypes, Types}
 use Rattle.golf_code_of.specs.declared.tables.Tables.{Tables}
 use Rattle.golf_code_of.specs.Expressions.{Made}
 use Rattle.golf_code_of.specs.Coding.{coded}

@@ -2,24 +2,24 @@
 use Rattle.std.specs.Prelude.{◌≡◌, ℕ, ◌+◌, ◌<◌, List, [], ◌∷◌, ◌++◌, Option, Some, None, slice_get}
 use Rattle.std.specs.Option.{option_map, option_and_then}
 use Rattle.golf_theory.specs.Membership.{In, Every}
-use Rattle.golf_types.specs.declared.types.Base.{Base}
-use Rattle.golf_types.specs.declared.types.GoType.{GoType}
-use Rattle.golf_types.specs.declared.operands.Where.TheVariants as place
-use Rattle.golf_types.specs.declared.operands.Signature.{Signature as Declared}
-use Rattle.golf_types.specs.declared.operands.Operand.{Operand}
-use Rattle.golf_types.specs.declared.operands.Operand.TheVariants as operand
-use Rattle.golf_types.specs.declared.operands.Given.{Given}
-use Rattle.golf_types.specs.declared.operands.Given.TheVariants as given_as
-use Rattle.golf_types.specs.declared.locals.Local.{Local}
-use Rattle.golf_types.specs.declared.scopes.Member.{Member}
-use Rattle.golf_types.specs.declared.scopes.Member.TheVariants as members
-use Rattle.golf_types.specs.declared.scopes.FileScope.{FileScope}
-use Rattle.golf_types.specs.declared.scopes.Scope.{Scope}
-use Rattle.golf_types.specs.Scopes.{type_at, file_operand, member}
-use Rattle.golf_shapes.specs.Types.{ValueType, IsNilable, Shape, Signature, FunctionTypes, Types, ValueFits}
-use Rattle.golf_shapes.specs.Shapes.{slot_types}
-use Rattle.golf_layout.specs.Piece.{Piece}
-use Rattle.golf_layout_shapes.specs.Has.{shape, Has}
+use Rattle.golf_check_types.specs.declared.types.Base.{Base}
+use Rattle.golf_check_types.specs.declared.types.GoType.{GoType}
+use Rattle.golf_check_types.specs.declared.operands.Where.TheVariants as place
+use Rattle.golf_check_types.specs.declared.operands.Signature.{Signature as Declared}
+use Rattle.golf_check_types.specs.declared.operands.Operand.{Operand}
+use Rattle.golf_check_types.specs.declared.operands.Operand.TheVariants as operand
+use Rattle.golf_check_types.specs.declared.operands.Given.{Given}
+use Rattle.golf_check_types.specs.declared.operands.Given.TheVariants as given_as
+use Rattle.golf_check_types.specs.declared.locals.Local.{Local}
+use Rattle.golf_check_types.specs.declared.scopes.Member.{Member}
+use Rattle.golf_check_types.specs.declared.scopes.Member.TheVariants as members
+use Rattle.golf_check_types.specs.declared.scopes.FileScope.{FileScope}
+use Rattle.golf_check_types.specs.declared.scopes.Scope.{Scope}
+use Rattle.golf_check_types.specs.Scopes.{type_at, file_operand, member}
+use Rattle.golf_model_typing.specs.Types.{ValueType, IsNilable, Shape, Signature, FunctionTypes, Types, ValueFits}
+use Rattle.golf_model_typing.specs.Shapes.{slot_types}
+use Rattle.golf_code_layout.specs.Piece.{Piece}
+use Rattle.golf_code_shapes_layout.specs.Has.{shape, Has}
 use Rattle.golf_code_of.specs.Table.{text_number}
 use Rattle.golf_code_of.specs.declared.tables.Tables.{Tables}
 use Rattle.golf_code_of.specs.Values.{constant}

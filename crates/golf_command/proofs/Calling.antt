@@ -6,19 +6,19 @@ use Rattle.std.proofs.KnownBytes.{Keeps-refl}
 use Rattle.std.proofs.lemmas.List.{length-replicate}
 use Rattle.golf_base.specs.Causes.{Rose, ReadsSome}
 use Rattle.golf_code_of.specs.Files.{CodeOf}
-use Rattle.golf_generate.specs.File.{file as generated_file}
-use Rattle.golf_words.specs.declared.line.Line.{Line}
-use Rattle.golf_words.specs.Words.{line_of, IsWithin}
-use Rattle.golf_words.proofs.Limits.{line-within}
-use Rattle.golf_texts.specs.declared.status.Status.{Status}
-use Rattle.golf_texts.specs.declared.status.Status.TheVariants as s
-use Rattle.golf_texts.specs.declared.status.TheConstants.{LIMIT, USAGE, READ_FAULT, TOO_LONG, NO_MEMORY}
-use Rattle.golf_texts.specs.Writes.{Write}
+use Rattle.golf_command_sample.specs.File.{file as generated_file}
+use Rattle.golf_command_words.specs.declared.line.CommandLine.{CommandLine}
+use Rattle.golf_command_words.specs.Words.{line_of, IsWithin}
+use Rattle.golf_command_words.proofs.Limits.{line-within}
+use Rattle.golf_run_texts.specs.declared.status.Status.{Status}
+use Rattle.golf_run_texts.specs.declared.status.Status.TheVariants as s
+use Rattle.golf_run_texts.specs.declared.status.TheConstants.{LIMIT, USAGE, READ_FAULT, TOO_LONG, NO_MEMORY}
+use Rattle.golf_run_texts.specs.Writes.{Write}
 use Rattle.golf_run.specs.HasRun.{Sinks, GotWrites, HasFailed, IsSteady}
 use Rattle.golf_command.specs.Ways.{out_for, err_for}
-use Rattle.golf_command.specs.Meaning.{IsLine, IsNoLine, Reads, IsFileOf, Meaning}
-use Rattle.golf_command.specs.Meaning.RefusedBy.{TooLong}
-use Rattle.golf_command.specs.Meaning.Meaning.{Misused, Refused, Goes}
+use Rattle.golf_command.specs.Promises.{IsLine, IsNoLine, Reads, IsFileOf, WordsMean}
+use Rattle.golf_command.specs.Promises.RefusedBy.{TooLong}
+use Rattle.golf_command.specs.Promises.WordsMean.{Misused, Refused, Goes}
 use Rattle.golf_command.specs.Means.{View, seen, FileMeans, GoesWhole, Says, IsWholeEnd, LineMeans, UsageMeans, SinkCauses, SourceCauses, Causes, IsQuiet, GotMeaning, FileTells, LineTells, IsUntouched, Tells}
 use Rattle.golf_command.proofs.Sinking.{some-rose}
 use Rattle.golf_command.proofs.Filing.{refused-tells, wanting-tells}
@@ -38,7 +38,7 @@ causes-of s.WriteFault before now a b e h never = omega (arith, e)
 causes-of s.Memory before now a b e h never = e
 
 -- a run over a file's bytes does not end so
-no-read-fault : (line : Line) (bytes : List ℕ) (r : Status) (a b : Sinks) → FileMeans line bytes r a b → r ≡ s.ReadFault → ⊥
+no-read-fault : (line : CommandLine) (bytes : List ℕ) (r : Status) (a b : Sinks) → FileMeans line bytes r a b → r ≡ s.ReadFault → ⊥
 no-read-fault line bytes s.Clean a b m e = cc
 no-read-fault line bytes s.Found a b m e = cc
 no-read-fault line bytes s.Crashed a b m e = cc
@@ -50,7 +50,7 @@ no-read-fault line bytes s.WriteFault a b m e = cc
 no-read-fault line bytes s.Memory a b m e = cc
 
 -- a file of which the status tells
-pub file-tells : (line : Line) (bytes : List ℕ) (left left' : Option (List ℕ)) (rf rf' : ℕ) (r : Status) (a b : Sinks)
+pub file-tells : (line : CommandLine) (bytes : List ℕ) (left left' : Option (List ℕ)) (rf rf' : ℕ) (r : Status) (a b : Sinks)
     → IsFileOf line left bytes → rf' ≡ rf → (Reads line → IsWholeEnd r → IsAtEnd left') → FileTells line bytes r a b → LineTells line r (seen left rf a) (seen left' rf' b)
 file-tells line bytes left left' rf rf' r a b is same end h = record {
   means = inr (record { bytes = bytes; is_file = is; means = h.means; at_end = end });
@@ -68,21 +68,21 @@ known : (left : Option (List ℕ)) → (bytes : List ℕ) × IfSome left (λ tol
 known None = ([], tt)
 known (Some xs) = (xs, refl)
 
-some-file : (line : Line) (left : Option (List ℕ)) → (bytes : List ℕ) × IsFileOf line left bytes
-some-file (Line.Run options) left = known left
-some-file (Line.Generate n) left = (generated_file n, refl)
-some-file (Line.Threads n) left = known left
-some-file Line.Meaning left = known left
+some-file : (line : CommandLine) (left : Option (List ℕ)) → (bytes : List ℕ) × IsFileOf line left bytes
+some-file (CommandLine.Run options) left = known left
+some-file (CommandLine.Generate n) left = (generated_file n, refl)
+some-file (CommandLine.Threads n) left = known left
+some-file CommandLine.Meaning left = known left
 
 -- the file of a line that reads is what was left
-pub read-file : (line : Line) (left : Option (List ℕ)) (bytes : List ℕ) → Reads line → IfSome left (λ told. told ≡ bytes) → IsFileOf line left bytes
-read-file (Line.Run options) left bytes reads told = told
-read-file (Line.Generate n) left bytes reads told = absurd reads
-read-file (Line.Threads n) left bytes reads told = told
-read-file Line.Meaning left bytes reads told = told
+pub read-file : (line : CommandLine) (left : Option (List ℕ)) (bytes : List ℕ) → Reads line → IfSome left (λ told. told ≡ bytes) → IsFileOf line left bytes
+read-file (CommandLine.Run options) left bytes reads told = told
+read-file (CommandLine.Generate n) left bytes reads told = absurd reads
+read-file (CommandLine.Threads n) left bytes reads told = told
+read-file CommandLine.Meaning left bytes reads told = told
 
 -- memory was wanting before anything was run
-pub wanting : (line : Line) (within : IsWithin line) (left left' : Option (List ℕ)) (rf rf' : ℕ) (r : Status) (a b : Sinks) → rf' ≡ rf → Says s.Memory NO_MEMORY.now r a b → LineTells line r (seen left rf a) (seen left' rf' b)
+pub wanting : (line : CommandLine) (within : IsWithin line) (left left' : Option (List ℕ)) (rf rf' : ℕ) (r : Status) (a b : Sinks) → rf' ≡ rf → Says s.Memory NO_MEMORY.now r a b → LineTells line r (seen left rf a) (seen left' rf' b)
 wanting line within left left' rf rf' r a b same h =
     let file = some-file line left in
     file-tells line file.0 left left' rf rf' r a b file.1 same (λ reads ran. absurd (no-run r a b h ran)) (wanting-tells line file.0 within a b r h)
@@ -92,7 +92,7 @@ wanting line within left left' rf rf' r a b same h =
     no-run r a b (inr e) ran = subst IsWholeEnd e.0 ran
 
 -- the source failed
-pub unread : (line : Line) (reads : Reads line) (left left' : Option (List ℕ)) (rf rf' : ℕ) (r : Status) (a b : Sinks) → Rose rf rf' → rf ≤ rf' → Says s.ReadFault READ_FAULT.now r a b → LineTells line r (seen left rf a) (seen left' rf' b)
+pub unread : (line : CommandLine) (reads : Reads line) (left left' : Option (List ℕ)) (rf rf' : ℕ) (r : Status) (a b : Sinks) → Rose rf rf' → rf ≤ rf' → Says s.ReadFault READ_FAULT.now r a b → LineTells line r (seen left rf a) (seen left' rf' b)
 unread line reads left left' rf rf' r a b rose later h = record {
   means = inl (record { reads = reads; failed = rose; says = h });
   causes = caused h;
@@ -111,7 +111,7 @@ long-file None left' h = let some = longer LIMIT in (some.0, tt, some.1)
 long-file (Some xs) None h = absurd h.1
 long-file (Some xs) (Some ys) h = (xs, refl, omega (arith, ap length h.1, length-append h.0 ys, h.2))
 
-pub too-long : (line : Line) (reads : Reads line) (within : IsWithin line) (left left' : Option (List ℕ)) (rf rf' : ℕ) (r : Status) (a b : Sinks) → ReadsSome left left' LIMIT → rf' ≡ rf → Says s.Refused TOO_LONG.now r a b
+pub too-long : (line : CommandLine) (reads : Reads line) (within : IsWithin line) (left left' : Option (List ℕ)) (rf rf' : ℕ) (r : Status) (a b : Sinks) → ReadsSome left left' LIMIT → rf' ≡ rf → Says s.Refused TOO_LONG.now r a b
     → LineTells line r (seen left rf a) (seen left' rf' b)
 too-long line reads within left left' rf rf' r a b more same h =
     let file = long-file left left' more in
@@ -124,13 +124,13 @@ too-long line reads within left left' rf rf' r a b more same h =
 -- ---- all words
 
 -- a line of words is within its limits
-line-is-within : (words : List (List ℕ)) (line : Line) → IsLine words line → IsWithin line
-line-is-within words line is = subst (λ (o : Option Line). IfSome o IsWithin) is (line-within words)
+line-is-within : (words : List (List ℕ)) (line : CommandLine) → IsLine words line → IsWithin line
+line-is-within words line is = subst (λ (o : Option CommandLine). IfSome o IsWithin) is (line-within words)
 
-same-line : (a b : Line) → ◌≡◌ {A = Option Line} (Some a) (Some b) → a ≡ b
+same-line : (a b : CommandLine) → ◌≡◌ {A = Option CommandLine} (Some a) (Some b) → a ≡ b
 same-line a b e = cc
 
-not-none : (a : Line) → ◌≡◌ {A = Option Line} (Some a) None → ⊥
+not-none : (a : CommandLine) → ◌≡◌ {A = Option CommandLine} (Some a) None → ⊥
 not-none a e = cc
 
 -- a write that failed raised a count
@@ -150,21 +150,21 @@ module _ (words : List (List ℕ)) (left left' : Option (List ℕ)) (rf rf' : �
 
   module _ (quiet : IsQuiet before after) where
     -- a line that says why nothing was done
-    line-got : (r : Status) (text : List ℕ) → Meaning words left r [] text → GotWrites (Write.ToErr text ∷ []) a b → GotMeaning words r before after
+    line-got : (r : Status) (text : List ℕ) → WordsMean words left r [] text → GotWrites (Write.ToErr text ∷ []) a b → GotMeaning words r before after
     line-got r text why got = record { out = []; err = text; meaning = why; got_out = got.0; got_err = subst (Appends a.err b.err) (append-nil text) got.1 }
 
-    said : (status r : Status) (text : List ℕ) → Says status text r a b → (status ≡ s.Memory) ⊎ Meaning words left status [] text → Whole r
+    said : (status r : Status) (text : List ℕ) → Says status text r a b → (status ≡ s.Memory) ⊎ WordsMean words left status [] text → Whole r
     said status r text (inl e) (inl want) = inl (e.0 ∙ want)
-    said status r text (inl e) (inr why) = inr (line-got r text (subst (λ t. Meaning words left t [] text) (sym e.0) why) e.1)
+    said status r text (inl e) (inr why) = inr (line-got r text (subst (λ t. WordsMean words left t [] text) (sym e.0) why) e.1)
     said status r text (inr e) why = absurd (loud (Write.ToErr text) left left' rf rf' a b quiet e.1.failed)
 
-    ran : (line : Line) (bytes : List ℕ) (r : Status) → IsLine words line → IsFileOf line left bytes → GoesWhole line bytes r a b → Whole r
+    ran : (line : CommandLine) (bytes : List ℕ) (r : Status) → IsLine words line → IsFileOf line left bytes → GoesWhole line bytes r a b → Whole r
     ran line bytes r is file h =
         let out = out_for h.way (CodeOf h.file) in
         let err = err_for h.way (CodeOf h.file) in
-        inr (record { out = out; err = err; meaning = subst (λ t. Meaning words left t out err) (sym h.status) (Goes line bytes h.file h.way is file h.accepts h.is_way); got_out = h.out; got_err = h.err })
+        inr (record { out = out; err = err; meaning = subst (λ t. WordsMean words left t out err) (sym h.status) (Goes line bytes h.file h.way is file h.accepts h.is_way); got_out = h.out; got_err = h.err })
 
-    of-file : (line : Line) (bytes : List ℕ) (r : Status) → IsLine words line → IsFileOf line left bytes → FileMeans line bytes r a b → Whole r
+    of-file : (line : CommandLine) (bytes : List ℕ) (r : Status) → IsLine words line → IsFileOf line left bytes → FileMeans line bytes r a b → Whole r
     of-file line bytes s.Clean is file m = ran line bytes s.Clean is file m
     of-file line bytes s.Found is file m = ran line bytes s.Found is file m
     of-file line bytes s.Crashed is file m = ran line bytes s.Crashed is file m
@@ -175,7 +175,7 @@ module _ (words : List (List ℕ)) (left left' : Option (List ℕ)) (rf rf' : �
     of-file line bytes s.WriteFault is file m = absurd (loud m.1.0 left left' rf rf' a b quiet m.1.2.failed)
     of-file line bytes s.Memory is file m = inl refl
 
-    of-line : (line : Line) (r : Status) → IsLine words line → LineMeans line r before after → Whole r
+    of-line : (line : CommandLine) (r : Status) → IsLine words line → LineMeans line r before after → Whole r
     of-line line r is (inl h) = absurd (quiet.source h.failed)
     of-line line r is (inr h) = of-file line h.bytes r is h.is_file h.means
 
@@ -183,17 +183,17 @@ module _ (words : List (List ℕ)) (left left' : Option (List ℕ)) (rf rf' : �
     of-none r none (inl h) = said s.Usage r USAGE.now h (inr (Misused none))
     of-none r none (inr h) = said s.Memory r NO_MEMORY.now h (inl refl)
 
-    of-words : (o : Option Line) (r : Status) → line_of words ≡ o → ((line : Line) → IsLine words line → LineMeans line r before after) → (IsNoLine words → UsageMeans r before after) → Whole r
+    of-words : (o : Option CommandLine) (r : Status) → line_of words ≡ o → ((line : CommandLine) → IsLine words line → LineMeans line r before after) → (IsNoLine words → UsageMeans r before after) → Whole r
     of-words (Some line) r is m u = of-line line r is (m line is)
     of-words None r is m u = of-none r is (u is)
 
-  tells : (r : Status) → ((line : Line) → IsLine words line → LineMeans line r before after) → (IsNoLine words → UsageMeans r before after) → (((line : Line) → IsLine words line → Reads line → ⊥) → IsUntouched before after) → Causes r before after → Tells words r before after
+  tells : (r : Status) → ((line : CommandLine) → IsLine words line → LineMeans line r before after) → (IsNoLine words → UsageMeans r before after) → (((line : CommandLine) → IsLine words line → Reads line → ⊥) → IsUntouched before after) → Causes r before after → Tells words r before after
   tells r means usage unread causes = record { line = means; usage = usage; unread = unread; causes = causes; complete = λ quiet. of-words quiet (line_of words) r refl means usage }
 
   untouched : left' ≡ left → rf' ≡ rf → IsUntouched before after
   untouched same counts = record { left = subst (Keeps left) (sym same) (Keeps-refl left); faults = counts }
 
-  tells-line : (line : Line) (r : Status) → IsLine words line → LineTells line r before after → ((Reads line → ⊥) → IsUntouched before after) → Tells words r before after
+  tells-line : (line : CommandLine) (r : Status) → IsLine words line → LineTells line r before after → ((Reads line → ⊥) → IsUntouched before after) → Tells words r before after
   tells-line line r is h unread = tells r
       (λ other same. subst (λ l. LineMeans l r before after) (same-line line other (sym is ∙ same)) h.means)
       (λ none. absurd (not-none line (sym is ∙ none)))
@@ -201,12 +201,12 @@ module _ (words : List (List ℕ)) (left left' : Option (List ℕ)) (rf rf' : �
       h.causes
 
   -- the words are a line that reads
-  pub tells-reading : (line : Line) (r : Status) → Reads line → IsLine words line → LineTells line r before after → Tells words r before after
+  pub tells-reading : (line : CommandLine) (r : Status) → Reads line → IsLine words line → LineTells line r before after → Tells words r before after
   tells-reading line r reads is h = tells-line line r is h (λ none. absurd (none reads))
 
   -- they ask for a generated file
-  pub tells-generate : (n : ℕ) (r : Status) → IsLine words (Line.Generate n) → LineTells (Line.Generate n) r before after → left' ≡ left → rf' ≡ rf → Tells words r before after
-  tells-generate n r is h same counts = tells-line (Line.Generate n) r is h (λ _. untouched same counts)
+  pub tells-generate : (n : ℕ) (r : Status) → IsLine words (CommandLine.Generate n) → LineTells (CommandLine.Generate n) r before after → left' ≡ left → rf' ≡ rf → Tells words r before after
+  tells-generate n r is h same counts = tells-line (CommandLine.Generate n) r is h (λ _. untouched same counts)
 
   says-causes : (status r : Status) (text : List ℕ) → ((v w : View) → w.read_faults ≡ v.read_faults → IsSteady v.sinks w.sinks → Causes status v w) → rf' ≡ rf → Says status text r a b → Causes r before after
   says-causes status r text quiet same (inl e) = subst (λ t. Causes t before after) (sym e.0) (quiet before after same e.2)
@@ -227,5 +227,5 @@ module _ (words : List (List ℕ)) (left left' : Option (List ℕ)) (rf rf' : �
       tells r (λ line is. (wanting line (line-is-within words line is) left left' rf rf' r a b counts h).means) (λ _. inr h) (λ _. untouched same counts) causes
 
 -- a line that asks for a generated file reads nothing
-pub generated-line : (n : ℕ) (left : Option (List ℕ)) (rf : ℕ) (r : Status) (a b : Sinks) → FileTells (Line.Generate n) (generated_file n) r a b → LineTells (Line.Generate n) r (seen left rf a) (seen left rf b)
-generated-line n left rf r a b h = file-tells (Line.Generate n) (generated_file n) left left rf rf r a b refl refl (λ reads ran. absurd reads) h
+pub generated-line : (n : ℕ) (left : Option (List ℕ)) (rf : ℕ) (r : Status) (a b : Sinks) → FileTells (CommandLine.Generate n) (generated_file n) r a b → LineTells (CommandLine.Generate n) r (seen left rf a) (seen left rf b)
+generated-line n left rf r a b h = file-tells (CommandLine.Generate n) (generated_file n) left left rf rf r a b refl refl (λ reads ran. absurd reads) h

@@ -3,17 +3,17 @@ use Rattle.std.proofs.Common.{◌≡◌, ◌≤◌, ℕ, List, length, subst}
 use Rattle.std.specs.Prelude.{Option, IfSome}
 use Rattle.std.specs.Io.KnownBytes.{IsAtEnd}
 use Rattle.golf_base.specs.Causes.{Rose, ReadsSome}
-use Rattle.golf_grammar.specs.declared.declarations.File.{File}
+use Rattle.golf_syntax_trees.specs.declared.declarations.File.{File}
 use Rattle.golf_reader.specs.declared.refusal.Refusal.{Refusal}
 use Rattle.golf_reader.specs.Refusals.{IsRefusedBy, HasTypedTree, IsOnly}
-use Rattle.golf_words.specs.declared.line.Line.{Line}
-use Rattle.golf_words.specs.Words.{IsWithin}
-use Rattle.golf_texts.specs.declared.status.Status.{Status}
-use Rattle.golf_texts.specs.declared.status.Status.TheVariants as s
-use Rattle.golf_texts.specs.declared.status.TheConstants.{LIMIT, TOO_LONG, READ_FAULT, NO_MEMORY}
+use Rattle.golf_command_words.specs.declared.line.CommandLine.{CommandLine}
+use Rattle.golf_command_words.specs.Words.{IsWithin}
+use Rattle.golf_run_texts.specs.declared.status.Status.{Status}
+use Rattle.golf_run_texts.specs.declared.status.Status.TheVariants as s
+use Rattle.golf_run_texts.specs.declared.status.TheConstants.{LIMIT, TOO_LONG, READ_FAULT, NO_MEMORY}
 use Rattle.golf_run.specs.HasRun.{Sinks, sinks}
 use Rattle.golf_command.specs.Ends.{EndsWith, Refuses}
-use Rattle.golf_command.specs.Meaning.{Reads}
+use Rattle.golf_command.specs.Promises.{Reads}
 use Rattle.golf_command.specs.Means.{seen, FileTells, LineTells}
 use Rattle.golf_command.specs.Loads.{HasFetched, HasFile, Ends}
 use Rattle.golf_command.proofs.Sinking.{says}
@@ -23,7 +23,7 @@ use Rattle.golf_command.proofs.Calling.{file-tells, read-file, unread, too-long,
 module _ (left left' : Option (List ℕ)) (rf rf' : ℕ) (err err' : Option (List ℕ)) (ef ef' : ℕ) (r : Status) where
   -- what a line that reads comes to
   abbrev pub Comes : Type 0
-  Comes = (line : Line) → Reads line → IsWithin line → (out : Option (List ℕ)) (of : ℕ) → LineTells line r (seen left rf (sinks out of err ef)) (seen left' rf' (sinks out of err' ef'))
+  Comes = (line : CommandLine) → Reads line → IsWithin line → (out : Option (List ℕ)) (of : ℕ) → LineTells line r (seen left rf (sinks out of err ef)) (seen left' rf' (sinks out of err' ef'))
 
   pub fails-to-read : Rose rf rf' → rf ≤ rf' → EndsWith r s.ReadFault READ_FAULT.now err err' ef ef' → Comes
   fails-to-read rose later e line reads within out of = unread line reads left left' rf rf' r _ _ rose later (says out of err err' ef ef' s.ReadFault r READ_FAULT.now e)
@@ -47,7 +47,7 @@ then-refused bytes left left' rf rf' err err1 err' ef ef1 ef' r h same quiet ref
     (subst (λ (y : Option (List ℕ) × ℕ). Refuses r refusal y.0 err' y.1 ef') (λ i. (same i, quiet i)) e)
 
 -- there is a file, and what follows tells of it
-module _ (line : Line) (reads : Reads line) (file : File) (left left' : Option (List ℕ)) (rf rf' : ℕ) (l : HasFile file left left' rf rf') (out err err1 : Option (List ℕ)) (of ef ef1 : ℕ) where
+module _ (line : CommandLine) (reads : Reads line) (file : File) (left left' : Option (List ℕ)) (rf rf' : ℕ) (l : HasFile file left left' rf rf') (out err err1 : Option (List ℕ)) (of ef ef1 : ℕ) where
   pub loaded-tells : (b : Sinks) (r : Status) → err1 ≡ err → ef1 ≡ ef → FileTells line l.bytes r (sinks out of err1 ef1) b → LineTells line r (seen left rf (sinks out of err ef)) (seen left' rf' b)
   loaded-tells b r same quiet h =
       file-tells line l.bytes left left' rf rf' r (sinks out of err ef) b (read-file line left l.bytes reads l.told) l.quiet (λ _ _. l.at_end)

@@ -5,31 +5,31 @@ use Rattle.std.specs.Io.KnownBytes.{Appends}
 use Rattle.golf_data.specs.declared.code.Code.{Code}
 use Rattle.golf_data.specs.declared.goroutine.Ending.{Ending}
 use Rattle.golf_model.specs.State.{ending}
-use Rattle.golf_grammar.specs.declared.declarations.File.{File}
+use Rattle.golf_syntax_trees.specs.declared.declarations.File.{File}
 use Rattle.golf_code_of.specs.Files.{CodeOf}
-use Rattle.golf_schedules.specs.declared.options.Options.{Options}
-use Rattle.golf_words.specs.declared.line.Line.{Line}
-use Rattle.golf_words.specs.Words.{IsWithin}
-use Rattle.golf_texts.specs.declared.status.Status.{Status}
-use Rattle.golf_texts.specs.declared.status.Status.TheVariants as s
-use Rattle.golf_texts.specs.declared.status.TheConstants.{LIMIT, NO_MEMORY}
-use Rattle.golf_texts.specs.Texts.{lexical_line, syntax_line, rule_line}
-use Rattle.golf_texts.specs.Meaning.{status_by, status_of, last_of, reports_of, anyone_reported, events_of}
-use Rattle.golf_texts.specs.Writes.{Write}
+use Rattle.golf_run_schedules.specs.declared.options.RunOptions.{RunOptions}
+use Rattle.golf_command_words.specs.declared.line.CommandLine.{CommandLine}
+use Rattle.golf_command_words.specs.Words.{IsWithin}
+use Rattle.golf_run_texts.specs.declared.status.Status.{Status}
+use Rattle.golf_run_texts.specs.declared.status.Status.TheVariants as s
+use Rattle.golf_run_texts.specs.declared.status.TheConstants.{LIMIT, NO_MEMORY}
+use Rattle.golf_run_texts.specs.Texts.{lexical_line, syntax_line, rule_line}
+use Rattle.golf_run_texts.specs.Output.{status_by, status_of, last_of, reports_of, anyone_reported, events_of}
+use Rattle.golf_run_texts.specs.Writes.{Write}
 use Rattle.golf_model.proofs.Agreeing.{dead-sound, dead-complete}
-use Rattle.golf_laws.proofs.MainLaws as Law
+use Rattle.golf_model_futures.proofs.MainLaws as Law
 use Rattle.golf_meaning.proofs.Laws.{file-agrees}
-use Rattle.golf_never_stuck.specs.Reached.{IsProgram}
-use Rattle.golf_never_stuck.proofs.Reaching.{reached-moves-on}
-use Rattle.golf_never_stuck.proofs.Plain.{plain-runs-go-on}
+use Rattle.golf_code_never_stuck.specs.Reached.{IsProgram}
+use Rattle.golf_code_never_stuck.proofs.Reaching.{reached-moves-on}
+use Rattle.golf_code_never_stuck.proofs.Plain.{plain-runs-go-on}
 use Rattle.golf_reader.specs.declared.refusal.Refusal.{Refusal}
 use Rattle.golf_reader.specs.declared.refusal.Refusal.TheVariants as refusals
 use Rattle.golf_reader.specs.Refusals.{IsRefusedBy, IsOnly}
 use Rattle.golf_run.specs.HasRun.{Sinks, sinks, GotWrites, IsSteady}
 use Rattle.golf_command.specs.Ends.{EndsWith, Refuses}
 use Rattle.golf_command.specs.Ways.{Way, IsWayOf, options_of, status_by_options, status_for, out_for, err_for, writes_for}
-use Rattle.golf_command.specs.Meaning.{Reads, Accepts, AreTrue, MovesAlways, RefusedBy}
-use Rattle.golf_command.specs.Meaning.RefusedBy.{Unlexed, Unparsed, Untyped}
+use Rattle.golf_command.specs.Promises.{Reads, Accepts, AreTrue, MovesAlways, RefusedBy}
+use Rattle.golf_command.specs.Promises.RefusedBy.{Unlexed, Unparsed, Untyped}
 use Rattle.golf_command.specs.Means.{Breaks, IsSoundBy, IsSound, Begins, AreFirst, MayFollow, MayStand, GoesWhole, Says, FileTells}
 use Rattle.golf_command.specs.Means.IsCause.{Refusal as Refusing, Wanting}
 use Rattle.golf_command.specs.Means.MayFollow.{Next, Cause}
@@ -37,7 +37,7 @@ use Rattle.golf_command.proofs.Sinking.{gets-more, breaks-later, some-rose, says
 use Rattle.golf_command.proofs.Ways.{some-way, none-stands}
 
 -- the reports of a run are true
-are-true : (code : Code) (options : Options) → AreTrue code options
+are-true : (code : Code) (options : RunOptions) → AreTrue code options
 unfolding reports_of
 are-true code options = record {
   each = Law.book_tells_of_each code (events_of options) options.recover;
@@ -46,7 +46,7 @@ are-true code options = record {
 }
 
 -- the code of a file that the program accepts is never stuck
-moves-always : (bytes : List ℕ) (file : File) (options : Options) → Accepts bytes file → MovesAlways (CodeOf file) options
+moves-always : (bytes : List ℕ) (file : File) (options : RunOptions) → Accepts bytes file → MovesAlways (CodeOf file) options
 moves-always bytes file options a =
     let program : IsProgram file = record { good = a.typed.tree.reads.form.good; typed = a.typed.keeps } in
     let plain = plain-runs-go-on file program in record {
@@ -55,17 +55,17 @@ moves-always bytes file options a =
       moves = λ s c leads going. reached-moves-on (CodeOf file) s c (record { file = file; program = program; coded = refl; leads = leads }) going;
     }
 
-sound-by : (options : Option Options) (bytes : List ℕ) (file : File) → Accepts bytes file → IsSoundBy options file
+sound-by : (options : Option RunOptions) (bytes : List ℕ) (file : File) → Accepts bytes file → IsSoundBy options file
 sound-by (Some options) bytes file a = record { reports = are-true (CodeOf file) options; moves = moves-always bytes file options a }
 sound-by None bytes file a = file-agrees file
 
 sound-way : (way : Way) (bytes : List ℕ) (file : File) → Accepts bytes file → IsSound way file
 sound-way way bytes file a = sound-by (options_of way) bytes file a
 
-begins : (line : Line) (bytes : List ℕ) (file : File) → Accepts bytes file → (w : (way : Way) × IsWayOf line file way) → Begins line file []
+begins : (line : CommandLine) (bytes : List ℕ) (file : File) → Accepts bytes file → (w : (way : Way) × IsWayOf line file way) → Begins line file []
 begins line bytes file a w = record { way = w.0; is_way = w.1; later = writes_for w.0 (CodeOf file); order = refl; sound = sound-way w.0 bytes file a }
 
-module _ (line : Line) (bytes : List ℕ) (within : IsWithin line) where
+module _ (line : CommandLine) (bytes : List ℕ) (within : IsWithin line) where
   none-first : AreFirst line bytes []
   none-first = record { accepted = λ file a. begins line bytes file a (some-way line file within); refused = λ none. refl }
 
@@ -138,7 +138,7 @@ module _ (line : Line) (bytes : List ℕ) (within : IsWithin line) where
       status-runs (Some Ending.Asleep) b h steady = record { means = h; causes = steady }
       status-runs None b h steady = record { means = h; causes = steady }
 
-      status-goes : (options : Option Options) → GoesWhole line bytes (status_by_options options code) old new → IsSteady old new → FileTells line bytes (status_by_options options code) old new
+      status-goes : (options : Option RunOptions) → GoesWhole line bytes (status_by_options options code) old new → IsSteady old new → FileTells line bytes (status_by_options options code) old new
       unfolding status_of
       status-goes (Some options) h steady = status-runs (ending (last_of code options)) (anyone_reported (reports_of code options)) h steady
       status-goes None h steady = record { means = h; causes = steady }

@@ -1,12 +1,12 @@
 -- No generated file is refused.
 use Rattle.std.proofs.Common.{◌≡◌, ℕ, ◌≤◌, List, length, subst}
-use Rattle.golf_grammar.specs.declared.declarations.File.{File}
-use Rattle.golf_generate.specs.File.{file as generated_file}
+use Rattle.golf_syntax_trees.specs.declared.declarations.File.{File}
+use Rattle.golf_command_sample.specs.File.{file as generated_file}
 use Rattle.golf_reader.specs.declared.refusal.Refusal.{Refusal}
 use Rattle.golf_reader.specs.declared.refusal.Refusal.TheVariants as refusals
 use Rattle.golf_reader.specs.Refusals.{HasTypedTree, IsRefusedBy}
-use Rattle.golf_texts.specs.declared.status.TheConstants.{LIMIT}
-use Rattle.golf_generated_accepted.proofs.Accepting as generated
+use Rattle.golf_run_texts.specs.declared.status.TheConstants.{LIMIT}
+use Rattle.golf_command_sample_accepted.proofs.Accepting as generated
 
 module _ (n : ℕ) (some : 1 ≤ n) (most : n ≤ 5000) where
   pub short : length (generated_file n) ≤ LIMIT

@@ -4,9 +4,9 @@ use Rattle.std.specs.Prelude.{Option}
 use Rattle.std.specs.Io.KnownBytes.{Appends}
 use Rattle.std.proofs.KnownBytes.{Appends-nil, Appends-trans}
 use Rattle.golf_base.specs.Causes.{Rose, WritesFront}
-use Rattle.golf_texts.specs.declared.status.Status.{Status}
-use Rattle.golf_texts.specs.declared.status.Status.TheVariants as s
-use Rattle.golf_texts.specs.Writes.{Write, out_bytes, err_bytes}
+use Rattle.golf_run_texts.specs.declared.status.Status.{Status}
+use Rattle.golf_run_texts.specs.declared.status.Status.TheVariants as s
+use Rattle.golf_run_texts.specs.Writes.{Write, out_bytes, err_bytes}
 use Rattle.golf_run.specs.HasRun.{Sinks, sinks, GotWrites, HasFailed, IsSteady}
 use Rattle.golf_command.specs.Ends.{EndsWith}
 use Rattle.golf_command.specs.Means.{Breaks, Says, SinkCauses}

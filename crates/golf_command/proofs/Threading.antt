@@ -5,10 +5,10 @@ use Rattle.golf_model.specs.State.{State, start, ending}
 use Rattle.golf_model.specs.Collecting.{sets_finalisers}
 use Rattle.golf_model.specs.Reporting.{book_of}
 use Rattle.golf_model.specs.Running.{run, stops}
-use Rattle.golf_schedules.specs.Events.{turns_among}
+use Rattle.golf_run_schedules.specs.Events.{turns_among}
 use Rattle.golf_data.specs.declared.report.Report.{Report}
-use Rattle.golf_texts.specs.Texts.{report_text, reports_text, last_line, history_line}
-use Rattle.golf_texts.specs.Meaning.{events_of, last_of, out_of, reports_of, real_stops_of, collections_text, end_of, err_of, status_of, status_by, anyone_reported}
+use Rattle.golf_run_texts.specs.Texts.{report_text, reports_text, last_line, history_line}
+use Rattle.golf_run_texts.specs.Output.{events_of, last_of, out_of, reports_of, real_stops_of, collections_text, end_of, err_of, status_of, status_by, anyone_reported}
 use Rattle.golf_world.specs.declared.history.History.{History}
 use Rattle.golf_world.specs.History.{turns}
 use Rattle.golf_world.specs.Runs.{IsWholeRun}

@@ -8,9 +8,9 @@ use Rattle.golf_data.specs.declared.code.Code.{Code}
 use Rattle.golf_data.specs.declared.goroutine.Ending.{Ending}
 use Rattle.golf_model.specs.State.{start, runnable, ending}
 use Rattle.golf_model.specs.Running.{Event, run}
-use Rattle.golf_schedules.specs.Events.{turns_from, turns_among}
-use Rattle.golf_texts.specs.Meaning.{events_of}
-use Rattle.golf_laws.proofs.RealRuns.{real-runs}
+use Rattle.golf_run_schedules.specs.Events.{turns_from, turns_among}
+use Rattle.golf_run_texts.specs.Output.{events_of}
+use Rattle.golf_model_futures.proofs.RealRuns.{real-runs}
 use Rattle.golf_world.specs.declared.history.HistoryEntry.{HistoryEntry}
 use Rattle.golf_world.specs.History.{turns, after, number_at, IsHistory}
 use Rattle.golf_world.proofs.Executions.{after-is}

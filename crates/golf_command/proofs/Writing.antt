@@ -6,23 +6,23 @@ use Rattle.std.proofs.KnownBytes.{Appends-nil}
 use Rattle.golf_base.specs.Causes.{Rose, WritesFront}
 use Rattle.golf_base.specs.declared.Memory.{Memory}
 use Rattle.golf_data.specs.declared.code.Code.{Code}
-use Rattle.golf_grammar.specs.declared.declarations.File.{File}
+use Rattle.golf_syntax_trees.specs.declared.declarations.File.{File}
 use Rattle.golf_code_of.specs.Files.{CodeOf}
-use Rattle.golf_function_meaning.specs.Files.{function_count}
-use Rattle.golf_texts.specs.Texts.{meaning_line}
+use Rattle.golf_meaning_functions.specs.Files.{function_count}
+use Rattle.golf_run_texts.specs.Texts.{meaning_line}
 use Rattle.golf_reader.specs.Refusals.{IsOnly}
-use Rattle.golf_words.specs.declared.line.Line.{Line}
-use Rattle.golf_words.specs.Words.{IsWithin}
-use Rattle.golf_texts.specs.declared.status.Status.{Status}
-use Rattle.golf_texts.specs.declared.status.Status.TheVariants as s
-use Rattle.golf_texts.specs.declared.status.TheConstants.{NO_MEMORY}
-use Rattle.golf_texts.specs.Writes.{Write}
+use Rattle.golf_command_words.specs.declared.line.CommandLine.{CommandLine}
+use Rattle.golf_command_words.specs.Words.{IsWithin}
+use Rattle.golf_run_texts.specs.declared.status.Status.{Status}
+use Rattle.golf_run_texts.specs.declared.status.Status.TheVariants as s
+use Rattle.golf_run_texts.specs.declared.status.TheConstants.{NO_MEMORY}
+use Rattle.golf_run_texts.specs.Writes.{Write}
 use Rattle.golf_run.specs.HasRun.{Sinks, sinks, GotWrites, WasCut}
 use Rattle.golf_command.specs.declared.texts.RunTexts.{RunTexts}
 use Rattle.golf_command.specs.Generating.{generated_writes}
 use Rattle.golf_command.specs.Ways.{Way, IsWayOf, AreTurns, out_for, err_for, writes_for}
 use Rattle.golf_command.specs.Written.{AreTextsOf, AreTextsByThreads, text_writes, WroteBoth, HasWritten, HasTold}
-use Rattle.golf_command.specs.Meaning.{Accepts}
+use Rattle.golf_command.specs.Promises.{Accepts}
 use Rattle.golf_command.specs.Means.{Breaks, Says, FileTells}
 use Rattle.golf_command.proofs.Filing.{went-tells, failed-tells, wanting-tells}
 
@@ -81,7 +81,7 @@ unfolding generated_writes
 generated-last parts code = refl
 
 -- the file has this code, and its run goes in this way
-module _ (line : Line) (bytes : List ℕ) (within : IsWithin line) (file : File) (code : Code) (accepted : Accepts bytes file) (is : code ≡ CodeOf file) (only : IsOnly bytes file) where
+module _ (line : CommandLine) (bytes : List ℕ) (within : IsWithin line) (file : File) (code : Code) (accepted : Accepts bytes file) (is : code ≡ CodeOf file) (only : IsOnly bytes file) where
   module _ (way : Way) (is_way : IsWayOf line file way) (last : WritesLast way code) (of : RunTexts) (h : AreTextsOf of way code) (old new : Sinks) where
     these : writes_for way code ≡ text_writes of
     these = last ∙ ap (λ t. Write.ToOut t ∷ Write.ToErr (err_for way code) ∷ []) (sym h.out) ∙ ap (λ t. Write.ToOut of.out ∷ Write.ToErr t ∷ []) (sym h.err)
@@ -104,12 +104,12 @@ module _ (line : Line) (bytes : List ℕ) (within : IsWithin line) (file : File)
   written-tells (Err m) r old new h w = wanting-tells line bytes within old new r w
 
 pub made-of-parts : (parts : ℕ) (file : File) (code : Code) (made : Result RunTexts Memory) → IfOk made (λ of. AreTextsOf of (Way.Generated parts) code)
-    → IfOk made (λ of. (way : Way) × IsWayOf (Line.Generate parts) file way × WritesLast way code × AreTextsOf of way code)
+    → IfOk made (λ of. (way : Way) × IsWayOf (CommandLine.Generate parts) file way × WritesLast way code × AreTextsOf of way code)
 made-of-parts parts file code (Ok of) h = (Way.Generated parts, refl, generated-last parts code, h)
 made-of-parts parts file code (Err m) h = tt
 
 pub made-by-threads : (threads : ℕ) (file : File) (code : Code) → code ≡ CodeOf file → (made : Result RunTexts Memory) → IfOk made (λ of. AreTextsByThreads of threads code)
-    → IfOk made (λ of. (way : Way) × IsWayOf (Line.Threads threads) file way × WritesLast way code × AreTextsOf of way code)
+    → IfOk made (λ of. (way : Way) × IsWayOf (CommandLine.Threads threads) file way × WritesLast way code × AreTextsOf of way code)
 made-by-threads threads file code is (Ok of) h = (Way.ByThreads h.0, (h.0, refl, subst (λ c. AreTurns c threads h.0) is h.1), refl, h.2)
 made-by-threads threads file code is (Err m) h = tt
 
@@ -119,14 +119,14 @@ module _ (bytes : List ℕ) (file : File) (accepted : Accepts bytes file) (only 
   abbrev way : Way
   way = Way.Compared (function_count file.declarations)
 
-  pub told-tells : (made : Result (List ℕ) Memory) (r : Status) (old new : Sinks) → IfOk made (λ text. text ≡ meaning_line (function_count file.declarations)) → HasTold made r old new → FileTells Line.Meaning bytes r old new
+  pub told-tells : (made : Result (List ℕ) Memory) (r : Status) (old new : Sinks) → IfOk made (λ text. text ≡ meaning_line (function_count file.declarations)) → HasTold made r old new → FileTells CommandLine.Meaning bytes r old new
   told-tells (Ok text) r old new is (inl w) =
-      went-tells Line.Meaning bytes tt file (CodeOf file) accepted refl only way refl old new r w.0
+      went-tells CommandLine.Meaning bytes tt file (CodeOf file) accepted refl only way refl old new r w.0
       (subst (Appends old.out new.out) (append-nil text ∙ is) w.1.0) w.1.1 w.2
   told-tells (Ok text) r old new is (inr w) =
-      subst (λ t. FileTells Line.Meaning bytes t old new) (sym w.0)
-      (failed-tells Line.Meaning bytes tt file (CodeOf file) accepted refl only way refl old new [] [] (Write.ToOut text) (ap (λ t. Write.ToOut t ∷ []) (sym is)) w.1)
-  told-tells (Err m) r old new is w = wanting-tells Line.Meaning bytes tt old new r w
+      subst (λ t. FileTells CommandLine.Meaning bytes t old new) (sym w.0)
+      (failed-tells CommandLine.Meaning bytes tt file (CodeOf file) accepted refl only way refl old new [] [] (Write.ToOut text) (ap (λ t. Write.ToOut t ∷ []) (sym is)) w.1)
+  told-tells (Err m) r old new is w = wanting-tells CommandLine.Meaning bytes tt old new r w
 
 pub told-whole : (out out' err : Option (List ℕ)) (of of' ef : ℕ) (text : List ℕ) → Appends out out' text → of' ≡ of → HasTold (Ok text) s.Clean (sinks out of err ef) (sinks out' of' err ef)
 told-whole out out' err of of' ef text a e = inl (refl, (subst (Appends out out') (sym (append-nil text)) a, Appends-nil err), record { out = e; err = refl })
@@ -146,5 +146,5 @@ pub none-written : (made : Result RunTexts Memory) (m : Memory) (r : Status) (ol
 none-written made m r old new e said = subst (λ (x : Result RunTexts Memory). HasWritten x r old new) (sym e) said
 
 -- the file in other words
-pub same-file : (line : Line) (bytes other : List ℕ) (r : Status) (old new : Sinks) → bytes ≡ other → FileTells line bytes r old new → FileTells line other r old new
+pub same-file : (line : CommandLine) (bytes other : List ℕ) (r : Status) (old new : Sinks) → bytes ≡ other → FileTells line bytes r old new → FileTells line other r old new
 same-file line bytes other r old new e h = subst (λ bs. FileTells line bs r old new) e h

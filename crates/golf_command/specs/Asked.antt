@@ -1,13 +1,13 @@
 -- What a line of words asks for that was looked for.
 use Rattle.std.specs.Prelude.{ℕ, Option, Some, None, Result, Ok, Err}
 use Rattle.golf_base.specs.declared.Memory.{Memory}
-use Rattle.golf_words.specs.declared.line.Line.{Line}
+use Rattle.golf_command_words.specs.declared.line.CommandLine.{CommandLine}
 
 -- so many threads, if it is a threads line
-abbrev pub threads_asked : Result (Option Line) Memory → Option ℕ
-threads_asked (Ok (Some (Line.Threads n))) = Some n
-threads_asked (Ok (Some (Line.Run options))) = None
-threads_asked (Ok (Some (Line.Generate n))) = None
-threads_asked (Ok (Some Line.Meaning)) = None
+abbrev pub threads_asked : Result (Option CommandLine) Memory → Option ℕ
+threads_asked (Ok (Some (CommandLine.Threads n))) = Some n
+threads_asked (Ok (Some (CommandLine.Run options))) = None
+threads_asked (Ok (Some (CommandLine.Generate n))) = None
+threads_asked (Ok (Some CommandLine.Meaning)) = None
 threads_asked (Ok None) = None
 threads_asked (Err m) = None

@@ -4,10 +4,10 @@ use Rattle.std.specs.Io.KnownBytes.{Appends}
 use Rattle.golf_base.specs.Causes.{Rose, WritesFront}
 use Rattle.golf_reader.specs.declared.refusal.Refusal.{Refusal}
 use Rattle.golf_reader.specs.declared.refusal.Refusal.TheVariants as refusals
-use Rattle.golf_texts.specs.Texts.{lexical_line, syntax_line, rule_line}
-use Rattle.golf_texts.specs.declared.status.TheConstants.{NO_MEMORY}
-use Rattle.golf_texts.specs.declared.status.Status.{Status}
-use Rattle.golf_texts.specs.declared.status.Status.TheVariants as s
+use Rattle.golf_run_texts.specs.Texts.{lexical_line, syntax_line, rule_line}
+use Rattle.golf_run_texts.specs.declared.status.TheConstants.{NO_MEMORY}
+use Rattle.golf_run_texts.specs.declared.status.Status.{Status}
+use Rattle.golf_run_texts.specs.declared.status.Status.TheVariants as s
 
 -- the line was written with that status, or the write failed in the middle of it
 abbrev pub EndsWith : Status → Status → List ℕ → Option (List ℕ) → Option (List ℕ) → ℕ → ℕ → Type 0

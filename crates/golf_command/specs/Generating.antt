@@ -1,18 +1,18 @@
 -- How a generated file is run, and what its run writes (profile).
 use Rattle.std.specs.Prelude.{ℕ, true, false, List, [], ◌∷◌, None}
 use Rattle.golf_data.specs.declared.code.Code.{Code}
-use Rattle.golf_schedules.specs.declared.schedule.Schedule.{Schedule}
-use Rattle.golf_schedules.specs.declared.options.Options.{Options}
-use Rattle.golf_generate.specs.declared.summary.Summary.{Summary}
-use Rattle.golf_generate.specs.File.{file as generated_file, summary}
-use Rattle.golf_generate.specs.Lines.{newlines}
-use Rattle.golf_texts.specs.declared.totals.Totals.{Totals}
-use Rattle.golf_texts.specs.Totals.{totals_of}
-use Rattle.golf_texts.specs.Meaning.{reports_of, end_of}
-use Rattle.golf_texts.specs.Writes.{Write}
+use Rattle.golf_run_schedules.specs.declared.schedule.Schedule.{Schedule}
+use Rattle.golf_run_schedules.specs.declared.options.RunOptions.{RunOptions}
+use Rattle.golf_command_sample.specs.declared.summary.Summary.{Summary}
+use Rattle.golf_command_sample.specs.File.{file as generated_file, summary}
+use Rattle.golf_command_sample.specs.Lines.{newlines}
+use Rattle.golf_run_texts.specs.declared.totals.Totals.{Totals}
+use Rattle.golf_run_texts.specs.Totals.{totals_of}
+use Rattle.golf_run_texts.specs.Output.{reports_of, end_of}
+use Rattle.golf_run_texts.specs.Writes.{Write}
 
 -- in rotation, by four markers, with recovery
-unfoldable pub generated_options : Options
+unfoldable pub generated_options : RunOptions
 generated_options = record { schedule = Schedule.Rotate; turns = 10000000; every = None; markers = 4; recover = true; why = false }
 
 -- the numbers of the run of the generated file of n parts

@@ -1,7 +1,7 @@
 pub mod Asked
 pub mod Generating
 pub mod Ways
-pub mod Meaning
+pub mod Promises
 pub mod Means
 pub mod Ends
 pub mod Written

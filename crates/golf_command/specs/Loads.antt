@@ -2,24 +2,24 @@
 use Rattle.std.specs.Prelude.{◌≡◌, ℕ, ◌≤◌, List, length, Option, IfSome, Result, Ok, Err}
 use Rattle.std.specs.Io.KnownBytes.{IsAtEnd}
 use Rattle.golf_data.specs.declared.code.Code.{Code}
-use Rattle.golf_grammar.specs.declared.declarations.File.{File}
-use Rattle.golf_types.specs.Files.{facts_in}
+use Rattle.golf_syntax_trees.specs.declared.declarations.File.{File}
+use Rattle.golf_check_types.specs.Files.{facts_in}
 use Rattle.golf_check.specs.declared.files.Checked.{Checked}
 use Rattle.golf_check.specs.Heads.{scope_of}
 use Rattle.golf_code_of.specs.Files.{CodeOf}
 use Rattle.golf_reader.specs.Refusals.{IsOnly}
-use Rattle.golf_words.specs.declared.line.Line.{Line}
-use Rattle.golf_words.specs.Words.{IsWithin}
-use Rattle.golf_texts.specs.declared.status.Status.{Status}
-use Rattle.golf_texts.specs.declared.status.TheConstants.{LIMIT}
+use Rattle.golf_command_words.specs.declared.line.CommandLine.{CommandLine}
+use Rattle.golf_command_words.specs.Words.{IsWithin}
+use Rattle.golf_run_texts.specs.declared.status.Status.{Status}
+use Rattle.golf_run_texts.specs.declared.status.TheConstants.{LIMIT}
 use Rattle.golf_run.specs.HasRun.{sinks}
-use Rattle.golf_command.specs.Meaning.{Reads, Accepts}
+use Rattle.golf_command.specs.Promises.{Reads, Accepts}
 use Rattle.golf_command.specs.Means.{seen, LineTells}
 
 -- a line says why there is no file, which is all that a line that reads comes to then
 abbrev pub Ends : Status → Option (List ℕ) → Option (List ℕ) → ℕ → ℕ → Option (List ℕ) → Option (List ℕ) → ℕ → ℕ → Type 0
 Ends status left left' before now err err' faults faults' =
-    (line : Line) → Reads line → IsWithin line → (out : Option (List ℕ)) (out_faults : ℕ)
+    (line : CommandLine) → Reads line → IsWithin line → (out : Option (List ℕ)) (out_faults : ℕ)
     → LineTells line status (seen left before (sinks out out_faults err faults)) (seen left' now (sinks out out_faults err' faults'))
 
 -- the source was read to its end, and these are its bytes, no more than a file may have

@@ -5,18 +5,18 @@ use Rattle.std.specs.declared.alloc.Global.{Global}
 use Rattle.std.specs.Io.KnownBytes.{Appends, Keeps, IsAtEnd}
 use Rattle.golf_base.specs.Causes.{Rose}
 use Rattle.golf_data.specs.declared.code.Code.{Code}
-use Rattle.golf_grammar.specs.declared.declarations.File.{File}
+use Rattle.golf_syntax_trees.specs.declared.declarations.File.{File}
 use Rattle.golf_code_of.specs.Files.{CodeOf}
 use Rattle.golf_meaning.specs.Judged.{FileAgrees}
-use Rattle.golf_schedules.specs.declared.options.Options.{Options}
-use Rattle.golf_words.specs.declared.line.Line.{Line}
-use Rattle.golf_texts.specs.declared.status.Status.{Status}
-use Rattle.golf_texts.specs.declared.status.Status.TheVariants as s
-use Rattle.golf_texts.specs.declared.status.TheConstants.{USAGE, READ_FAULT, NO_MEMORY}
-use Rattle.golf_texts.specs.Writes.{Write}
+use Rattle.golf_run_schedules.specs.declared.options.RunOptions.{RunOptions}
+use Rattle.golf_command_words.specs.declared.line.CommandLine.{CommandLine}
+use Rattle.golf_run_texts.specs.declared.status.Status.{Status}
+use Rattle.golf_run_texts.specs.declared.status.Status.TheVariants as s
+use Rattle.golf_run_texts.specs.declared.status.TheConstants.{USAGE, READ_FAULT, NO_MEMORY}
+use Rattle.golf_run_texts.specs.Writes.{Write}
 use Rattle.golf_run.specs.HasRun.{Sinks, GotWrites, IsFrontOf, HasFailed, IsSteady}
 use Rattle.golf_command.specs.Ways.{Way, IsWayOf, options_of, status_for, out_for, err_for, writes_for}
-use Rattle.golf_command.specs.Meaning.{IsLine, IsNoLine, Reads, IsFileOf, Accepts, AreTrue, MovesAlways, RefusedBy, Meaning}
+use Rattle.golf_command.specs.Promises.{IsLine, IsNoLine, Reads, IsFileOf, Accepts, AreTrue, MovesAlways, RefusedBy, WordsMean}
 
 -- the bytes of the words
 abbrev pub words_of : List (String Global) → List (List ℕ)
@@ -43,12 +43,12 @@ pub record Breaks (old new : Sinks) (done : List Write) (cut : Write) : Type 0 w
 -- ---- what a status says of a file
 
 -- the reports of the run of the code are true, and no turn of it is ever stuck
-pub record IsSoundRun (code : Code) (options : Options) : Type 0 where
+pub record IsSoundRun (code : Code) (options : RunOptions) : Type 0 where
   pub reports : AreTrue code options
   pub moves : MovesAlways code options
 
 -- what is said by what is written: of a run, its reports; else that the code of each function of the file agrees with its source, both ways
-abbrev pub IsSoundBy : Option Options → File → Type 0
+abbrev pub IsSoundBy : Option RunOptions → File → Type 0
 IsSoundBy (Some options) file = IsSoundRun (CodeOf file) options
 IsSoundBy None file = FileAgrees file
 
@@ -56,7 +56,7 @@ abbrev pub IsSound : Way → File → Type 0
 IsSound way file = IsSoundBy (options_of way) file
 
 -- the first writes of a sound way of the line over the file
-pub record Begins (line : Line) (file : File) (done : List Write) : Type 0 where
+pub record Begins (line : CommandLine) (file : File) (done : List Write) : Type 0 where
   pub way : Way
   pub is_way : IsWayOf line file way
   pub later : List Write
@@ -64,22 +64,22 @@ pub record Begins (line : Line) (file : File) (done : List Write) : Type 0 where
   pub sound : IsSound way file
 
 -- the first writes over the file of these bytes; none if it is refused
-pub record AreFirst (line : Line) (bytes : List ℕ) (done : List Write) : Type 0 where
+pub record AreFirst (line : CommandLine) (bytes : List ℕ) (done : List Write) : Type 0 where
   pub accepted : (file : File) → Accepts bytes file → Begins line file done
   pub refused : ((file : File) → Accepts bytes file → ⊥) → done ≡ []
 
 -- the text of a cause, which may stand after them; only the file of a line that reads is refused
-pub data IsCause (line : Line) (bytes : List ℕ) : List ℕ → Type 0 where
+pub data IsCause (line : CommandLine) (bytes : List ℕ) : List ℕ → Type 0 where
   Refusal : (text : List ℕ) → Reads line → RefusedBy bytes text → IsCause line bytes text
   Wanting : IsCause line bytes NO_MEMORY.now
 
 -- what may be written after them: the next write of the way, or the text of a cause
-pub data MayFollow (line : Line) (bytes : List ℕ) (done : List Write) : Write → Type 0 where
+pub data MayFollow (line : CommandLine) (bytes : List ℕ) (done : List Write) : Write → Type 0 where
   Next : (write : Write) → AreFirst line bytes (done ++ write ∷ []) → MayFollow line bytes done write
   Cause : (text : List ℕ) → AreFirst line bytes done → IsCause line bytes text → MayFollow line bytes done (Write.ToErr text)
 
 -- The file was accepted, and each sink got its whole text: of a run, what the machine that frees and reclaims nothing prints, and the reports of its book with the last line; if nothing is run, the line that says how many functions agree, and nothing.
-pub record GoesWhole (line : Line) (bytes : List ℕ) (answer : Status) (old new : Sinks) : Type 0 where
+pub record GoesWhole (line : CommandLine) (bytes : List ℕ) (answer : Status) (old new : Sinks) : Type 0 where
   pub file : File
   pub accepts : Accepts bytes file
   pub way : Way
@@ -90,21 +90,21 @@ pub record GoesWhole (line : Line) (bytes : List ℕ) (answer : Status) (old new
   pub sound : IsSound way file
 
 -- the file of a line that reads was refused, and standard error got the line that says why
-pub record IsRefused (line : Line) (bytes : List ℕ) (old new : Sinks) : Type 0 where
+pub record IsRefused (line : CommandLine) (bytes : List ℕ) (old new : Sinks) : Type 0 where
   pub reads : Reads line
   pub text : List ℕ
   pub why : RefusedBy bytes text
   pub got : GotWrites (Write.ToErr text ∷ []) old new
 
 -- which writes may stand if memory runs out: a run by options has written its first ones, the others have written nothing
-abbrev pub MayStand : Line → List Write → Type 0
-MayStand (Line.Run options) done = Unit {0}
-MayStand (Line.Generate n) done = done ≡ []
-MayStand (Line.Threads n) done = done ≡ []
-MayStand Line.Meaning done = done ≡ []
+abbrev pub MayStand : CommandLine → List Write → Type 0
+MayStand (CommandLine.Run options) done = Unit {0}
+MayStand (CommandLine.Generate n) done = done ≡ []
+MayStand (CommandLine.Threads n) done = done ≡ []
+MayStand CommandLine.Meaning done = done ≡ []
 
 -- What a status says of a file's bytes and of what the sinks got.
-abbrev pub FileMeans : Line → List ℕ → Status → Sinks → Sinks → Type 0
+abbrev pub FileMeans : CommandLine → List ℕ → Status → Sinks → Sinks → Type 0
 FileMeans line bytes s.Clean old new = GoesWhole line bytes s.Clean old new
 FileMeans line bytes s.Found old new = GoesWhole line bytes s.Found old new
 FileMeans line bytes s.Crashed old new = GoesWhole line bytes s.Crashed old new
@@ -124,7 +124,7 @@ Says status text answer old new =
     ⊎ ((answer ≡ s.WriteFault) × Breaks old new [] (Write.ToErr text))
 
 -- the source of a line that reads failed, and the sinks got that line
-pub record IsUnread (line : Line) (answer : Status) (old new : View) : Type 0 where
+pub record IsUnread (line : CommandLine) (answer : Status) (old new : View) : Type 0 where
   pub reads : Reads line
   pub failed : Rose old.read_faults new.read_faults
   pub says : Says s.ReadFault READ_FAULT.now answer old.sinks new.sinks
@@ -138,14 +138,14 @@ IsWholeEnd s.Spent = Unit {0}
 IsWholeEnd _ = ⊥
 
 -- the line's file, of which the status tells; the source of a line that reads is at its end if the file was accepted
-pub record TellsOfFile (line : Line) (answer : Status) (old new : View) : Type 0 where
+pub record TellsOfFile (line : CommandLine) (answer : Status) (old new : View) : Type 0 where
   pub bytes : List ℕ
   pub is_file : IsFileOf line old.left bytes
   pub means : FileMeans line bytes answer old.sinks new.sinks
   pub at_end : Reads line → IsWholeEnd answer → IsAtEnd new.left
 
 -- what a status says where the words are this line
-abbrev pub LineMeans : Line → Status → View → View → Type 0
+abbrev pub LineMeans : CommandLine → Status → View → View → Type 0
 LineMeans line answer old new = IsUnread line answer old new ⊎ TellsOfFile line answer old new
 
 -- what it says where they are none
@@ -176,7 +176,7 @@ pub record IsQuiet (old new : View) : Type 0 where
 pub record GotMeaning (words : List (List ℕ)) (answer : Status) (old new : View) : Type 0 where
   pub out : List ℕ
   pub err : List ℕ
-  pub meaning : Meaning words old.left answer out err
+  pub meaning : WordsMean words old.left answer out err
   pub got_out : Appends old.sinks.out new.sinks.out out
   pub got_err : Appends old.sinks.err new.sinks.err err
 
@@ -185,12 +185,12 @@ abbrev pub IsComplete : List (List ℕ) → Status → View → View → Type 0
 IsComplete words answer old new = IsQuiet old new → (answer ≡ s.Memory) ⊎ GotMeaning words answer old new
 
 -- what a status says of a file's bytes
-pub record FileTells (line : Line) (bytes : List ℕ) (answer : Status) (old new : Sinks) : Type 0 where
+pub record FileTells (line : CommandLine) (bytes : List ℕ) (answer : Status) (old new : Sinks) : Type 0 where
   pub means : FileMeans line bytes answer old new
   pub causes : SinkCauses answer old new
 
 -- what the status of a call says where the words are this line
-pub record LineTells (line : Line) (answer : Status) (old new : View) : Type 0 where
+pub record LineTells (line : CommandLine) (answer : Status) (old new : View) : Type 0 where
   pub means : LineMeans line answer old new
   pub causes : Causes answer old new
 
@@ -201,8 +201,8 @@ pub record IsUntouched (old new : View) : Type 0 where
 
 -- All that the status of a call says: what it means if the words are a line, and if they are none; that nothing is read but for a line that reads; what failed; and that nothing is lacking if nothing failed.
 pub record Tells (words : List (List ℕ)) (answer : Status) (old new : View) : Type 0 where
-  pub line : (line : Line) → IsLine words line → LineMeans line answer old new
+  pub line : (line : CommandLine) → IsLine words line → LineMeans line answer old new
   pub usage : IsNoLine words → UsageMeans answer old new
-  pub unread : ((line : Line) → IsLine words line → Reads line → ⊥) → IsUntouched old new
+  pub unread : ((line : CommandLine) → IsLine words line → Reads line → ⊥) → IsUntouched old new
   pub causes : Causes answer old new
   pub complete : IsComplete words answer old new

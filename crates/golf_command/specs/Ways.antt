@@ -3,17 +3,17 @@ use Rattle.std.specs.Prelude.{◌≡◌, ℕ, ◌<◌, ◌≤◌, false, List, [
 use Rattle.golf_data.specs.declared.code.Code.{Code}
 use Rattle.golf_model.specs.State.{State, start, runnable, ending}
 use Rattle.golf_model.specs.Running.{Event, run}
-use Rattle.golf_grammar.specs.declared.declarations.File.{File}
+use Rattle.golf_syntax_trees.specs.declared.declarations.File.{File}
 use Rattle.golf_code_of.specs.Files.{CodeOf}
-use Rattle.golf_function_meaning.specs.Files.{function_count}
-use Rattle.golf_schedules.specs.declared.schedule.Schedule.{Schedule}
-use Rattle.golf_schedules.specs.declared.options.Options.{Options}
-use Rattle.golf_words.specs.declared.line.Line.{Line}
-use Rattle.golf_texts.specs.declared.status.Status.{Status}
-use Rattle.golf_texts.specs.declared.status.Status.TheVariants as s
-use Rattle.golf_texts.specs.Texts.{history_line, meaning_line}
-use Rattle.golf_texts.specs.Meaning.{events_of, status_of, out_of, end_of, err_of}
-use Rattle.golf_texts.specs.Writes.{Write, writes_of}
+use Rattle.golf_meaning_functions.specs.Files.{function_count}
+use Rattle.golf_run_schedules.specs.declared.schedule.Schedule.{Schedule}
+use Rattle.golf_run_schedules.specs.declared.options.RunOptions.{RunOptions}
+use Rattle.golf_command_words.specs.declared.line.CommandLine.{CommandLine}
+use Rattle.golf_run_texts.specs.declared.status.Status.{Status}
+use Rattle.golf_run_texts.specs.declared.status.Status.TheVariants as s
+use Rattle.golf_run_texts.specs.Texts.{history_line, meaning_line}
+use Rattle.golf_run_texts.specs.Output.{events_of, status_of, out_of, end_of, err_of}
+use Rattle.golf_run_texts.specs.Writes.{Write, writes_of}
 use Rattle.golf_world.specs.History.{number_at}
 use Rattle.golf_command.specs.Generating.{generated_options, generated_summary, generated_writes}
 
@@ -35,7 +35,7 @@ pub record IsTurnAt (code : Code) (threads : ℕ) (ns : List ℕ) (t n : ℕ) : 
   pub goes : ending (after_turns code (take t ns)) ≡ None
 
 -- how a run whose turns had these numbers is run again: by them as written choices, without recovery
-unfoldable pub history_options : List ℕ → Options
+unfoldable pub history_options : List ℕ → RunOptions
 history_options ns = record { schedule = Schedule.Choices ns; turns = 100000; every = None; markers = 1; recover = false; why = false }
 
 -- these are the numbers of all turns of a run by so many threads: no proper prefix of them has an ending, and all together have one, or are 100,000
@@ -49,27 +49,27 @@ pub record AreTurns (code : Code) (threads : ℕ) (ns : List ℕ) : Type 0 where
 
 -- a run goes by options, or as that of a generated file, or by threads whose turns had these numbers; or nothing is run, and so many functions are compared with their source
 pub data Way : Type 0 where
-  ByOptions : (options : Options) → Way
+  ByOptions : (options : RunOptions) → Way
   Generated : (parts : ℕ) → Way
   ByThreads : (numbers : List ℕ) → Way
   Compared : (functions : ℕ) → Way
 
 -- a way in which the line may go over this file
-abbrev pub IsWayOf : Line → File → Way → Type 0
-IsWayOf (Line.Run options) file way = way ≡ Way.ByOptions options
-IsWayOf (Line.Generate n) file way = way ≡ Way.Generated n
-IsWayOf (Line.Threads n) file way = (ns : List ℕ) × (way ≡ Way.ByThreads ns) × AreTurns (CodeOf file) n ns
-IsWayOf Line.Meaning file way = way ≡ Way.Compared (function_count file.declarations)
+abbrev pub IsWayOf : CommandLine → File → Way → Type 0
+IsWayOf (CommandLine.Run options) file way = way ≡ Way.ByOptions options
+IsWayOf (CommandLine.Generate n) file way = way ≡ Way.Generated n
+IsWayOf (CommandLine.Threads n) file way = (ns : List ℕ) × (way ≡ Way.ByThreads ns) × AreTurns (CodeOf file) n ns
+IsWayOf CommandLine.Meaning file way = way ≡ Way.Compared (function_count file.declarations)
 
 -- the options of a run that shows the same, if anything is run
-abbrev pub options_of : Way → Option Options
+abbrev pub options_of : Way → Option RunOptions
 options_of (Way.ByOptions options) = Some options
 options_of (Way.Generated n) = Some generated_options
 options_of (Way.ByThreads ns) = Some (history_options ns)
 options_of (Way.Compared n) = None
 
 -- the status: that of the run, and 0 if nothing is run
-abbrev pub status_by_options : Option Options → Code → Status
+abbrev pub status_by_options : Option RunOptions → Code → Status
 status_by_options (Some options) code = status_of code options
 status_by_options None code = s.Clean
 

@@ -2,10 +2,10 @@
 use Rattle.std.specs.Prelude.{◌≡◌, ℕ, ◌⊎◌, Bool, true, false, List, [], ◌∷◌, Result, Ok, Err}
 use Rattle.golf_base.specs.declared.Memory.{Memory}
 use Rattle.golf_data.specs.declared.code.Code.{Code}
-use Rattle.golf_texts.specs.declared.status.Status.{Status}
-use Rattle.golf_texts.specs.declared.status.Status.TheVariants as s
-use Rattle.golf_texts.specs.declared.status.TheConstants.{NO_MEMORY}
-use Rattle.golf_texts.specs.Writes.{Write}
+use Rattle.golf_run_texts.specs.declared.status.Status.{Status}
+use Rattle.golf_run_texts.specs.declared.status.Status.TheVariants as s
+use Rattle.golf_run_texts.specs.declared.status.TheConstants.{NO_MEMORY}
+use Rattle.golf_run_texts.specs.Writes.{Write}
 use Rattle.golf_run.specs.HasRun.{Sinks, GotWrites, IsSteady, WasCut}
 use Rattle.golf_command.specs.declared.texts.RunTexts.{RunTexts}
 use Rattle.golf_command.specs.Ways.{Way, AreTurns, status_for, out_for, err_for}

@@ -5,7 +5,7 @@ ghost use Rattle.golf_command.specs.Ends.{EndsWith, Refuses, refusal_line, refus
 
 use golf_base::{List, Memory, Sink, write_all};
 use golf_reader::Refusal;
-use golf_texts::{NO_MEMORY, Status, lexical_line, list_of, rule_line, syntax_line};
+use golf_run_texts::{NO_MEMORY, Status, lexical_line, list_of, rule_line, syntax_line};
 use std::alloc::Global;
 
 /// Writes a last line, and answers the status, or that the write failed.

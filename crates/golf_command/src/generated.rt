@@ -2,33 +2,33 @@
 
 ghost use Rattle.std.specs.Prelude.{◌≡◌, ◌≤◌, IfOk};
 ghost use Rattle.golf_data.specs.Places.{HasPlaces};
-ghost use Rattle.golf_schedules.specs.Options.{IsWithinLimits};
-ghost use Rattle.golf_generate.specs.File.{file as file_of, summary as summary_bytes};
+ghost use Rattle.golf_run_schedules.specs.Options.{IsWithinLimits};
+ghost use Rattle.golf_command_sample.specs.File.{file as file_of, summary as summary_bytes};
 ghost use Rattle.golf_run.specs.HasRun.{sinks};
 ghost use Rattle.golf_command.specs.Generating.{generated_options as options_of_generated, summary_of};
 ghost use Rattle.golf_command.specs.Ways.{Way};
 ghost use Rattle.golf_command.specs.Written.{AreTextsOf};
 ghost use Rattle.golf_command.specs.Means.{FileTells};
-ghost use Rattle.golf_words.specs.declared.line.Line.{Line};
+ghost use Rattle.golf_command_words.specs.declared.line.CommandLine.{CommandLine};
 
 use crate::ends::end;
 use crate::texts::{RunTexts, write_texts};
 use golf_base::{Gate, List, Memory, Sink};
 use golf_data::Code;
-use golf_generate::{Summary, file_lines, generate, summary_line};
+use golf_command_sample::{Summary, file_lines, generate, summary_line};
 use golf_reader::{Refusal, read};
 use golf_run::survey;
-use golf_schedules::{Options, Schedule};
-use golf_texts::{NO_MEMORY, Status, Totals};
+use golf_run_schedules::{RunOptions, Schedule};
+use golf_run_texts::{NO_MEMORY, Status, Totals};
 use std::alloc::Global;
 use std::thread::Threads;
 
 // In rotation, by four markers, with recovery.
-fn generated_options() -> Options
+fn generated_options() -> RunOptions
     ensures options { result ≡ options_of_generated }
     ensures limits { IsWithinLimits result }
 {
-    Options {
+    RunOptions {
         schedule: Schedule::Rotate,
         turns: 10_000_000,
         every: None,
@@ -91,7 +91,7 @@ pub(crate) fn run_generated<R: Threads + Sync, O: Sink, E: Sink, G: Gate + Sync>
 ) -> Status
     requires some { 1 ≤ parts }
     requires most { parts ≤ 5000 }
-    ensures { FileTells (Line.Generate parts) (file_of parts) result
+    ensures { FileTells (CommandLine.Generate parts) (file_of parts) result
         (sinks (O.written out.old) (O.faults out.old) (E.written err.old) (E.faults err.old))
         (sinks (O.written out.new) (O.faults out.new) (E.written err.new) (E.faults err.new)) }
 {

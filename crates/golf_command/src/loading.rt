@@ -9,7 +9,7 @@ use golf_base::{List, ReadError, Sink, Source, read_file};
 use golf_check::Checked;
 use golf_data::Code;
 use golf_reader::{judge, read};
-use golf_texts::{LIMIT, NO_MEMORY, READ_FAULT, Status, TOO_LONG};
+use golf_run_texts::{LIMIT, NO_MEMORY, READ_FAULT, Status, TOO_LONG};
 use std::alloc::Global;
 
 // Reads the source to its end.

@@ -1,13 +1,13 @@
 //! The comparison of a file's code with its source.
 
 ghost use Rattle.std.specs.Prelude.{◌≡◌, IfOk};
-ghost use Rattle.golf_types.specs.Files.{facts_in};
+ghost use Rattle.golf_check_types.specs.Files.{facts_in};
 ghost use Rattle.golf_check.specs.Heads.{scope_of};
-ghost use Rattle.golf_function_meaning.specs.Files.{function_count as count_of};
-ghost use Rattle.golf_texts.specs.Texts.{meaning_line as meaning_bytes};
+ghost use Rattle.golf_meaning_functions.specs.Files.{function_count as count_of};
+ghost use Rattle.golf_run_texts.specs.Texts.{meaning_line as meaning_bytes};
 ghost use Rattle.golf_run.specs.HasRun.{sinks};
 ghost use Rattle.golf_command.specs.Means.{seen, LineTells};
-ghost use Rattle.golf_words.specs.declared.line.Line.{Line};
+ghost use Rattle.golf_command_words.specs.declared.line.CommandLine.{CommandLine};
 
 use crate::loading::load_tree;
 use crate::texts::write_told;
@@ -15,7 +15,7 @@ use golf_base::{List, Memory, Sink, Source};
 use golf_check::Checked;
 use golf_code::generate;
 use golf_meaning::{check_all, function_count};
-use golf_texts::{Status, meaning_line};
+use golf_run_texts::{Status, meaning_line};
 use std::alloc::Global;
 
 // The line that says how many functions agree with their source: all.
@@ -40,7 +40,7 @@ pub(crate) fn serve_meaning<S: Source, O: Sink, E: Sink>(
     out: &mut O,
     err: &mut E,
 ) -> Status
-    ensures { LineTells Line.Meaning result
+    ensures { LineTells CommandLine.Meaning result
         (seen (S.left source.old) (S.faults source.old) (sinks (O.written out.old) (O.faults out.old) (E.written err.old) (E.faults err.old)))
         (seen (S.left source.new) (S.faults source.new) (sinks (O.written out.new) (O.faults out.new) (E.written err.new) (E.faults err.new))) }
 {

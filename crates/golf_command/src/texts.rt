@@ -5,7 +5,7 @@ ghost use Rattle.golf_command.specs.Written.{HasTold, HasWritten, WroteBoth};
 
 use crate::ends::end;
 use golf_base::{List, Memory, Sink, write_all};
-use golf_texts::{NO_MEMORY, Status};
+use golf_run_texts::{NO_MEMORY, Status};
 
 /// What is written of a run that is over, and how the program ends.
 #[derive(Debug, Drop)]

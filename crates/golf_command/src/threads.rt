@@ -2,18 +2,18 @@
 
 ghost use Rattle.std.specs.Prelude.{◌≡◌, ◌≤◌, ◌++◌, IfOk, length, map};
 ghost use Rattle.golf_data.specs.Places.{HasPlaces};
-ghost use Rattle.golf_texts.specs.Texts.{history_line as history_bytes, last_line as last_bytes, reports_text as reports_bytes};
+ghost use Rattle.golf_run_texts.specs.Texts.{history_line as history_bytes, last_line as last_bytes, reports_text as reports_bytes};
 ghost use Rattle.golf_run.specs.HasRun.{sinks};
 ghost use Rattle.golf_command.specs.Means.{seen, LineTells};
 ghost use Rattle.golf_command.specs.Written.{AreTextsByThreads};
-ghost use Rattle.golf_words.specs.declared.line.Line.{Line};
+ghost use Rattle.golf_command_words.specs.declared.line.CommandLine.{CommandLine};
 
 use crate::loading::load;
 use crate::texts::{RunTexts, write_texts};
 use golf_base::{Gate, List, Memory, Sink, Source};
 use golf_data::{Code, Ending};
 use golf_run::{last_line, status_by};
-use golf_texts::{Status, anyone_reported, history_line, list_of, reports_text};
+use golf_run_texts::{Status, anyone_reported, history_line, list_of, reports_text};
 use golf_world::{History, HistoryEntry, run_threads};
 use std::alloc::Global;
 use std::sync::Wait;
@@ -97,7 +97,7 @@ pub(crate) fn serve_threads<
 >(rt: &R, threads: u32, source: &mut S, out: &mut O, err: &mut E, gate: &G) -> Status
     requires some { 1 ≤ threads }
     requires few { threads ≤ 16 }
-    ensures { LineTells (Line.Threads threads) result
+    ensures { LineTells (CommandLine.Threads threads) result
         (seen (S.left source.old) (S.faults source.old) (sinks (O.written out.old) (O.faults out.old) (E.written err.old) (E.faults err.old)))
         (seen (S.left source.new) (S.faults source.new) (sinks (O.written out.new) (O.faults out.new) (E.written err.new) (E.faults err.new))) }
 {

@@ -1,9 +1,9 @@
 //! The top call.
 
 ghost use Rattle.std.specs.Prelude.{◌≡◌, IfOk, IfSome, List, None, ℕ};
-ghost use Rattle.golf_schedules.specs.Options.{IsWithinLimits};
+ghost use Rattle.golf_run_schedules.specs.Options.{IsWithinLimits};
 ghost use Rattle.golf_run.specs.HasRun.{sinks};
-ghost use Rattle.golf_words.specs.Words.{line_of, IsWithin};
+ghost use Rattle.golf_command_words.specs.Words.{line_of, IsWithin};
 ghost use Rattle.golf_command.specs.Asked.{threads_asked};
 ghost use Rattle.golf_command.specs.Means.{words_of, seen, LineTells, Tells};
 
@@ -14,9 +14,9 @@ use crate::meaning::serve_meaning;
 use crate::threads::serve_threads;
 use golf_base::{Gate, Memory, Sink, Source};
 use golf_run::{RunFault, run};
-use golf_schedules::Options;
-use golf_texts::{NO_MEMORY, Status, USAGE};
-use golf_words::{Line, parse};
+use golf_run_schedules::RunOptions;
+use golf_run_texts::{NO_MEMORY, Status, USAGE};
+use golf_command_words::{CommandLine, parse};
 use std::alloc::Global;
 use std::sync::Wait;
 use std::thread::Threads;
@@ -24,14 +24,14 @@ use std::thread::Threads;
 // Reads the file of a run line, and runs it by the options.
 fn run_source<R: AllocGlobal + Threads + Sync, S: Source, O: Sink, E: Sink, G: Gate + Sync>(
     rt: &R,
-    options: Options,
+    options: RunOptions,
     source: &mut S,
     out: &mut O,
     err: &mut E,
     gate: &G,
 ) -> Status
     requires { IsWithinLimits options }
-    ensures { LineTells (Line.Run options) result
+    ensures { LineTells (CommandLine.Run options) result
         (seen (S.left source.old) (S.faults source.old) (sinks (O.written out.old) (O.faults out.old) (E.written err.old) (E.faults err.old)))
         (seen (S.left source.new) (S.faults source.new) (sinks (O.written out.new) (O.faults out.new) (E.written err.new) (E.faults err.new))) }
 {
@@ -47,12 +47,12 @@ fn run_source<R: AllocGlobal + Threads + Sync, S: Source, O: Sink, E: Sink, G: G
 }
 
 // How many threads a threads line asks for; none if the words are no threads line.
-fn threads_of(line: &Result<Option<Line>, Memory>) -> Option<u32>
+fn threads_of(line: &Result<Option<CommandLine>, Memory>) -> Option<u32>
     ensures { result ≡ threads_asked line.now }
 {
     match line {
-        Ok(Some(Line::Threads(threads))) => Some(*threads),
-        Ok(Some(Line::Run(_) | Line::Generate(_) | Line::Meaning)) => None,
+        Ok(Some(CommandLine::Threads(threads))) => Some(*threads),
+        Ok(Some(CommandLine::Run(_) | CommandLine::Generate(_) | CommandLine::Meaning)) => None,
         Ok(None) => None,
         Err(_) => None,
     }
@@ -61,7 +61,7 @@ fn threads_of(line: &Result<Option<Line>, Memory>) -> Option<u32>
 // All that the program does if its words are no threads line. It waits for nobody, so it returns.
 fn serve<R: AllocGlobal + Threads + Sync, S: Source, O: Sink, E: Sink, G: Gate + Sync>(
     rt: &R,
-    line: Result<Option<Line>, Memory>,
+    line: Result<Option<CommandLine>, Memory>,
     source: &mut S,
     out: &mut O,
     err: &mut E,
@@ -74,10 +74,10 @@ fn serve<R: AllocGlobal + Threads + Sync, S: Source, O: Sink, E: Sink, G: Gate +
         (seen (S.left source.new) (S.faults source.new) (sinks (O.written out.new) (O.faults out.new) (E.written err.new) (E.faults err.new))) }
 {
     match line {
-        Ok(Some(Line::Run(options))) => run_source(rt, options, source, out, err, gate),
-        Ok(Some(Line::Generate(parts))) => { run_generated(rt, rt.alloc(), parts, out, err, gate) }
-        Ok(Some(Line::Meaning)) => serve_meaning(rt.alloc(), source, out, err),
-        Ok(Some(Line::Threads(_))) => unreachable!(),
+        Ok(Some(CommandLine::Run(options))) => run_source(rt, options, source, out, err, gate),
+        Ok(Some(CommandLine::Generate(parts))) => { run_generated(rt, rt.alloc(), parts, out, err, gate) }
+        Ok(Some(CommandLine::Meaning)) => serve_meaning(rt.alloc(), source, out, err),
+        Ok(Some(CommandLine::Threads(_))) => unreachable!(),
         Ok(None) => end(err, USAGE, Status::Usage),
         Err(_) => end(err, NO_MEMORY, Status::Memory),
     }

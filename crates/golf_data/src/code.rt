@@ -156,7 +156,7 @@ pub enum CaseKind {
 
 /// An instruction with the line of its statement or declaration, from 1.
 #[derive(Debug, Drop)]
-pub struct Line {
+pub struct CodeLine {
     pub instr: Instr,
     pub line: u32,
 }
@@ -172,7 +172,7 @@ pub struct Function {
     pub depth: u32,
     /// The line at which the function is declared.
     pub line: u32,
-    pub body: List<Line>,
+    pub body: List<CodeLine>,
     /// For each position of the body the mask of its first 64 slots: bit s is 1 where slot s can
     /// still be read from there on.
     pub live: List<u64>,

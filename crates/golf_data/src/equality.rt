@@ -3,7 +3,7 @@
 ghost use Rattle.std.specs.Prelude.{◌≡◌, ◌↔◌, IsTrue};
 ghost use Rattle.golf_data.specs.Parts.{kind_of as kind_is, payload_of as payload_is, choice_of};
 
-use crate::code::{Instr, Line};
+use crate::code::{Instr, CodeLine};
 use crate::value::Value;
 
 /// The names of instructions.
@@ -250,9 +250,9 @@ impl Instr {
     }
 }
 
-impl Line {
+impl CodeLine {
     /// Whether the other is the same instruction at the same line.
-    pub fn is(&self, other: &Line) -> bool
+    pub fn is(&self, other: &CodeLine) -> bool
         ensures { IsTrue result ↔ (self.now ≡ other.now) }
     {
         self.line == other.line && self.instr.is(&other.instr)
@@ -260,7 +260,7 @@ impl Line {
 }
 
 /// Whether two bodies have the same lines.
-pub fn same_lines(lines: &[Line], others: &[Line]) -> bool
+pub fn same_lines(lines: &[CodeLine], others: &[CodeLine]) -> bool
     ensures { IsTrue result ↔ (lines.now ≡ others.now) }
 {
     if lines.len() != others.len() {

@@ -8,7 +8,7 @@ mod report;
 mod slots;
 mod value;
 
-pub use code::{CaseKind, Code, Function, Instr, Line, SelectCase};
+pub use code::{CaseKind, Code, Function, Instr, CodeLine, SelectCase};
 pub use equality::same_lines;
 pub use goroutine::{
     Deferred, Ending, Fault, Frame, Goroutine, Leaving, Mode, PanicKind, Queued, Side, Wait,

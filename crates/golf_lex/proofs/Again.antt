@@ -5,20 +5,20 @@ use Rattle.std.proofs.lemmas.Bool.Decides.{nat_tests}
 use Rattle.std.specs.Prelude.{Option, Some, None, option_and_then, nat_eq, nat_le}
 use Rattle.std.specs.Option.{option_map}
 use Rattle.std.specs.List.{list_all}
-use Rattle.golf_tokens.specs.declared.token.TokenKind.TheVariants.{Name, Integer, Text, Keyword as KeywordToken, Mark as MarkToken}
-use Rattle.golf_tokens.specs.declared.token.Keyword.{Keyword}
-use Rattle.golf_tokens.specs.declared.token.Mark.{Mark}
-use Rattle.golf_tokens.specs.Bytes.{is_letter, is_digit, is_word_byte, is_blank, is_ordinary}
-use Rattle.golf_tokens.specs.Spelling.{Part, Itself, Newline, Tab, Backslash, Quote, is_part, parts_text, parts_bytes, keyword_text, mark_text, is_integer, Names, Quotes}
-use Rattle.golf_tokens.specs.Lexemes.{Class, Blank, LineComment, GeneralComment, Of, Forms, is_nonzero}
+use Rattle.golf_lex_tokens.specs.declared.token.TokenKind.TheVariants.{Name, Integer, Text, Keyword as KeywordToken, Punctuation as PunctuationToken}
+use Rattle.golf_lex_tokens.specs.declared.token.Keyword.{Keyword}
+use Rattle.golf_lex_tokens.specs.declared.token.Punctuation.{Punctuation}
+use Rattle.golf_lex_tokens.specs.Bytes.{is_letter, is_digit, is_word_byte, is_blank, is_ordinary}
+use Rattle.golf_lex_tokens.specs.Spelling.{Part, Itself, Newline, Tab, Backslash, Quote, is_part, parts_text, parts_bytes, keyword_text, punctuation_text, is_integer, Names, Quotes}
+use Rattle.golf_lex_tokens.specs.Lexemes.{Class, Blank, LineComment, GeneralComment, Of, Forms, is_nonzero}
 use Rattle.golf_lex.specs.declared.automaton.State.{State}
 use Rattle.golf_lex.specs.declared.automaton.State.TheVariants as states
 use Rattle.golf_lex.specs.declared.automaton.Growth.TheVariants.{To, Over, Fault}
-use Rattle.golf_lex.specs.Automaton.{begun, begun_mark, is_complete}
+use Rattle.golf_lex.specs.Automaton.{begun, begun_punctuation, is_complete}
 use Rattle.golf_lex.specs.Words.{keyword_of, word_kind_by}
 use Rattle.golf_lex.proofs.Growing.{to_only, grown, reached}
 use Rattle.golf_lex.proofs.Comments.{comments-again}
-use Rattle.golf_lex.proofs.Marks.{marks-again}
+use Rattle.golf_lex.proofs.Punctuations.{punctuations-again}
 use Rattle.golf_lex.proofs.Told.{keyword_of-again, keyword_of-no, keywords-again}
 use Rattle.golf_lex.proofs.Whole.{class_at, ordinary-other, content_from-parts}
 
@@ -80,7 +80,7 @@ blank-again b h = at (nat_eq b 32) (nat_eq b 9) (nat_eq b 13) (nat_eq b 10) refl
 
 -- how a byte begins a lexeme that is no digit, or no letter
 abbrev behind_digit : ℕ → Option State
-behind_digit b = cond (is_blank b) (Some states.Blank) (cond (nat_eq b 34) (Some states.Quoted) (cond (nat_eq b 124) (Some states.Bar) (option_map states.Mark (begun_mark b))))
+behind_digit b = cond (is_blank b) (Some states.Blank) (cond (nat_eq b 34) (Some states.Quoted) (cond (nat_eq b 124) (Some states.Bar) (option_map states.Punctuation (begun_punctuation b))))
 
 abbrev behind_letter : ℕ → Option State
 behind_letter b = cond (nat_eq b 48) (Some states.Zero) (cond (is_digit b) (Some states.Digits) (behind_digit b))
@@ -143,7 +143,7 @@ text-again content bytes q = record {
   as_class = ap (λ xs. Of (Text xs)) (content_from-parts q.parts (34 ∷ []) q.valid ∙ append-nil (parts_bytes q.parts) ∙ sym q.stands);
 }
 
--- the bytes of a keyword or a mark, which are not none
+-- the bytes of a keyword or a punctuation mark, which are not none
 read-text : (class : Class) (text bytes : List ℕ) (last : State) → bytes ≡ text → reached text ≡ Some last → is_complete last ≡ true → class_at last text ≡ class → (text ≡ [] → ⊥) → IsRead class bytes
 read-text class [] bytes last e r whole same some = absurd (some refl)
 read-text class (b ∷ bs) bytes last e r whole same some = record { first = b; rest = bs; are = e; last = last; reaches = r; complete = whole; as_class = same }
@@ -151,8 +151,8 @@ read-text class (b ∷ bs) bytes last e r whole same some = record { first = b; 
 keyword_text-some : (k : Keyword) → keyword_text k ≡ [] → ⊥
 keyword_text-some k e = let both_ways : None ≡ Some k = ap keyword_of (sym e) ∙ keyword_of-again k in cc
 
-mark_text-some : (m : Mark) → mark_text m ≡ [] → ⊥
-mark_text-some m e = let both_ways : Some states.Blank ≡ Some (states.Mark m) = ap reached (sym e) ∙ marks-again m in cc
+punctuation_text-some : (m : Punctuation) → punctuation_text m ≡ [] → ⊥
+punctuation_text-some m e = let both_ways : Some states.Blank ≡ Some (states.Punctuation m) = ap reached (sym e) ∙ punctuations-again m in cc
 
 pub again : (class : Class) (bytes : List ℕ) → Forms class bytes → IsRead class bytes
 again Blank bytes (b, e, h) = record { first = b; rest = []; are = e; last = states.Blank; reaches = ap (λ o. option_and_then (λ s. grown s []) o) (blank-again b h); complete = refl; as_class = refl }
@@ -162,4 +162,4 @@ again (Of (Name name)) bytes f = name-again name bytes f
 again (Of (Integer digits)) bytes f = integer-again digits bytes f.0 f.1
 again (Of (Text content)) bytes f = text-again content bytes f
 again (Of (KeywordToken k)) bytes f = read-text (Of (KeywordToken k)) (keyword_text k) bytes states.Word f (keywords-again k) refl (ap (λ o. Of (word_kind_by (keyword_text k) o)) (keyword_of-again k)) (keyword_text-some k)
-again (Of (MarkToken m)) bytes f = read-text (Of (MarkToken m)) (mark_text m) bytes (states.Mark m) f (marks-again m) refl refl (mark_text-some m)
+again (Of (PunctuationToken m)) bytes f = read-text (Of (PunctuationToken m)) (punctuation_text m) bytes (states.Punctuation m) f (punctuations-again m) refl refl (punctuation_text-some m)

@@ -3,7 +3,7 @@ use Rattle.std.proofs.Common.{◌≡◌, ℕ, Bool, true, false, cond, not, ◌&
 use Rattle.std.proofs.lemmas.Bool.{eqb-true, or_parts}
 use Rattle.std.specs.Prelude.{Some, nat_eq}
 use Rattle.std.specs.List.{list_all}
-use Rattle.golf_tokens.specs.Lexemes.{is_nonzero, has_end}
+use Rattle.golf_lex_tokens.specs.Lexemes.{is_nonzero, has_end}
 use Rattle.golf_lex.specs.declared.automaton.State.{State}
 use Rattle.golf_lex.specs.declared.automaton.State.TheVariants as states
 use Rattle.golf_lex.specs.declared.automaton.Growth.TheVariants.{To, Fault}

@@ -1,23 +1,23 @@
 -- Worked examples of what lexes and of faults.
 use Rattle.std.proofs.Common.{◌≡◌, ℕ, [], ◌∷◌, refl, lit<}
 use Rattle.std.specs.Prelude.{codes}
-use Rattle.golf_tokens.specs.declared.token.Token.{Token}
-use Rattle.golf_tokens.specs.declared.token.TokenKind.{TokenKind}
-use Rattle.golf_tokens.specs.declared.token.TokenKind.TheVariants.{Name, Text, Keyword, Mark}
-use Rattle.golf_tokens.specs.declared.token.Keyword.TheVariants.{Return}
-use Rattle.golf_tokens.specs.declared.token.Mark.TheVariants as marks
-use Rattle.golf_tokens.specs.Lexes.{Lexes, IsFault, line_at}
+use Rattle.golf_lex_tokens.specs.declared.token.Token.{Token}
+use Rattle.golf_lex_tokens.specs.declared.token.TokenKind.{TokenKind}
+use Rattle.golf_lex_tokens.specs.declared.token.TokenKind.TheVariants.{Name, Text, Keyword, Punctuation}
+use Rattle.golf_lex_tokens.specs.declared.token.Keyword.TheVariants.{Return}
+use Rattle.golf_lex_tokens.specs.declared.token.Punctuation.TheVariants as punctuations
+use Rattle.golf_lex_tokens.specs.Lexes.{Lexes, IsFault, line_at}
 use Rattle.golf_lex.specs.declared.automaton.State.TheVariants.{Zero, Quoted, Bar}
 use Rattle.golf_lex.proofs.Runs.{scans-lexes, fault-at, fault-end}
 
 at : ℕ → TokenKind → Token
 at line kind = record { kind = kind; line = line }
 
-short : Lexes (codes "a<-b // c\n}") (at 1 (Name (codes "a")) ∷ at 1 (Mark marks.Arrow) ∷ at 1 (Name (codes "b")) ∷ at 2 (Mark marks.CloseBrace) ∷ at 2 (Mark marks.Semicolon) ∷ [])
+short : Lexes (codes "a<-b // c\n}") (at 1 (Name (codes "a")) ∷ at 1 (Punctuation punctuations.Arrow) ∷ at 1 (Name (codes "b")) ∷ at 2 (Punctuation punctuations.CloseBrace) ∷ at 2 (Punctuation punctuations.Semicolon) ∷ [])
 unfolding at
 short = scans-lexes (codes "a<-b // c\n}") _ refl
 
-string : Lexes (codes "return \"\\\"\"") (at 1 (Keyword Return) ∷ at 1 (Text (34 ∷ [])) ∷ at 1 (Mark marks.Semicolon) ∷ [])
+string : Lexes (codes "return \"\\\"\"") (at 1 (Keyword Return) ∷ at 1 (Text (34 ∷ [])) ∷ at 1 (Punctuation punctuations.Semicolon) ∷ [])
 unfolding at
 string = scans-lexes (codes "return \"\\\"\"") _ refl
 

@@ -2,22 +2,22 @@
 use Rattle.std.proofs.Common.{◌≡◌, ℕ, ◌<◌, Bool, true, false, cond, not, ◌||◌, List, [], ◌∷◌, ◌++◌, length, length-append, refl, sym, ap, ◌∙◌, append_assoc, arith}
 use Rattle.std.proofs.lemmas.Bool.{eqb-true}
 use Rattle.std.specs.Prelude.{Option, Some, None, option_and_then, nat_eq}
-use Rattle.golf_tokens.specs.declared.token.TokenKind.{TokenKind}
-use Rattle.golf_tokens.specs.declared.token.TokenKind.TheVariants.{Integer, Mark as MarkToken}
-use Rattle.golf_tokens.specs.declared.token.Keyword.{Keyword}
-use Rattle.golf_tokens.specs.declared.token.Mark.{Mark}
-use Rattle.golf_tokens.specs.declared.token.Mark.TheVariants as marks
-use Rattle.golf_tokens.specs.Bytes.{is_letter, is_digit, is_word_byte, is_ordinary}
-use Rattle.golf_tokens.specs.Spelling.{Spells}
-use Rattle.golf_tokens.specs.Lexemes.{Class, Blank, LineComment, GeneralComment, Of, IsLongest, stands_clear, MayPrecede}
+use Rattle.golf_lex_tokens.specs.declared.token.TokenKind.{TokenKind}
+use Rattle.golf_lex_tokens.specs.declared.token.TokenKind.TheVariants.{Integer, Punctuation as PunctuationToken}
+use Rattle.golf_lex_tokens.specs.declared.token.Keyword.{Keyword}
+use Rattle.golf_lex_tokens.specs.declared.token.Punctuation.{Punctuation}
+use Rattle.golf_lex_tokens.specs.declared.token.Punctuation.TheVariants as punctuations
+use Rattle.golf_lex_tokens.specs.Bytes.{is_letter, is_digit, is_word_byte, is_ordinary}
+use Rattle.golf_lex_tokens.specs.Spelling.{Spells}
+use Rattle.golf_lex_tokens.specs.Lexemes.{Class, Blank, LineComment, GeneralComment, Of, IsLongest, stands_clear, MayPrecede}
 use Rattle.golf_lex.specs.declared.automaton.State.{State}
 use Rattle.golf_lex.specs.declared.automaton.State.TheVariants as states
 use Rattle.golf_lex.specs.declared.automaton.Growth.{Growth}
 use Rattle.golf_lex.specs.declared.automaton.Growth.TheVariants.{To, Over, Fault}
-use Rattle.golf_lex.specs.Automaton.{growth, is_complete, to_mark, after_mark, is_escape}
+use Rattle.golf_lex.specs.Automaton.{growth, is_complete, to_punctuation, after_punctuation, is_escape}
 use Rattle.golf_lex.specs.Words.{keyword_of, word_kind, word_kind_by}
 use Rattle.golf_lex.proofs.Growing.{to_only, grown, reached, reached-append, reached-more}
-use Rattle.golf_lex.proofs.Marks.{Grows, over, longer, line, general, grows}
+use Rattle.golf_lex.proofs.Punctuations.{Grows, over, longer, line, general, grows}
 use Rattle.golf_lex.proofs.Whole.{class_at, whole}
 use Rattle.golf_lex.proofs.Again.{again}
 
@@ -50,7 +50,7 @@ longest-end bytes zs ws e h kind spelled =
 
 clear-end : (kind : TokenKind) → stands_clear kind [] ≡ true
 clear-end (Integer digits) = refl
-clear-end (MarkToken marks.Slash) = refl
+clear-end (PunctuationToken punctuations.Slash) = refl
 clear-end _ = refl
 
 -- a lexeme may stand at the end
@@ -78,9 +78,9 @@ slash-clear true t next e = absurd (cc)
 slash-clear false true next e = absurd (cc)
 slash-clear false false next e = refl
 
-mark-clear : (m : Mark) (c : ℕ) (rest : List ℕ) → after_mark m c ≡ Over → stands_clear (MarkToken m) (c ∷ rest) ≡ true
-mark-clear marks.Slash c rest e = slash-clear (nat_eq c 47) (nat_eq c 42) _ e
-mark-clear _ c rest e = refl
+punctuation-clear : (m : Punctuation) (c : ℕ) (rest : List ℕ) → after_punctuation m c ≡ Over → stands_clear (PunctuationToken m) (c ∷ rest) ≡ true
+punctuation-clear punctuations.Slash c rest e = slash-clear (nat_eq c 47) (nat_eq c 42) _ e
+punctuation-clear _ c rest e = refl
 
 line-clear : (c : ℕ) → growth states.LineComment c ≡ Over → c ≡ 10
 line-clear c = at (nat_eq c 0) (nat_eq c 10) refl
@@ -96,7 +96,7 @@ follows b bs states.Word c rest r g = (longest b bs states.Word c rest r g, word
 follows b bs states.Zero c rest r g = (longest b bs states.Zero c rest r g, zero-clear (is_word_byte c) g)
 follows b bs states.Digits c rest r g = (longest b bs states.Digits c rest r g, digits-clear (is_digit c) (is_letter c) g)
 follows b bs states.Text c rest r g = (longest b bs states.Text c rest r g, refl)
-follows b bs (states.Mark m) c rest r g = (longest b bs (states.Mark m) c rest r g, mark-clear m c rest g)
+follows b bs (states.Punctuation m) c rest r g = (longest b bs (states.Punctuation m) c rest r g, punctuation-clear m c rest g)
 follows b bs states.LineComment c rest r g = line-clear c g
 follows b bs _ c rest r g = tt
 
@@ -125,14 +125,14 @@ digits-over true false e = absurd (cc)
 digits-over false true e = absurd (cc)
 digits-over false false e = refl
 
-mark-over : (m : Mark) (b : ℕ) (bs : List ℕ) (c : ℕ) (rest : List ℕ) → reached (b ∷ bs) ≡ Some (states.Mark m) → IsLongest (b ∷ bs) (c ∷ rest) → stands_clear (MarkToken m) (c ∷ rest) ≡ true → after_mark m c ≡ Over
-mark-over m b bs c rest r h clear = by (grows m c)
+punctuation-over : (m : Punctuation) (b : ℕ) (bs : List ℕ) (c : ℕ) (rest : List ℕ) → reached (b ∷ bs) ≡ Some (states.Punctuation m) → IsLongest (b ∷ bs) (c ∷ rest) → stands_clear (PunctuationToken m) (c ∷ rest) ≡ true → after_punctuation m c ≡ Over
+punctuation-over m b bs c rest r h clear = by (grows m c)
   where
-    by : Grows m c → after_mark m c ≡ Over
+    by : Grows m c → after_punctuation m c ≡ Over
     by (over e) = e
-    by (longer n e text ends) = absurd (not-longest b bs c rest (MarkToken n) h (whole b (bs ++ c ∷ []) (states.Mark n) (reached-more b c bs (states.Mark m) (states.Mark n) r e) refl))
-    by (line em ec) = let wrong : false ≡ true = ap (λ x. stands_clear (MarkToken marks.Slash) (x ∷ rest)) (sym ec) ∙ ap (λ x. stands_clear (MarkToken x) (c ∷ rest)) (sym em) ∙ clear in absurd (cc)
-    by (general em ec) = let wrong : false ≡ true = ap (λ x. stands_clear (MarkToken marks.Slash) (x ∷ rest)) (sym ec) ∙ ap (λ x. stands_clear (MarkToken x) (c ∷ rest)) (sym em) ∙ clear in absurd (cc)
+    by (longer n e text ends) = absurd (not-longest b bs c rest (PunctuationToken n) h (whole b (bs ++ c ∷ []) (states.Punctuation n) (reached-more b c bs (states.Punctuation m) (states.Punctuation n) r e) refl))
+    by (line em ec) = let wrong : false ≡ true = ap (λ x. stands_clear (PunctuationToken punctuations.Slash) (x ∷ rest)) (sym ec) ∙ ap (λ x. stands_clear (PunctuationToken x) (c ∷ rest)) (sym em) ∙ clear in absurd (cc)
+    by (general em ec) = let wrong : false ≡ true = ap (λ x. stands_clear (PunctuationToken punctuations.Slash) (x ∷ rest)) (sym ec) ∙ ap (λ x. stands_clear (PunctuationToken x) (c ∷ rest)) (sym em) ∙ clear in absurd (cc)
 
 -- where a whole lexeme may stand before a byte, the byte ends it
 pub ends-there : (b : ℕ) (bs : List ℕ) (last : State) (c : ℕ) (rest : List ℕ) → reached (b ∷ bs) ≡ Some last → is_complete last ≡ true → MayPrecede (class_at last (b ∷ bs)) (b ∷ bs) (c ∷ rest) → growth last c ≡ Over
@@ -141,7 +141,7 @@ ends-there b bs states.Word c rest r whole m = word-over b bs c rest r m.0
 ends-there b bs states.Zero c rest r whole m = zero-over (is_word_byte c) m.1
 ends-there b bs states.Digits c rest r whole m = digits-over (is_digit c) (is_letter c) m.1
 ends-there b bs states.Text c rest r whole m = refl
-ends-there b bs (states.Mark k) c rest r whole m = mark-over k b bs c rest r m.0 m.1
+ends-there b bs (states.Punctuation k) c rest r whole m = punctuation-over k b bs c rest r m.0 m.1
 ends-there b bs states.LineComment c rest r whole m = ap (growth states.LineComment) m
 ends-there b bs states.Closed c rest r whole m = refl
 ends-there b bs _ c rest r whole m = absurd (cc)
@@ -162,7 +162,7 @@ over-complete states.Escaped c = at (is_escape c)
     at false e = absurd (cc)
 over-complete states.Bar c = at (nat_eq c 124)
   where
-    at : (t : Bool) → cond t (to_mark marks.Or) Fault ≡ Over → false ≡ true
+    at : (t : Bool) → cond t (to_punctuation punctuations.Or) Fault ≡ Over → false ≡ true
     at true e = absurd (cc)
     at false e = absurd (cc)
 over-complete states.GeneralComment c = at (nat_eq c 0) (nat_eq c 42)
@@ -183,6 +183,6 @@ over-complete states.Word c = λ _. refl
 over-complete states.Zero c = λ _. refl
 over-complete states.Digits c = λ _. refl
 over-complete states.Text c = λ _. refl
-over-complete (states.Mark m) c = λ _. refl
+over-complete (states.Punctuation m) c = λ _. refl
 over-complete states.LineComment c = λ _. refl
 over-complete states.Closed c = λ _. refl

@@ -3,9 +3,9 @@ use Rattle.std.proofs.Common.{◌≡◌, ℕ, Bool, true, false, cond, not, ◌&
 use Rattle.std.proofs.lemmas.Bool.{eqb-true}
 use Rattle.std.specs.Prelude.{Some, nat_eq}
 use Rattle.std.specs.List.{list_all}
-use Rattle.golf_tokens.specs.Bytes.{is_letter, is_digit, is_word_byte, is_ordinary}
-use Rattle.golf_tokens.specs.Spelling.{Part, Itself, Newline, Tab, Backslash, Quote, is_part, part_text, parts_text}
-use Rattle.golf_tokens.specs.Lexemes.{is_nonzero}
+use Rattle.golf_lex_tokens.specs.Bytes.{is_letter, is_digit, is_word_byte, is_ordinary}
+use Rattle.golf_lex_tokens.specs.Spelling.{Part, Itself, Newline, Tab, Backslash, Quote, is_part, part_text, parts_text}
+use Rattle.golf_lex_tokens.specs.Lexemes.{is_nonzero}
 use Rattle.golf_lex.specs.declared.automaton.State.{State}
 use Rattle.golf_lex.specs.declared.automaton.State.TheVariants as states
 use Rattle.golf_lex.specs.declared.automaton.Growth.TheVariants.{To, Over, Fault}

@@ -1,7 +1,7 @@
 pub mod Growing
 pub mod GoingOn
 pub mod Comments
-pub mod Marks
+pub mod Punctuations
 pub mod Told
 pub mod Whole
 pub mod Again

@@ -5,11 +5,11 @@ use Rattle.std.specs.Option.{option_map}
 use Rattle.std.proofs.Math.Seq.{take-suc, drop-cons}
 use Rattle.std.proofs.lemmas.List.{get_or-drop, take_all}
 use Rattle.std.proofs.Math.ListN.{drop_of_length-le}
-use Rattle.golf_tokens.specs.declared.token.Token.{Token}
-use Rattle.golf_tokens.specs.Bytes.{newlines}
-use Rattle.golf_tokens.specs.Lexemes.{Class, Blank, LineComment, GeneralComment, Of, Lexeme}
-use Rattle.golf_tokens.specs.Semicolons.{semicolon}
-use Rattle.golf_tokens.specs.Lexes.{Lexes}
+use Rattle.golf_lex_tokens.specs.declared.token.Token.{Token}
+use Rattle.golf_lex_tokens.specs.Bytes.{newlines}
+use Rattle.golf_lex_tokens.specs.Lexemes.{Class, Blank, LineComment, GeneralComment, Of, Lexeme}
+use Rattle.golf_lex_tokens.specs.Semicolons.{semicolon}
+use Rattle.golf_lex_tokens.specs.Lexes.{Lexes}
 use Rattle.golf_lex.specs.declared.automaton.State.{State}
 use Rattle.golf_lex.specs.declared.automaton.State.TheVariants as states
 use Rattle.golf_lex.specs.declared.automaton.Growth.TheVariants.{To, Over}
@@ -50,7 +50,7 @@ ended-line o states.Word bytes whole = ap (λ n. n + newlines bytes) (with_class
 ended-line o states.Zero bytes whole = ap (λ n. n + newlines bytes) (with_class-line o (class_at states.Zero bytes) bytes)
 ended-line o states.Digits bytes whole = ap (λ n. n + newlines bytes) (with_class-line o (class_at states.Digits bytes) bytes)
 ended-line o states.Text bytes whole = ap (λ n. n + newlines bytes) (with_class-line o (class_at states.Text bytes) bytes)
-ended-line o (states.Mark m) bytes whole = ap (λ n. n + newlines bytes) (with_class-line o (class_at (states.Mark m) bytes) bytes)
+ended-line o (states.Punctuation m) bytes whole = ap (λ n. n + newlines bytes) (with_class-line o (class_at (states.Punctuation m) bytes) bytes)
 ended-line o states.LineComment bytes whole = ap (λ n. n + newlines bytes) (with_class-line o (class_at states.LineComment bytes) bytes)
 ended-line o states.Closed bytes whole = ap (λ n. n + newlines bytes) (with_class-line o (class_at states.Closed bytes) bytes)
 ended-line o states.Blank (b ∷ bytes) whole = ap (λ n. n + newlines (b ∷ bytes)) (with_class-line o Blank (b ∷ bytes))

@@ -4,11 +4,11 @@ use Rattle.std.specs.Prelude.{Option, Some, None, option_and_then, nat_lt}
 use Rattle.std.specs.List.{list_all}
 use Rattle.std.proofs.Math.Seq.{take-suc, take-length}
 use Rattle.std.proofs.lemmas.List.{take-append-drop}
-use Rattle.golf_tokens.specs.declared.token.Token.{Token}
-use Rattle.golf_tokens.specs.Lexemes.{Lexeme}
-use Rattle.golf_tokens.specs.Semicolons.{tokens_of}
-use Rattle.golf_tokens.specs.Lexes.{Lexes, Begins, IsFault}
-use Rattle.golf_tokens.specs.declared.token.Mark.TheVariants as marks
+use Rattle.golf_lex_tokens.specs.declared.token.Token.{Token}
+use Rattle.golf_lex_tokens.specs.Lexemes.{Lexeme}
+use Rattle.golf_lex_tokens.specs.Semicolons.{tokens_of}
+use Rattle.golf_lex_tokens.specs.Lexes.{Lexes, Begins, IsFault}
+use Rattle.golf_lex_tokens.specs.declared.token.Punctuation.TheVariants as punctuations
 use Rattle.golf_lex.specs.declared.automaton.State.{State}
 use Rattle.golf_lex.specs.declared.automaton.State.TheVariants as states
 use Rattle.golf_lex.specs.declared.automaton.Growth.{Growth}
@@ -83,7 +83,7 @@ completes : (state : State) → Completes state (completion state)
 unfolding completion
 completes states.Quoted = record { last = states.Text; runs = refl; complete = refl; small = refl }
 completes states.Escaped = record { last = states.Text; runs = refl; complete = refl; small = refl }
-completes states.Bar = record { last = states.Mark marks.Or; runs = refl; complete = refl; small = refl }
+completes states.Bar = record { last = states.Punctuation punctuations.Or; runs = refl; complete = refl; small = refl }
 completes states.GeneralComment = record { last = states.Closed; runs = refl; complete = refl; small = refl }
 completes states.Star = record { last = states.Closed; runs = refl; complete = refl; small = refl }
 completes states.Blank = record { last = states.Blank; runs = refl; complete = refl; small = refl }
@@ -91,7 +91,7 @@ completes states.Word = record { last = states.Word; runs = refl; complete = ref
 completes states.Zero = record { last = states.Zero; runs = refl; complete = refl; small = refl }
 completes states.Digits = record { last = states.Digits; runs = refl; complete = refl; small = refl }
 completes states.Text = record { last = states.Text; runs = refl; complete = refl; small = refl }
-completes (states.Mark m) = record { last = states.Mark m; runs = refl; complete = refl; small = refl }
+completes (states.Punctuation m) = record { last = states.Punctuation m; runs = refl; complete = refl; small = refl }
 completes states.LineComment = record { last = states.LineComment; runs = refl; complete = refl; small = refl }
 completes states.Closed = record { last = states.Closed; runs = refl; complete = refl; small = refl }
 

@@ -2,10 +2,10 @@
 use Rattle.std.proofs.Common.{◌≡◌, ℕ, Bool, true, false, cond, List, [], ◌∷◌, ◌++◌, refl, sym, ap, subst, ◌∙◌, append_assoc, append-nil}
 use Rattle.std.specs.Prelude.{Option, Some, None, option_and_then}
 use Rattle.std.specs.Option.{option_map}
-use Rattle.golf_tokens.specs.declared.token.Token.{Token}
-use Rattle.golf_tokens.specs.Lexemes.{Class, Lexeme, lexemes_text, Cut, MayPrecede}
-use Rattle.golf_tokens.specs.Semicolons.{tokens_of}
-use Rattle.golf_tokens.specs.Lexes.{Lexes}
+use Rattle.golf_lex_tokens.specs.declared.token.Token.{Token}
+use Rattle.golf_lex_tokens.specs.Lexemes.{Class, Lexeme, lexemes_text, Cut, MayPrecede}
+use Rattle.golf_lex_tokens.specs.Semicolons.{tokens_of}
+use Rattle.golf_lex_tokens.specs.Lexes.{Lexes}
 use Rattle.golf_lex.specs.declared.automaton.State.{State}
 use Rattle.golf_lex.specs.declared.automaton.State.TheVariants as states
 use Rattle.golf_lex.specs.declared.automaton.Growth.{Growth}

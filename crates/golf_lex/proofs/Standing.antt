@@ -1,15 +1,15 @@
 -- Which byte ends a lexeme, by what the lexeme is.
 use Rattle.std.proofs.Common.{◌≡◌, ℕ, Bool, true, false, cond, not, ◌||◌, List, [], ◌∷◌, refl, sym, subst}
 use Rattle.std.specs.Prelude.{Option, Some, None}
-use Rattle.golf_tokens.specs.declared.token.TokenKind.TheVariants.{Name, Integer, Text, Keyword as KeywordToken, Mark as MarkToken}
-use Rattle.golf_tokens.specs.declared.token.Keyword.{Keyword}
-use Rattle.golf_tokens.specs.Bytes.{is_letter, is_digit, is_word_byte}
-use Rattle.golf_tokens.specs.Lexemes.{Class, Blank, LineComment, GeneralComment, Of, begins, Forms, MayPrecede}
+use Rattle.golf_lex_tokens.specs.declared.token.TokenKind.TheVariants.{Name, Integer, Text, Keyword as KeywordToken, Punctuation as PunctuationToken}
+use Rattle.golf_lex_tokens.specs.declared.token.Keyword.{Keyword}
+use Rattle.golf_lex_tokens.specs.Bytes.{is_letter, is_digit, is_word_byte}
+use Rattle.golf_lex_tokens.specs.Lexemes.{Class, Blank, LineComment, GeneralComment, Of, begins, Forms, MayPrecede}
 use Rattle.golf_lex.specs.declared.automaton.State.{State}
 use Rattle.golf_lex.specs.declared.automaton.State.TheVariants as states
 use Rattle.golf_lex.specs.declared.automaton.Growth.{Growth}
 use Rattle.golf_lex.specs.declared.automaton.Growth.TheVariants.{To, Over, Fault}
-use Rattle.golf_lex.specs.Automaton.{growth, is_complete, after_mark}
+use Rattle.golf_lex.specs.Automaton.{growth, is_complete, after_punctuation}
 use Rattle.golf_lex.specs.Words.{keyword_of, word_kind_by}
 use Rattle.golf_lex.proofs.Whole.{class_at}
 use Rattle.golf_lex.proofs.Again.{again}
@@ -29,7 +29,7 @@ ends_at (Of (Name name)) c = not (is_word_byte c)
 ends_at (Of (Integer digits)) c = not (is_word_byte c)
 ends_at (Of (KeywordToken k)) c = not (is_word_byte c)
 ends_at (Of (Text content)) c = true
-ends_at (Of (MarkToken m)) c = is_over (after_mark m c)
+ends_at (Of (PunctuationToken m)) c = is_over (after_punctuation m c)
 
 not-over : (t : Bool) (g : Growth) → not t ≡ true → cond t g Over ≡ Over
 not-over true g e = absurd (cc)
@@ -40,10 +40,10 @@ digits-over true d e = absurd (cc)
 digits-over false true e = absurd (cc)
 digits-over false false e = refl
 
-mark-over : (g : Growth) → is_over g ≡ true → g ≡ Over
-mark-over (To _) e = absurd (cc)
-mark-over Over e = refl
-mark-over Fault e = absurd (cc)
+punctuation-over : (g : Growth) → is_over g ≡ true → g ≡ Over
+punctuation-over (To _) e = absurd (cc)
+punctuation-over Over e = refl
+punctuation-over Fault e = absurd (cc)
 
 word-over : (bytes : List ℕ) (o : Option Keyword) (c : ℕ) → ends_at (Of (word_kind_by bytes o)) c ≡ true → cond (is_word_byte c) (To states.Word) Over ≡ Over
 word-over bytes None c e = not-over (is_word_byte c) (To states.Word) e
@@ -55,7 +55,7 @@ over states.Word bytes c w e = word-over bytes (keyword_of bytes) c e
 over states.Zero bytes c w e = not-over (is_word_byte c) Fault e
 over states.Digits bytes c w e = digits-over (is_letter c) (is_digit c) e
 over states.Text bytes c w e = refl
-over (states.Mark m) bytes c w e = mark-over (after_mark m c) e
+over (states.Punctuation m) bytes c w e = punctuation-over (after_punctuation m c) e
 over _ bytes c w e = absurd (cc)
 
 -- a lexeme may stand before what begins with a byte that ends it

@@ -3,9 +3,9 @@ use Rattle.std.proofs.Common.{◌≡◌, ◌≢◌, ℕ, Bool, true, false, cond
 use Rattle.std.specs.Prelude.{Some, None, find}
 use Rattle.std.specs.Str.{bytes_eq}
 use Rattle.std.proofs.lemmas.Slice.Eq.{bytes_eq-Decides}
-use Rattle.golf_tokens.specs.declared.token.Keyword.{Keyword}
-use Rattle.golf_tokens.specs.declared.token.Keyword.TheVariants as keywords
-use Rattle.golf_tokens.specs.Spelling.{keyword_text}
+use Rattle.golf_lex_tokens.specs.declared.token.Keyword.{Keyword}
+use Rattle.golf_lex_tokens.specs.declared.token.Keyword.TheVariants as keywords
+use Rattle.golf_lex_tokens.specs.Spelling.{keyword_text}
 use Rattle.golf_lex.specs.Words.{keyword_of}
 use Rattle.golf_lex.specs.declared.words.TheConstants.{KEYWORDS}
 use Rattle.golf_lex.specs.declared.automaton.State.TheVariants as states

@@ -5,25 +5,25 @@ use Rattle.std.proofs.lemmas.Bool.Decides.{nat_tests}
 use Rattle.std.specs.Prelude.{Option, Some, None, option_and_then, nat_eq, nat_le}
 use Rattle.std.specs.Option.{option_map}
 use Rattle.std.specs.List.{list_all}
-use Rattle.golf_tokens.specs.declared.token.TokenKind.TheVariants.{Integer, Text, Mark as MarkToken}
-use Rattle.golf_tokens.specs.declared.token.Keyword.{Keyword}
-use Rattle.golf_tokens.specs.declared.token.Mark.{Mark}
-use Rattle.golf_tokens.specs.declared.token.Mark.TheVariants as marks
-use Rattle.golf_tokens.specs.Bytes.{is_letter, is_digit, is_word_byte, is_blank, is_ordinary}
-use Rattle.golf_tokens.specs.Spelling.{Part, Itself, Newline, Tab, Backslash, Quote, is_part, parts_text, parts_bytes, mark_text, is_word, is_integer, Spells}
-use Rattle.golf_tokens.specs.Lexemes.{Class, Blank, LineComment, GeneralComment, Of, Forms}
+use Rattle.golf_lex_tokens.specs.declared.token.TokenKind.TheVariants.{Integer, Text, Punctuation as PunctuationToken}
+use Rattle.golf_lex_tokens.specs.declared.token.Keyword.{Keyword}
+use Rattle.golf_lex_tokens.specs.declared.token.Punctuation.{Punctuation}
+use Rattle.golf_lex_tokens.specs.declared.token.Punctuation.TheVariants as punctuations
+use Rattle.golf_lex_tokens.specs.Bytes.{is_letter, is_digit, is_word_byte, is_blank, is_ordinary}
+use Rattle.golf_lex_tokens.specs.Spelling.{Part, Itself, Newline, Tab, Backslash, Quote, is_part, parts_text, parts_bytes, punctuation_text, is_word, is_integer, Spells}
+use Rattle.golf_lex_tokens.specs.Lexemes.{Class, Blank, LineComment, GeneralComment, Of, Forms}
 use Rattle.golf_lex.specs.declared.automaton.State.{State}
 use Rattle.golf_lex.specs.declared.automaton.State.TheVariants as states
 use Rattle.golf_lex.specs.declared.automaton.Growth.{Growth}
 use Rattle.golf_lex.specs.declared.automaton.Growth.TheVariants.{To, Over, Fault}
-use Rattle.golf_lex.specs.Automaton.{growth, begun, begun_mark, is_complete, to_mark}
+use Rattle.golf_lex.specs.Automaton.{growth, begun, begun_punctuation, is_complete, to_punctuation}
 use Rattle.golf_lex.specs.Words.{keyword_of, word_kind, word_kind_by}
 use Rattle.golf_lex.specs.Strings.{content_from}
 use Rattle.golf_lex.specs.Scanning.{ended}
 use Rattle.golf_lex.proofs.Growing.{to_only, grown, reached}
 use Rattle.golf_lex.proofs.GoingOn.{stays, words, digits, zeros, line_comments, strings, Closes}
 use Rattle.golf_lex.proofs.Comments.{comments}
-use Rattle.golf_lex.proofs.Marks.{Grows, over, longer, line, general, grows, begun_mark-text}
+use Rattle.golf_lex.proofs.Punctuations.{Grows, over, longer, line, general, grows, begun_punctuation-text}
 use Rattle.golf_lex.proofs.Told.{keyword_of-text, keyword_of-none}
 
 -- what a lexeme is that ends in the state
@@ -32,7 +32,7 @@ class_at states.Word bytes = Of (word_kind bytes)
 class_at states.Zero bytes = Of (Integer bytes)
 class_at states.Digits bytes = Of (Integer bytes)
 class_at states.Text bytes = Of (Text (content_from false bytes))
-class_at (states.Mark m) bytes = Of (MarkToken m)
+class_at (states.Punctuation m) bytes = Of (PunctuationToken m)
 class_at states.LineComment bytes = LineComment
 class_at states.Closed bytes = GeneralComment
 class_at _ bytes = Blank
@@ -53,23 +53,23 @@ data Begins (b : ℕ) (s : State) : Type 0 where
   blank : is_blank b ≡ true → s ≡ states.Blank → Begins b s
   quote : b ≡ 34 → s ≡ states.Quoted → Begins b s
   bar : b ≡ 124 → s ≡ states.Bar → Begins b s
-  mark : (m : Mark) → mark_text m ≡ b ∷ [] → s ≡ states.Mark m → Begins b s
+  punctuation : (m : Punctuation) → punctuation_text m ≡ b ∷ [] → s ≡ states.Punctuation m → Begins b s
 
-begins-mark : (b : ℕ) (s : State) (o : Option Mark) → begun_mark b ≡ o → option_map states.Mark o ≡ Some s → Begins b s
-begins-mark b s None e f = absurd (cc)
-begins-mark b s (Some m) e f = let same : states.Mark m ≡ s = cc in mark m (begun_mark-text b m e) (sym same)
+begins-punctuation : (b : ℕ) (s : State) (o : Option Punctuation) → begun_punctuation b ≡ o → option_map states.Punctuation o ≡ Some s → Begins b s
+begins-punctuation b s None e f = absurd (cc)
+begins-punctuation b s (Some m) e f = let same : states.Punctuation m ≡ s = cc in punctuation m (begun_punctuation-text b m e) (sym same)
 
 begins : (b : ℕ) (s : State) → begun b ≡ Some s → Begins b s
 begins b s = at (is_letter b) (nat_eq b 48) (is_digit b) (is_blank b) (nat_eq b 34) (nat_eq b 124) refl refl refl refl refl refl
   where
-    at : (l z d k q v : Bool) → is_letter b ≡ l → nat_eq b 48 ≡ z → is_digit b ≡ d → is_blank b ≡ k → nat_eq b 34 ≡ q → nat_eq b 124 ≡ v → cond l (Some states.Word) (cond z (Some states.Zero) (cond d (Some states.Digits) (cond k (Some states.Blank) (cond q (Some states.Quoted) (cond v (Some states.Bar) (option_map states.Mark (begun_mark b))))))) ≡ Some s → Begins b s
+    at : (l z d k q v : Bool) → is_letter b ≡ l → nat_eq b 48 ≡ z → is_digit b ≡ d → is_blank b ≡ k → nat_eq b 34 ≡ q → nat_eq b 124 ≡ v → cond l (Some states.Word) (cond z (Some states.Zero) (cond d (Some states.Digits) (cond k (Some states.Blank) (cond q (Some states.Quoted) (cond v (Some states.Bar) (option_map states.Punctuation (begun_punctuation b))))))) ≡ Some s → Begins b s
     at true z d k q v el ez ed ek eq ev e = let same : states.Word ≡ s = cc in letter el (sym same)
     at false true d k q v el ez ed ek eq ev e = let same : states.Zero ≡ s = cc in nought (eqb-true b 48 ez) (sym same)
     at false false true k q v el ez ed ek eq ev e = let same : states.Digits ≡ s = cc in digit ez ed (sym same)
     at false false false true q v el ez ed ek eq ev e = let same : states.Blank ≡ s = cc in blank ek (sym same)
     at false false false false true v el ez ed ek eq ev e = let same : states.Quoted ≡ s = cc in quote (eqb-true b 34 eq) (sym same)
     at false false false false false true el ez ed ek eq ev e = let same : states.Bar ≡ s = cc in bar (eqb-true b 124 ev) (sym same)
-    at false false false false false false el ez ed ek eq ev e = begins-mark b s (begun_mark b) refl e
+    at false false false false false false el ez ed ek eq ev e = begins-punctuation b s (begun_punctuation b) refl e
 
 -- an ordinary byte is no quote and no backslash
 pub ordinary-other : (b : ℕ) → is_ordinary b ≡ true → (nat_eq b 34 ≡ false) × (nat_eq b 92 ≡ false)
@@ -129,32 +129,32 @@ bar-whole : (b : ℕ) (bs : List ℕ) (last : State) → b ≡ 124 → grown sta
 bar-whole b [] last e f whole = absurd (let same : states.Bar ≡ last = cc in let wrong : false ≡ true = ap is_complete same ∙ whole in cc)
 bar-whole b (c ∷ bs) last e f whole = at (nat_eq c 124) refl f
   where
-    at : (t : Bool) → nat_eq c 124 ≡ t → to_only (cond t (to_mark marks.Or) Fault) (λ n. grown n bs) ≡ Some last → Whole last (b ∷ c ∷ bs)
+    at : (t : Bool) → nat_eq c 124 ≡ t → to_only (cond t (to_punctuation punctuations.Or) Fault) (λ n. grown n bs) ≡ Some last → Whole last (b ∷ c ∷ bs)
     at true et g =
-        let s = stays (states.Mark marks.Or) (λ _. refl) bs last g in
-        at-state (b ∷ c ∷ bs) (states.Mark marks.Or) last s.1 (ap (λ x. x ∷ c ∷ bs) e ∙ ap (λ x. 124 ∷ x ∷ bs) (eqb-true c 124 et) ∙ ap (λ xs. 124 ∷ 124 ∷ xs) s.0)
+        let s = stays (states.Punctuation punctuations.Or) (λ _. refl) bs last g in
+        at-state (b ∷ c ∷ bs) (states.Punctuation punctuations.Or) last s.1 (ap (λ x. x ∷ c ∷ bs) e ∙ ap (λ x. 124 ∷ x ∷ bs) (eqb-true c 124 et) ∙ ap (λ xs. 124 ∷ 124 ∷ xs) s.0)
     at false et g = absurd (cc)
 
-mark-whole : (m : Mark) (b : ℕ) (bs : List ℕ) (last : State) → mark_text m ≡ b ∷ [] → grown (states.Mark m) bs ≡ Some last → is_complete last ≡ true → Whole last (b ∷ bs)
-mark-whole m b [] last e f whole = let same : states.Mark m ≡ last = cc in at-state (b ∷ []) (states.Mark m) last (sym same) (sym e)
-mark-whole m b (c ∷ bs) last e f whole = by (grows m c)
+punctuation-whole : (m : Punctuation) (b : ℕ) (bs : List ℕ) (last : State) → punctuation_text m ≡ b ∷ [] → grown (states.Punctuation m) bs ≡ Some last → is_complete last ≡ true → Whole last (b ∷ bs)
+punctuation-whole m b [] last e f whole = let same : states.Punctuation m ≡ last = cc in at-state (b ∷ []) (states.Punctuation m) last (sym same) (sym e)
+punctuation-whole m b (c ∷ bs) last e f whole = by (grows m c)
   where
-    slashed : m ≡ marks.Slash → b ≡ 47
-    slashed em = let same : 47 ∷ [] ≡ b ∷ [] = ap mark_text (sym em) ∙ e in let is : 47 ≡ b = cc in sym is
+    slashed : m ≡ punctuations.Slash → b ≡ 47
+    slashed em = let same : 47 ∷ [] ≡ b ∷ [] = ap punctuation_text (sym em) ∙ e in let is : 47 ≡ b = cc in sym is
 
-    going : (g : Growth) → growth (states.Mark m) c ≡ g → to_only g (λ n. grown n bs) ≡ Some last
+    going : (g : Growth) → growth (states.Punctuation m) c ≡ g → to_only g (λ n. grown n bs) ≡ Some last
     going g eg = ap (λ x. to_only x (λ n. grown n bs)) (sym eg) ∙ f
 
     by : Grows m c → Whole last (b ∷ c ∷ bs)
     by (over eg) = let none : None ≡ Some last = going Over eg in absurd (cc)
     by (longer n eg text ends) =
-        let s = stays (states.Mark n) ends bs last (going (to_mark n) eg) in
-        at-state (b ∷ c ∷ bs) (states.Mark n) last s.1 (ap (λ xs. b ∷ c ∷ xs) s.0 ∙ ap (λ xs. xs ++ c ∷ []) (sym e) ∙ sym text)
+        let s = stays (states.Punctuation n) ends bs last (going (to_punctuation n) eg) in
+        at-state (b ∷ c ∷ bs) (states.Punctuation n) last s.1 (ap (λ xs. b ∷ c ∷ xs) s.0 ∙ ap (λ xs. xs ++ c ∷ []) (sym e) ∙ sym text)
     by (line em ec) =
-        let s = line_comments bs last (going (To states.LineComment) (ap (λ x. growth (states.Mark x) c) em ∙ ap (growth (states.Mark marks.Slash)) ec)) in
+        let s = line_comments bs last (going (To states.LineComment) (ap (λ x. growth (states.Punctuation x) c) em ∙ ap (growth (states.Punctuation punctuations.Slash)) ec)) in
         at-state (b ∷ c ∷ bs) states.LineComment last s.0 (record { body = bs; spelled = ap (λ x. x ∷ c ∷ bs) (slashed em) ∙ ap (λ x. 47 ∷ x ∷ bs) ec; valid = s.1 })
     by (general em ec) =
-        let s = comments false bs last (going (To states.GeneralComment) (ap (λ x. growth (states.Mark x) c) em ∙ ap (growth (states.Mark marks.Slash)) ec)) whole in
+        let s = comments false bs last (going (To states.GeneralComment) (ap (λ x. growth (states.Punctuation x) c) em ∙ ap (growth (states.Punctuation punctuations.Slash)) ec)) whole in
         at-state (b ∷ c ∷ bs) states.Closed last s.0 (record {
           body = s.1.body;
           spelled = ap (λ x. x ∷ c ∷ bs) (slashed em) ∙ ap (λ x. 47 ∷ x ∷ bs) ec ∙ ap (λ xs. 47 ∷ 42 ∷ xs) s.1.spelled;
@@ -183,7 +183,7 @@ whole b bs last e complete = first (begun b) refl e
         let r = strings bs last (ap (λ x. grown x bs) (sym is) ∙ f) complete in
         at-state (b ∷ bs) states.Text last r.0 (string-whole b bs h r.1)
     by s (bar h is) f = bar-whole b bs last h (ap (λ x. grown x bs) (sym is) ∙ f) complete
-    by s (mark m text is) f = mark-whole m b bs last text (ap (λ x. grown x bs) (sym is) ∙ f) complete
+    by s (punctuation m text is) f = punctuation-whole m b bs last text (ap (λ x. grown x bs) (sym is) ∙ f) complete
 
     first : (o : Option State) → begun b ≡ o → option_and_then (λ s. grown s bs) o ≡ Some last → Whole last (b ∷ bs)
     first (Some s) eo f = by s (begins b s eo) f

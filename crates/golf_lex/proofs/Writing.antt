@@ -1,12 +1,12 @@
 -- What is written is the tokens with inserted semicolons, without optional separators.
 use Rattle.std.proofs.Common.{◌≡◌, ℕ, ◌+◌, Bool, true, false, cond, ◌&&◌, List, [], ◌∷◌, ◌++◌, refl, sym, ap, ◌∙◌, append_assoc}
 use Rattle.std.specs.Prelude.{Option, Some, None, MatchOption, option_to_list, nat_eq}
-use Rattle.golf_tokens.specs.declared.token.Token.{Token}
-use Rattle.golf_tokens.specs.declared.token.TokenKind.{TokenKind}
-use Rattle.golf_tokens.specs.Bytes.{newlines}
-use Rattle.golf_tokens.specs.Lexemes.{Class, Blank, LineComment, GeneralComment, Lexeme}
-use Rattle.golf_tokens.specs.Lexemes as lexemes
-use Rattle.golf_tokens.specs.Semicolons.{Item, Of, Newline, newline_in, lexeme_items, items, may_end, line_ends, semicolon, semicolon_behind, inserted, is_separator, is_closing, closes, without_optional, tokens_of}
+use Rattle.golf_lex_tokens.specs.declared.token.Token.{Token}
+use Rattle.golf_lex_tokens.specs.declared.token.TokenKind.{TokenKind}
+use Rattle.golf_lex_tokens.specs.Bytes.{newlines}
+use Rattle.golf_lex_tokens.specs.Lexemes.{Class, Blank, LineComment, GeneralComment, Lexeme}
+use Rattle.golf_lex_tokens.specs.Lexemes as lexemes
+use Rattle.golf_lex_tokens.specs.Semicolons.{Item, Of, Newline, newline_in, lexeme_items, items, may_end, line_ends, semicolon, semicolon_behind, inserted, is_separator, is_closing, closes, without_optional, tokens_of}
 use Rattle.golf_lex.specs.declared.output.Output.{Output}
 use Rattle.golf_lex.specs.Output.{empty, released, pushed, with_token, line_ended_by, line_ended, with_space, with_class, moved, with_lexemes, finished}
 

@@ -1,7 +1,7 @@
 -- What reading the tokens of a file answers.
 use Rattle.std.specs.Prelude.{◌≡◌, ℕ, List, Result, Ok, Err, ◌⊎◌}
-use Rattle.golf_tokens.specs.declared.token.Token.{Token}
-use Rattle.golf_tokens.specs.Lexes.{Lexes, IsFault, line_at}
+use Rattle.golf_lex_tokens.specs.declared.token.Token.{Token}
+use Rattle.golf_lex_tokens.specs.Lexes.{Lexes, IsFault, line_at}
 use Rattle.golf_lex.specs.declared.lexer.LexFault.{LexFault}
 use Rattle.golf_lex.specs.declared.lexer.LexFault.TheVariants.{At, Memory}
 

@@ -1,37 +1,37 @@
 -- The automaton that reads a file byte by byte.
 use Rattle.std.specs.Prelude.{ℕ, Bool, true, false, ◌||◌, nat_eq, cond, List, [], ◌∷◌, Option, Some, None, option_and_then}
 use Rattle.std.specs.Option.{option_map}
-use Rattle.golf_tokens.specs.declared.token.Mark.{Mark}
-use Rattle.golf_tokens.specs.declared.token.Mark.TheVariants as marks
-use Rattle.golf_tokens.specs.Bytes.{is_letter, is_digit, is_word_byte, is_blank, is_ordinary}
+use Rattle.golf_lex_tokens.specs.declared.token.Punctuation.{Punctuation}
+use Rattle.golf_lex_tokens.specs.declared.token.Punctuation.TheVariants as punctuations
+use Rattle.golf_lex_tokens.specs.Bytes.{is_letter, is_digit, is_word_byte, is_blank, is_ordinary}
 use Rattle.golf_lex.specs.declared.automaton.State.{State}
 use Rattle.golf_lex.specs.declared.automaton.State.TheVariants as states
 use Rattle.golf_lex.specs.declared.automaton.Growth.{Growth}
 use Rattle.golf_lex.specs.declared.automaton.Growth.TheVariants.{To, Over, Fault}
 
--- the mark of one byte
-abbrev pub begun_mark : ℕ → Option Mark
-begun_mark b =
-    cond (nat_eq b 43) (Some marks.Plus) (
-    cond (nat_eq b 45) (Some marks.Minus) (
-    cond (nat_eq b 42) (Some marks.Star) (
-    cond (nat_eq b 47) (Some marks.Slash) (
-    cond (nat_eq b 37) (Some marks.Percent) (
-    cond (nat_eq b 60) (Some marks.Less) (
-    cond (nat_eq b 62) (Some marks.Greater) (
-    cond (nat_eq b 33) (Some marks.Not) (
-    cond (nat_eq b 38) (Some marks.Ampersand) (
-    cond (nat_eq b 40) (Some marks.OpenParen) (
-    cond (nat_eq b 41) (Some marks.CloseParen) (
-    cond (nat_eq b 91) (Some marks.OpenBracket) (
-    cond (nat_eq b 93) (Some marks.CloseBracket) (
-    cond (nat_eq b 123) (Some marks.OpenBrace) (
-    cond (nat_eq b 125) (Some marks.CloseBrace) (
-    cond (nat_eq b 44) (Some marks.Comma) (
-    cond (nat_eq b 59) (Some marks.Semicolon) (
-    cond (nat_eq b 58) (Some marks.Colon) (
-    cond (nat_eq b 46) (Some marks.Dot) (
-    cond (nat_eq b 61) (Some marks.Assign) None)))))))))))))))))))
+-- the punctuation mark of one byte
+abbrev pub begun_punctuation : ℕ → Option Punctuation
+begun_punctuation b =
+    cond (nat_eq b 43) (Some punctuations.Plus) (
+    cond (nat_eq b 45) (Some punctuations.Minus) (
+    cond (nat_eq b 42) (Some punctuations.Star) (
+    cond (nat_eq b 47) (Some punctuations.Slash) (
+    cond (nat_eq b 37) (Some punctuations.Percent) (
+    cond (nat_eq b 60) (Some punctuations.Less) (
+    cond (nat_eq b 62) (Some punctuations.Greater) (
+    cond (nat_eq b 33) (Some punctuations.Not) (
+    cond (nat_eq b 38) (Some punctuations.Ampersand) (
+    cond (nat_eq b 40) (Some punctuations.OpenParen) (
+    cond (nat_eq b 41) (Some punctuations.CloseParen) (
+    cond (nat_eq b 91) (Some punctuations.OpenBracket) (
+    cond (nat_eq b 93) (Some punctuations.CloseBracket) (
+    cond (nat_eq b 123) (Some punctuations.OpenBrace) (
+    cond (nat_eq b 125) (Some punctuations.CloseBrace) (
+    cond (nat_eq b 44) (Some punctuations.Comma) (
+    cond (nat_eq b 59) (Some punctuations.Semicolon) (
+    cond (nat_eq b 58) (Some punctuations.Colon) (
+    cond (nat_eq b 46) (Some punctuations.Dot) (
+    cond (nat_eq b 61) (Some punctuations.Assign) None)))))))))))))))))))
 
 -- the state behind the first byte of a lexeme
 abbrev pub begun : ℕ → Option State
@@ -42,35 +42,35 @@ begun b =
     cond (is_blank b) (Some states.Blank) (
     cond (nat_eq b 34) (Some states.Quoted) (
     cond (nat_eq b 124) (Some states.Bar) (
-    option_map states.Mark (begun_mark b)))))))
+    option_map states.Punctuation (begun_punctuation b)))))))
 
-abbrev pub to_mark : Mark → Growth
-to_mark m = To (states.Mark m)
+abbrev pub to_punctuation : Punctuation → Growth
+to_punctuation m = To (states.Punctuation m)
 
--- a mark with `=` behind it
-abbrev pub with_equals : Mark → ℕ → Growth
-with_equals m b = cond (nat_eq b 61) (to_mark m) Over
+-- a punctuation mark with `=` behind it
+abbrev pub with_equals : Punctuation → ℕ → Growth
+with_equals m b = cond (nat_eq b 61) (to_punctuation m) Over
 
--- a mark with this second byte, or with `=` behind it
-abbrev pub after_doubling : ℕ → ℕ → Mark → Mark → Growth
-after_doubling b second doubled assigning = cond (nat_eq b second) (to_mark doubled) (with_equals assigning b)
+-- a punctuation mark with this second byte, or with `=` behind it
+abbrev pub after_doubling : ℕ → ℕ → Punctuation → Punctuation → Growth
+after_doubling b second doubled assigning = cond (nat_eq b second) (to_punctuation doubled) (with_equals assigning b)
 
 abbrev pub after_slash : ℕ → Growth
-after_slash b = cond (nat_eq b 47) (To states.LineComment) (cond (nat_eq b 42) (To states.GeneralComment) (with_equals marks.SlashAssign b))
+after_slash b = cond (nat_eq b 47) (To states.LineComment) (cond (nat_eq b 42) (To states.GeneralComment) (with_equals punctuations.SlashAssign b))
 
-abbrev pub after_mark : Mark → ℕ → Growth
-after_mark marks.Plus b = after_doubling b 43 marks.Increment marks.PlusAssign
-after_mark marks.Minus b = after_doubling b 45 marks.Decrement marks.MinusAssign
-after_mark marks.Star b = with_equals marks.StarAssign b
-after_mark marks.Slash b = after_slash b
-after_mark marks.Percent b = with_equals marks.PercentAssign b
-after_mark marks.Assign b = with_equals marks.Equal b
-after_mark marks.Not b = with_equals marks.NotEqual b
-after_mark marks.Less b = after_doubling b 45 marks.Arrow marks.AtMost
-after_mark marks.Greater b = with_equals marks.AtLeast b
-after_mark marks.Ampersand b = cond (nat_eq b 38) (to_mark marks.And) Over
-after_mark marks.Colon b = with_equals marks.Define b
-after_mark _ b = Over
+abbrev pub after_punctuation : Punctuation → ℕ → Growth
+after_punctuation punctuations.Plus b = after_doubling b 43 punctuations.Increment punctuations.PlusAssign
+after_punctuation punctuations.Minus b = after_doubling b 45 punctuations.Decrement punctuations.MinusAssign
+after_punctuation punctuations.Star b = with_equals punctuations.StarAssign b
+after_punctuation punctuations.Slash b = after_slash b
+after_punctuation punctuations.Percent b = with_equals punctuations.PercentAssign b
+after_punctuation punctuations.Assign b = with_equals punctuations.Equal b
+after_punctuation punctuations.Not b = with_equals punctuations.NotEqual b
+after_punctuation punctuations.Less b = after_doubling b 45 punctuations.Arrow punctuations.AtMost
+after_punctuation punctuations.Greater b = with_equals punctuations.AtLeast b
+after_punctuation punctuations.Ampersand b = cond (nat_eq b 38) (to_punctuation punctuations.And) Over
+after_punctuation punctuations.Colon b = with_equals punctuations.Define b
+after_punctuation _ b = Over
 
 -- an escape ends with the byte
 abbrev pub is_escape : ℕ → Bool
@@ -85,8 +85,8 @@ growth states.Digits b = cond (is_digit b) (To states.Digits) (cond (is_letter b
 growth states.Quoted b = cond (nat_eq b 34) (To states.Text) (cond (nat_eq b 92) (To states.Escaped) (cond (is_ordinary b) (To states.Quoted) Fault))
 growth states.Escaped b = cond (is_escape b) (To states.Quoted) Fault
 growth states.Text b = Over
-growth (states.Mark m) b = after_mark m b
-growth states.Bar b = cond (nat_eq b 124) (to_mark marks.Or) Fault
+growth (states.Punctuation m) b = after_punctuation m b
+growth states.Bar b = cond (nat_eq b 124) (to_punctuation punctuations.Or) Fault
 growth states.LineComment b = cond (nat_eq b 0) Fault (cond (nat_eq b 10) Over (To states.LineComment))
 growth states.GeneralComment b = cond (nat_eq b 0) Fault (cond (nat_eq b 42) (To states.Star) (To states.GeneralComment))
 growth states.Star b = cond (nat_eq b 47) (To states.Closed) (cond (nat_eq b 0) Fault (cond (nat_eq b 42) (To states.Star) (To states.GeneralComment)))

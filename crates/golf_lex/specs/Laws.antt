@@ -1,7 +1,7 @@
 -- Bytes lex in one way, or are at fault at one place.
 use Rattle.std.specs.Prelude.{◌≡◌, ◌⊎◌, ℕ, List}
-use Rattle.golf_tokens.specs.declared.token.Token.{Token}
-use Rattle.golf_tokens.specs.Lexes.{Lexes, IsFault}
+use Rattle.golf_lex_tokens.specs.declared.token.Token.{Token}
+use Rattle.golf_lex_tokens.specs.Lexes.{Lexes, IsFault}
 
 -- bytes lex in at most one way
 abbrev pub LexesOnce : Type 0

@@ -1,11 +1,11 @@
 -- What the lexer keeps of the lexemes that it has read.
 use Rattle.std.specs.Prelude.{ℕ, ◌+◌, nat_eq, cond, List, [], ◌∷◌, ◌++◌, Option, Some, None, option_to_list}
 use Rattle.std.specs.Option.{option_map}
-use Rattle.golf_tokens.specs.declared.token.Token.{Token}
-use Rattle.golf_tokens.specs.declared.token.TokenKind.{TokenKind}
-use Rattle.golf_tokens.specs.Bytes.{newlines}
-use Rattle.golf_tokens.specs.Lexemes.{Class, Of, Lexeme}
-use Rattle.golf_tokens.specs.Semicolons.{may_end, semicolon, is_separator, is_closing}
+use Rattle.golf_lex_tokens.specs.declared.token.Token.{Token}
+use Rattle.golf_lex_tokens.specs.declared.token.TokenKind.{TokenKind}
+use Rattle.golf_lex_tokens.specs.Bytes.{newlines}
+use Rattle.golf_lex_tokens.specs.Lexemes.{Class, Of, Lexeme}
+use Rattle.golf_lex_tokens.specs.Semicolons.{may_end, semicolon, is_separator, is_closing}
 use Rattle.golf_lex.specs.declared.automaton.State.{State}
 use Rattle.golf_lex.specs.declared.output.Output.{Output}
 use Rattle.golf_lex.specs.Scanning.{scan}

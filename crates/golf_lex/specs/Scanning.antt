@@ -1,9 +1,9 @@
 -- How bytes are cut into lexemes by the automaton.
 use Rattle.std.specs.Prelude.{ℕ, false, cond, List, [], ◌∷◌, ◌++◌, Option, Some, None, option_and_then}
 use Rattle.std.specs.Option.{option_map}
-use Rattle.golf_tokens.specs.declared.token.TokenKind.{TokenKind}
-use Rattle.golf_tokens.specs.declared.token.TokenKind.TheVariants.{Integer, Text, Mark}
-use Rattle.golf_tokens.specs.Lexemes.{Blank, LineComment, GeneralComment, Of, Lexeme}
+use Rattle.golf_lex_tokens.specs.declared.token.TokenKind.{TokenKind}
+use Rattle.golf_lex_tokens.specs.declared.token.TokenKind.TheVariants.{Integer, Text, Punctuation}
+use Rattle.golf_lex_tokens.specs.Lexemes.{Blank, LineComment, GeneralComment, Of, Lexeme}
 use Rattle.golf_lex.specs.declared.automaton.State.{State}
 use Rattle.golf_lex.specs.declared.automaton.State.TheVariants as states
 use Rattle.golf_lex.specs.declared.automaton.Growth.{Growth}
@@ -18,7 +18,7 @@ kind_at states.Word bytes = Some (word_kind bytes)
 kind_at states.Zero bytes = Some (Integer bytes)
 kind_at states.Digits bytes = Some (Integer bytes)
 kind_at states.Text bytes = Some (Text (content_from false bytes))
-kind_at (states.Mark m) bytes = Some (Mark m)
+kind_at (states.Punctuation m) bytes = Some (Punctuation m)
 kind_at _ bytes = None
 
 -- the lexeme that ends in the state; before the first byte there is none
@@ -31,7 +31,7 @@ ended states.Word bytes = record { class = Of (word_kind bytes); bytes = bytes }
 ended states.Zero bytes = record { class = Of (Integer bytes); bytes = bytes } ∷ []
 ended states.Digits bytes = record { class = Of (Integer bytes); bytes = bytes } ∷ []
 ended states.Text bytes = record { class = Of (Text (content_from false bytes)); bytes = bytes } ∷ []
-ended (states.Mark m) bytes = record { class = Of (Mark m); bytes = bytes } ∷ []
+ended (states.Punctuation m) bytes = record { class = Of (Punctuation m); bytes = bytes } ∷ []
 ended _ bytes = []
 
 -- lexemes in front of those that follow, if these are there

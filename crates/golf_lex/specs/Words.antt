@@ -1,10 +1,10 @@
 -- Keywords, and words that are none.
 use Rattle.std.specs.Prelude.{ℕ, List, Option, Some, None, find}
 use Rattle.std.specs.Str.{bytes_eq}
-use Rattle.golf_tokens.specs.declared.token.TokenKind.{TokenKind}
-use Rattle.golf_tokens.specs.declared.token.TokenKind.TheVariants.{Name, Keyword as KeywordToken}
-use Rattle.golf_tokens.specs.declared.token.Keyword.{Keyword}
-use Rattle.golf_tokens.specs.Spelling.{keyword_text}
+use Rattle.golf_lex_tokens.specs.declared.token.TokenKind.{TokenKind}
+use Rattle.golf_lex_tokens.specs.declared.token.TokenKind.TheVariants.{Name, Keyword as KeywordToken}
+use Rattle.golf_lex_tokens.specs.declared.token.Keyword.{Keyword}
+use Rattle.golf_lex_tokens.specs.Spelling.{keyword_text}
 use Rattle.golf_lex.specs.declared.words.TheConstants.{KEYWORDS}
 
 -- the keyword that is spelled so

@@ -8,7 +8,7 @@ ghost use Rattle.golf_lex.specs.Automaton as automaton_spec;
 ghost use Rattle.golf_lex.specs.Automaton.{begun, growth};
 
 use crate::bytes::{is_blank, is_digit, is_letter, is_ordinary, is_word_byte};
-use golf_tokens::Mark;
+use golf_lex_tokens::Punctuation;
 
 /// What the bytes of a lexeme are so far.
 #[derive(Clone, Copy, Debug)]
@@ -26,7 +26,7 @@ pub(crate) enum State {
     Escaped,
     /// A whole string.
     Text,
-    Mark(Mark),
+    Punctuation(Punctuation),
     /// A lone `|`, which is no token.
     Bar,
     LineComment,
@@ -66,35 +66,35 @@ pub(crate) fn begin(byte: u8) -> Option<State>
     } else if byte == b'|' {
         Some(State::Bar)
     } else {
-        begun_mark(byte).map(State::Mark)
+        begun_punctuation(byte).map(State::Punctuation)
     }
 }
 
-// The mark of one byte.
-fn begun_mark(byte: u8) -> Option<Mark>
-    ensures { result ≡ automaton_spec.begun_mark byte }
+// The punctuation mark of one byte.
+fn begun_punctuation(byte: u8) -> Option<Punctuation>
+    ensures { result ≡ automaton_spec.begun_punctuation byte }
 {
     match byte {
-        b'+' => Some(Mark::Plus),
-        b'-' => Some(Mark::Minus),
-        b'*' => Some(Mark::Star),
-        b'/' => Some(Mark::Slash),
-        b'%' => Some(Mark::Percent),
-        b'<' => Some(Mark::Less),
-        b'>' => Some(Mark::Greater),
-        b'!' => Some(Mark::Not),
-        b'&' => Some(Mark::Ampersand),
-        b'(' => Some(Mark::OpenParen),
-        b')' => Some(Mark::CloseParen),
-        b'[' => Some(Mark::OpenBracket),
-        b']' => Some(Mark::CloseBracket),
-        b'{' => Some(Mark::OpenBrace),
-        b'}' => Some(Mark::CloseBrace),
-        b',' => Some(Mark::Comma),
-        b';' => Some(Mark::Semicolon),
-        b':' => Some(Mark::Colon),
-        b'.' => Some(Mark::Dot),
-        b'=' => Some(Mark::Assign),
+        b'+' => Some(Punctuation::Plus),
+        b'-' => Some(Punctuation::Minus),
+        b'*' => Some(Punctuation::Star),
+        b'/' => Some(Punctuation::Slash),
+        b'%' => Some(Punctuation::Percent),
+        b'<' => Some(Punctuation::Less),
+        b'>' => Some(Punctuation::Greater),
+        b'!' => Some(Punctuation::Not),
+        b'&' => Some(Punctuation::Ampersand),
+        b'(' => Some(Punctuation::OpenParen),
+        b')' => Some(Punctuation::CloseParen),
+        b'[' => Some(Punctuation::OpenBracket),
+        b']' => Some(Punctuation::CloseBracket),
+        b'{' => Some(Punctuation::OpenBrace),
+        b'}' => Some(Punctuation::CloseBrace),
+        b',' => Some(Punctuation::Comma),
+        b';' => Some(Punctuation::Semicolon),
+        b':' => Some(Punctuation::Colon),
+        b'.' => Some(Punctuation::Dot),
+        b'=' => Some(Punctuation::Assign),
         _ => None,
     }
 }
@@ -110,7 +110,7 @@ pub(crate) fn extend(state: State, byte: u8) -> Growth
         State::Digits => after_digits(byte),
         State::Quoted => after_quoted(byte),
         State::Escaped => after_escaped(byte),
-        State::Mark(mark) => after_mark(mark, byte),
+        State::Punctuation(punctuation) => after_punctuation(punctuation, byte),
         State::Bar => after_bar(byte),
         State::LineComment => after_line_comment(byte),
         State::GeneralComment => after_general_comment(byte),
@@ -184,7 +184,7 @@ fn after_bar(byte: u8) -> Growth
     ensures { result ≡ growth State.Bar byte }
 {
     if byte == b'|' {
-        Growth::To(State::Mark(Mark::Or))
+        Growth::To(State::Punctuation(Punctuation::Or))
     } else {
         Growth::Fault
     }
@@ -224,64 +224,64 @@ fn after_star(byte: u8) -> Growth
     }
 }
 
-// What the byte does to a mark. The longest mark is read.
-fn after_mark(mark: Mark, byte: u8) -> Growth
-    ensures { result ≡ automaton_spec.after_mark mark byte }
+// What the byte does to a punctuation mark. The longest punctuation mark is read.
+fn after_punctuation(punctuation: Punctuation, byte: u8) -> Growth
+    ensures { result ≡ automaton_spec.after_punctuation punctuation byte }
 {
-    match mark {
-        Mark::Plus => after_doubling(byte, b'+', Mark::Increment, Mark::PlusAssign),
-        Mark::Minus => after_doubling(byte, b'-', Mark::Decrement, Mark::MinusAssign),
-        Mark::Less => after_doubling(byte, b'-', Mark::Arrow, Mark::AtMost),
-        Mark::Slash => after_slash(byte),
-        Mark::Ampersand => after_ampersand(byte),
-        Mark::Star => with_equals(Mark::StarAssign, byte),
-        Mark::Percent => with_equals(Mark::PercentAssign, byte),
-        Mark::Assign => with_equals(Mark::Equal, byte),
-        Mark::Not => with_equals(Mark::NotEqual, byte),
-        Mark::Greater => with_equals(Mark::AtLeast, byte),
-        Mark::Colon => with_equals(Mark::Define, byte),
+    match punctuation {
+        Punctuation::Plus => after_doubling(byte, b'+', Punctuation::Increment, Punctuation::PlusAssign),
+        Punctuation::Minus => after_doubling(byte, b'-', Punctuation::Decrement, Punctuation::MinusAssign),
+        Punctuation::Less => after_doubling(byte, b'-', Punctuation::Arrow, Punctuation::AtMost),
+        Punctuation::Slash => after_slash(byte),
+        Punctuation::Ampersand => after_ampersand(byte),
+        Punctuation::Star => with_equals(Punctuation::StarAssign, byte),
+        Punctuation::Percent => with_equals(Punctuation::PercentAssign, byte),
+        Punctuation::Assign => with_equals(Punctuation::Equal, byte),
+        Punctuation::Not => with_equals(Punctuation::NotEqual, byte),
+        Punctuation::Greater => with_equals(Punctuation::AtLeast, byte),
+        Punctuation::Colon => with_equals(Punctuation::Define, byte),
         _ => Growth::Over,
     }
 }
 
-fn with_equals(mark: Mark, byte: u8) -> Growth
-    ensures { result ≡ automaton_spec.with_equals mark byte }
+fn with_equals(punctuation: Punctuation, byte: u8) -> Growth
+    ensures { result ≡ automaton_spec.with_equals punctuation byte }
 {
     if byte == b'=' {
-        Growth::To(State::Mark(mark))
+        Growth::To(State::Punctuation(punctuation))
     } else {
         Growth::Over
     }
 }
 
-// What a byte does to a mark that a second byte or `=` makes longer.
-fn after_doubling(byte: u8, second: u8, doubled: Mark, assigning: Mark) -> Growth
+// What a byte does to a punctuation mark that a second byte or `=` makes longer.
+fn after_doubling(byte: u8, second: u8, doubled: Punctuation, assigning: Punctuation) -> Growth
     ensures { result ≡ automaton_spec.after_doubling byte second doubled assigning }
 {
     if byte == second {
-        Growth::To(State::Mark(doubled))
+        Growth::To(State::Punctuation(doubled))
     } else {
         with_equals(assigning, byte)
     }
 }
 
 fn after_slash(byte: u8) -> Growth
-    ensures { result ≡ automaton_spec.after_mark Mark.Slash byte }
+    ensures { result ≡ automaton_spec.after_punctuation Punctuation.Slash byte }
 {
     if byte == b'/' {
         Growth::To(State::LineComment)
     } else if byte == b'*' {
         Growth::To(State::GeneralComment)
     } else {
-        with_equals(Mark::SlashAssign, byte)
+        with_equals(Punctuation::SlashAssign, byte)
     }
 }
 
 fn after_ampersand(byte: u8) -> Growth
-    ensures { result ≡ automaton_spec.after_mark Mark.Ampersand byte }
+    ensures { result ≡ automaton_spec.after_punctuation Punctuation.Ampersand byte }
 {
     if byte == b'&' {
-        Growth::To(State::Mark(Mark::And))
+        Growth::To(State::Punctuation(Punctuation::And))
     } else {
         Growth::Over
     }
@@ -294,6 +294,6 @@ pub(crate) fn is_complete(state: State) -> bool
     match state {
         State::Quoted | State::Escaped | State::Bar | State::GeneralComment | State::Star => false,
         State::Blank | State::Word | State::Zero | State::Digits | State::Text => true,
-        State::Mark(_) | State::LineComment | State::Closed => true,
+        State::Punctuation(_) | State::LineComment | State::Closed => true,
     }
 }

@@ -1,7 +1,7 @@
 //! Classes of bytes.
 
 ghost use Rattle.std.specs.Prelude.{◌≡◌};
-ghost use Rattle.golf_tokens.specs.Bytes as bytes_spec;
+ghost use Rattle.golf_lex_tokens.specs.Bytes as bytes_spec;
 
 pub(crate) fn is_letter(byte: u8) -> bool
     ensures { result ≡ bytes_spec.is_letter byte }

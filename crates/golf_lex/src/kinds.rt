@@ -1,7 +1,7 @@
 //! Kinds of tokens.
 
 ghost use Rattle.std.specs.Prelude.{◌≡◌, IfOk};
-ghost use Rattle.golf_tokens.specs.Semicolons as semicolons_spec;
+ghost use Rattle.golf_lex_tokens.specs.Semicolons as semicolons_spec;
 ghost use Rattle.golf_lex.specs.Scanning.{kind_at};
 ghost use Rattle.golf_lex.specs.Words.{word_kind};
 
@@ -9,7 +9,7 @@ use crate::automaton::State;
 use crate::strings::content;
 use crate::words::keyword;
 use golf_base::{List, Memory};
-use golf_tokens::{Keyword, Mark, TokenKind};
+use golf_lex_tokens::{Keyword, Punctuation, TokenKind};
 use std::alloc::Global;
 
 /// Whether a newline behind such a token stands for a semicolon.
@@ -19,7 +19,7 @@ pub(crate) fn may_end(kind: &TokenKind) -> bool
     match kind {
         TokenKind::Name(_) | TokenKind::Integer(_) | TokenKind::Text(_) => true,
         TokenKind::Keyword(keyword) => keyword_may_end(*keyword),
-        TokenKind::Mark(mark) => mark_may_end(*mark),
+        TokenKind::Punctuation(punctuation) => punctuation_may_end(*punctuation),
     }
 }
 
@@ -27,14 +27,14 @@ pub(crate) fn may_end(kind: &TokenKind) -> bool
 pub(crate) fn is_separator(kind: &TokenKind) -> bool
     ensures { result ≡ semicolons_spec.is_separator kind.now }
 {
-    matches!(kind, TokenKind::Mark(Mark::Semicolon | Mark::Comma))
+    matches!(kind, TokenKind::Punctuation(Punctuation::Semicolon | Punctuation::Comma))
 }
 
 /// Whether it is `)` or `}`.
 pub(crate) fn is_closing(kind: &TokenKind) -> bool
     ensures { result ≡ semicolons_spec.is_closing kind.now }
 {
-    matches!(kind, TokenKind::Mark(Mark::CloseParen | Mark::CloseBrace))
+    matches!(kind, TokenKind::Punctuation(Punctuation::CloseParen | Punctuation::CloseBrace))
 }
 
 fn keyword_may_end(keyword: Keyword) -> bool
@@ -46,12 +46,12 @@ fn keyword_may_end(keyword: Keyword) -> bool
     )
 }
 
-fn mark_may_end(mark: Mark) -> bool
-    ensures { result ≡ semicolons_spec.may_end (TokenKind.Mark mark) }
+fn punctuation_may_end(punctuation: Punctuation) -> bool
+    ensures { result ≡ semicolons_spec.may_end (TokenKind.Punctuation punctuation) }
 {
     matches!(
-        mark,
-        Mark::Increment | Mark::Decrement | Mark::CloseParen | Mark::CloseBracket | Mark::CloseBrace
+        punctuation,
+        Punctuation::Increment | Punctuation::Decrement | Punctuation::CloseParen | Punctuation::CloseBracket | Punctuation::CloseBrace
     )
 }
 
@@ -80,7 +80,7 @@ pub(crate) fn kind(alloc: Global, state: State, bytes: &[u8]) -> Result<Option<T
         State::Word => Ok(Some(word(alloc, bytes)?)),
         State::Zero | State::Digits => Ok(Some(TokenKind::Integer(copied(alloc, bytes)?))),
         State::Text => Ok(Some(TokenKind::Text(content(alloc, bytes)?))),
-        State::Mark(mark) => Ok(Some(TokenKind::Mark(mark))),
+        State::Punctuation(punctuation) => Ok(Some(TokenKind::Punctuation(punctuation))),
         State::Blank | State::LineComment | State::Closed => Ok(None),
         State::Quoted | State::Escaped | State::Bar | State::GeneralComment | State::Star => Ok(
             None,

@@ -1,14 +1,14 @@
 //! Reads the tokens of a file.
 
 ghost use Rattle.std.specs.Prelude.{◌≡◌, ◌<◌, ◌≤◌, ◌-◌, ◌^◌, length};
-ghost use Rattle.golf_tokens.specs.Lexes.{line_at};
+ghost use Rattle.golf_lex_tokens.specs.Lexes.{line_at};
 ghost use Rattle.golf_lex.specs.Answers.{Accepts, Answers, Refuses};
 
 use crate::automaton::{Growth, State, begin, extend, is_complete};
 use crate::bytes::newlines;
 use crate::output::Output;
 use golf_base::{List, Memory};
-use golf_tokens::Token;
+use golf_lex_tokens::Token;
 use std::alloc::Global;
 
 /// Why a file has no tokens.

@@ -1,13 +1,13 @@
 //! The tokens of the lexemes that are read, with inserted semicolons and without optional separators.
 
 ghost use Rattle.std.specs.Prelude.{◌≡◌, ◌+◌, ◌<◌, ◌^◌, IfOk, OnOk, true};
-ghost use Rattle.golf_tokens.specs.Bytes as bytes_spec;
+ghost use Rattle.golf_lex_tokens.specs.Bytes as bytes_spec;
 
 use crate::automaton::State;
 use crate::bytes::newlines;
 use crate::kinds::{is_closing, is_separator, kind, may_end};
 use golf_base::{List, Memory};
-use golf_tokens::{Mark, Token, TokenKind};
+use golf_lex_tokens::{Punctuation, Token, TokenKind};
 use std::alloc::Global;
 
 /// What is kept of the lexemes that were read.
@@ -76,7 +76,7 @@ impl Output {
     {
         if let Some(line) = self.semicolon.take() {
             self.push(Token {
-                kind: TokenKind::Mark(Mark::Semicolon),
+                kind: TokenKind::Punctuation(Punctuation::Semicolon),
                 line,
             })?;
         }

@@ -1,10 +1,10 @@
 //! Keywords.
 
 ghost use Rattle.std.specs.Prelude.{◌≡◌};
-ghost use Rattle.golf_tokens.specs.Spelling.{keyword_text};
+ghost use Rattle.golf_lex_tokens.specs.Spelling.{keyword_text};
 ghost use Rattle.golf_lex.specs.Words.{keyword_of};
 
-use golf_tokens::Keyword;
+use golf_lex_tokens::Keyword;
 
 /// The keywords, the most frequent ones first.
 pub(crate) const KEYWORDS: [Keyword; 25] = [

@@ -6,7 +6,7 @@ use Rattle.golf_theory.specs.Membership.{In, is_in, any_of}
 use Rattle.golf_theory.proofs.Tests.{is_in-from, In-from, any_of-from, from_any_of}
 use Rattle.golf_theory.proofs.LeastLaws.{least_closed, least_all}
 use Rattle.golf_data.specs.declared.code.Instr.{Instr}
-use Rattle.golf_data.specs.declared.code.Line.{Line}
+use Rattle.golf_data.specs.declared.code.CodeLine.{CodeLine}
 use Rattle.golf_live.specs.Paths.{successors, Needed}
 use Rattle.golf_live.specs.Live.{loads, stores, wants, line_wants, positions, needed, is_needed}
 
@@ -26,7 +26,7 @@ not-stores slot (Instr.Store j) n = not_from_false (slot == j) (false_from_ne_tr
 not-stores slot _ n = refl
 
 -- where what comes next passes a test that tells the needed
-pub wants-needed : (body : List Line) (slot k : ℕ) (l : Line) (test : ℕ → Bool) → slice_get body k ≡ Some l → ((j : ℕ) → test j ≡ true → Needed body slot j) → wants slot test k l.instr ≡ true → Needed body slot k
+pub wants-needed : (body : List CodeLine) (slot k : ℕ) (l : CodeLine) (test : ℕ → Bool) → slice_get body k ≡ Some l → ((j : ℕ) → test j ≡ true → Needed body slot j) → wants slot test k l.instr ≡ true → Needed body slot k
 wants-needed body slot k l test e h w = elim (or_cases (loads slot l.instr) _ w) [
   | inl t ↦ Needed.Read k l e (loads-is slot l.instr t)
   | inr t ↦ (let p = and_parts (not (stores slot l.instr)) (any_of test (successors l.instr k)) t in
@@ -34,21 +34,21 @@ wants-needed body slot k l test e h w = elim (or_cases (loads slot l.instr) _ w)
       Needed.Later k j.0 l e (stores-not slot l.instr p.0) j.1 (h j.0 j.2))
 ]
 
-pub wants-read : (slot k : ℕ) (l : Line) (test : ℕ → Bool) → l.instr ≡ Instr.Load slot → wants slot test k l.instr ≡ true
+pub wants-read : (slot k : ℕ) (l : CodeLine) (test : ℕ → Bool) → l.instr ≡ Instr.Load slot → wants slot test k l.instr ≡ true
 wants-read slot k l test r = or_left (loads slot l.instr) _ (ap (loads slot) r ∙ eq-eqb slot slot refl)
 
-pub wants-later : (slot k j : ℕ) (l : Line) (test : ℕ → Bool) → (l.instr ≡ Instr.Store slot → ⊥) → In j (successors l.instr k) → test j ≡ true → wants slot test k l.instr ≡ true
+pub wants-later : (slot k j : ℕ) (l : CodeLine) (test : ℕ → Bool) → (l.instr ≡ Instr.Store slot → ⊥) → In j (successors l.instr k) → test j ≡ true → wants slot test k l.instr ≡ true
 wants-later slot k j l test n i t = or_right (loads slot l.instr) _ (and_from (not (stores slot l.instr)) _ (not-stores slot l.instr n) (any_of-from test (successors l.instr k) j i t))
 
 positions-in : (n k : ℕ) → k < n → In k (positions n)
 positions-in zero k l = absurd (omega (arith, l))
 positions-in (suc n) k l = elim (cases_lt k n) [ inl less ↦ inr (positions-in n k less) | inr more ↦ inl (let e : k ≡ n = omega (arith, l, more) in e) ]
 
-module _ (body : List Line) (slot : ℕ) where
+module _ (body : List CodeLine) (slot : ℕ) where
   abbrev rule : List ℕ → ℕ → Bool
   rule got k = line_wants slot (λ j. is_in j got) k (slice_get body k)
 
-  line-sound : (xs : List ℕ) (k : ℕ) (m : Option Line) → slice_get body k ≡ m → ((j : ℕ) → In j xs → Needed body slot j) → line_wants slot (λ j. is_in j xs) k m ≡ true → Needed body slot k
+  line-sound : (xs : List ℕ) (k : ℕ) (m : Option CodeLine) → slice_get body k ≡ m → ((j : ℕ) → In j xs → Needed body slot j) → line_wants slot (λ j. is_in j xs) k m ≡ true → Needed body slot k
   line-sound xs k None e h w = cc
   line-sound xs k (Some l) e h w = wants-needed body slot k l (λ j. is_in j xs) e (λ j t. h j (In-from j xs t)) w
 
@@ -56,7 +56,7 @@ module _ (body : List Line) (slot : ℕ) where
   unfolding needed
   needed-sound k i = least_all rule (positions (length body)) (Needed body slot) (λ xs x h t m. line-sound xs x (slice_get body x) refl h t) k i
 
-  closed : (k : ℕ) (l : Line) → slice_get body k ≡ Some l → wants slot (λ j. is_in j (needed body slot)) k l.instr ≡ true → In k (needed body slot)
+  closed : (k : ℕ) (l : CodeLine) → slice_get body k ≡ Some l → wants slot (λ j. is_in j (needed body slot)) k l.instr ≡ true → In k (needed body slot)
   unfolding needed
   closed k l e w = least_closed rule (positions (length body)) k (positions-in (length body) k (slice_get_within body k l e))
       (ap (line_wants slot (λ j. is_in j (needed body slot)) k) e ∙ w)

@@ -6,7 +6,7 @@ use Rattle.golf_theory.proofs.MapFinds.{find-put, put-put, find-Entry}
 use Rattle.golf_theory.proofs.MapKeys.{keys_where-put_same}
 use Rattle.golf_data.specs.declared.code.Code.{Code}
 use Rattle.golf_data.specs.declared.code.Function.{Function}
-use Rattle.golf_data.specs.declared.code.Line.{Line}
+use Rattle.golf_data.specs.declared.code.CodeLine.{CodeLine}
 use Rattle.golf_data.specs.declared.goroutine.Frame.{Frame}
 use Rattle.golf_data.specs.declared.goroutine.Leaving.{Leaving}
 use Rattle.golf_data.specs.declared.goroutine.Mode.{Mode}
@@ -39,7 +39,7 @@ abbrev pub blank : List Value → State
 blank globals = opening globals [] 0
 
 -- the frame that an instruction left, cleared by the masks of its function
-module _ (code : Code) (fn : Function) (l : Line) (f frame : FrameView) (there : Some fn ≡ slice_get code.functions f.function) (at : Some l ≡ slice_get fn.body f.at) where
+module _ (code : Code) (fn : Function) (l : CodeLine) (f frame : FrameView) (there : Some fn ≡ slice_get code.functions f.function) (at : Some l ≡ slice_get fn.body f.at) where
   pub line-there : line_at code f.function f.at ≡ Some l
   line-there = ap (option_and_then (λ (x : Function). slice_get x.body f.at)) (sym there) ∙ sym at
 
@@ -112,7 +112,7 @@ module _ (code : Code) (g : ℕ) (s : State) (r : Runs g s) (f h : FrameView) (c
   turn choice =
       ap (λ (o : Option GoroutineView). apply_all (turn_of code g choice s o) s) found
       ∙ ap (λ (m : Leaving). apply_all (frame_changes code g (with f) f callers choice s m) s) p.stays
-      ∙ ap (λ (o : Option Line). apply_all (performs code g (with f) f callers choice s o) s) p.found
+      ∙ ap (λ (o : Option CodeLine). apply_all (performs code g (with f) f callers choice s o) s) p.found
       ∙ ap (λ (cs : List Change). apply_all cs s) ((p.does choice s refl).stands g (with f) callers p.line.line)
 
   pub collects-not : goroutine_collects code (find g s.goroutines) ≡ false

@@ -7,7 +7,7 @@ use Rattle.std.proofs.lemmas.Option.{slice_get-map, slice_get-get_or, slice_get_
 use Rattle.golf_base.specs.declared.ids.GoroutineId.{GoroutineId}
 use Rattle.golf_data.specs.declared.code.Code.{Code}
 use Rattle.golf_data.specs.declared.code.Function.{Function}
-use Rattle.golf_data.specs.declared.code.Line.{Line}
+use Rattle.golf_data.specs.declared.code.CodeLine.{CodeLine}
 use Rattle.golf_data.specs.declared.goroutine.Ending.{Ending}
 use Rattle.golf_data.specs.declared.goroutine.Leaving.{Leaving}
 use Rattle.golf_data.specs.declared.goroutine.Mode.{Mode}
@@ -122,21 +122,21 @@ module _ (g : ℕ) (s : State) (r : Runs g s) where
   }
 
   -- the turn of a goroutine at an instruction
-  pub turn-is : (code : Code) (f : FrameView) (at : Some f ≡ slice_get (frames_of g s) 0) (l : Line) (choice : ℕ) → f.leaving ≡ Leaving.No → Some l ≡ line_at code f.function f.at
+  pub turn-is : (code : Code) (f : FrameView) (at : Some f ≡ slice_get (frames_of g s) 0) (l : CodeLine) (choice : ℕ) → f.leaving ≡ Leaving.No → Some l ≡ line_at code f.function f.at
       → does (λ a. changes code l.instr a choice s) g l.line s ≡ apply_all (turn_of code g choice s (find g s.goroutines)) s
   turn-is code f at l choice stays is =
       let st = stands-at f at in
       let x : GoroutineView = record { frames = f ∷ st.callers; mode = Mode.Running; started = st.started } in
       does-is g (f.at + 1) s st (λ a. changes code l.instr a choice s) l.line
-      ∙ ap (λ (o : Option Line). apply_all (performs code g x f st.callers choice s o) s) is
+      ∙ ap (λ (o : Option CodeLine). apply_all (performs code g x f st.callers choice s o) s) is
       ∙ ap (λ (m : Leaving). apply_all (frame_changes code g x f st.callers choice s m) s) (sym stays)
       ∙ sym (ap (λ (o : Option GoroutineView). apply_all (turn_of code g choice s o) s) st.found)
 
 -- ---- places
 
-fits-in : (o : Option Function) (at : ℕ) (l : Line) → IsShort o → Some l ≡ option_and_then (λ fn. slice_get fn.body at) o → at + 1 < 2 ^ 32
+fits-in : (o : Option Function) (at : ℕ) (l : CodeLine) → IsShort o → Some l ≡ option_and_then (λ fn. slice_get fn.body at) o → at + 1 < 2 ^ 32
 fits-in None at l h e = cc
 fits-in (Some fn) at l h e = let w = slice_get_within fn.body at l (sym e) in omega (arith, w, h)
 
-pub place-fits : (code : Code) (f at : ℕ) (l : Line) → HasPlaces code → Some l ≡ line_at code f at → at + 1 < 2 ^ 32
+pub place-fits : (code : Code) (f at : ℕ) (l : CodeLine) → HasPlaces code → Some l ≡ line_at code f at → at + 1 < 2 ^ 32
 place-fits code f at l h e = fits-in (slice_get code.functions f) at l (h f) e

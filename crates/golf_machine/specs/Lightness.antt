@@ -1,22 +1,22 @@
 -- Instructions that are about values of the innermost frame, or of globals.
 use Rattle.std.specs.Prelude.{Bool, true, false, List, [], ◌∷◌, Option, Some, None}
 use Rattle.golf_data.specs.declared.code.Code.{Code}
-use Rattle.golf_data.specs.declared.code.Line.{Line}
+use Rattle.golf_data.specs.declared.code.CodeLine.{CodeLine}
 use Rattle.golf_data.specs.declared.goroutine.Leaving.{Leaving}
 use Rattle.golf_model.specs.Turn.{line_at}
 use Rattle.golf_model.specs.Views.{FrameView, GoroutineView}
 use Rattle.golf_machine.specs.Groups.{group_of}
-use Rattle.golf_machine.specs.declared.performing.Group.{Group}
+use Rattle.golf_machine.specs.declared.performing.Family.{Family}
 
-abbrev pub is_light : Group → Bool
-is_light Group.Values = true
-is_light Group.Calculations = true
-is_light Group.Structures = false
-is_light Group.Communication = false
-is_light Group.Sharing = false
-is_light Group.Calls = false
+abbrev pub is_light : Family → Bool
+is_light Family.Values = true
+is_light Family.Calculations = true
+is_light Family.Structures = false
+is_light Family.Communication = false
+is_light Family.Sharing = false
+is_light Family.Calls = false
 
-abbrev pub line_is_light : Option Line → Bool
+abbrev pub line_is_light : Option CodeLine → Bool
 line_is_light None = false
 line_is_light (Some l) = is_light (group_of l.instr)
 

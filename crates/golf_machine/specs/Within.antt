@@ -4,7 +4,7 @@ use Rattle.golf_theory.specs.Maps.{find}
 use Rattle.golf_data.specs.declared.value.Value.{Value}
 use Rattle.golf_data.specs.declared.code.Code.{Code}
 use Rattle.golf_data.specs.declared.code.Function.{Function}
-use Rattle.golf_data.specs.declared.code.Line.{Line}
+use Rattle.golf_data.specs.declared.code.CodeLine.{CodeLine}
 use Rattle.golf_data.specs.declared.goroutine.Leaving.{Leaving}
 use Rattle.golf_data.specs.Slots.{cleared_slots}
 use Rattle.golf_model.specs.Views.{FrameView, GoroutineView}
@@ -31,7 +31,7 @@ cleared_in fn f = record f { slots = cleared_slots (stays_in Leaving.No (slice_g
 
 -- the frame is at an instruction, no collection, that makes it another frame, with these globals, and that one is cleared
 pub record Passes (code : Code) (globals : List Value) (f h : FrameView) : Type 0 where
-  pub line : Line
+  pub line : CodeLine
   pub frame : FrameView
   pub stays : f.leaving ≡ Leaving.No
   pub found : line_at code f.function f.at ≡ Some line

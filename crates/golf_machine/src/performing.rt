@@ -7,7 +7,7 @@ ghost use Rattle.golf_state.specs.Doing.{does, Stands};
 ghost use Rattle.golf_state.specs.Outcomes.{Comes};
 ghost use Rattle.golf_machine.specs.Groups.{group_of};
 ghost use Rattle.golf_machine.specs.Lightness.{is_light};
-ghost use Rattle.golf_machine.specs.declared.performing.Group.TheVariants as group;
+ghost use Rattle.golf_machine.specs.declared.performing.Family.TheVariants as family;
 
 use crate::calculating::{
     Comparison, Division, Operation, compare, compute, divide, equate, invert, jump, jump_unless,
@@ -36,7 +36,7 @@ use std::alloc::Global;
 
 /// What instructions are about.
 #[derive(Clone, Copy, Debug, PartialEq, Eq)]
-enum Group {
+enum Family {
     Values,
     Calculations,
     Structures,
@@ -62,7 +62,7 @@ fn group_of(instr: &Instr) -> Group
         | Instr::StoreGlobal(_)
         | Instr::Drop
         | Instr::Dup
-        | Instr::Dup2 => Group::Values,
+        | Instr::Dup2 => Family::Values,
         Instr::Neg
         | Instr::Not
         | Instr::Add
@@ -74,7 +74,7 @@ fn group_of(instr: &Instr) -> Group
         | Instr::Less
         | Instr::AtMost
         | Instr::Jump(_)
-        | Instr::JumpIfNot(_) => Group::Calculations,
+        | Instr::JumpIfNot(_) => Family::Calculations,
         Instr::NewStruct(_)
         | Instr::NewMutex
         | Instr::NewGroup
@@ -87,7 +87,7 @@ fn group_of(instr: &Instr) -> Group
         | Instr::Index
         | Instr::SetIndex
         | Instr::Len
-        | Instr::CondMutex => Group::Structures,
+        | Instr::CondMutex => Family::Structures,
         Instr::Send
         | Instr::Receive
         | Instr::ReceiveOk
@@ -96,14 +96,14 @@ fn group_of(instr: &Instr) -> Group
         | Instr::Lock
         | Instr::Unlock
         | Instr::GroupAdd
-        | Instr::GroupWait => Group::Communication,
+        | Instr::GroupWait => Family::Communication,
         Instr::RwLock
         | Instr::RwUnlock
         | Instr::ReadLock
         | Instr::ReadUnlock
         | Instr::CondWait
         | Instr::CondSignal
-        | Instr::CondBroadcast => Group::Sharing,
+        | Instr::CondBroadcast => Family::Sharing,
         Instr::Call(_, _)
         | Instr::Go(_, _)
         | Instr::Defer(_, _)
@@ -113,7 +113,7 @@ fn group_of(instr: &Instr) -> Group
         | Instr::Collect
         | Instr::SetFinalizer(_)
         | Instr::ClearFinalizer
-        | Instr::Panic => Group::Calls,
+        | Instr::Panic => Family::Calls,
     }
 }
 
@@ -123,19 +123,19 @@ pub fn is_light(instr: &Instr) -> bool
     ensures { result ≡ is_light (group_of instr.now) }
 {
     match group_of(instr) {
-        Group::Values => true,
-        Group::Calculations => true,
-        Group::Structures => false,
-        Group::Communication => false,
-        Group::Sharing => false,
-        Group::Calls => false,
+        Family::Values => true,
+        Family::Calculations => true,
+        Family::Structures => false,
+        Family::Communication => false,
+        Family::Sharing => false,
+        Family::Calls => false,
     }
 }
 
 // Does an instruction that pushes, loads, stores, drops or doubles values.
 fn perform_value(state: &mut State, acting: Acting, instr: &Instr) -> Result<(), Memory>
     requires stands { Stands acting.goroutine.0 acting.after state.old }
-    requires group { group_of instr.now ≡ group.Values }
+    requires group { group_of instr.now ≡ family.Values }
     ensures ok { OnOk result ((code : Code) (choice : ℕ) → state.new ≡ does (λ a. changes code instr.now a choice state.old) acting.goroutine.0 acting.line state.old) }
     ensures err { OnErr result (state.new ≡ state.old) }
 {
@@ -160,7 +160,7 @@ fn perform_value(state: &mut State, acting: Acting, instr: &Instr) -> Result<(),
 // Does an instruction that calculates, compares or jumps.
 fn perform_calculation(state: &mut State, acting: Acting, instr: &Instr) -> Result<(), Memory>
     requires stands { Stands acting.goroutine.0 acting.after state.old }
-    requires group { group_of instr.now ≡ group.Calculations }
+    requires group { group_of instr.now ≡ family.Calculations }
     ensures ok { OnOk result ((code : Code) (choice : ℕ) → state.new ≡ does (λ a. changes code instr.now a choice state.old) acting.goroutine.0 acting.line state.old) }
     ensures err { OnErr result (state.new ≡ state.old) }
 {
@@ -191,7 +191,7 @@ fn perform_structure(
     instr: &Instr,
 ) -> Result<(), Memory>
     requires stands { Stands acting.goroutine.0 acting.after state.old }
-    requires group { group_of instr.now ≡ group.Structures }
+    requires group { group_of instr.now ≡ family.Structures }
     ensures ok { OnOk result ((choice : ℕ) → state.new ≡ does (λ a. changes code.now instr.now a choice state.old) acting.goroutine.0 acting.line state.old) }
     ensures err { OnErr result (state.new ≡ state.old) }
 {
@@ -223,7 +223,7 @@ fn perform_communication(
     choice: u64,
 ) -> Result<Outcome, Memory>
     requires stands { Stands acting.goroutine.0 acting.after state.old }
-    requires group { group_of instr.now ≡ group.Communication }
+    requires group { group_of instr.now ≡ family.Communication }
     ensures ok { IfOk result (λ outcome. (code : Code) → Comes outcome (λ a. changes code instr.now a choice state.old) acting.goroutine.0 acting.line state.old state.new) }
     ensures err { OnErr result (state.new ≡ state.old) }
 {
@@ -256,7 +256,7 @@ fn perform_sharing(
     instr: &Instr,
 ) -> Result<Outcome, Memory>
     requires stands { Stands acting.goroutine.0 acting.after state.old }
-    requires group { group_of instr.now ≡ group.Sharing }
+    requires group { group_of instr.now ≡ family.Sharing }
     requires tickets { state.old.next_ticket + length state.old.goroutines < 2 ^ 64 }
     ensures ok { IfOk result (λ outcome. (code : Code) (choice : ℕ) → Comes outcome (λ a. changes code instr.now a choice state.old) acting.goroutine.0 acting.line state.old state.new) }
     ensures err { OnErr result (state.new ≡ state.old) }
@@ -282,7 +282,7 @@ fn perform_call(
     instr: &Instr,
 ) -> Result<(), Memory>
     requires stands { Stands acting.goroutine.0 acting.after state.old }
-    requires group { group_of instr.now ≡ group.Calls }
+    requires group { group_of instr.now ≡ family.Calls }
     ensures ok { OnOk result ((choice : ℕ) → state.new ≡ does (λ a. changes code.now instr.now a choice state.old) acting.goroutine.0 acting.line state.old) }
     ensures err { OnErr result (state.new ≡ state.old) }
 {
@@ -313,7 +313,7 @@ fn operate(
     choice: u64,
 ) -> Result<(), Memory>
     requires stands { Stands acting.goroutine.0 acting.after state.old }
-    requires group { group_of instr.now ≡ group.Communication }
+    requires group { group_of instr.now ≡ family.Communication }
     ensures ok { OnOk result ((code : Code) → state.new ≡ does (λ a. changes code instr.now a choice state.old) acting.goroutine.0 acting.line state.old) }
     ensures err { OnErr result (state.new ≡ state.old) }
 {
@@ -326,7 +326,7 @@ fn operate(
 // `Memory`.
 fn share(alloc: Global, state: &mut State, acting: Acting, instr: &Instr) -> Result<(), Memory>
     requires stands { Stands acting.goroutine.0 acting.after state.old }
-    requires group { group_of instr.now ≡ group.Sharing }
+    requires group { group_of instr.now ≡ family.Sharing }
     ensures ok { OnOk result ((code : Code) (choice : ℕ) → state.new ≡ does (λ a. changes code instr.now a choice state.old) acting.goroutine.0 acting.line state.old) }
     ensures err { OnErr result (state.new ≡ state.old) }
 {
@@ -353,11 +353,11 @@ pub fn perform(
     ensures err { OnErr result (state.new ≡ state.old) }
 {
     match group_of(instr) {
-        Group::Values => perform_value(state, acting, instr),
-        Group::Calculations => perform_calculation(state, acting, instr),
-        Group::Structures => perform_structure(alloc, code, state, acting, instr),
-        Group::Communication => operate(alloc, state, acting, instr, choice),
-        Group::Sharing => share(alloc, state, acting, instr),
-        Group::Calls => perform_call(alloc, code, state, acting, instr),
+        Family::Values => perform_value(state, acting, instr),
+        Family::Calculations => perform_calculation(state, acting, instr),
+        Family::Structures => perform_structure(alloc, code, state, acting, instr),
+        Family::Communication => operate(alloc, state, acting, instr, choice),
+        Family::Sharing => share(alloc, state, acting, instr),
+        Family::Calls => perform_call(alloc, code, state, acting, instr),
     }
 }

@@ -13,13 +13,13 @@ use crate::entering::begin_queued;
 use crate::leaving::{leave_returning, leave_unwinding};
 use crate::performing::{self, perform};
 use golf_base::{GoroutineId, Memory};
-use golf_data::{Code, Frame, Instr, Leaving, Line};
+use golf_data::{Code, Frame, Instr, Leaving, CodeLine};
 use golf_state::{Acting, State};
 use std::alloc::Global;
 
 // The instruction at a place of a function, with its line.
 #[inline(always)]
-fn line_at(code: &Code, function: u32, at: u32) -> Option<&Line>
+fn line_at(code: &Code, function: u32, at: u32) -> Option<&CodeLine>
     ensures line { option_map (λ l. l.now) result ≡ line_at code.now function at }
 {
     let function = code.functions.as_slice().get(function as usize)?;

@@ -19,7 +19,7 @@ use crate::calculating::{
 };
 use crate::stepping::is_light;
 use golf_base::{GoroutineId, List, Memory};
-use golf_data::{Code, Frame, Function, Instr, Leaving, Line, Value};
+use golf_data::{Code, Frame, Function, Instr, Leaving, CodeLine, Value};
 use golf_state::State;
 
 // The last operand, where there is one.
@@ -356,7 +356,7 @@ fn function_at(code: &Code, number: u32) -> Option<&Function>
 
 // The instruction at a place of a function, with its line.
 #[inline(always)]
-fn line_in(function: &Function, at: u32) -> Option<&Line>
+fn line_in(function: &Function, at: u32) -> Option<&CodeLine>
     ensures line { option_map (λ l. l.now) result ≡ slice_get function.now.body at }
 {
     function.body.as_slice().get(at as usize)

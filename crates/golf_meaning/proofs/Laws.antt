@@ -2,23 +2,23 @@
 use Rattle.std.proofs.Common.{◌≡◌, ◌↔◌, ◌⊎◌, inl, inr, ℕ, ◌+◌, ◌-◌, ◌<◌, ◌≤◌, pos, List, [], ◌++◌, length, replicate, refl, sym, ap, subst, ◌∙◌, slice_get, arith}
 use Rattle.std.specs.Prelude.{Option, Some, None}
 use Rattle.std.proofs.Math.Nat.{eq-or-lt_of_le}
-use Rattle.golf_grammar.specs.declared.declarations.Decl.{Decl}
-use Rattle.golf_grammar.specs.declared.declarations.File.{File}
+use Rattle.golf_syntax_trees.specs.declared.declarations.Decl.{Decl}
+use Rattle.golf_syntax_trees.specs.declared.declarations.File.{File}
 use Rattle.golf_data.specs.declared.value.Value.{Value}
 use Rattle.golf_data.specs.declared.code.Code.{Code}
 use Rattle.golf_data.specs.declared.code.Function.{Function}
-use Rattle.golf_data.specs.declared.code.Line.{Line}
+use Rattle.golf_data.specs.declared.code.CodeLine.{CodeLine}
 use Rattle.golf_code_of.specs.Files.{CodeOf}
-use Rattle.golf_flat_meaning.specs.Worlds.{Answer, Told}
-use Rattle.golf_flat_meaning.specs.Flat.{exec}
-use Rattle.golf_flat_meaning.specs.Laws.{Agree}
-use Rattle.golf_function_meaning.specs.Functions.{CodeMeaning, begins}
-use Rattle.golf_function_meaning.specs.Files.{function_count, MeaningOf}
-use Rattle.golf_function_meaning.proofs.WholeFiles.{files-agree}
+use Rattle.golf_meaning_flat.specs.Worlds.{Answer, Told}
+use Rattle.golf_meaning_flat.specs.Flat.{exec}
+use Rattle.golf_meaning_flat.specs.Laws.{Agree}
+use Rattle.golf_meaning_functions.specs.Functions.{CodeMeaning, begins}
+use Rattle.golf_meaning_functions.specs.Files.{function_count, MeaningOf}
+use Rattle.golf_meaning_functions.proofs.WholeFiles.{files-agree}
 use Rattle.golf_meaning.specs.Judged.{HasSameBody, AreSame, AreSameTo, IsCodeOf, IsNumbered, FunctionAgrees, Agrees, AllAreCodeOf, AllAgree}
 
 -- what code means goes by its slots and its body
-means : ℕ → List Line → List Value → List Answer → ℕ → Told
+means : ℕ → List CodeLine → List Value → List Answer → ℕ → Told
 means slots body arguments answers n =
     let filled = arguments ++ replicate (slots - length arguments) (Value.Int (pos 0)) in
     exec body n 0 (record { slots = filled; operands = [] }) (begins answers)

@@ -1,14 +1,14 @@
 -- When code is that of a file, and when it agrees with the file's source.
 use Rattle.std.specs.Prelude.{◌≡◌, ℕ, ◌<◌, ◌≤◌, List, length, Option, Some, None, slice_get}
-use Rattle.golf_grammar.specs.declared.declarations.File.{File}
+use Rattle.golf_syntax_trees.specs.declared.declarations.File.{File}
 use Rattle.golf_data.specs.declared.value.Value.{Value}
 use Rattle.golf_data.specs.declared.code.Code.{Code}
 use Rattle.golf_data.specs.declared.code.Function.{Function}
 use Rattle.golf_code_of.specs.Files.{CodeOf}
-use Rattle.golf_flat_meaning.specs.Worlds.{Answer}
-use Rattle.golf_flat_meaning.specs.Laws.{Agree, NeverUnfit}
-use Rattle.golf_function_meaning.specs.Functions.{CodeMeaning}
-use Rattle.golf_function_meaning.specs.Files.{function_count, MeaningOf}
+use Rattle.golf_meaning_flat.specs.Worlds.{Answer}
+use Rattle.golf_meaning_flat.specs.Laws.{Agree, NeverUnfit}
+use Rattle.golf_meaning_functions.specs.Functions.{CodeMeaning}
+use Rattle.golf_meaning_functions.specs.Files.{function_count, MeaningOf}
 
 -- the same parameters, the same slots, and the same body with its lines
 pub record HasSameBody (f g : Function) : Type 0 where

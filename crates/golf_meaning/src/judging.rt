@@ -1,9 +1,9 @@
 //! A function of a code, and all functions of a file, judged by the code of the file.
 
 ghost use Rattle.std.specs.Prelude.{◌≡◌, ◌↔◌, IfOk, IsTrue};
-ghost use Rattle.golf_types.specs.Files.{facts_in};
+ghost use Rattle.golf_check_types.specs.Files.{facts_in};
 ghost use Rattle.golf_check.specs.Heads.{scope_of};
-ghost use Rattle.golf_function_meaning.specs.Files.{function_count as count_of};
+ghost use Rattle.golf_meaning_functions.specs.Files.{function_count as count_of};
 ghost use Rattle.golf_meaning.specs.Judged.{IsCodeOf, IsNumbered, Agrees, AllAreCodeOf, AllAgree};
 
 use crate::bodies::{are_all_same, are_same};
@@ -11,7 +11,7 @@ use golf_base::Memory;
 use golf_check::Checked;
 use golf_code::generate;
 use golf_data::Code;
-use golf_grammar::Decl;
+use golf_syntax_trees::Decl;
 use std::alloc::Global;
 
 /// Whether the code has a function of this number, with the parameters, the slots and the body, each line of it with its place in the
@@ -20,7 +20,7 @@ use std::alloc::Global;
 /// Where it has, and the number is that of a function or method of the file, source and code agree, both ways: for as many arguments as
 /// the function has parameters, and all answers for which the meaning of the source is unfit for no bound, each bound of one has a bound
 /// of the other with which the operations and the end are the same, or where it is short its operations are a prefix of the other's.
-/// With arguments of the parameters' types the meaning is unfit by an answer alone (`golf_typed_meaning`).
+/// With arguments of the parameters' types the meaning is unfit by an answer alone (`golf_meaning_typed_files`).
 pub fn check_body(
     alloc: Global,
     checked: &Checked,

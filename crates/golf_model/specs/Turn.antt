@@ -5,7 +5,7 @@ use Rattle.golf_data.specs.declared.value.Value.{Value}
 use Rattle.golf_data.specs.declared.value.Object.{Object}
 use Rattle.golf_data.specs.declared.code.Code.{Code}
 use Rattle.golf_data.specs.declared.code.Instr.{Instr}
-use Rattle.golf_data.specs.declared.code.Line.{Line}
+use Rattle.golf_data.specs.declared.code.CodeLine.{CodeLine}
 use Rattle.golf_data.specs.declared.goroutine.Leaving.{Leaving}
 use Rattle.golf_data.specs.declared.goroutine.PanicKind.{PanicKind}
 use Rattle.golf_model.specs.Views.{FrameView, GoroutineView}
@@ -100,10 +100,10 @@ changes code Instr.ClearFinalizer a choice s = unfinalises a s
 changes code Instr.Panic a choice s = panics_with a
 
 -- the instruction at a place of a function, with its line
-abbrev pub line_at : Code → ℕ → ℕ → Option Line
+abbrev pub line_at : Code → ℕ → ℕ → Option CodeLine
 line_at code f at = option_and_then (λ fn. slice_get fn.body at) (slice_get code.functions f)
 
-abbrev pub line_number : Option Line → ℕ
+abbrev pub line_number : Option CodeLine → ℕ
 line_number None = 0
 line_number (Some l) = l.line
 
@@ -116,7 +116,7 @@ abbrev pub acting : ℕ → GoroutineView → FrameView → List FrameView → �
 acting g r f callers line = record { number = g; frame = f; callers = callers; started = r.started; line = line }
 
 -- the changes of an instruction with its line; past the end no rule fits
-abbrev pub performs : Code → ℕ → GoroutineView → FrameView → List FrameView → ℕ → State → Option Line → List Change
+abbrev pub performs : Code → ℕ → GoroutineView → FrameView → List FrameView → ℕ → State → Option CodeLine → List Change
 performs code g r f callers choice s None = []
 performs code g r f callers choice s (Some l) = changes code l.instr (acting g r f callers l.line) choice s
 
@@ -148,7 +148,7 @@ abbrev pub is_collection : Instr → Bool
 is_collection Instr.Collect = true
 is_collection _ = false
 
-abbrev pub line_collects : Option Line → Bool
+abbrev pub line_collects : Option CodeLine → Bool
 line_collects None = false
 line_collects (Some l) = is_collection l.instr
 

@@ -1,12 +1,12 @@
 -- Why a file is not run, and what its reading answers (profile).
 use Rattle.std.specs.Prelude.{◌≡◌, ℕ, List, Result, Ok, Err}
 use Rattle.golf_data.specs.declared.code.Code.{Code}
-use Rattle.golf_tokens.specs.declared.token.Token.{Token}
-use Rattle.golf_tokens.specs.Lexes.{Lexes, IsFault, line_at}
-use Rattle.golf_grammar.specs.declared.declarations.File.{File}
-use Rattle.golf_grammar.specs.Reads.{Reads as HasTree, ReadsTokens, IsFaultOn}
-use Rattle.golf_types.specs.Faults.{IsFirst}
-use Rattle.golf_types.specs.Files.{Broken, Typed, facts_in}
+use Rattle.golf_lex_tokens.specs.declared.token.Token.{Token}
+use Rattle.golf_lex_tokens.specs.Lexes.{Lexes, IsFault, line_at}
+use Rattle.golf_syntax_trees.specs.declared.declarations.File.{File}
+use Rattle.golf_syntax_trees.specs.Reads.{Reads as HasTree, ReadsTokens, IsFaultOn}
+use Rattle.golf_check_types.specs.Faults.{IsFirst}
+use Rattle.golf_check_types.specs.Files.{Broken, Typed, facts_in}
 use Rattle.golf_check.specs.declared.files.Checked.{Checked}
 use Rattle.golf_check.specs.Heads.{scope_of}
 use Rattle.golf_code_of.specs.Files.{CodeOf}

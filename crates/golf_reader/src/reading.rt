@@ -8,11 +8,11 @@ use crate::refusal::Refusal;
 use golf_check::{Checked, check};
 use golf_code::generate;
 use golf_data::Code;
-use golf_grammar::File;
+use golf_syntax_trees::File;
 use golf_lex::{LexFault, tokens};
 use golf_syntax::{SyntaxFault, parse};
-use golf_tokens::Token;
-use golf_types::TypeFault;
+use golf_lex_tokens::Token;
+use golf_check_types::TypeFault;
 use std::alloc::Global;
 
 // The tree of the tokens.

@@ -24,7 +24,7 @@ use Rattle.golf_final.specs.Keeping.{HasKept}
 use Rattle.golf_final.proofs.KeepLaw.{keeps-alike}
 use Rattle.golf_reclaim.specs.Flags.{either, IsUnkept}
 use Rattle.golf_reclaim.proofs.Flags.{flags-are, either-map, filter-both, map-filter-swap}
-use Rattle.golf_reclaim.proofs.Meaning.{awake-flags, dead-asleep, goroutine_of, sleepers-goroutines, numbers-goroutines}
+use Rattle.golf_reclaim.proofs.Translating.{awake-flags, dead-asleep, goroutine_of, sleepers-goroutines, numbers-goroutines}
 
 running-not : (running z : Bool) → (running || z) ≡ false → running ≡ false
 running-not true z e = cc

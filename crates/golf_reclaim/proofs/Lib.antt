@@ -1,6 +1,6 @@
 pub mod Flags
 pub mod Entries
-pub mod Meaning
+pub mod Translating
 pub mod Reports
 pub mod Gone
 pub mod States

@@ -14,11 +14,11 @@ use Rattle.golf_model.specs.Collecting.{plain_collect, keeps, removed, retained,
 use Rattle.golf_model.specs.Futures.{Numbered, Leads, futures}
 use Rattle.golf_model.specs.Reporting.{numbers, report}
 use Rattle.golf_model.proofs.Agreeing.{dead-sound, dead-complete, keeps-sound, keeps-complete, retained-sound, retained-complete}
-use Rattle.golf_laws.specs.Telling.{named}
-use Rattle.golf_laws.proofs.DeadStill.{dead_still}
-use Rattle.golf_laws.proofs.Recovering.{recovery-unseen}
-use Rattle.golf_laws.proofs.Tellings.{report-named}
-use Rattle.golf_progress.proofs.Leading.{never-stuck}
+use Rattle.golf_model_futures.specs.Telling.{named}
+use Rattle.golf_model_futures.proofs.DeadStill.{dead_still}
+use Rattle.golf_model_futures.proofs.Recovering.{recovery-unseen}
+use Rattle.golf_model_futures.proofs.Tellings.{report-named}
+use Rattle.golf_model_progress.proofs.Leading.{never-stuck}
 use Rattle.golf_reclaim.specs.Promises.{AreStill, IsUnseen, IsRemoved, LeavesExactly, MovesOnAfter}
 
 pub are-still : (s : State) (b : Book) (recover sets : Bool) (r : Report) → Numbered s → r ≡ report recover sets b s → AreStill r s

@@ -20,9 +20,9 @@ use Rattle.golf_model.specs.Presence.{IsWhole}
 use Rattle.golf_model.proofs.Agreeing.{reach-sound, reach-complete, refs_where-sound, goroutine_refs_where-sound}
 use Rattle.golf_heap.specs.Objects.{kept}
 use Rattle.golf_heap.proofs.Flagged.{kept-only}
-use Rattle.golf_laws.proofs.Collecting.{In-goroutine_refs_where, reach-from}
-use Rattle.golf_laws.proofs.CutCollecting.{queue_outside-same}
-use Rattle.golf_laws.proofs.Removing.{stays_by, reach-step, removed-ok, source-global, source-queue, source-goroutine, source-finalised}
+use Rattle.golf_model_futures.proofs.Collecting.{In-goroutine_refs_where, reach-from}
+use Rattle.golf_model_futures.proofs.CutCollecting.{queue_outside-same}
+use Rattle.golf_model_futures.proofs.Removing.{stays_by, reach-step, removed-ok, source-global, source-queue, source-goroutine, source-finalised}
 
 -- the keys of flagged entries are those that pass
 kept-keys : {X : Type 0} (p : ℕ → Bool) (es : List (ℕ × X)) → kept (map (λ e. p e.0) es) (keys es) ≡ filter p (keys es)

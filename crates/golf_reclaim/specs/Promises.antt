@@ -9,9 +9,9 @@ use Rattle.golf_model.specs.Living.{Dead}
 use Rattle.golf_model.specs.Collecting.{plain_collect, sets_finalisers, Keeps, removed, Retained}
 use Rattle.golf_model.specs.Running.{Event}
 use Rattle.golf_model.specs.Futures.{Still, Leads, futures}
-use Rattle.golf_laws.specs.Telling.{named}
-use Rattle.golf_shapes.specs.Types.{Typing}
-use Rattle.golf_shapes.specs.Shapes.{HasShapes}
+use Rattle.golf_model_futures.specs.Telling.{named}
+use Rattle.golf_model_typing.specs.Types.{Typing}
+use Rattle.golf_model_typing.specs.Shapes.{HasShapes}
 use Rattle.golf_model.specs.Turn.{MovesOn}
 
 -- whatever the code and the events, each goroutine that the report names stays as it was before the collection

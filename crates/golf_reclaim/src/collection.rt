@@ -20,7 +20,7 @@ use std::thread::Threads;
 
 /// How a collection goes about its work.
 #[derive(Clone, Copy, Debug, PartialEq, Eq)]
-pub struct Options {
+pub struct CollectOptions {
     /// How many markers mark, each in a thread of its own: 1 to 16.
     pub markers: u32,
     /// Whether dead goroutines that the keep rule does not keep are removed.
@@ -42,7 +42,7 @@ pub fn collect<R: Threads + Sync, G: Gate + Sync>(
     alloc: Global,
     state: &mut State,
     book: &mut Ledger,
-    options: Options,
+    options: CollectOptions,
     gate: &G,
 ) -> Result<Report, Memory>
     requires numbered { Numbered state.old }

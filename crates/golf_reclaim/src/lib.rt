@@ -8,7 +8,7 @@ mod marking;
 mod reported;
 mod setting;
 
-pub use collection::{Options, collect};
+pub use collection::{CollectOptions, collect};
 pub use ledger::Ledger;
 pub use marking::find_gone;
 pub use setting::sets_finalisers;

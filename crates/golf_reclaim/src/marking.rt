@@ -13,7 +13,7 @@ ghost use Rattle.golf_mark.specs.Marking.{MarksLeast};
 ghost use Rattle.golf_theory.specs.Membership.{is_in};
 ghost use Rattle.golf_reclaim.specs.Flags.{count_set, either, IsUnkept};
 
-use crate::collection::Options;
+use crate::collection::CollectOptions;
 use golf_base::{Gate, GoroutineId, List, Memory, OpenGate};
 use golf_final::keeps;
 use golf_mark::Markers;
@@ -65,7 +65,7 @@ pub(crate) fn find_dead<R: Threads + Sync, G: Gate + Sync>(
     rt: &R,
     alloc: Global,
     state: &State,
-    options: Options,
+    options: CollectOptions,
     gate: &G,
 ) -> Result<Found, Memory>
     requires numbered { Numbered state.now }
@@ -95,7 +95,7 @@ pub fn find_gone(
     alloc: Global,
     graph: &Graph,
     marked: &Marked,
-    options: Options,
+    options: CollectOptions,
 ) -> Result<List<GoroutineId>, Memory>
     requires { MarksLeast graph.now marked.now }
     ensures { IfOk result (IsUnkept options.recover options.sets_finalisers graph.now marked.now) }

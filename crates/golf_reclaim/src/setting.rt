@@ -4,9 +4,9 @@ ghost use Rattle.std.specs.Prelude.{◌≡◌};
 ghost use Rattle.golf_theory.specs.Membership.{any_of};
 ghost use Rattle.golf_model.specs.Collecting.{is_setting as is_setting_instr, sets_finalisers as sets_by};
 
-use golf_data::{Code, Function, Instr, Line};
+use golf_data::{Code, Function, Instr, CodeLine};
 
-fn is_setting(line: &Line) -> bool
+fn is_setting(line: &CodeLine) -> bool
     ensures { result ≡ is_setting_instr line.now.instr }
 {
     match line.instr {

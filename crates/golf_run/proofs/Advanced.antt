@@ -11,7 +11,7 @@ use Rattle.golf_model.specs.Running.{Event}
 use Rattle.golf_machine.specs.Taking.{HasGoneOn, HasCome, HasTaken, HasFailed}
 use Rattle.golf_machine.specs.declared.turning.Turned.{Turned}
 use Rattle.golf_machine.specs.declared.turning.Turned.TheVariants as t
-use Rattle.golf_texts.specs.Writes.{emptied}
+use Rattle.golf_run_texts.specs.Writes.{emptied}
 use Rattle.golf_run.specs.declared.fault.RunFault.{RunFault}
 use Rattle.golf_run.specs.declared.fault.RunFault.TheVariants as faults
 use Rattle.golf_run.specs.Happening.{HasTurned, turned, prints, collects}

@@ -6,7 +6,7 @@ use Rattle.golf_model.specs.State.{State}
 use Rattle.golf_model.specs.Collecting.{plain_collect}
 use Rattle.golf_model.specs.Running.{Event, has_ended, happens, happens_by, happens_in, run, run_by, stop_in, stops_by}
 use Rattle.golf_model.specs.Reporting.{report, book_after, reports_from}
-use Rattle.golf_texts.specs.Writes.{books}
+use Rattle.golf_run_texts.specs.Writes.{books}
 
 -- of any kind of collections
 module _ (collect : State → State) (code : Code) where

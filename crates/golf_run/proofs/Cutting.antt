@@ -11,10 +11,10 @@ use Rattle.golf_model.specs.Turn.{step}
 use Rattle.golf_model.specs.Collecting.{sets_finalisers}
 use Rattle.golf_model.specs.Running.{Event, has_ended, stop_in, stop_if}
 use Rattle.golf_model.specs.Reporting.{new_book, report}
-use Rattle.golf_schedules.specs.declared.options.Options.{Options}
-use Rattle.golf_texts.specs.Meaning.{events_of, joined, end_of}
-use Rattle.golf_texts.specs.Writes.{Write, out_bytes, err_bytes, emptied, told_lines, line_writes, prints_in, collection_writes, writes_in, writes_from, event_writes_of, writes_of}
-use Rattle.golf_laws.specs.Printing.{prefixed}
+use Rattle.golf_run_schedules.specs.declared.options.RunOptions.{RunOptions}
+use Rattle.golf_run_texts.specs.Output.{events_of, joined, end_of}
+use Rattle.golf_run_texts.specs.Writes.{Write, out_bytes, err_bytes, emptied, told_lines, line_writes, prints_in, collection_writes, writes_in, writes_from, event_writes_of, writes_of}
+use Rattle.golf_model_futures.specs.Printing.{prefixed}
 use Rattle.golf_run.specs.Lines.{IsCutIn, IsStoppedIn}
 use Rattle.golf_run.specs.Told.{told, told_by}
 use Rattle.golf_run.specs.Happening.{turned, prints, says, collects}
@@ -36,7 +36,7 @@ module _ (code : Code) (recover why : Bool) (done : List Event) where
   unfolding writes_to told_to real_stops_to
   err-done = writes-err code recover (sets_finalisers code) why done new_book (start code)
 
-module _ (code : Code) (options : Options) (done rest : List Event) (split : events_of options ≡ done ++ rest) where
+module _ (code : Code) (options : RunOptions) (done rest : List Event) (split : events_of options ≡ done ++ rest) where
   -- the writes of those after them
   abbrev pub later_writes : List Write
   later_writes = writes_from code options.recover (sets_finalisers code) options.why (real_book_to code options.recover done) (real_at code options.recover done) rest

@@ -14,13 +14,13 @@ use Rattle.golf_model.specs.Collecting.{plain_collect, sets_finalisers}
 use Rattle.golf_model.specs.Running.{Event, has_ended, run, stops_by}
 use Rattle.golf_model.specs.Reporting.{reports_from, new_book, book_of, numbers}
 use Rattle.golf_model.specs.Futures.{Leads}
-use Rattle.golf_schedules.specs.declared.options.Options.{Options}
-use Rattle.golf_schedules.specs.Events.{turns_among}
-use Rattle.golf_texts.specs.declared.totals.Totals.{Totals}
-use Rattle.golf_texts.specs.Texts.{last_line}
-use Rattle.golf_texts.specs.Totals.{totals_of}
-use Rattle.golf_texts.specs.Meaning.{events_of, last_of, reports_of, end_of}
-use Rattle.golf_texts.specs.Writes.{Write, out_bytes, err_bytes, line_writes, writes_from, event_writes_of, writes_of}
+use Rattle.golf_run_schedules.specs.declared.options.RunOptions.{RunOptions}
+use Rattle.golf_run_schedules.specs.Events.{turns_among}
+use Rattle.golf_run_texts.specs.declared.totals.Totals.{Totals}
+use Rattle.golf_run_texts.specs.Texts.{last_line}
+use Rattle.golf_run_texts.specs.Totals.{totals_of}
+use Rattle.golf_run_texts.specs.Output.{events_of, last_of, reports_of, end_of}
+use Rattle.golf_run_texts.specs.Writes.{Write, out_bytes, err_bytes, line_writes, writes_from, event_writes_of, writes_of}
 use Rattle.golf_run.specs.declared.fault.RunFault.{RunFault}
 use Rattle.golf_run.specs.declared.fault.RunFault.TheVariants as faults
 use Rattle.golf_run.specs.Lines.{IsCutIn, IsStoppedIn}
@@ -38,7 +38,7 @@ use Rattle.golf_run.proofs.Leaving.{start-left}
 use Rattle.golf_run.proofs.Cutting.{out-done, err-done, behind, events-split, writes-split, followed_by, writes-next, follows-told, says-out, says-err, out-cut, lines-cut, lines-stopped}
 
 -- the whole run, after some of its events
-module _ (code : Code) (options : Options) (done rest : List Event) (split : events_of options ≡ done ++ rest) where
+module _ (code : Code) (options : RunOptions) (done rest : List Event) (split : events_of options ≡ done ++ rest) where
   abbrev sets : Bool
   sets = sets_finalisers code
 
@@ -65,7 +65,7 @@ not-none : (o : Option Ending) → is_some o ≡ true → o ≡ None → ⊥
 not-none None h e = cc
 not-none (Some x) h e = cc
 
-module _ (code : Code) (options : Options) (done rest : List Event) (split : events_of options ≡ done ++ rest) (state : State) (ledger : Book) (totals : Totals) (old now : Sinks) (w : IsUnderWay code options.recover options.why done state ledger totals old now) where
+module _ (code : Code) (options : RunOptions) (done rest : List Event) (split : events_of options ≡ done ++ rest) (state : State) (ledger : Book) (totals : Totals) (old now : Sinks) (w : IsUnderWay code options.recover options.why done state ledger totals old now) where
   -- what was written by then is whole
   pub got-now : GotWrites (writes_to code options.recover options.why done) old now
   got-now = (subst (Appends old.out now.out) (sym (out-done code options.recover options.why done)) w.out, subst (Appends old.err now.err) (sym (err-done code options.recover options.why done)) w.err)
@@ -157,18 +157,18 @@ module _ (code : Code) (options : Options) (done rest : List Event) (split : eve
         }
 
 -- answers that are errors
-pub wanting : (r : Result Course RunFault) (code : Code) (options : Options) (old new : Sinks) → IsErr r → IsErrAnd r (λ e. e ≡ faults.Memory) → WasStopped (writes_of code options) old new → HasGone r code options old new
+pub wanting : (r : Result Course RunFault) (code : Code) (options : RunOptions) (old new : Sinks) → IsErr r → IsErrAnd r (λ e. e ≡ faults.Memory) → WasStopped (writes_of code options) old new → HasGone r code options old new
 wanting (Ok x) code options old new i a w = cc
 wanting (Err faults.Write) code options old new i a w = cc
 wanting (Err faults.Memory) code options old new i a w = w
 
-pub broken : (r : Result Course RunFault) (code : Code) (options : Options) (old new : Sinks) → IsErr r → IsErrAnd r (λ e. e ≡ faults.Write) → WasCut (writes_of code options) old new → HasGone r code options old new
+pub broken : (r : Result Course RunFault) (code : Code) (options : RunOptions) (old new : Sinks) → IsErr r → IsErrAnd r (λ e. e ≡ faults.Write) → WasCut (writes_of code options) old new → HasGone r code options old new
 broken (Ok x) code options old new i a w = cc
 broken (Err faults.Write) code options old new i a w = w
 broken (Err faults.Memory) code options old new i a w = cc
 
 -- a run that stops before it begins
-pub never-began : (code : Code) (options : Options) (old : Sinks) → WasStopped (writes_of code options) old old
+pub never-began : (code : Code) (options : RunOptions) (old : Sinks) → WasStopped (writes_of code options) old old
 never-began code options old = record { done = []; later = writes_of code options; order = refl; got = (Appends-nil old.out, Appends-nil old.err); steady = record { out = refl; err = refl } }
 
 -- the run before its first event
@@ -199,7 +199,7 @@ still writes done more old now new got steady order o of e ef = record {
 }
 
 -- a collection that did not go on stops the run
-pub tell-stopped : (recover sets why : Bool) (e : RunFault) (r : Result Totals RunFault) (result : Result Course RunFault) (code : Code) (options : Options) (old now : Sinks) (s after : State) (book next : Book) (err : Option (List ℕ)) (ef : ℕ) → r ≡ Err e
+pub tell-stopped : (recover sets why : Bool) (e : RunFault) (r : Result Totals RunFault) (result : Result Course RunFault) (code : Code) (options : RunOptions) (old now : Sinks) (s after : State) (book next : Book) (err : Option (List ℕ)) (ef : ℕ) → r ≡ Err e
     → HasTold recover sets why r s after book next now.err err now.err_faults ef → IsErr result → IsErrAnd result (λ x. x ≡ e) → IsSteady old now → (done more : List Write) → GotWrites done old now → (t : State) → s ≡ t
     → writes_of code options ≡ done ++ (line_writes (told_by recover sets why book t) ++ more) → HasGone result code options old (sinks now.out now.out_faults err ef)
 tell-stopped recover sets why faults.Write r result code options old now s after book next err ef is h i a steady done more got t stands order =
@@ -210,7 +210,7 @@ tell-stopped recover sets why faults.Memory r result code options old now s afte
     wanting result code options old _ i a (lines-stopped (writes_of code options) done more (told_by recover sets why book t) order old now got err ef (subst (λ x. IsStoppedIn (told_by recover sets why book x) now.err err) stands told.0) steady.out (told.1 ∙ steady.err))
 
 -- a turn that did not go on stops it too
-pub turn-stopped : (e : RunFault) (r : Result Bool RunFault) (result : Result Course RunFault) (code : Code) (options : Options) (old now : Sinks) (event : Event) (s after : State) (out : Option (List ℕ)) (of : ℕ) → r ≡ Err e → HasTurned r code event s after now.out out now.out_faults of → IsErr result → IsErrAnd result (λ x. x ≡ e)
+pub turn-stopped : (e : RunFault) (r : Result Bool RunFault) (result : Result Course RunFault) (code : Code) (options : RunOptions) (old now : Sinks) (event : Event) (s after : State) (out : Option (List ℕ)) (of : ℕ) → r ≡ Err e → HasTurned r code event s after now.out out now.out_faults of → IsErr result → IsErrAnd result (λ x. x ≡ e)
     → IsSteady old now → (done more : List Write) → GotWrites done old now → writes_of code options ≡ (done ++ says code event s) ++ more → HasGone result code options old (sinks out of now.err now.err_faults)
 turn-stopped faults.Write r result code options old now (Event.Turn c) s after out of is h i a steady done more got order =
     let t = subst (λ x. HasTurned x code (Event.Turn c) s after now.out out now.out_faults of) is h in

@@ -5,11 +5,11 @@ use Rattle.std.specs.Io.KnownBytes.{Appends}
 use Rattle.std.proofs.KnownBytes.{Appends-trans}
 use Rattle.golf_base.specs.Causes.{Rose, WritesFront}
 use Rattle.golf_data.specs.declared.code.Code.{Code}
-use Rattle.golf_schedules.specs.declared.options.Options.{Options}
-use Rattle.golf_texts.specs.declared.status.Status.{Status}
-use Rattle.golf_texts.specs.declared.totals.Totals.{Totals}
-use Rattle.golf_texts.specs.Meaning.{anyone_reported, status_by, reports_of, end_of, err_of, status_of}
-use Rattle.golf_texts.specs.Writes.{Write, event_writes_of, writes_of}
+use Rattle.golf_run_schedules.specs.declared.options.RunOptions.{RunOptions}
+use Rattle.golf_run_texts.specs.declared.status.Status.{Status}
+use Rattle.golf_run_texts.specs.declared.totals.Totals.{Totals}
+use Rattle.golf_run_texts.specs.Output.{anyone_reported, status_by, reports_of, end_of, err_of, status_of}
+use Rattle.golf_run_texts.specs.Writes.{Write, event_writes_of, writes_of}
 use Rattle.golf_run.specs.declared.fault.RunFault.{RunFault}
 use Rattle.golf_run.specs.declared.fault.RunFault.TheVariants as faults
 use Rattle.golf_run.specs.declared.turns.Course.{Course}
@@ -20,7 +20,7 @@ use Rattle.golf_run.proofs.Writing.{events-out, events-err}
 use Rattle.golf_run.proofs.Cutting.{err-cut}
 
 -- the events did not all come about
-pub passed-on : (e : RunFault) (r : Result Course RunFault) (result : Result Status RunFault) (code : Code) (options : Options) (old new : Sinks) → r ≡ Err e → HasGone r code options old new → IsErr result → IsErrAnd result (λ x. x ≡ e) → HasRun result code options old new
+pub passed-on : (e : RunFault) (r : Result Course RunFault) (result : Result Status RunFault) (code : Code) (options : RunOptions) (old new : Sinks) → r ≡ Err e → HasGone r code options old new → IsErr result → IsErrAnd result (λ x. x ≡ e) → HasRun result code options old new
 passed-on e r (Ok x) code options old new is h i a = cc
 passed-on e r (Err x) code options old new is h i a = at-fault x (subst (λ y. HasGone y code options old new) (is ∙ ap (λ y. Err y) (sym a)) h)
   where
@@ -28,7 +28,7 @@ passed-on e r (Err x) code options old new is h i a = at-fault x (subst (λ y. H
     at-fault faults.Write h = h
     at-fault faults.Memory h = h
 
-module _ (course : Course) (code : Code) (options : Options) (old now : Sinks) (w : WentThrough course code options old now) where
+module _ (course : Course) (code : Code) (options : RunOptions) (old now : Sinks) (w : WentThrough course code options old now) where
   -- the status
   pub status-is : (answer : Status) → answer ≡ status_by (not (course.totals.reported == 0)) course.ending → answer ≡ status_of code options
   unfolding status_of

@@ -1,8 +1,8 @@
 -- What follows from where the writes of a run were cut: each sink got a front of its text.
 use Rattle.std.proofs.Common.{◌≡◌, ℕ, List, [], ◌∷◌, ◌++◌, inl, inr, sym, ap, ◌∙◌, append_assoc, append-nil}
 use Rattle.golf_data.specs.declared.code.Code.{Code}
-use Rattle.golf_schedules.specs.declared.options.Options.{Options}
-use Rattle.golf_texts.specs.Writes.{Write, out_bytes, err_bytes, writes_of}
+use Rattle.golf_run_schedules.specs.declared.options.RunOptions.{RunOptions}
+use Rattle.golf_run_texts.specs.Writes.{Write, out_bytes, err_bytes, writes_of}
 use Rattle.golf_run.specs.HasRun.{Sinks, IsFrontOf, HasFailed, WasCut, WasStopped, GotFronts, HasBroken}
 use Rattle.golf_run.proofs.Writing.{out-append, err-append, out-whole, err-whole}
 
@@ -34,7 +34,7 @@ module _ (done later : List Write) where
   err-begins (Write.ToOut f) (Write.ToErr b) h = absurd h
   err-begins (Write.ToErr f) (Write.ToOut b) h = absurd h
 
-module _ (code : Code) (options : Options) (old new : Sinks) where
+module _ (code : Code) (options : RunOptions) (old new : Sinks) where
   pub cut-fronts : WasCut (writes_of code options) old new → GotFronts code options old new
   cut-fronts w =
       let o = out-begins w.done w.later w.front w.cut w.is_front in

@@ -4,7 +4,7 @@ use Rattle.std.specs.Prelude.{Option, Result, Ok, Err, IsErr, IsErrAnd}
 use Rattle.std.specs.Io.KnownBytes.{Appends}
 use Rattle.std.proofs.KnownBytes.{Appends-trans, Appends-nil}
 use Rattle.golf_base.specs.Causes.{Rose, WritesFront}
-use Rattle.golf_texts.specs.Meaning.{joined}
+use Rattle.golf_run_texts.specs.Output.{joined}
 use Rattle.golf_run.specs.declared.fault.RunFault.{RunFault}
 use Rattle.golf_run.specs.declared.fault.RunFault.TheVariants as faults
 use Rattle.golf_run.specs.Lines.{IsStoppedIn, HasWritten}

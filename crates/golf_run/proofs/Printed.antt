@@ -8,10 +8,10 @@ use Rattle.golf_model.specs.Living.{live_list, live_objects, dead}
 use Rattle.golf_model.specs.Collecting.{real_collect}
 use Rattle.golf_model.specs.Reporting.{entries, entry_of, new_dead, new_gone, all_gone, without, retained_objects, goroutine_id, report, book_after}
 use Rattle.golf_why.specs.Explaining.{certificate_size, reached_in}
-use Rattle.golf_texts.specs.Texts.{certificate_line, reached_line, report_lines}
-use Rattle.golf_texts.specs.Meaning.{why_lines}
-use Rattle.golf_texts.specs.Writes.{told_lines}
-use Rattle.golf_laws.specs.Printing.{prefixed}
+use Rattle.golf_run_texts.specs.Texts.{certificate_line, reached_line, report_lines}
+use Rattle.golf_run_texts.specs.Output.{why_lines}
+use Rattle.golf_run_texts.specs.Writes.{told_lines}
+use Rattle.golf_model_futures.specs.Printing.{prefixed}
 use Rattle.golf_run.specs.Told.{told, told_by}
 
 same-entries : (w : List ℕ) (s : State) (gs : List ℕ) → entries (prefixed w s) gs ≡ entries s gs

@@ -11,8 +11,8 @@ use Rattle.golf_model.specs.Turn.{step, wants_collection}
 use Rattle.golf_model.specs.Running.{Event}
 use Rattle.golf_machine.specs.Turns.{turned_of}
 use Rattle.golf_machine.specs.Taking.{turn_events, needs_outside, stops_after, steps, GoOn, HasGoneOn}
-use Rattle.golf_schedules.specs.declared.options.Options.{Options}
-use Rattle.golf_texts.specs.declared.totals.Totals.{Totals}
+use Rattle.golf_run_schedules.specs.declared.options.RunOptions.{RunOptions}
+use Rattle.golf_run_texts.specs.declared.totals.Totals.{Totals}
 use Rattle.golf_run.specs.Happening.{turned, prints}
 use Rattle.golf_run.specs.HasRun.{Sinks}
 use Rattle.golf_run.specs.UnderWay.{IsGoing}
@@ -39,7 +39,7 @@ pub still-goes : (code : Code) (cs : List ℕ) (s : State) → ending s ≡ None
 still-goes code [] s goes g = goes
 still-goes code (c ∷ cs) s goes g = still-goes code cs (step code s c) (silent code s c g.0).goes g.1
 
-module _ (code : Code) (options : Options) (ledger : Book) (totals : Totals) (old now : Sinks) where
+module _ (code : Code) (options : RunOptions) (ledger : Book) (totals : Totals) (old now : Sinks) where
   same-count : (n m : ℕ) (after : List Event) (s : State) → n ≡ m → IsGoing code options after n s ledger totals old now → IsGoing code options after m s ledger totals old now
   same-count n m after s e g = subst (λ k. IsGoing code options after k s ledger totals old now) e g
 
@@ -68,7 +68,7 @@ module _ (code : Code) (options : Options) (ledger : Book) (totals : Totals) (ol
   come-going s event before after n m c going = gone-going s c.state before (event ∷ after) n c.earlier going c.begins c.silent
 
 -- nothing is left, or the program has ended
-pub stopped-going : (code : Code) (options : Options) (ledger : Book) (totals : Totals) (old now : Sinks) (s t : State) (before after : List Event) (n m : ℕ) → HasStopped code s t before after n m → IsGoing code options before n s ledger totals old now
+pub stopped-going : (code : Code) (options : RunOptions) (ledger : Book) (totals : Totals) (old now : Sinks) (s t : State) (before after : List Event) (n m : ℕ) → HasStopped code s t before after n m → IsGoing code options before n s ledger totals old now
     → IsGoing code options after m t ledger totals old now × ((is_some (ending t) ≡ true) ⊎ (after ≡ []))
 stopped-going code options ledger totals old now s t before after n m (inl e) g = (
   subst (λ (x : State). IsGoing code options after m x ledger totals old now) (sym e.1)

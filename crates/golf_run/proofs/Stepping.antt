@@ -9,17 +9,17 @@ use Rattle.golf_model.specs.Running.{Event}
 use Rattle.golf_model.specs.Futures.{Numbered}
 use Rattle.golf_model.specs.Presence.{IsWhole}
 use Rattle.golf_model.specs.Reporting.{numbers, new_book}
-use Rattle.golf_laws.proofs.Leading.{leads-numbered}
-use Rattle.golf_state_laws.proofs.Leading.{leads-whole}
+use Rattle.golf_model_futures.proofs.Leading.{leads-numbered}
+use Rattle.golf_model_order.proofs.Leading.{leads-whole}
 use Rattle.golf_reclaim.specs.Noting.{AreGone}
-use Rattle.golf_schedules.specs.declared.schedule.Schedule.{Schedule}
-use Rattle.golf_schedules.specs.declared.options.Options.{Options}
-use Rattle.golf_schedules.specs.Options.{IsWithinLimits}
-use Rattle.golf_schedules.specs.Events.{rotation, congruence, congruent, numbers as numbers_by, is_due, collection_if, turns_from, events as events_by, turns_among}
-use Rattle.golf_texts.specs.declared.totals.Totals.{Totals}
-use Rattle.golf_texts.specs.Totals.{totals_of}
-use Rattle.golf_texts.specs.Meaning.{events_of, joined}
-use Rattle.golf_texts.specs.Writes.{Write, line_writes, writes_of}
+use Rattle.golf_run_schedules.specs.declared.schedule.Schedule.{Schedule}
+use Rattle.golf_run_schedules.specs.declared.options.RunOptions.{RunOptions}
+use Rattle.golf_run_schedules.specs.Options.{IsWithinLimits}
+use Rattle.golf_run_schedules.specs.Events.{rotation, congruence, congruent, numbers as numbers_by, is_due, collection_if, turns_from, events as events_by, turns_among}
+use Rattle.golf_run_texts.specs.declared.totals.Totals.{Totals}
+use Rattle.golf_run_texts.specs.Totals.{totals_of}
+use Rattle.golf_run_texts.specs.Output.{events_of, joined}
+use Rattle.golf_run_texts.specs.Writes.{Write, line_writes, writes_of}
 use Rattle.golf_run.specs.Told.{told_by, noted, collected, totalled}
 use Rattle.golf_run.specs.Happening.{turned, prints, says, collects}
 use Rattle.golf_run.specs.HasRun.{Sinks, sinks, GotWrites}
@@ -67,7 +67,7 @@ turns-count every k (c ∷ cs) =
     let d = length-append (collection_if (is_due every k)) (turns_from every (k + 1) cs) in
     omega (arith, a, b, d)
 
-events-count : (options : Options) → length (events_of options) ≤ 2 * options.turns
+events-count : (options : RunOptions) → length (events_of options) ≤ 2 * options.turns
 unfolding events_of
 events-count options =
     let a = turns-count options.every 1 (numbers_by options.schedule options.turns) in
@@ -76,7 +76,7 @@ events-count options =
 
 -- ---- one event
 
-module _ (code : Code) (options : Options) (left rest : List Event) (count more : ℕ) (event : Event) (state : State) (ledger : Book) (totals : Totals) (old now : Sinks) (going : IsGoing code options left count state ledger totals old now)
+module _ (code : Code) (options : RunOptions) (left rest : List Event) (count more : ℕ) (event : Event) (state : State) (ledger : Book) (totals : Totals) (old now : Sinks) (going : IsGoing code options left count state ledger totals old now)
     (goes : ending state ≡ None) (is : left ≡ event ∷ rest) (counted : more ≡ count + turns_among (event ∷ [])) where
   split-next : events_of options ≡ (going.done ++ event ∷ []) ++ rest
   split-next = going.split ∙ ap (λ es. going.done ++ es) is ∙ sym (append_assoc going.done (event ∷ []) rest)
@@ -151,7 +151,7 @@ module _ (code : Code) (options : Options) (left rest : List Event) (count more 
         ∙ ap (λ b. (writes_to code options.recover options.why going.done ++ says code event state) ++ (line_writes (told_by options.recover b options.why ledger (turned code event state)) ++ behind-next code options going.done left going.split state ledger totals old now going.under_way goes event rest is)) (sym same)
 
 -- before the first event
-pub starts : (code : Code) (options : Options) (left : List Event) (count : ℕ) (state : State) (book : Book) (totals : Totals) (out err : Option (List ℕ)) (of ef : ℕ) → left ≡ events_by options.schedule options.turns options.every → count ≡ 0 → state ≡ start code → book ≡ new_book → totals ≡ totals_of []
+pub starts : (code : Code) (options : RunOptions) (left : List Event) (count : ℕ) (state : State) (book : Book) (totals : Totals) (out err : Option (List ℕ)) (of ef : ℕ) → left ≡ events_by options.schedule options.turns options.every → count ≡ 0 → state ≡ start code → book ≡ new_book → totals ≡ totals_of []
     → IsGoing code options left count state book totals (record { out = out; out_faults = of; err = err; err_faults = ef }) (record { out = out; out_faults = of; err = err; err_faults = ef })
 unfolding events_of
 starts code options left count state book totals out err of ef are none is empty nothing = record { done = []; split = sym are; turns = none; under_way = begins code options.recover options.why state book totals out err of ef is empty nothing }

@@ -8,10 +8,10 @@ use Rattle.golf_model.specs.Collecting.{real_collect}
 use Rattle.golf_model.specs.Reporting.{report, book_after}
 use Rattle.golf_why.specs.declared.explanation.Explanation.{Explanation}
 use Rattle.golf_why.specs.Explaining.{certificate_size, asleep_in, reached_from, reached_in, IsReady}
-use Rattle.golf_texts.specs.Texts.{certificate_line, reached_line, report_lines}
-use Rattle.golf_texts.specs.Meaning.{why_lines}
-use Rattle.golf_texts.specs.Writes.{told_lines}
-use Rattle.golf_texts.specs.declared.totals.Totals.{Totals}
+use Rattle.golf_run_texts.specs.Texts.{certificate_line, reached_line, report_lines}
+use Rattle.golf_run_texts.specs.Output.{why_lines}
+use Rattle.golf_run_texts.specs.Writes.{told_lines}
+use Rattle.golf_run_texts.specs.declared.totals.Totals.{Totals}
 use Rattle.golf_run.specs.declared.fault.RunFault.{RunFault}
 use Rattle.golf_run.specs.declared.fault.RunFault.TheVariants as faults
 use Rattle.golf_run.specs.Lines.{HasWritten}

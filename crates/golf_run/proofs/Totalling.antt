@@ -8,10 +8,10 @@ use Rattle.golf_data.specs.declared.report.Report.{Report}
 use Rattle.golf_model.specs.State.{State}
 use Rattle.golf_model.specs.Futures.{Numbered}
 use Rattle.golf_model.specs.Reporting.{goroutine_id, new_dead, new_gone, report}
-use Rattle.golf_laws.proofs.Tellings.{report-named}
-use Rattle.golf_texts.specs.declared.totals.Totals.{Totals}
-use Rattle.golf_texts.specs.Totals.{total_reported, total_reclaimed, of_last, totals_of}
-use Rattle.golf_texts.specs.Meaning.{names_someone, anyone_reported}
+use Rattle.golf_model_futures.proofs.Tellings.{report-named}
+use Rattle.golf_run_texts.specs.declared.totals.Totals.{Totals}
+use Rattle.golf_run_texts.specs.Totals.{total_reported, total_reclaimed, of_last, totals_of}
+use Rattle.golf_run_texts.specs.Output.{names_someone, anyone_reported}
 use Rattle.golf_run.specs.Told.{told, noted, totals_by}
 use Rattle.golf_run.specs.UnderWay.{IsCounted}
 

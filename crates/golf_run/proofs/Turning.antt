@@ -13,7 +13,7 @@ use Rattle.golf_machine.specs.declared.turning.Turned.TheVariants as t
 use Rattle.golf_run.specs.declared.fault.RunFault.{RunFault}
 use Rattle.golf_run.specs.declared.fault.RunFault.TheVariants as faults
 use Rattle.golf_run.specs.Happening.{HasTurned}
-use Rattle.golf_state_laws.proofs.Collecting.{collecting-goes}
+use Rattle.golf_model_order.proofs.Collecting.{collecting-goes}
 
 silent-end : (code : Code) (s : State) (k : ℕ) (b : Bool) (e : Ending) → wants_collection code s k ≡ b → ending s ≡ None → ending (step code s k) ≡ Some e → wants_collection code s k ≡ false
 silent-end code s k true e w goes h = let n = collecting-goes code s k goes w in cc

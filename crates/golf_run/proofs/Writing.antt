@@ -9,13 +9,13 @@ use Rattle.golf_model.specs.Turn.{step, wants_collection}
 use Rattle.golf_model.specs.Collecting.{sets_finalisers}
 use Rattle.golf_model.specs.Running.{Event, has_ended, collected_if, happens_in, happens_by, run_by, stop_in, stops_by}
 use Rattle.golf_model.specs.Reporting.{report, reports_from, book_after, new_book}
-use Rattle.golf_schedules.specs.declared.options.Options.{Options}
-use Rattle.golf_texts.specs.Texts.{entry_line, entry_lines, report_line, report_lines, report_text}
-use Rattle.golf_texts.specs.Meaning.{events_of, out_of, last_of, reports_of, real_stops_of, why_lines, joined, collections_text, end_of, err_of}
-use Rattle.golf_texts.specs.Writes.{Write, out_bytes, err_bytes, emptied, freeing, books, told_lines, line_writes, prints_in, collection_writes, writes_in, writes_from, event_writes_of, writes_of}
-use Rattle.golf_laws.specs.Printing.{prefixed}
-use Rattle.golf_laws.proofs.Printing.{step-prefixed}
-use Rattle.golf_laws.proofs.RealRuns.{real-runs}
+use Rattle.golf_run_schedules.specs.declared.options.RunOptions.{RunOptions}
+use Rattle.golf_run_texts.specs.Texts.{entry_line, entry_lines, report_line, report_lines, report_text}
+use Rattle.golf_run_texts.specs.Output.{events_of, out_of, last_of, reports_of, real_stops_of, why_lines, joined, collections_text, end_of, err_of}
+use Rattle.golf_run_texts.specs.Writes.{Write, out_bytes, err_bytes, emptied, freeing, books, told_lines, line_writes, prints_in, collection_writes, writes_in, writes_from, event_writes_of, writes_of}
+use Rattle.golf_model_futures.specs.Printing.{prefixed}
+use Rattle.golf_model_futures.proofs.Printing.{step-prefixed}
+use Rattle.golf_model_futures.proofs.RealRuns.{real-runs}
 use Rattle.golf_run.specs.UnderWay.{stops_text}
 use Rattle.golf_run.proofs.Appending.{books-append}
 use Rattle.golf_run.proofs.Printed.{collect-prefixed}
@@ -192,12 +192,12 @@ module _ (code : Code) (recover sets : Bool) where
 
 -- ---- the whole run: the writes to each sink together are its text
 
-pub events-out : (code : Code) (options : Options) → out_bytes (event_writes_of code options) ≡ out_of code options
+pub events-out : (code : Code) (options : RunOptions) → out_bytes (event_writes_of code options) ≡ out_of code options
 unfolding event_writes_of out_of last_of
 events-out code options =
     writes-out code options.recover (sets_finalisers code) options.why (events_of options) new_book (start code) ∙ (real-runs code options.recover (events_of options)).0
 
-pub events-err : (code : Code) (options : Options) → err_bytes (event_writes_of code options) ≡ collections_text options.why (reports_of code options) (real_stops_of code options)
+pub events-err : (code : Code) (options : RunOptions) → err_bytes (event_writes_of code options) ≡ collections_text options.why (reports_of code options) (real_stops_of code options)
 unfolding event_writes_of reports_of real_stops_of
 events-err code options =
     let sets = sets_finalisers code in
@@ -206,13 +206,13 @@ events-err code options =
     ∙ texts-are code options.recover sets options.why stops new_book
     ∙ ap (λ rs. collections_text options.why rs stops) ((real-runs code options.recover (events_of options)).2)
 
-pub out-whole : (code : Code) (options : Options) → out_bytes (writes_of code options) ≡ out_of code options
+pub out-whole : (code : Code) (options : RunOptions) → out_bytes (writes_of code options) ≡ out_of code options
 unfolding writes_of
 out-whole code options =
     let ws = event_writes_of code options in
     out-append ws (Write.ToErr (end_of code options) ∷ []) ∙ append-nil (out_bytes ws) ∙ events-out code options
 
-pub err-whole : (code : Code) (options : Options) → err_bytes (writes_of code options) ≡ err_of code options
+pub err-whole : (code : Code) (options : RunOptions) → err_bytes (writes_of code options) ≡ err_of code options
 unfolding writes_of err_of
 err-whole code options =
     let ws = event_writes_of code options in

@@ -4,7 +4,7 @@ use Rattle.golf_data.specs.declared.code.Code.{Code}
 use Rattle.golf_model.specs.State.{State, ending}
 use Rattle.golf_model.specs.Running.{Event}
 use Rattle.golf_machine.specs.Taking.{HasGoneOn}
-use Rattle.golf_schedules.specs.Events.{turns_among}
+use Rattle.golf_run_schedules.specs.Events.{turns_among}
 use Rattle.golf_run.specs.declared.fault.RunFault.{RunFault}
 use Rattle.golf_run.specs.Happening.{HasTurned}
 

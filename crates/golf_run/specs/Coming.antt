@@ -1,7 +1,7 @@
 -- The events of a run that are still to come, and how turns in one go take them.
 use Rattle.std.specs.Prelude.{◌≡◌, Bool, true, false, List, [], ◌∷◌, ◌++◌}
 use Rattle.golf_model.specs.Running.{Event}
-use Rattle.golf_schedules.specs.Events.{collection_if, events_left}
+use Rattle.golf_run_schedules.specs.Events.{collection_if, events_left}
 use Rattle.golf_run.specs.declared.coming.Coming.{Coming}
 
 abbrev pub coming_left : Coming → List Event

@@ -6,7 +6,7 @@ use Rattle.golf_data.specs.declared.code.Code.{Code}
 use Rattle.golf_model.specs.State.{State}
 use Rattle.golf_model.specs.Turn.{step, wants_collection}
 use Rattle.golf_model.specs.Running.{Event}
-use Rattle.golf_texts.specs.Writes.{Write, emptied}
+use Rattle.golf_run_texts.specs.Writes.{Write, emptied}
 use Rattle.golf_run.specs.declared.fault.RunFault.{RunFault}
 use Rattle.golf_run.specs.declared.fault.RunFault.TheVariants as faults
 

@@ -3,10 +3,10 @@ use Rattle.std.specs.Prelude.{◌≡◌, ℕ, ◌⊎◌, List, [], ◌∷◌, �
 use Rattle.std.specs.Io.KnownBytes.{Appends}
 use Rattle.golf_base.specs.Causes.{Rose, WritesFront}
 use Rattle.golf_data.specs.declared.code.Code.{Code}
-use Rattle.golf_schedules.specs.declared.options.Options.{Options}
-use Rattle.golf_texts.specs.declared.status.Status.{Status}
-use Rattle.golf_texts.specs.Meaning.{out_of, err_of, status_of}
-use Rattle.golf_texts.specs.Writes.{Write, out_bytes, err_bytes, writes_of}
+use Rattle.golf_run_schedules.specs.declared.options.RunOptions.{RunOptions}
+use Rattle.golf_run_texts.specs.declared.status.Status.{Status}
+use Rattle.golf_run_texts.specs.Output.{out_of, err_of, status_of}
+use Rattle.golf_run_texts.specs.Writes.{Write, out_bytes, err_bytes, writes_of}
 use Rattle.golf_run.specs.declared.fault.RunFault.{RunFault}
 use Rattle.golf_run.specs.declared.fault.RunFault.TheVariants as faults
 
@@ -61,13 +61,13 @@ pub record WasStopped (writes : List Write) (old new : Sinks) : Type 0 where
   pub steady : IsSteady old new
 
 -- each sink got its whole text, and the status is that of the run
-pub record GotWhole (answer : Status) (code : Code) (options : Options) (old new : Sinks) : Type 0 where
+pub record GotWhole (answer : Status) (code : Code) (options : RunOptions) (old new : Sinks) : Type 0 where
   pub status : answer ≡ status_of code options
   pub out : Appends old.out new.out (out_of code options)
   pub err : Appends old.err new.err (err_of code options)
 
 -- what the answer of a run says
-abbrev pub HasRun : Result Status RunFault → Code → Options → Sinks → Sinks → Type 0
+abbrev pub HasRun : Result Status RunFault → Code → RunOptions → Sinks → Sinks → Type 0
 HasRun (Ok status) code options old new = GotWhole status code options old new × IsSteady old new
 HasRun (Err faults.Write) code options old new = WasCut (writes_of code options) old new
 HasRun (Err faults.Memory) code options old new = WasStopped (writes_of code options) old new
@@ -75,7 +75,7 @@ HasRun (Err faults.Memory) code options old new = WasStopped (writes_of code opt
 -- ---- what follows from it
 
 -- each sink got a front of its text
-pub record GotFronts (code : Code) (options : Options) (old new : Sinks) : Type 0 where
+pub record GotFronts (code : Code) (options : RunOptions) (old new : Sinks) : Type 0 where
   pub out : WritesFront old.out new.out (out_of code options)
   pub err : WritesFront old.err new.err (err_of code options)
 

@@ -7,4 +7,4 @@ pub mod HasRun
 pub mod HasLeft
 pub mod UnderWay
 pub mod HasGone
-pub mod IsOutcome
+pub mod IsRunSummary

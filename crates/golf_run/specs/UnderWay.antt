@@ -9,13 +9,13 @@ use Rattle.golf_model.specs.Collecting.{sets_finalisers, real_collect}
 use Rattle.golf_model.specs.Running.{Event, run, stops, run_by, stops_by}
 use Rattle.golf_model.specs.Futures.{Leads}
 use Rattle.golf_model.specs.Reporting.{book_of, new_book, numbers, report, book_after}
-use Rattle.golf_schedules.specs.declared.options.Options.{Options}
-use Rattle.golf_schedules.specs.Events.{turns_among}
-use Rattle.golf_texts.specs.declared.totals.Totals.{Totals}
-use Rattle.golf_texts.specs.Totals.{total_reported, total_reclaimed, totals_of}
-use Rattle.golf_texts.specs.Meaning.{events_of, joined}
-use Rattle.golf_texts.specs.Writes.{Write, books, told_lines, writes_from}
-use Rattle.golf_laws.specs.Printing.{prefixed}
+use Rattle.golf_run_schedules.specs.declared.options.RunOptions.{RunOptions}
+use Rattle.golf_run_schedules.specs.Events.{turns_among}
+use Rattle.golf_run_texts.specs.declared.totals.Totals.{Totals}
+use Rattle.golf_run_texts.specs.Totals.{total_reported, total_reclaimed, totals_of}
+use Rattle.golf_run_texts.specs.Output.{events_of, joined}
+use Rattle.golf_run_texts.specs.Writes.{Write, books, told_lines, writes_from}
+use Rattle.golf_model_futures.specs.Printing.{prefixed}
 use Rattle.golf_run.specs.HasRun.{Sinks}
 use Rattle.golf_run.specs.HasLeft.{HasLeft}
 
@@ -82,7 +82,7 @@ pub record IsUnderWay (code : Code) (recover why : Bool) (done : List Event) (st
   pub err : Appends old.err now.err (told_to code recover why done)
 
 -- these events of the run are done, in which so many numbers were given, and the others are still to come
-pub record IsGoing (code : Code) (options : Options) (left : List Event) (given : ℕ) (state : State) (ledger : Book) (totals : Totals) (old now : Sinks) : Type 0 where
+pub record IsGoing (code : Code) (options : RunOptions) (left : List Event) (given : ℕ) (state : State) (ledger : Book) (totals : Totals) (old now : Sinks) : Type 0 where
   pub done : List Event
   pub split : events_of options ≡ done ++ left
   pub turns : given ≡ turns_among done

@@ -2,11 +2,11 @@
 
 ghost use Rattle.std.specs.Prelude.{◌≡◌, false};
 ghost use Rattle.golf_machine.specs.Taking.{is_turn_next};
-ghost use Rattle.golf_schedules.specs.Events.{events_left};
+ghost use Rattle.golf_run_schedules.specs.Events.{events_left};
 ghost use Rattle.golf_run.specs.Coming.{coming_left, HasTakenCollection};
 
 use golf_machine::Numbers;
-use golf_schedules::{Event, Events};
+use golf_run_schedules::{Event, Events};
 
 /// The events of a run that are still to come. A collection that comes next may have been taken from
 /// them already.

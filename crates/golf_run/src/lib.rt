@@ -10,4 +10,4 @@ mod turns;
 
 pub use fault::RunFault;
 pub use running::{last_line, run, status_by};
-pub use surveying::{Outcome, survey};
+pub use surveying::{RunSummary, survey};

@@ -2,17 +2,17 @@
 
 ghost use Rattle.std.specs.Prelude.{◌≡◌, IfOk};
 ghost use Rattle.golf_data.specs.Places.{HasPlaces};
-ghost use Rattle.golf_schedules.specs.Options.{IsWithinLimits};
-ghost use Rattle.golf_texts.specs.Texts.{last_line as last_bytes};
-ghost use Rattle.golf_texts.specs.Meaning.{status_by as status_when};
+ghost use Rattle.golf_run_schedules.specs.Options.{IsWithinLimits};
+ghost use Rattle.golf_run_texts.specs.Texts.{last_line as last_bytes};
+ghost use Rattle.golf_run_texts.specs.Output.{status_by as status_when};
 ghost use Rattle.golf_run.specs.HasRun.{HasRun, sinks};
 
 use crate::fault::RunFault;
 use crate::turns::go_through;
 use golf_base::{Gate, List, Memory, Sink, write_all};
 use golf_data::{Code, Ending};
-use golf_schedules::Options;
-use golf_texts::{Status, ending_line, stopped_line};
+use golf_run_schedules::RunOptions;
+use golf_run_texts::{Status, ending_line, stopped_line};
 use std::alloc::Global;
 use std::thread::Threads;
 
@@ -51,7 +51,7 @@ pub fn run<R: Threads + Sync, O: Sink, E: Sink, G: Gate + Sync>(
     rt: &R,
     alloc: Global,
     code: &Code,
-    options: Options,
+    options: RunOptions,
     out: &mut O,
     err: &mut E,
     gate: &G,

@@ -2,21 +2,21 @@
 
 ghost use Rattle.std.specs.Prelude.{None, IfOk};
 ghost use Rattle.golf_data.specs.Places.{HasPlaces};
-ghost use Rattle.golf_schedules.specs.Options.{IsWithinLimits};
-ghost use Rattle.golf_run.specs.IsOutcome.{IsOutcome};
+ghost use Rattle.golf_run_schedules.specs.Options.{IsWithinLimits};
+ghost use Rattle.golf_run.specs.IsRunSummary.{IsRunSummary};
 
 use crate::running::{last_line, status_by};
 use crate::turns::go_through;
 use golf_base::{Failed, Gate, List, Memory, Sink};
 use golf_data::Code;
-use golf_schedules::Options;
-use golf_texts::{Status, Totals};
+use golf_run_schedules::RunOptions;
+use golf_run_texts::{Status, Totals};
 use std::alloc::Global;
 use std::thread::Threads;
 
 /// What a run came to.
 #[derive(Debug, Drop)]
-pub struct Outcome {
+pub struct RunSummary {
     /// How the program ends.
     pub status: Status,
     /// What the reports of its collections come to.
@@ -44,12 +44,12 @@ pub fn survey<R: Threads + Sync, G: Gate + Sync>(
     rt: &R,
     alloc: Global,
     code: &Code,
-    options: Options,
+    options: RunOptions,
     gate: &G,
-) -> Result<Outcome, Memory>
+) -> Result<RunSummary, Memory>
     requires places { HasPlaces code.now }
     requires limits { IsWithinLimits options }
-    ensures { IfOk result (λ outcome. IsOutcome outcome code.now options) }
+    ensures { IfOk result (λ outcome. IsRunSummary outcome code.now options) }
 {
     let mut out = Nowhere;
     let mut err = Nowhere;
@@ -59,7 +59,7 @@ pub fn survey<R: Threads + Sync, G: Gate + Sync>(
         Err(_) => return Err(Memory),
     };
     let line = last_line(alloc, code.texts.as_slice(), course.turns, course.ending)?;
-    Ok(Outcome {
+    Ok(RunSummary {
         status: status_by(course.totals.reported != 0, course.ending),
         totals: course.totals,
         line,

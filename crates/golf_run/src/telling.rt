@@ -5,7 +5,7 @@ ghost use Rattle.golf_model.specs.Futures.{Numbered};
 ghost use Rattle.golf_model.specs.Graph.{sleeper_count};
 ghost use Rattle.golf_model.specs.Presence.{IsWhole};
 ghost use Rattle.golf_why.specs.Explaining.{reached_at, reached_from, IsReady};
-ghost use Rattle.golf_texts.specs.Texts.{entry_line as entry_bytes, reached_line as reached_bytes, report_lines};
+ghost use Rattle.golf_run_texts.specs.Texts.{entry_line as entry_bytes, reached_line as reached_bytes, report_lines};
 ghost use Rattle.golf_run.specs.Lines.{HasWritten};
 ghost use Rattle.golf_run.specs.Told.{explained_lines, ExplainsIf};
 
@@ -13,7 +13,7 @@ use crate::fault::RunFault;
 use golf_base::{List, Memory, Sink, write_all};
 use golf_data::{Entry, Report};
 use golf_state::State;
-use golf_texts::{certificate_line, entry_line, reached_line, report_line};
+use golf_run_texts::{certificate_line, entry_line, reached_line, report_line};
 use golf_why::Explanation;
 use std::alloc::Global;
 

@@ -5,7 +5,7 @@ ghost use Rattle.golf_data.specs.Places.{HasPlaces};
 ghost use Rattle.golf_model.specs.Futures.{Numbered};
 ghost use Rattle.golf_model.specs.Presence.{IsWhole};
 ghost use Rattle.golf_reclaim.specs.Noting.{AreGone};
-ghost use Rattle.golf_schedules.specs.Options.{IsWithinLimits};
+ghost use Rattle.golf_run_schedules.specs.Options.{IsWithinLimits};
 ghost use Rattle.golf_run.specs.Coming.{coming_left};
 ghost use Rattle.golf_run.specs.Advancing.{HasAdvanced};
 ghost use Rattle.golf_run.specs.Told.{HasTold, totals_by};
@@ -18,10 +18,10 @@ use crate::telling::{explanation, write_told};
 use golf_base::{Gate, Sink, write_all};
 use golf_data::{Code, Ending, Report};
 use golf_machine::{Turned, start, take_turns};
-use golf_reclaim::{Ledger, Options as Collecting, collect, sets_finalisers};
-use golf_schedules::{Events, Options};
+use golf_reclaim::{Ledger, CollectOptions, collect, sets_finalisers};
+use golf_run_schedules::{Events, RunOptions};
 use golf_state::State;
-use golf_texts::Totals;
+use golf_run_texts::Totals;
 use std::alloc::Global;
 use std::thread::Threads;
 
@@ -117,7 +117,7 @@ pub(crate) fn go_through<R: Threads + Sync, O: Sink, E: Sink, G: Gate + Sync>(
     rt: &R,
     alloc: Global,
     code: &Code,
-    options: Options,
+    options: RunOptions,
     out: &mut O,
     err: &mut E,
     gate: &G,
@@ -129,7 +129,7 @@ pub(crate) fn go_through<R: Threads + Sync, O: Sink, E: Sink, G: Gate + Sync>(
         (sinks (O.written out.new) (O.faults out.new) (E.written err.new) (E.faults err.new)) }
 {
     let how = Manner {
-        collecting: Collecting {
+        collecting: CollectOptions {
             markers: options.markers,
             recover: options.recover,
             sets_finalisers: sets_finalisers(code),

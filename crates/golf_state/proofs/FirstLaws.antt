@@ -11,7 +11,7 @@ use Rattle.golf_model.specs.Laws.{head, TicketsRise}
 use Rattle.golf_model.specs.Waiting.{Waiter, waiter_ticket, waiter_of, ticket_of, first, waiters}
 use Rattle.golf_model.proofs.Firsts.{first-head, waiters-sound, waiters-complete, waiters-rise}
 use Rattle.golf_state.specs.Seen.{waiter_held, waiter_by, or_later, first_held}
-use Rattle.golf_state.specs.Lined.{HasWaiters}
+use Rattle.golf_state.specs.Enqueued.{HasWaiters}
 use Rattle.golf_state.proofs.WaiterLaws.{head-in, waiter-parts}
 
 no-head : {X : Type 0} (xs : List X) (x : X) → head xs ≡ None → In x xs → ⊥
@@ -36,7 +36,7 @@ module _ (o : ℕ) (side : Side) (gs : List (ℕ × GoroutineView)) (rises : IsR
   among : (g : ℕ) (r : GoroutineView) (u : Waiter) → find g gs ≡ Some r → waiter_of o side (g, r) ≡ Some u → In u (waiters o side gs)
   among g r u f q = waiters-complete o side gs u ((g, r), Entry-find g gs r f, q)
 
-  -- one who stands in line and waits there
+  -- one who stands in the queue and waits there
   pub record Holds (h : ℕ × ℕ) (u : Waiter) : Type 0 where
     goroutine : GoroutineView
     found : find h.1 gs ≡ Some goroutine
@@ -80,8 +80,8 @@ module _ (o : ℕ) (side : Side) (gs : List (ℕ × GoroutineView)) (rises : IsR
   ] refl
 
   -- the first of the line who waits is the first waiter
-  pub first-in-line : (hs : List (ℕ × ℕ)) → Rises 0 hs → HasWaiters o side gs hs → first_held o side gs hs ≡ first o side gs
-  first-in-line hs r all = elim (first o side gs) as (λ m. first o side gs ≡ m → first_held o side gs hs ≡ m) [
+  pub first-in-queue : (hs : List (ℕ × ℕ)) → Rises 0 hs → HasWaiters o side gs hs → first_held o side gs hs ≡ first o side gs
+  first-in-queue hs r all = elim (first o side gs) as (λ m. first o side gs ≡ m → first_held o side gs hs ≡ m) [
     | None ↦ λ f. none-held f hs
     | Some w ↦ λ f.
         let i = waiters-sound o side gs w (head-in (waiters o side gs) w (sym (first-head o side gs) ∙ f)) in

@@ -1,4 +1,4 @@
--- Goroutines that leave their lines, and those that a collection leaves there.
+-- Goroutines that leave their queues, and those that a collection leaves there.
 use Rattle.std.proofs.Common.{◌≡◌, ℕ, suc, ◌+◌, Bool, true, false, cond, List, [], ◌∷◌, Option, Some, None, inl, inr, refl, sym, subst}
 use Rattle.golf_base.specs.declared.ids.GoroutineId.{GoroutineId}
 use Rattle.golf_data.specs.declared.goroutine.Mode.{Mode}
@@ -11,11 +11,11 @@ use Rattle.golf_theory.proofs.Tests.{is_in-from}
 use Rattle.golf_heap.specs.Objects.{kept}
 use Rattle.golf_model.specs.Views.{GoroutineView}
 use Rattle.golf_model.specs.Waiting.{ticket_of, waits_of}
-use Rattle.golf_queues.specs.Lines.{Lines, listed, key, keys_of, leaves, AreBelow, IsWithout, Keeps}
-use Rattle.golf_queues.proofs.Partings.{without-none, keeps-without, keeps-others}
+use Rattle.golf_state_queues.specs.WaitQueues.{WaitQueues, listed, key, keys_of, leaves, AreBelow, IsWithout, Keeps}
+use Rattle.golf_state_queues.proofs.Partings.{without-none, keeps-without, keeps-others}
 use Rattle.golf_state.specs.Inside.{numbers}
 use Rattle.golf_state.specs.Left.{leaves_in, leaves_where}
-use Rattle.golf_state.specs.Lined.{AreLined}
+use Rattle.golf_state.specs.Enqueued.{AreEnqueued}
 use Rattle.golf_state.specs.Rising.{RisesFrom}
 
 pub Rises-listed : (j : ℕ) (gs : List GoroutineId) → RisesFrom j (numbers gs) → Rises j (listed gs)
@@ -31,10 +31,10 @@ Entry-kept {X} (b ∷ bs) (e ∷ es) k x h =
       | false ↦ λ i. inr (Entry-kept bs es k x i)
     ] h
 
--- those who are kept stand in line where the others are gone from it
-pub lined-kept : (listed : Bool) (flags : List Bool) (es : List (ℕ × GoroutineView)) (old new : Lines) (next : ℕ) → AreLined listed es old next
-    → Keeps (λ t h. is_in h (keys (kept flags es)) ≡ true) old new → ((n : ℕ) → AreBelow n old → AreBelow n new) → AreLined listed (kept flags es) new next
-lined-kept listed flags es old new next a others below = record {
+-- those who are kept stand in the queue where the others are gone from it
+pub enqueued-kept : (listed : Bool) (flags : List Bool) (es : List (ℕ × GoroutineView)) (old new : WaitQueues) (next : ℕ) → AreEnqueued listed es old next
+    → Keeps (λ t h. is_in h (keys (kept flags es)) ≡ true) old new → ((n : ℕ) → AreBelow n old → AreBelow n new) → AreEnqueued listed (kept flags es) new next
+enqueued-kept listed flags es old new next a others below = record {
   below = below (next + 1) a.below;
   early = λ g v h. a.early g v (Entry-kept flags es g v h);
   all = λ o side q g v w h e.
@@ -43,21 +43,21 @@ lined-kept listed flags es old new next a others below = record {
 
 -- ---- who leaves
 
--- a blocked goroutine leaves the lines of its waits
-pub left-blocked : (g : ℕ) (m : Mode) (kind : WaitKind) (line : ℕ) (waits seen : List Wait) (ticket : ℕ) (old new : Lines) → m ≡ Mode.Blocked kind line waits ticket → seen ≡ waits
+-- a blocked goroutine leaves the queues of its waits
+pub left-blocked : (g : ℕ) (m : Mode) (kind : WaitKind) (line : ℕ) (waits seen : List Wait) (ticket : ℕ) (old new : WaitQueues) → m ≡ Mode.Blocked kind line waits ticket → seen ≡ waits
     → IsWithout (leaves ticket g (keys_of seen)) old new → IsWithout (leaves_in g m) old new
 left-blocked g m kind line waits seen ticket old new e s w =
     subst (λ (n : Mode). IsWithout (leaves_in g n) old new) (sym e) (subst (λ (ws : List Wait). IsWithout (leaves ticket g (keys_of ws)) old new) s w)
 
 -- a running one stands in none
-pub left-running : (g : ℕ) (m : Mode) (ls : Lines) → m ≡ Mode.Running → IsWithout (leaves_in g m) ls ls
+pub left-running : (g : ℕ) (m : Mode) (ls : WaitQueues) → m ≡ Mode.Running → IsWithout (leaves_in g m) ls ls
 left-running g m ls e = subst (λ (n : Mode). IsWithout (leaves_in g n) ls ls) (sym e) (without-none (leaves_in g Mode.Running) ls (λ k h. refl))
 
 -- ---- the others stand where they stood
 
-pub others-stay : (g : ℕ) (m : Mode) (old new : Lines) → IsWithout (leaves_in g m) old new → Keeps (λ t h. h ≡ g → ⊥) old new
+pub others-stay : (g : ℕ) (m : Mode) (old new : WaitQueues) → IsWithout (leaves_in g m) old new → Keeps (λ t h. h ≡ g → ⊥) old new
 others-stay g m old new w = keeps-others (ticket_of m) g (keys_of (waits_of m)) old new w
 
-pub others-stay-where : (g : ℕ) (o : Option GoroutineView) (old new : Lines) → IsWithout (leaves_where g o) old new → Keeps (λ t h. h ≡ g → ⊥) old new
+pub others-stay-where : (g : ℕ) (o : Option GoroutineView) (old new : WaitQueues) → IsWithout (leaves_where g o) old new → Keeps (λ t h. h ≡ g → ⊥) old new
 others-stay-where g None old new w = keeps-without (λ t h. h ≡ g → ⊥) (leaves_where g None) old new (λ k t h n. refl) w
 others-stay-where g (Some r) old new w = others-stay g r.mode old new w

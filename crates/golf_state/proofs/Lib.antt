@@ -11,7 +11,7 @@ pub mod Serving
 pub mod Outcomings
 pub mod Runnings
 mod Retaining
-pub mod LinedLaws
+pub mod EnqueuedLaws
 mod WakeLaws
 mod ReaderLaws
 pub mod FirstLaws

@@ -21,7 +21,7 @@ use Rattle.golf_state.specs.Looked.{is_running_in, is_blocked_in}
 use Rattle.golf_state.specs.Places.{plain_entry, plain_entries, running_of, starts_idle}
 use Rattle.golf_state.specs.Ready.{IsReady}
 use Rattle.golf_state.specs.declared.places.Place.{Place}
-use Rattle.golf_queues.proofs.Keyed.{set-keyed, found-keyed}
+use Rattle.golf_state_queues.proofs.Keyed.{set-keyed, found-keyed}
 use Rattle.golf_state.proofs.Readiness.{ready-set}
 
 number : Place → ℕ

@@ -12,7 +12,7 @@ use Rattle.golf_model.specs.Views.{GoroutineView}
 use Rattle.golf_model.specs.Waiting.{Waiter, waiter_of, waits_of, wait_for, ticket_of}
 use Rattle.golf_model.specs.Waking.{reads_next}
 use Rattle.golf_model.specs.ReadersWriters.{one_if, readers_next}
-use Rattle.golf_queues.specs.declared.line.TicketHolder.{TicketHolder}
+use Rattle.golf_state_queues.specs.declared.holders.TicketHolder.{TicketHolder}
 use Rattle.golf_state.specs.Seen.{waiter_held, waiter_by}
 use Rattle.golf_state.specs.WokenAll.{IsHolderBelow, AreWokenBelow}
 use Rattle.golf_state.specs.Woken.{wakening_of, released_where}
@@ -126,7 +126,7 @@ readers-split n t g o j (e ∷ gs) l r h =
       | inr m ↦ ap as_one (ltb-not ticket n m ∙ sym (ltb-not ticket t (omega (arith, l, m))))
     ]
 
--- one more in line is passed
+-- one more in the queue is passed
 pub holder-counted : (n o : ℕ) (gs : List (ℕ × GoroutineView)) (h : TicketHolder) → Rises 0 gs → IsHolderBelow n o Side.Read gs (Some h) → readers_next (Some n) o gs ≡ one_if (waiter_by o Side.Read gs (h.ticket, h.goroutine.0)) + readers_next (Some h.ticket) o gs
 holder-counted n o gs h rises last = readers-split n h.ticket h.goroutine.0 o 0 gs last.0 rises split
   where
@@ -165,7 +165,7 @@ one-false : (m : Option Waiter) → is_some m ≡ false → one_if m ≡ 0
 one-false None h = refl
 one-false (Some w) h = cc
 
--- the one in line is a reader, or none
+-- the one in the queue is a reader, or none
 pub counted-one : (n o : ℕ) (gs : List (ℕ × GoroutineView)) (h : TicketHolder) → Rises 0 gs → IsHolderBelow n o Side.Read gs (Some h) → is_some (waiter_by o Side.Read gs (h.ticket, h.goroutine.0)) ≡ true → readers_next (Some n) o gs ≡ 1 + readers_next (Some h.ticket) o gs
 counted-one n o gs h rises last q = holder-counted n o gs h rises last ∙ ap (λ (k : ℕ). k + readers_next (Some h.ticket) o gs) (one-true (waiter_by o Side.Read gs (h.ticket, h.goroutine.0)) q)
 

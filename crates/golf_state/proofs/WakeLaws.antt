@@ -14,16 +14,16 @@ use Rattle.golf_model.specs.State.{State, is_running}
 use Rattle.golf_model.specs.Waiting.{Waiter, waiter_of, waits_of, wait_for, wait_on, same_side, ticket_of}
 use Rattle.golf_model.specs.Waking.{Waking as Woken, is_below, woken_by}
 use Rattle.golf_model.specs.Changes.{become, wake_all}
-use Rattle.golf_queues.specs.Lines.{IsLastBefore}
-use Rattle.golf_queues.specs.declared.line.TicketHolder.{TicketHolder}
-use Rattle.golf_state.specs.Lined.{HasWaiters}
+use Rattle.golf_state_queues.specs.WaitQueues.{IsLastBefore}
+use Rattle.golf_state_queues.specs.declared.holders.TicketHolder.{TicketHolder}
+use Rattle.golf_state.specs.Enqueued.{HasWaiters}
 use Rattle.golf_state.specs.Looked.{looked_up, on_goroutine}
 use Rattle.golf_state.specs.Wakening.{wakened}
 use Rattle.golf_state.specs.Woken.{waking_of, wakening_of, wakening_on, wakening_by_close, wakened_by, released_where}
 use Rattle.golf_state.specs.WokenAll.{wakening_in, AreWokenBelow, NobodyWoken, IsHolderBelow, HasWoken}
 use Rattle.golf_state.specs.declared.frames.Wakening.{Wakening}
 use Rattle.golf_state.specs.declared.waking.Waking.{Waking}
-use Rattle.golf_state.proofs.LinedLaws.{put-there}
+use Rattle.golf_state.proofs.EnqueuedLaws.{put-there}
 use Rattle.golf_state.proofs.Readiness.{wakened-runs}
 use Rattle.golf_state.proofs.WaiterLaws.{waiter-parts}
 use Rattle.golf_state.proofs.Wakings.{woken-is}
@@ -99,7 +99,7 @@ woken-more o how s t u a b = record { same = b.same ∙ a.same; nobody = λ side
 not-same : (a b : ℕ) → a ≤ b → (a ≡ b → ⊥) → a < b
 not-same a b l d = elim (cases_lt a b) [ inl m ↦ m | inr m ↦ absurd (d (omega (arith, l, m))) ]
 
--- the last in line whose ticket is below n
+-- the last in the queue whose ticket is below n
 pub holder-below : (n o : ℕ) (side : Side) (gs : List (ℕ × GoroutineView)) (line : List (ℕ × ℕ)) (h : Option TicketHolder) → Rises 0 line → HasWaiters o side gs line → IsLastBefore n line h → IsHolderBelow n o side gs h
 holder-below n o side gs line None rises all last = λ g r w i q. last (ticket_of r.mode) g (all g r w i q)
 holder-below n o side gs line (Some h) rises all last = (

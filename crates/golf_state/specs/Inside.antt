@@ -5,7 +5,7 @@ use Rattle.golf_theory.specs.Maps.{keys, Rises, AllBelow}
 use Rattle.golf_model.specs.State.{State}
 use Rattle.golf_state.specs.Places.{plain_entries, running_of}
 use Rattle.golf_state.specs.Ready.{AllReady}
-use Rattle.golf_state.specs.Lined.{AreLined}
+use Rattle.golf_state.specs.Enqueued.{AreEnqueued}
 use Rattle.golf_state.specs.declared.places.Place.{Place}
 use Rattle.golf_state.specs.declared.state.State.TheInside.{Inside}
 
@@ -41,5 +41,5 @@ pub record AreKept (gs : List Place) (listed active : List ℕ) (capacity next :
 
 pub record IsCached (s : Inside) : Type 0 where
   pub kept : AreKept s.goroutines.items (numbers s.present.items) (numbers s.running.items) (vec_capacity s.running) s.next_goroutine
-  pub lined : AreLined s.are_mutexes_lined (plain_entries s.goroutines.items) s.waiting s.next_ticket
+  pub enqueued : AreEnqueued s.are_mutexes_enqueued (plain_entries s.goroutines.items) s.waiting s.next_ticket
   pub finalisers : Rises 0 s.finalisers.items

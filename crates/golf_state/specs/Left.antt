@@ -1,9 +1,9 @@
--- Goroutines that leave the lines of what they wait for.
+-- Goroutines that leave the queues of what they wait for.
 use Rattle.std.specs.Prelude.{ℕ, Bool, false, Option, Some, None}
 use Rattle.golf_data.specs.declared.goroutine.Mode.{Mode}
 use Rattle.golf_model.specs.Views.{GoroutineView}
 use Rattle.golf_model.specs.Waiting.{ticket_of, waits_of}
-use Rattle.golf_queues.specs.Lines.{keys_of, leaves}
+use Rattle.golf_state_queues.specs.WaitQueues.{keys_of, leaves}
 
 -- whether one in the line of key k is this goroutine, which waits there in this mode
 abbrev pub leaves_in : ℕ → Mode → ℕ → ℕ × ℕ → Bool

@@ -18,5 +18,5 @@ pub mod Outcomes
 pub mod Handing
 pub mod Collecting
 pub mod Clearing
-pub mod Lined
+pub mod Enqueued
 pub mod Left

@@ -6,7 +6,7 @@ use Rattle.golf_model.specs.Views.{GoroutineView}
 use Rattle.golf_model.specs.State.{State}
 use Rattle.golf_model.specs.Waiting.{Waiter, waiter_of, ticket_of}
 use Rattle.golf_model.specs.Changes.{wake_all}
-use Rattle.golf_queues.specs.declared.line.TicketHolder.{TicketHolder}
+use Rattle.golf_state_queues.specs.declared.holders.TicketHolder.{TicketHolder}
 use Rattle.golf_state.specs.Woken.{waking_of, wakening_of}
 use Rattle.golf_state.specs.declared.frames.Wakening.{Wakening}
 use Rattle.golf_state.specs.declared.waking.Waking.{Waking}
@@ -24,7 +24,7 @@ AreWokenBelow n o side how gs = (g : ℕ) (r : GoroutineView) (w : Waiter) (k : 
 abbrev pub NobodyWoken : ℕ → Side → Waking → List (ℕ × GoroutineView) → Type 0
 NobodyWoken o side how gs = (g : ℕ) (r : GoroutineView) (w : Waiter) (k : Wakening) → Entry gs g r → waiter_of o side (g, r) ≡ Some w → wakening_of r.mode o how ≡ Some k → ⊥
 
--- the last in line with a ticket below n: whoever waits there with such a ticket is this one, or has an earlier one
+-- the last in the queue with a ticket below n: whoever waits there with such a ticket is this one, or has an earlier one
 abbrev pub IsHolderBelow : ℕ → ℕ → Side → List (ℕ × GoroutineView) → Option TicketHolder → Type 0
 IsHolderBelow n o side gs None = (g : ℕ) (r : GoroutineView) (w : Waiter) → Entry gs g r → waiter_of o side (g, r) ≡ Some w → n ≤ ticket_of r.mode
 IsHolderBelow n o side gs (Some h) = (h.ticket < n) × ((g : ℕ) (r : GoroutineView) (w : Waiter) → Entry gs g r → waiter_of o side (g, r) ≡ Some w → ticket_of r.mode < n → (ticket_of r.mode < h.ticket) ⊎ ((g ≡ h.goroutine.0) × (ticket_of r.mode ≡ h.ticket)))

@@ -14,7 +14,7 @@ ghost use Rattle.golf_heap.specs.Objects.{kept};
 ghost use Rattle.golf_state.specs.Collecting.{queue_unflagged};
 ghost use Rattle.golf_state.specs.Looked.{looked_up, runs, is_blocked, frames_of, reframed, advanced, opening};
 ghost use Rattle.golf_state.specs.Wakening.{wakened};
-ghost use Rattle.golf_state.specs.Lined.{has_line};
+ghost use Rattle.golf_state.specs.Enqueued.{has_queue};
 ghost use Rattle.golf_state.specs.Woken.{waking_of};
 ghost use Rattle.golf_state.specs.WokenAll.{wakening_in, AreWokenBelow, IsHolderBelow};
 ghost use Rattle.golf_state.specs.Waited.{waiting_of};
@@ -31,8 +31,8 @@ use crate::places::{
 };
 use crate::rising::{add_last, behind_first, leave_out, put_in};
 use crate::waiters::{
-    Waiting, enter_for_mutex, first_in_line, first_waiter, forget, has_line, leave_lines,
-    move_mode, narrow_lines, waiter_by,
+    Waiting, enter_for_mutex, first_in_queue, first_waiter, forget, has_queue, leave_queues,
+    move_mode, narrow_queues, waiter_by,
 };
 use crate::wake_all::{readers_next, wake_all};
 use crate::waking::{Waking, wakening_of};
@@ -41,7 +41,7 @@ use golf_data::{
     Code, Ending, Frame, Goroutine, Mode, Object, Queued, Side, Value, Wait, WaitKind,
 };
 use golf_heap::{Heap, close_up};
-use golf_queues::{Queues, TicketHolder, last_before};
+use golf_state_queues::{Queues, TicketHolder, last_before};
 use std::alloc::Global;
 use std::marker::Model;
 
@@ -59,7 +59,7 @@ pub struct State {
     present: Vec<GoroutineId>,
     running: Vec<GoroutineId>,
     waiting: Queues,
-    are_mutexes_lined: bool,
+    are_mutexes_enqueued: bool,
     queue: FinaliserQueue,
     output: List<u8>,
     next_ticket: u64,
@@ -90,7 +90,7 @@ impl Drop for State {
             present: _,
             running: _,
             waiting: _,
-            are_mutexes_lined: _,
+            are_mutexes_enqueued: _,
             queue: _,
             output: _,
             next_ticket: _,
@@ -124,7 +124,7 @@ impl State {
             present,
             running,
             waiting: Queues::new(alloc),
-            are_mutexes_lined: true,
+            are_mutexes_enqueued: true,
             queue: FinaliserQueue::new(alloc),
             output: List::new(alloc),
             next_ticket: 0,
@@ -223,7 +223,7 @@ impl State {
     }
 
     /// The goroutine of least ticket among those that wait on the object with that side. It looks at
-    /// those that stand in line there alone.
+    /// those that stand in the queue there alone.
     #[inline(always)]
     pub fn first_waiter(&self, object: ObjectId, side: Side) -> Option<Waiting>
         ensures first { result ≡ option_map waiting_of (first object.0 side self.now.goroutines) }
@@ -231,8 +231,8 @@ impl State {
         ensures rises { IsRising self.now.goroutines }
     {
         let places = self.goroutines.as_slice();
-        if has_line(self.are_mutexes_lined, side) {
-            first_in_line(self.waiting.line(object, side), places, object, side)
+        if has_queue(self.are_mutexes_enqueued, side) {
+            first_in_queue(self.waiting.holders(object, side), places, object, side)
         } else {
             first_waiter(places, object, side)
         }
@@ -394,13 +394,13 @@ impl State {
         let at = rank_of(self.goroutines.as_slice(), g.0);
         let place = &mut self.goroutines[at];
         let goroutine = place.goroutine.get_mut();
-        leave_lines(&mut self.waiting, g, &goroutine.mode);
+        leave_queues(&mut self.waiting, g, &goroutine.mode);
         waken(goroutine, how);
         put_in(&mut self.running, g);
     }
 
     /// All goroutines that wait on the object go on, as far as they are woken. It takes no memory,
-    /// and looks at those that stand in line there alone.
+    /// and looks at those that stand in the queue there alone.
     pub fn wake_all(&mut self, object: ObjectId, how: Waking)
         ensures { self.new ≡ wake_all object.0 (waking_of how) self.old }
     {
@@ -417,22 +417,22 @@ impl State {
         }
     }
 
-    /// The last in line for the object with that side whose ticket is below this one.
+    /// The last in the queue for the object with that side whose ticket is below this one.
     pub(crate) fn holder_before(
         &self,
         object: ObjectId,
         side: Side,
         ticket: u64,
     ) -> Option<TicketHolder>
-        requires { has_line false side ≡ true }
+        requires { has_queue false side ≡ true }
         ensures last { IsHolderBelow ticket object.0 side self.now.goroutines result }
         ensures rises { IsRising self.now.goroutines }
         ensures few { length self.now.goroutines ≤ 2 ^ 32 }
     {
-        last_before(self.waiting.line(object, side), ticket)
+        last_before(self.waiting.holders(object, side), ticket)
     }
 
-    /// Whether one who stands in line for the object with that side waits there with that ticket.
+    /// Whether one who stands in the queue for the object with that side waits there with that ticket.
     pub(crate) fn is_waiting(&self, holder: TicketHolder, object: ObjectId, side: Side) -> bool
         ensures { result ≡ is_some (waiter_by object.0 side self.now.goroutines (holder.ticket, holder.goroutine.0)) }
     {
@@ -457,7 +457,7 @@ impl State {
     }
 
     // The one wait of a blocked goroutine becomes a wait for the mutex, with the next ticket. Where
-    // memory is wanting for its place in line, the lines of mutexes are looked at no more.
+    // memory is wanting for its place in the queue, the queues of mutexes are looked at no more.
     fn move_wait(&mut self, g: GoroutineId, mutex: ObjectId)
         requires blocked { is_blocked g.0 self.old ≡ true }
         requires tickets { self.old.next_ticket + 1 < 2 ^ 64 }
@@ -466,12 +466,12 @@ impl State {
         let at = rank_of(self.goroutines.as_slice(), g.0);
         let place = &mut self.goroutines[at];
         let goroutine = place.goroutine.get_mut();
-        leave_lines(&mut self.waiting, g, &goroutine.mode);
+        leave_queues(&mut self.waiting, g, &goroutine.mode);
         move_mode(&mut goroutine.mode, mutex, self.next_ticket);
-        let is_lined = self.are_mutexes_lined;
-        self.are_mutexes_lined = enter_for_mutex(
+        let is_enqueued = self.are_mutexes_enqueued;
+        self.are_mutexes_enqueued = enter_for_mutex(
             &mut self.waiting,
-            is_lined,
+            is_enqueued,
             mutex,
             self.next_ticket,
             g,
@@ -602,8 +602,8 @@ impl State {
         self.heap.retain(keep);
     }
 
-    /// Takes away the goroutines whose flag, in rising order of number, is false, and the lines in
-    /// which nobody stands then. It takes no memory, and looks at those who stand in line only where
+    /// Takes away the goroutines whose flag, in rising order of number, is false, and the queues in
+    /// which nobody stands then. It takes no memory, and looks at those who stand in the queue only where
     /// a goroutine is taken away.
     pub fn retain_goroutines(&mut self, stays: &[bool])
         requires { length stays.now ≡ length self.old.goroutines }
@@ -612,7 +612,7 @@ impl State {
         let were = self.present.len();
         close_up(&mut self.goroutines, stays);
         close_up(&mut self.present, stays);
-        narrow_lines(&mut self.waiting, self.present.as_slice(), were);
+        narrow_queues(&mut self.waiting, self.present.as_slice(), were);
         list_running(self.goroutines.as_slice(), &mut self.running);
     }
 

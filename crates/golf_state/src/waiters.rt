@@ -7,16 +7,16 @@ ghost use Rattle.golf_theory.specs.Membership.{is_in};
 ghost use Rattle.golf_model.specs.Waiting.{same_side, wait_for, waiter_of, first};
 ghost use Rattle.golf_model.specs.Changes.{moved, moved_waits};
 ghost use Rattle.golf_state.specs.Places.{plain_entry, plain_entries};
-ghost use Rattle.golf_queues.specs.Lines.{held, key, line_at, listed, narrowed, standing, IsWithout, Keeps, AreBelow};
+ghost use Rattle.golf_state_queues.specs.WaitQueues.{held, key, wait_queue_at, listed, narrowed, standing, IsWithout, Keeps, AreBelow};
 ghost use Rattle.golf_state.specs.Seen.{sooner, waiter_by};
 ghost use Rattle.golf_state.specs.Left.{leaves_in, leaves_where};
-ghost use Rattle.golf_state.specs.Lined.{HasWaiters, has_line};
+ghost use Rattle.golf_state.specs.Enqueued.{HasWaiters, has_queue};
 ghost use Rattle.golf_state.specs.Waited.{waiting_of};
 
 use crate::places::{Place, goroutine_at};
 use golf_base::{GoroutineId, List, ObjectId};
 use golf_data::{Mode, Side, Wait};
-use golf_queues::{Queues, TicketHolder, side_number};
+use golf_state_queues::{Queues, TicketHolder, side_number};
 
 /// A goroutine that waits on an object, with its first fitting wait, and its ticket.
 #[derive(Clone, Copy, Debug, PartialEq, Eq)]
@@ -26,15 +26,15 @@ pub struct Waiting {
     pub ticket: u64,
 }
 
-/// Whether all who wait on that side stand in line. Those who wait for a mutex do while they all could
+/// Whether all who wait on that side stand in the queue. Those who wait for a mutex do while they all could
 /// be listed: one that is passed on from a condition waits for the mutex without a turn of its own,
-/// and memory may be wanting for its place in line.
+/// and memory may be wanting for its place in the queue.
 #[inline(always)]
-pub fn has_line(are_mutexes_lined: bool, side: Side) -> bool
-    ensures { result ≡ has_line are_mutexes_lined side }
+pub fn has_queue(are_mutexes_enqueued: bool, side: Side) -> bool
+    ensures { result ≡ has_queue are_mutexes_enqueued side }
 {
     match side {
-        Side::Lock => are_mutexes_lined,
+        Side::Lock => are_mutexes_enqueued,
         Side::Receive | Side::Send | Side::Group | Side::Read | Side::Write | Side::Cond => true,
     }
 }
@@ -88,7 +88,7 @@ fn sooner(seen: Option<Waiting>, other: Option<Waiting>) -> Option<Waiting>
     }
 }
 
-/// One who stood in line, where it waits there with that ticket.
+/// One who stood in the queue, where it waits there with that ticket.
 #[inline(always)]
 pub fn waiter_by(
     holder: TicketHolder,
@@ -118,7 +118,7 @@ pub fn waiter_by(
 /// The goroutine of least ticket among those that wait on the object with that side, by the line of
 /// those who stood there.
 #[inline(always)]
-pub fn first_in_line(
+pub fn first_in_queue(
     line: &[TicketHolder],
     places: &[Place],
     object: ObjectId,
@@ -138,9 +138,9 @@ pub fn first_in_line(
     None
 }
 
-/// A goroutine in this mode is gone from the lines that it stands in; all others stand where they stood.
+/// A goroutine in this mode is gone from the queues that it stands in; all others stand where they stood.
 #[inline(always)]
-pub fn leave_lines(queues: &mut Queues, g: GoroutineId, mode: &Mode)
+pub fn leave_queues(queues: &mut Queues, g: GoroutineId, mode: &Mode)
     ensures { IsWithout (leaves_in g.0 mode.now) queues.old queues.new }
 {
     match mode {
@@ -149,20 +149,20 @@ pub fn leave_lines(queues: &mut Queues, g: GoroutineId, mode: &Mode)
     }
 }
 
-/// The goroutine of this number is gone from the lines that it stands in, where it is there; all others
+/// The goroutine of this number is gone from the queues that it stands in, where it is there; all others
 /// stand where they stood.
 pub fn forget(queues: &mut Queues, places: &[Place], g: GoroutineId)
     requires { Rises 0 (plain_entries places.now) }
     ensures { IsWithout (leaves_where g.0 (find g.0 (plain_entries places.now))) queues.old queues.new }
 {
     if let Some(goroutine) = goroutine_at(places, g.0) {
-        leave_lines(queues, g, &goroutine.mode);
+        leave_queues(queues, g, &goroutine.mode);
     }
 }
 
-/// Where fewer goroutines are there than there were, those alone stand in line still, and nobody else;
+/// Where fewer goroutines are there than there were, those alone stand in the queue still, and nobody else;
 /// lines in which nobody stands then are gone. It takes no memory.
-pub fn narrow_lines(queues: &mut Queues, goroutines: &[GoroutineId], were: usize)
+pub fn narrow_queues(queues: &mut Queues, goroutines: &[GoroutineId], were: usize)
     requires { Rises 0 (listed goroutines.now) }
     ensures fewer { length goroutines.now < were → queues.new ≡ standing (narrowed (map (λ h. h.0) goroutines.now) queues.old) }
     ensures as_many { were ≤ length goroutines.now → queues.new ≡ standing queues.old }
@@ -188,23 +188,23 @@ pub fn first_waiter(places: &[Place], object: ObjectId, side: Side) -> Option<Wa
     best
 }
 
-/// The goroutine stands last in line for the mutex, with a ticket that nobody who waits there has. It
-/// answers whether all who wait for mutexes stand in line still: not where memory was wanting.
+/// The goroutine stands last in the queue for the mutex, with a ticket that nobody who waits there has. It
+/// answers whether all who wait for mutexes stand in the queue still: not where memory was wanting.
 pub fn enter_for_mutex(
     queues: &mut Queues,
-    are_mutexes_lined: bool,
+    are_mutexes_enqueued: bool,
     mutex: ObjectId,
     ticket: u64,
     g: GoroutineId,
 ) -> bool
     requires { AreBelow (ticket + 1) queues.old }
-    ensures still { result ≡ true → are_mutexes_lined ≡ true }
-    ensures joins { result ≡ true → Entry (line_at (key mutex.0 Side.Lock) queues.new) ticket g.0 }
+    ensures still { result ≡ true → are_mutexes_enqueued ≡ true }
+    ensures joins { result ≡ true → Entry (wait_queue_at (key mutex.0 Side.Lock) queues.new) ticket g.0 }
     ensures kept { Keeps (λ t h. t < ticket) queues.old queues.new }
     ensures below { AreBelow (ticket + 1) queues.new }
 {
     match queues.enter(mutex, Side::Lock, ticket, g) {
-        Ok(()) => are_mutexes_lined,
+        Ok(()) => are_mutexes_enqueued,
         Err(_) => false,
     }
 }

@@ -1,9 +1,9 @@
-//! Who is woken where all who wait on an object are, by the lines that they stand in.
+//! Who is woken where all who wait on an object are, by the queues that they stand in.
 
 ghost use Rattle.std.specs.Prelude.{◌≡◌, ◌≤◌, ◌^◌, false, true, Some};
 ghost use Rattle.golf_model.specs.Changes.{wake_all};
 ghost use Rattle.golf_model.specs.ReadersWriters.{readers_next};
-ghost use Rattle.golf_state.specs.Lined.{has_line};
+ghost use Rattle.golf_state.specs.Enqueued.{has_queue};
 ghost use Rattle.golf_state.specs.Woken.{waking_of};
 ghost use Rattle.golf_state.specs.WokenAll.{HasWoken, NobodyWoken};
 
@@ -14,9 +14,9 @@ use golf_data::Side;
 
 // All goroutines that wait on the object with that side go on, as far as they are woken.
 //
-// The last one comes first: it stands last in line, from where it is gone at no cost.
+// The last one comes first: it stands last in the queue, from where it is gone at no cost.
 fn wake_side(state: &mut State, object: ObjectId, side: Side, how: Waking)
-    requires { has_line false side ≡ true }
+    requires { has_queue false side ≡ true }
     ensures woken { HasWoken object.0 how state.old state.new }
     ensures nobody { NobodyWoken object.0 side how state.new.goroutines }
 {
@@ -46,7 +46,7 @@ fn readers_before(state: &State, object: ObjectId, ticket: u64) -> usize
 }
 
 /// How many readers of a reader and writer mutex are served: those with a ticket below this one, or
-/// all. It looks at those that stand in line there alone.
+/// all. It looks at those that stand in the queue there alone.
 pub fn readers_next(state: &State, object: ObjectId, below: Option<u64>) -> usize
     ensures count { result ≡ readers_next below object.0 state.now.goroutines }
     ensures few { result ≤ 2 ^ 32 }
@@ -59,7 +59,7 @@ pub fn readers_next(state: &State, object: ObjectId, below: Option<u64>) -> usiz
 }
 
 /// All goroutines that wait on the object go on, as far as they are woken. It looks at those that
-/// stand in line there alone.
+/// stand in the queue there alone.
 pub fn wake_all(state: &mut State, object: ObjectId, how: Waking)
     ensures { state.new ≡ wake_all object.0 (waking_of how) state.old }
 {

@@ -8,10 +8,10 @@ ghost use Rattle.golf_state.specs.Woken.{given_for, wakening_by_close, released_
 
 use crate::frames::{Given, Wakening, waken};
 use crate::places::Place;
-use crate::waiters::{leave_lines, wait_for};
+use crate::waiters::{leave_queues, wait_for};
 use golf_base::{GoroutineId, ObjectId};
 use golf_data::{Fault, Goroutine, Mode, PanicKind, Side, Value, Wait};
-use golf_queues::Queues;
+use golf_state_queues::Queues;
 
 /// What wakes all goroutines that wait on an object.
 #[derive(Clone, Copy, Debug, PartialEq, Eq)]

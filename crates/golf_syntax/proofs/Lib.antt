@@ -3,6 +3,6 @@ pub mod ManyLaws
 pub mod DeclSound
 pub mod DeclComplete
 pub mod ManySteps
-pub mod PieceLaws
+pub mod SegmentLaws
 pub mod FileLaws
 pub mod OneTree

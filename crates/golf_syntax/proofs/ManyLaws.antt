@@ -2,26 +2,26 @@
 use Rattle.std.proofs.Common.{◌≡◌, ◌⊎◌, inl, inr, ℕ, zero, suc, ◌≤◌, Bool, true, List, [], ◌∷◌, ◌++◌, length, map, refl, ap, sym, subst, ◌∙◌, arith, append_assoc}
 use Rattle.std.specs.Prelude.{Option, Some, None}
 use Rattle.std.specs.List.{list_all}
-use Rattle.golf_tokens.specs.declared.token.Token.{Token}
-use Rattle.golf_tokens.specs.declared.token.Mark.{Mark}
-use Rattle.golf_grammar.specs.Words as words
-use Rattle.golf_grammar.specs.Words.{Word, separated, behind}
-use Rattle.golf_expressions.specs.Front.{after}
-use Rattle.golf_expressions.proofs.Plans.{bind_some}
-use Rattle.golf_expressions.proofs.Fronts.{some-same, both, and-true, Spelt, nothing, mark-then, join, split, ends, behind-mark, after-shorter}
-use Rattle.golf_expressions.proofs.ExprFronts.{then}
-use Rattle.golf_statements.proofs.StmtSteps.{spelt-within}
+use Rattle.golf_lex_tokens.specs.declared.token.Token.{Token}
+use Rattle.golf_lex_tokens.specs.declared.token.Punctuation.{Punctuation}
+use Rattle.golf_syntax_trees.specs.Words as words
+use Rattle.golf_syntax_trees.specs.Words.{Word, separated, behind}
+use Rattle.golf_syntax_expressions.specs.Front.{after}
+use Rattle.golf_syntax_expressions.proofs.Plans.{bind_some}
+use Rattle.golf_syntax_expressions.proofs.Fronts.{some-same, both, and-true, Spelt, nothing, punctuation-then, join, split, ends, behind-punctuation, after-shorter}
+use Rattle.golf_syntax_expressions.proofs.ExprFronts.{then}
+use Rattle.golf_syntax_statements.proofs.StmtSteps.{spelt-within}
 use Rattle.golf_syntax.specs.Many.{Item, many_behind, many_in, many_at, list_by, list_at}
 
-module _ (A : Type 0) (item : Item A) (print : A → List Word) (good : A → Bool) (sep close : Mark) where
+module _ (A : Type 0) (item : Item A) (print : A → List Word) (good : A → Bool) (sep close : Punctuation) where
   -- one item in these tokens, up to those that are left
   pub record IsItem (ts : List Token) (x : A × List Token) : Type 0 where
     pub words : Spelt (print x.0) ts x.1
     pub good_item : good x.0 ≡ true
 
-  -- items in these tokens, up to those behind the closing mark
+  -- items in these tokens, up to those behind the closing punctuation mark
   pub record AreItems (xs : List A) (ts rest : List Token) : Type 0 where
-    pub words : Spelt (separated sep (map print xs) ++ words.mark close ∷ []) ts rest
+    pub words : Spelt (separated sep (map print xs) ++ words.punctuation close ∷ []) ts rest
     pub goods : list_all good xs ≡ true
 
   record More (done : List A) (ts : List Token) (x : List A × List Token) : Type 0 where
@@ -49,7 +49,7 @@ module _ (A : Type 0) (item : Item A) (print : A → List Word) (good : A → Bo
               others = r.first ∷ r.others;
               are = r.are ∙ append_assoc done (y.0 ∷ []) (r.first ∷ r.others);
               items = record {
-                words = subst (λ ws. Spelt ws ts x.1) (sym (append_assoc (print y.0) (behind sep (map print (r.first ∷ r.others))) (words.mark close ∷ []))) (join k.words (mark-then sep y.1 q r.items.words));
+                words = subst (λ ws. Spelt ws ts x.1) (sym (append_assoc (print y.0) (behind sep (map print (r.first ∷ r.others))) (words.punctuation close ∷ []))) (join k.words (punctuation-then sep y.1 q r.items.words));
                 goods = and-true (good y.0) (list_all good (r.first ∷ r.others)) k.good_item r.items.goods;
               };
             }
@@ -59,7 +59,7 @@ module _ (A : Type 0) (item : Item A) (print : A → List Word) (good : A → Bo
               first = y.0;
               others = [];
               are = refl;
-              items = record { words = join (join k.words nothing) (mark-then close y.1 b.1 nothing); goods = and-true (good y.0) true k.good_item refl };
+              items = record { words = join (join k.words nothing) (punctuation-then close y.1 b.1 nothing); goods = and-true (good y.0) true k.good_item refl };
             })
 
     pub list-sound : (ts : List Token) (x : List A × List Token) → list_at item sep close ts ≡ Some x → AreItems x.0 ts x.1
@@ -67,10 +67,10 @@ module _ (A : Type 0) (item : Item A) (print : A → List Word) (good : A → Bo
     list-sound ts x e = at (after close ts) refl e
       where
         at : (o : Option (List Token)) → after close ts ≡ o → list_by item sep close ts o ≡ Some x → AreItems x.0 ts x.1
-        at (Some us) q f = subst (λ (y : List A × List Token). AreItems y.0 ts y.1) (some-same ([], us) x f) (record { words = mark-then close ts q nothing; goods = refl })
+        at (Some us) q f = subst (λ (y : List A × List Token). AreItems y.0 ts y.1) (some-same ([], us) x f) (record { words = punctuation-then close ts q nothing; goods = refl })
         at None q f = let r = many-sound (suc (length ts)) [] ts x f in subst (λ (xs : List A). AreItems xs ts x.1) (sym r.are) r.items
 
-  -- a separator or the closing mark stands here
+  -- a separator or the closing punctuation mark stands here
   abbrev pub Behind : List Token → Type 0
   Behind ts = (us : List Token) × ((after sep ts ≡ Some us) ⊎ (after close ts ≡ Some us))
 
@@ -85,13 +85,13 @@ module _ (A : Type 0) (item : Item A) (print : A → List Word) (good : A → Bo
         ∙ then (λ us. Some (done ++ y ∷ [], us)) (after close mid) rest c
     many-read (z ∷ zs) y zero done ts mid rest le g h c =
         let s = split (print y) (behind sep (map print (z ∷ zs))) h in
-        let b = behind-mark sep s.2 in
+        let b = behind-punctuation sep s.2 in
         let q = after-shorter sep s.0 b.0 b.1 in
         let w = spelt-within (print y) ts s.0 s.1 in
         absurd (omega arith)
     many-read (z ∷ zs) y (suc n) done ts mid rest le g h c =
         let s = split (print y) (behind sep (map print (z ∷ zs))) h in
-        let b = behind-mark sep s.2 in
+        let b = behind-punctuation sep s.2 in
         let q = after-shorter sep s.0 b.0 b.1 in
         let w = spelt-within (print y) ts s.0 s.1 in
         let k = both (good y) (list_all good (z ∷ zs)) g in
@@ -102,10 +102,10 @@ module _ (A : Type 0) (item : Item A) (print : A → List Word) (good : A → Bo
 
     pub list-complete : (xs : List A) (ts rest : List Token) → AreItems xs ts rest → list_at item sep close ts ≡ Some (xs, rest)
     unfolding list_at many_at
-    list-complete [] ts rest k = let c = behind-mark close k.words in ap (list_by item sep close ts) (c.1 ∙ ap Some (ends c.2))
+    list-complete [] ts rest k = let c = behind-punctuation close k.words in ap (list_by item sep close ts) (c.1 ∙ ap Some (ends c.2))
     list-complete (y ∷ ys) ts rest k =
-        let s = split (separated sep (map print (y ∷ ys))) (words.mark close ∷ []) k.words in
-        let c = behind-mark close s.2 in
+        let s = split (separated sep (map print (y ∷ ys))) (words.punctuation close ∷ []) k.words in
+        let c = behind-punctuation close s.2 in
         let e = c.1 ∙ ap Some (ends c.2) in
         let w = split (print y) (behind sep (map print ys)) s.1 in
         let first = complete y ts w.0 (both (good y) (list_all good ys) k.goods).0 w.1 (next ys w.0 s.0 w.2 e) in
@@ -113,4 +113,4 @@ module _ (A : Type 0) (item : Item A) (print : A → List Word) (good : A → Bo
       where
         next : (ys : List A) (ts mid : List Token) → Spelt (behind sep (map print ys)) ts mid → after close mid ≡ Some rest → Behind ts
         next [] ts mid h c = (rest, inr (ap (after close) (ends h) ∙ c))
-        next (z ∷ zs) ts mid h c = let b = behind-mark sep h in (b.0, inl b.1)
+        next (z ∷ zs) ts mid h c = let b = behind-punctuation sep h in (b.0, inl b.1)

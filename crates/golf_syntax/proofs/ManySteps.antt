@@ -1,13 +1,13 @@
 -- Lists of items and of names, read one item on.
 use Rattle.std.proofs.Common.{◌≡◌, ℕ, zero, suc, ◌≤◌, ◌<◌, List, [], ◌∷◌, ◌++◌, length, refl, ap, ◌∙◌, arith}
 use Rattle.std.specs.Prelude.{Option, Some, None}
-use Rattle.golf_tokens.specs.declared.token.Token.{Token}
-use Rattle.golf_tokens.specs.declared.token.Mark.{Mark}
-use Rattle.golf_tokens.specs.declared.token.Mark.TheVariants as marks
-use Rattle.golf_expressions.specs.Plan.{◌>>=◌}
-use Rattle.golf_expressions.specs.Front.{after, name_at}
-use Rattle.golf_expressions.proofs.Fronts.{after-shorter, name-shorter}
-use Rattle.golf_statements.proofs.StmtSteps.{spelt-within}
+use Rattle.golf_lex_tokens.specs.declared.token.Token.{Token}
+use Rattle.golf_lex_tokens.specs.declared.token.Punctuation.{Punctuation}
+use Rattle.golf_lex_tokens.specs.declared.token.Punctuation.TheVariants as punctuations
+use Rattle.golf_syntax_expressions.specs.Plan.{◌>>=◌}
+use Rattle.golf_syntax_expressions.specs.Front.{after, name_at}
+use Rattle.golf_syntax_expressions.proofs.Fronts.{after-shorter, name-shorter}
+use Rattle.golf_syntax_statements.proofs.StmtSteps.{spelt-within}
 use Rattle.golf_syntax.specs.Many.{Item, many_behind, many_in, many_at, list_by, list_at}
 use Rattle.golf_syntax.specs.DeclReading.{text_at, names_by, names_in, names_at, field_at}
 use Rattle.golf_syntax.proofs.DeclSound.{text-sound, field-sound}
@@ -15,7 +15,7 @@ use Rattle.golf_syntax.proofs.DeclSound.{text-sound, field-sound}
 abbrev Shrinks : {A : Type 0} → Item A → Type 0
 Shrinks {A} item = (ts : List Token) (x : A × List Token) → item ts ≡ Some x → length x.1 ≤ length ts
 
-module _ (A : Type 0) (item : Item A) (sep close : Mark) (shrinks : Shrinks item) where
+module _ (A : Type 0) (item : Item A) (sep close : Punctuation) (shrinks : Shrinks item) where
   -- the number of items allowed does not matter where there are more than tokens
   same-behind : (done : List A) (ts us : List Token) (again other : Item (List A)) (o : Option (List Token)) → after sep us ≡ o → length us ≤ length ts →
       ((vs : List Token) → length vs < length ts → again vs ≡ other vs) → many_behind close done us again o ≡ many_behind close done us other o
@@ -85,7 +85,7 @@ field-shrinks ts x e = spelt-within _ ts x.1 (field-sound ts x e).words
 unfoldable pub names_from : List (List ℕ) → List Token → Option (List (List ℕ) × List Token)
 names_from done ts = names_in (suc (length ts)) done ts
 
-same-names : (done : List (List ℕ)) (ts : List Token) (again other : List (List ℕ) → List Token → Option (List (List ℕ) × List Token)) (o : Option (List Token)) → after marks.Comma ts ≡ o →
+same-names : (done : List (List ℕ)) (ts : List Token) (again other : List (List ℕ) → List Token → Option (List (List ℕ) × List Token)) (o : Option (List Token)) → after punctuations.Comma ts ≡ o →
     ((d : List (List ℕ)) (vs : List Token) → length vs < length ts → again d vs ≡ other d vs) → names_by done ts again o ≡ names_by done ts other o
 same-names done ts again other None e k = refl
 same-names done ts again other (Some us) e k = at (name_at us) refl
@@ -93,26 +93,26 @@ same-names done ts again other (Some us) e k = at (name_at us) refl
     at : (o : Option (List ℕ × List Token)) → name_at us ≡ o → (o >>= λ m. again (done ++ m.0 ∷ []) m.1) ≡ (o >>= λ m. other (done ++ m.0 ∷ []) m.1)
     at None f = refl
     at (Some m) f =
-        let a = after-shorter marks.Comma ts us e in
+        let a = after-shorter punctuations.Comma ts us e in
         let b = name-shorter us m.1 m.0 f in
         k (done ++ m.0 ∷ []) m.1 (omega arith)
 
 names-enough : (n m : ℕ) (done : List (List ℕ)) (ts : List Token) → length ts < n → length ts < m → names_in n done ts ≡ names_in m done ts
 names-enough zero m done ts h k = absurd (omega arith)
 names-enough (suc n) zero done ts h k = absurd (omega arith)
-names-enough (suc n) (suc m) done ts h k = same-names done ts (names_in n) (names_in m) (after marks.Comma ts) refl (λ d vs l. names-enough n m d vs (omega (arith, l)) (omega (arith, l)))
+names-enough (suc n) (suc m) done ts h k = same-names done ts (names_in n) (names_in m) (after punctuations.Comma ts) refl (λ d vs l. names-enough n m d vs (omega (arith, l)) (omega (arith, l)))
 
-pub names-step : (done : List (List ℕ)) (ts : List Token) → names_from done ts ≡ names_by done ts names_from (after marks.Comma ts)
+pub names-step : (done : List (List ℕ)) (ts : List Token) → names_from done ts ≡ names_by done ts names_from (after punctuations.Comma ts)
 unfolding names_from
-names-step done ts = same-names done ts (names_in (length ts)) names_from (after marks.Comma ts) refl (λ d vs l. names-enough (length ts) (suc (length vs)) d vs (omega (arith, l)) (omega (arith, l)))
+names-step done ts = same-names done ts (names_in (length ts)) names_from (after punctuations.Comma ts) refl (λ d vs l. names-enough (length ts) (suc (length vs)) d vs (omega (arith, l)) (omega (arith, l)))
 
-pub names-over : (done : List (List ℕ)) (ts : List Token) → after marks.Comma ts ≡ None → names_from done ts ≡ Some (done, ts)
+pub names-over : (done : List (List ℕ)) (ts : List Token) → after punctuations.Comma ts ≡ None → names_from done ts ≡ Some (done, ts)
 names-over done ts e = names-step done ts ∙ ap (names_by done ts names_from) e
 
-pub names-broken : (done : List (List ℕ)) (ts us : List Token) → after marks.Comma ts ≡ Some us → name_at us ≡ None → names_from done ts ≡ None
+pub names-broken : (done : List (List ℕ)) (ts us : List Token) → after punctuations.Comma ts ≡ Some us → name_at us ≡ None → names_from done ts ≡ None
 names-broken done ts us e f = names-step done ts ∙ ap (names_by done ts names_from) e ∙ ap (λ o. o >>= λ m. names_from (done ++ m.0 ∷ []) m.1) f
 
-pub names-next : (done : List (List ℕ)) (ts us vs : List Token) (n : List ℕ) → after marks.Comma ts ≡ Some us → name_at us ≡ Some (n, vs) → names_from done ts ≡ names_from (done ++ n ∷ []) vs
+pub names-next : (done : List (List ℕ)) (ts us vs : List Token) (n : List ℕ) → after punctuations.Comma ts ≡ Some us → name_at us ≡ Some (n, vs) → names_from done ts ≡ names_from (done ++ n ∷ []) vs
 names-next done ts us vs n e f = names-step done ts ∙ ap (names_by done ts names_from) e ∙ ap (λ o. o >>= λ m. names_from (done ++ m.0 ∷ []) m.1) f
 
 pub names-are : (ts : List Token) → names_at ts ≡ names_from [] ts

@@ -1,6 +1,6 @@
 -- Bytes lex as one list of tokens, and one tree reads it.
 use Rattle.std.proofs.Common.{subst}
-use Rattle.golf_grammar.specs.Reads.{ReadsTokens}
+use Rattle.golf_syntax_trees.specs.Reads.{ReadsTokens}
 use Rattle.golf_lex.proofs.Scans.{lexes-once}
 use Rattle.golf_syntax.specs.Laws.{OneTree}
 use Rattle.golf_syntax.proofs.FileLaws.{one-reads}

@@ -1,16 +1,16 @@
 -- What is read at the front of tokens is what is printed there: imports and declarations. A file is read in one way.
 use Rattle.std.specs.Prelude.{◌≡◌, ℕ, true, List, ◌∷◌, Some}
-use Rattle.golf_tokens.specs.declared.token.Token.{Token}
-use Rattle.golf_tokens.specs.declared.token.TokenKind.TheVariants as kinds
-use Rattle.golf_tokens.specs.declared.token.Mark.TheVariants as marks
-use Rattle.golf_tokens.specs.declared.token.Keyword.TheVariants as keywords
-use Rattle.golf_grammar.specs.Words.{Spells}
-use Rattle.golf_grammar.specs.declared.declarations.Import.{Import}
-use Rattle.golf_grammar.specs.declared.declarations.Decl.{Decl}
-use Rattle.golf_grammar.specs.Declarations.{print_import, print_decl, decl_good}
-use Rattle.golf_grammar.specs.declared.declarations.File.{File}
-use Rattle.golf_grammar.specs.Reads.{ReadsTokens, Reads}
-use Rattle.golf_expressions.specs.Front.{after}
+use Rattle.golf_lex_tokens.specs.declared.token.Token.{Token}
+use Rattle.golf_lex_tokens.specs.declared.token.TokenKind.TheVariants as kinds
+use Rattle.golf_lex_tokens.specs.declared.token.Punctuation.TheVariants as punctuations
+use Rattle.golf_lex_tokens.specs.declared.token.Keyword.TheVariants as keywords
+use Rattle.golf_syntax_trees.specs.Words.{Spells}
+use Rattle.golf_syntax_trees.specs.declared.declarations.Import.{Import}
+use Rattle.golf_syntax_trees.specs.declared.declarations.Decl.{Decl}
+use Rattle.golf_syntax_trees.specs.Declarations.{print_import, print_decl, decl_good}
+use Rattle.golf_syntax_trees.specs.declared.declarations.File.{File}
+use Rattle.golf_syntax_trees.specs.Reads.{ReadsTokens, Reads}
+use Rattle.golf_syntax_expressions.specs.Front.{after}
 use Rattle.golf_syntax.specs.DeclReading.{import_at, decl_at}
 
 -- a well-formed import, and a well-formed declaration, on the line of its word
@@ -32,7 +32,7 @@ abbrev pub DeclsFound : Type 0
 DeclsFound = (ts : List Token) (x : Decl × List Token) → decl_at ts ≡ Some x → IsDeclIn ts x
 
 abbrev pub DeclsRead : Type 0
-DeclsRead = (ts us : List Token) (x : Decl × List Token) → IsDeclIn ts x → after marks.Semicolon x.1 ≡ Some us → decl_at ts ≡ Some x
+DeclsRead = (ts us : List Token) (x : Decl × List Token) → IsDeclIn ts x → after punctuations.Semicolon x.1 ≡ Some us → decl_at ts ≡ Some x
 
 -- at most one tree reads the tokens
 abbrev pub OneReads : Type 0

@@ -1,31 +1,31 @@
 -- How items with a separator between are read, up to what closes them.
 use Rattle.std.specs.Prelude.{ℕ, zero, suc, List, [], ◌∷◌, ◌++◌, length, Option, Some, None}
-use Rattle.golf_tokens.specs.declared.token.Token.{Token}
-use Rattle.golf_tokens.specs.declared.token.Mark.{Mark}
-use Rattle.golf_expressions.specs.Plan.{◌>>=◌}
-use Rattle.golf_expressions.specs.Front.{after}
+use Rattle.golf_lex_tokens.specs.declared.token.Token.{Token}
+use Rattle.golf_lex_tokens.specs.declared.token.Punctuation.{Punctuation}
+use Rattle.golf_syntax_expressions.specs.Plan.{◌>>=◌}
+use Rattle.golf_syntax_expressions.specs.Front.{after}
 
 abbrev pub Item : Type 0 → Type 0
 Item A = List Token → Option (A × List Token)
 
 -- behind an item: a separator and more, or what closes the list
-abbrev pub many_behind : {A : Type 0} → Mark → List A → List Token → Item (List A) → Option (List Token) → Option (List A × List Token)
+abbrev pub many_behind : {A : Type 0} → Punctuation → List A → List Token → Item (List A) → Option (List Token) → Option (List A × List Token)
 many_behind close done ts again (Some us) = again us
 many_behind close done ts again None = after close ts >>= λ us. Some (done, us)
 
 -- so many items at most
-abbrev pub many_in : {A : Type 0} → Item A → Mark → Mark → ℕ → List A → Item (List A)
+abbrev pub many_in : {A : Type 0} → Item A → Punctuation → Punctuation → ℕ → List A → Item (List A)
 many_in item sep close zero done ts = None
 many_in item sep close (suc n) done ts = item ts >>= λ x. many_behind close (done ++ x.0 ∷ []) x.1 (many_in item sep close n (done ++ x.0 ∷ [])) (after sep x.1)
 
--- one item or more, behind those that were read before, and what follows the closing mark
-unfoldable pub many_at : {A : Type 0} → Item A → Mark → Mark → List A → Item (List A)
+-- one item or more, behind those that were read before, and what follows the closing punctuation mark
+unfoldable pub many_at : {A : Type 0} → Item A → Punctuation → Punctuation → List A → Item (List A)
 many_at item sep close done ts = many_in item sep close (suc (length ts)) done ts
 
 -- none, or such items
-abbrev pub list_by : {A : Type 0} → Item A → Mark → Mark → List Token → Option (List Token) → Option (List A × List Token)
+abbrev pub list_by : {A : Type 0} → Item A → Punctuation → Punctuation → List Token → Option (List Token) → Option (List A × List Token)
 list_by item sep close ts (Some us) = Some ([], us)
 list_by item sep close ts None = many_at item sep close [] ts
 
-unfoldable pub list_at : {A : Type 0} → Item A → Mark → Mark → Item (List A)
+unfoldable pub list_at : {A : Type 0} → Item A → Punctuation → Punctuation → Item (List A)
 list_at item sep close ts = list_by item sep close ts (after close ts)

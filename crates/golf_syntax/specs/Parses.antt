@@ -1,14 +1,14 @@
 -- What reading a file answers.
 use Rattle.std.specs.Prelude.{◌≡◌, ℕ, true, List, [], ◌∷◌, map, Result, Ok, Err, ◌⊎◌}
 use Rattle.std.specs.List.{list_all}
-use Rattle.golf_tokens.specs.declared.token.Token.{Token}
-use Rattle.golf_grammar.specs.declared.declarations.Import.{Import}
-use Rattle.golf_grammar.specs.declared.declarations.Decl.{Decl}
-use Rattle.golf_grammar.specs.declared.declarations.File.{File}
-use Rattle.golf_grammar.specs.Words.{closed, Spells}
-use Rattle.golf_grammar.specs.Declarations.{print_import, print_decl, decl_good}
-use Rattle.golf_grammar.specs.Pieces.{pieces, IsImport, BreaksOn}
-use Rattle.golf_grammar.specs.Reads.{ReadsTokens, IsFaultOn}
+use Rattle.golf_lex_tokens.specs.declared.token.Token.{Token}
+use Rattle.golf_syntax_trees.specs.declared.declarations.Import.{Import}
+use Rattle.golf_syntax_trees.specs.declared.declarations.Decl.{Decl}
+use Rattle.golf_syntax_trees.specs.declared.declarations.File.{File}
+use Rattle.golf_syntax_trees.specs.Words.{closed, Spells}
+use Rattle.golf_syntax_trees.specs.Declarations.{print_import, print_decl, decl_good}
+use Rattle.golf_syntax_trees.specs.Segments.{segments, IsImport, BreaksOn}
+use Rattle.golf_syntax_trees.specs.Reads.{ReadsTokens, IsFaultOn}
 use Rattle.golf_syntax.specs.declared.parser.SyntaxFault.{SyntaxFault}
 use Rattle.golf_syntax.specs.declared.parser.SyntaxFault.TheVariants as faults
 
@@ -26,20 +26,20 @@ Accepts tokens result = (file : File) → ReadsTokens tokens file → (result �
 abbrev pub Refuses : List Token → Result File SyntaxFault → Type 0
 Refuses tokens result = ((file : File) → ReadsTokens tokens file → ⊥) → ((line : ℕ) × (result ≡ Err (faults.At line)) × IsFaultOn tokens line) ⊎ (result ≡ Err faults.Memory)
 
--- no import is the first piece
+-- no import is the first segment
 abbrev pub NoImport : List (List Token) → Type 0
 NoImport [] = Unit {0}
 NoImport (p ∷ ps) = IsImport p → ⊥
 
--- these imports are the first pieces, and no import follows them
+-- these imports are the first segments, and no import follows them
 pub record Imported (ts : List Token) (found : List Import) (rest : List Token) : Type 0 where
   pub words : Spells (closed (map print_import found)) ts rest
-  pub over : NoImport (pieces 0 rest)
+  pub over : NoImport (segments 0 rest)
 
--- the pieces are these declarations, or the line is that of the first one that is none
+-- the segments are these declarations, or the line is that of the first one that is none
 abbrev pub Declared : List Token → Result (List Decl) SyntaxFault → Type 0
 Declared ts (Ok found) = Spells (closed (map print_decl found)) ts [] × (list_all decl_good found ≡ true)
-Declared ts (Err (faults.At line)) = BreaksOn true (pieces 0 ts) line
+Declared ts (Err (faults.At line)) = BreaksOn true (segments 0 ts) line
 Declared ts (Err faults.Memory) = Unit {0}
 
 -- the line of the first token, else 1

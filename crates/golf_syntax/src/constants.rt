@@ -1,13 +1,13 @@
 //! Values of constants.
 
 ghost use Rattle.std.specs.Prelude.{◌≡◌, ◌<◌, ◌≤◌, length, IfOk, IfSome};
-ghost use Rattle.golf_expressions.specs.Front.{seen};
+ghost use Rattle.golf_syntax_expressions.specs.Front.{seen};
 ghost use Rattle.golf_syntax.specs.DeclReading as decl_spec;
 
 use golf_base::{List, Memory};
-use golf_expressions::copied;
-use golf_grammar::Const;
-use golf_tokens::{Mark, Token, TokenKind};
+use golf_syntax_expressions::copied;
+use golf_syntax_trees::Const;
+use golf_lex_tokens::{Punctuation, Token, TokenKind};
 use std::alloc::Global;
 
 // An integer behind a `-`.
@@ -50,7 +50,7 @@ fn const_of<'a>(
         TokenKind::Integer(digits) => Ok(Some((Const::Integer(copied(alloc, digits)?), rest))),
         TokenKind::Text(bytes) => Ok(Some((Const::Text(copied(alloc, bytes)?), rest))),
         TokenKind::Name(name) => Ok(named_const(name, rest)),
-        TokenKind::Mark(Mark::Minus) => negative_at(alloc, rest),
+        TokenKind::Punctuation(Punctuation::Minus) => negative_at(alloc, rest),
         _ => Ok(None),
     }
 }

@@ -1,20 +1,20 @@
 //! Declarations.
 
 ghost use Rattle.std.specs.Prelude.{◌≡◌, ◌<◌, ◌≤◌, length, IfOk, IfSome, Some};
-ghost use Rattle.golf_expressions.specs.Front as front_spec;
-ghost use Rattle.golf_expressions.specs.Front.{seen};
-ghost use Rattle.golf_expressions.specs.TypeReading as type_spec;
-ghost use Rattle.golf_expressions.specs.TypeReading.{OfType};
+ghost use Rattle.golf_syntax_expressions.specs.Front as front_spec;
+ghost use Rattle.golf_syntax_expressions.specs.Front.{seen};
+ghost use Rattle.golf_syntax_expressions.specs.TypeReading as type_spec;
+ghost use Rattle.golf_syntax_expressions.specs.TypeReading.{OfType};
 ghost use Rattle.golf_syntax.specs.DeclReading as decl_spec;
 ghost use Rattle.golf_syntax.specs.DeclReading.{receiver_by, result_by};
 
 use crate::constants::const_at;
 use crate::fields::fields_at;
 use golf_base::{List, Memory};
-use golf_expressions::{after, after_keyword, copied, name_at, type_at};
-use golf_grammar::{Decl, Field, Func, Name, OwnedDecl, OwnedType, Receiver};
-use golf_statements::{block_at, var_at};
-use golf_tokens::{Keyword, Mark, Token, TokenKind};
+use golf_syntax_expressions::{after, after_keyword, copied, name_at, type_at};
+use golf_syntax_trees::{Decl, Field, Func, Name, OwnedDecl, OwnedType, Receiver};
+use golf_syntax_statements::{block_at, var_at};
+use golf_lex_tokens::{Keyword, Punctuation, Token, TokenKind};
 use std::alloc::Global;
 
 // A constant behind its word, which stands on this line.
@@ -29,7 +29,7 @@ fn const_decl(
     let Some((name, behind)) = name_at(tokens) else {
         return Ok(None)
     };
-    let Some(valued) = after(behind, Mark::Assign) else {
+    let Some(valued) = after(behind, Punctuation::Assign) else {
         return Ok(None)
     };
     let name = copied(alloc, name)?;
@@ -54,11 +54,11 @@ fn struct_decl(
     let Some(braced) = after_keyword(behind, Keyword::Struct) else {
         return Ok(None)
     };
-    let Some(inside) = after(braced, Mark::OpenBrace) else {
+    let Some(inside) = after(braced, Punctuation::OpenBrace) else {
         return Ok(None)
     };
     let name = copied(alloc, name)?;
-    match fields_at(alloc, Mark::Semicolon, Mark::CloseBrace, inside)? {
+    match fields_at(alloc, Punctuation::Semicolon, Punctuation::CloseBrace, inside)? {
         None => Ok(None),
         Some((fields, rest)) => Ok(Some((OwnedDecl::new(Decl::Struct(line, name, fields)), rest))),
     }
@@ -75,13 +75,13 @@ fn named_receiver(
     let Some((name, behind)) = name_at(tokens) else {
         return Ok(None)
     };
-    let Some(starred) = after(behind, Mark::Star) else {
+    let Some(starred) = after(behind, Punctuation::Star) else {
         return Ok(None)
     };
     let Some((type_name, closed)) = name_at(starred) else {
         return Ok(None)
     };
-    let Some(rest) = after(closed, Mark::CloseParen) else {
+    let Some(rest) = after(closed, Punctuation::CloseParen) else {
         return Ok(None)
     };
     let name = copied(alloc, name)?;
@@ -94,10 +94,10 @@ fn receiver_at(
     alloc: Global,
     tokens: &[Token],
 ) -> Result<Option<(Option<Receiver>, &[Token])>, Memory>
-    ensures value { IfOk result (λ o. seen o ≡ receiver_by tokens.now (front_spec.after Mark.OpenParen tokens.now)) }
+    ensures value { IfOk result (λ o. seen o ≡ receiver_by tokens.now (front_spec.after Punctuation.OpenParen tokens.now)) }
     ensures shorter { IfOk result (λ o. IfSome o (λ x. length x.1.now ≤ length tokens.now)) }
 {
-    match after(tokens, Mark::OpenParen) {
+    match after(tokens, Punctuation::OpenParen) {
         None => Ok(Some((None, tokens))),
         Some(inside) => named_receiver(alloc, inside),
     }
@@ -156,11 +156,11 @@ fn func_named(
     let Some((name, behind)) = name_at(tokens) else {
         return Ok(None)
     };
-    let Some(inside) = after(behind, Mark::OpenParen) else {
+    let Some(inside) = after(behind, Punctuation::OpenParen) else {
         return Ok(None)
     };
     let name = copied(alloc, name)?;
-    match fields_at(alloc, Mark::Comma, Mark::CloseParen, inside)? {
+    match fields_at(alloc, Punctuation::Comma, Punctuation::CloseParen, inside)? {
         None => Ok(None),
         Some((parameters, rest)) => func_behind(alloc, line, receiver, name, parameters, rest),
     }

@@ -1,14 +1,14 @@
 //! Fields of structs, and parameters.
 
 ghost use Rattle.std.specs.Prelude.{◌≡◌, ◌<◌, ◌≤◌, length, IfOk, IfSome};
-ghost use Rattle.golf_expressions.specs.Front.{seen};
+ghost use Rattle.golf_syntax_expressions.specs.Front.{seen};
 ghost use Rattle.golf_syntax.specs.Many.{list_at};
 ghost use Rattle.golf_syntax.specs.DeclReading as decl_spec;
 
 use golf_base::{List, Memory};
-use golf_expressions::{after, copied, name_at, type_at};
-use golf_grammar::{Field, Name};
-use golf_tokens::{Mark, Token};
+use golf_syntax_expressions::{after, copied, name_at, type_at};
+use golf_syntax_trees::{Field, Name};
+use golf_lex_tokens::{Punctuation, Token};
 use std::alloc::Global;
 
 // More names, each behind a comma.
@@ -19,7 +19,7 @@ fn names_at(alloc: Global, tokens: &[Token]) -> Result<Option<(List<Name>, &[Tok
     let mut names = List::new(alloc);
     let mut left = tokens;
     'names: loop {
-        let Some(behind) = after(left, Mark::Comma) else {
+        let Some(behind) = after(left, Punctuation::Comma) else {
             return Ok(Some((names, left)))
         };
         let Some((name, rest)) = name_at(behind) else {
@@ -56,11 +56,11 @@ pub fn field_at(alloc: Global, tokens: &[Token]) -> Result<Option<(Field, &[Toke
     }
 }
 
-/// Fields with this mark between, up to the one that closes them, and what follows that.
+/// Fields with this punctuation mark between, up to the one that closes them, and what follows that.
 pub fn fields_at(
     alloc: Global,
-    separator: Mark,
-    close: Mark,
+    separator: Punctuation,
+    close: Punctuation,
     tokens: &[Token],
 ) -> Result<Option<(List<Field>, &[Token])>, Memory>
     ensures value { IfOk result (λ o. seen o ≡ list_at decl_spec.field_at separator close tokens.now) }

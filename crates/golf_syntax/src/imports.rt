@@ -1,14 +1,14 @@
 //! Imports.
 
 ghost use Rattle.std.specs.Prelude.{◌≡◌, ◌<◌, length, IfOk, IfSome};
-ghost use Rattle.golf_expressions.specs.Front.{seen};
+ghost use Rattle.golf_syntax_expressions.specs.Front.{seen};
 ghost use Rattle.golf_syntax.specs.Many.{list_at};
 ghost use Rattle.golf_syntax.specs.DeclReading as decl_spec;
 
 use golf_base::{List, Memory};
-use golf_expressions::{after, copied};
-use golf_grammar::Import;
-use golf_tokens::{Mark, Token, TokenKind};
+use golf_syntax_expressions::{after, copied};
+use golf_syntax_trees::Import;
+use golf_lex_tokens::{Punctuation, Token, TokenKind};
 use std::alloc::Global;
 
 // The path of an import.
@@ -27,11 +27,11 @@ fn text_at(alloc: Global, tokens: &[Token]) -> Result<Option<(List<u8>, &[Token]
 
 // Paths with semicolons between, up to the parenthesis that closes them.
 fn texts_at(alloc: Global, tokens: &[Token]) -> Result<Option<(List<List<u8>>, &[Token])>, Memory>
-    ensures value { IfOk result (λ o. seen o ≡ list_at decl_spec.text_at Mark.Semicolon Mark.CloseParen tokens.now) }
+    ensures value { IfOk result (λ o. seen o ≡ list_at decl_spec.text_at Punctuation.Semicolon Punctuation.CloseParen tokens.now) }
     ensures shorter { IfOk result (λ o. IfSome o (λ x. length x.1.now < length tokens.now)) }
 {
     let mut paths = List::new(alloc);
-    if let Some(rest) = after(tokens, Mark::CloseParen) {
+    if let Some(rest) = after(tokens, Punctuation::CloseParen) {
         return Ok(Some((paths, rest)));
     }
     let mut left = tokens;
@@ -40,9 +40,9 @@ fn texts_at(alloc: Global, tokens: &[Token]) -> Result<Option<(List<List<u8>>, &
             return Ok(None)
         };
         paths.push(path)?;
-        match after(behind, Mark::Semicolon) {
+        match after(behind, Punctuation::Semicolon) {
             Some(next) => left = next,
-            None => match after(behind, Mark::CloseParen) {
+            None => match after(behind, Punctuation::CloseParen) {
                 None => return Ok(None),
                 Some(rest) => return Ok(Some((paths, rest))),
             },
@@ -60,7 +60,7 @@ pub fn import_at(
     ensures value { IfOk result (λ o. seen o ≡ decl_spec.import_at line tokens.now) }
     ensures shorter { IfOk result (λ o. IfSome o (λ x. length x.1.now < length tokens.now)) }
 {
-    match after(tokens, Mark::OpenParen) {
+    match after(tokens, Punctuation::OpenParen) {
         None => match text_at(alloc, tokens)? {
             None => Ok(None),
             Some((path, rest)) => Ok(Some((Import::One(line, path), rest))),

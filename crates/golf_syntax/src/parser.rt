@@ -1,24 +1,24 @@
-//! Reads a file from its tokens, piece by piece.
+//! Reads a file from its tokens, segment by segment.
 
 ghost use Rattle.std.specs.Prelude.{◌≡◌, List, IfOk};
-ghost use Rattle.golf_syntax.specs.PieceReading as piece_spec;
-ghost use Rattle.golf_syntax.specs.PieceReading.{import_by_word};
+ghost use Rattle.golf_syntax.specs.SegmentReading as segment_spec;
+ghost use Rattle.golf_syntax.specs.SegmentReading.{import_by_word};
 ghost use Rattle.golf_syntax.specs.Parses.{Accepts, Declared, FirstLine, Imported, Parsed, Refuses};
 
 use crate::declarations::decl_at;
 use crate::imports::import_at;
 use golf_base::{List, Memory};
-use golf_expressions::{after, after_keyword, name_at};
-use golf_grammar::{File, Import, OwnedDecl, OwnedDecls};
-use golf_pieces::{first_too_complex, front_piece};
-use golf_tokens::{Keyword, Mark, Token, TokenKind};
+use golf_syntax_expressions::{after, after_keyword, name_at};
+use golf_syntax_trees::{File, Import, OwnedDecl, OwnedDecls};
+use golf_syntax_segments::{first_too_complex, front_segment};
+use golf_lex_tokens::{Keyword, Punctuation, Token, TokenKind};
 use std::alloc::Global;
 
 /// Why tokens are no file.
 #[derive(Clone, Copy, Debug, PartialEq, Eq)]
 pub enum SyntaxFault {
     /// The line of the first token that costs more than 1,000. Where there is none: 1 for no tokens, and else the line on
-    /// which the first broken piece begins.
+    /// which the first broken segment begins.
     At { line: u32 },
     /// Memory was wanting.
     Memory,
@@ -36,19 +36,19 @@ impl From<Memory> for SyntaxFault {
 
 // Whether a semicolon stands here, and nothing behind it.
 fn is_end(tokens: &[Token]) -> bool
-    ensures { result ≡ piece_spec.is_end tokens.now }
+    ensures { result ≡ segment_spec.is_end tokens.now }
 {
-    match after(tokens, Mark::Semicolon) {
+    match after(tokens, Punctuation::Semicolon) {
         None => false,
         Some(rest) => rest.is_empty(),
     }
 }
 
-// Whether the piece names the package.
-fn is_package(piece: &[Token]) -> bool
-    ensures { result ≡ piece_spec.is_package piece.now }
+// Whether the segment names the package.
+fn is_package(segment: &[Token]) -> bool
+    ensures { result ≡ segment_spec.is_package segment.now }
 {
-    let Some(named) = after_keyword(piece, Keyword::Package) else {
+    let Some(named) = after_keyword(segment, Keyword::Package) else {
         return false
     };
     match name_at(named) {
@@ -57,7 +57,7 @@ fn is_package(piece: &[Token]) -> bool
     }
 }
 
-// The import behind its word, which stands on this line, where the piece ends behind it.
+// The import behind its word, which stands on this line, where the segment ends behind it.
 fn import_behind(alloc: Global, line: u32, tokens: &[Token]) -> Result<Option<Import>, Memory>
     ensures { IfOk result (λ o. o ≡ import_by_word line (TokenKind.Keyword Keyword.Import) tokens.now) }
 {
@@ -71,11 +71,11 @@ fn import_behind(alloc: Global, line: u32, tokens: &[Token]) -> Result<Option<Im
     }
 }
 
-// The import that the piece is.
-fn import_of(alloc: Global, piece: &[Token]) -> Result<Option<Import>, Memory>
-    ensures { IfOk result (λ o. o ≡ piece_spec.import_of piece.now) }
+// The import that the segment is.
+fn import_of(alloc: Global, segment: &[Token]) -> Result<Option<Import>, Memory>
+    ensures { IfOk result (λ o. o ≡ segment_spec.import_of segment.now) }
 {
-    match piece.split_first() {
+    match segment.split_first() {
         None => Ok(None),
         Some((first, rest)) => match &first.kind {
             TokenKind::Keyword(Keyword::Import) => import_behind(alloc, first.line, rest),
@@ -84,11 +84,11 @@ fn import_of(alloc: Global, piece: &[Token]) -> Result<Option<Import>, Memory>
     }
 }
 
-// The declaration that the piece is.
-fn decl_of(alloc: Global, piece: &[Token]) -> Result<Option<OwnedDecl>, Memory>
-    ensures { IfOk result (λ o. o ≡ piece_spec.decl_of piece.now) }
+// The declaration that the segment is.
+fn decl_of(alloc: Global, segment: &[Token]) -> Result<Option<OwnedDecl>, Memory>
+    ensures { IfOk result (λ o. o ≡ segment_spec.decl_of segment.now) }
 {
-    match decl_at(alloc, piece)? {
+    match decl_at(alloc, segment)? {
         None => Ok(None),
         Some((declaration, rest)) => if is_end(rest) {
             Ok(Some(declaration))
@@ -114,11 +114,11 @@ fn imports_of(alloc: Global, tokens: &[Token]) -> Result<(List<Import>, &[Token]
 {
     let mut imports = List::new(alloc);
     let mut left = tokens;
-    'pieces: loop {
-        let Some((piece, behind)) = front_piece(left) else {
+    'segments: loop {
+        let Some((segment, behind)) = front_segment(left) else {
             return Ok((imports, left))
         };
-        let Some(import) = import_of(alloc, piece)? else {
+        let Some(import) = import_of(alloc, segment)? else {
             return Ok((imports, left))
         };
         imports.push(import)?;
@@ -126,19 +126,19 @@ fn imports_of(alloc: Global, tokens: &[Token]) -> Result<(List<Import>, &[Token]
     }
 }
 
-// The declarations that all pieces are.
+// The declarations that all segments are.
 fn declarations_of(alloc: Global, tokens: &[Token]) -> Result<OwnedDecls, SyntaxFault>
     ensures { Declared tokens.now result }
 {
     let mut declarations = OwnedDecls::empty(alloc);
     let mut left = tokens;
-    'pieces: loop {
-        let Some((piece, rest)) = front_piece(left) else {
+    'segments: loop {
+        let Some((segment, rest)) = front_segment(left) else {
             return Ok(declarations)
         };
-        let Some(declaration) = decl_of(alloc, piece)? else {
+        let Some(declaration) = decl_of(alloc, segment)? else {
             return Err(SyntaxFault::At {
-                line: first_line(piece),
+                line: first_line(segment),
             })
         };
         declarations.push(declaration)?;
@@ -146,14 +146,14 @@ fn declarations_of(alloc: Global, tokens: &[Token]) -> Result<OwnedDecls, Syntax
     }
 }
 
-// The file that the tokens are, piece by piece.
+// The file that the tokens are, segment by segment.
 fn file_of(alloc: Global, tokens: &[Token]) -> Result<File, SyntaxFault>
     ensures { Parsed tokens.now result }
 {
     if let Some(line) = first_too_complex(alloc, tokens)? {
         return Err(SyntaxFault::At { line });
     }
-    let Some((package, rest)) = front_piece(tokens) else {
+    let Some((package, rest)) = front_segment(tokens) else {
         return Err(SyntaxFault::At { line: 1 })
     };
     if !is_package(package) {

@@ -4,7 +4,7 @@ use Rattle.std.specs.Prelude.{option_and_then}
 use Rattle.golf_theory.specs.Maps.{find, IsRising}
 use Rattle.golf_data.specs.declared.code.Code.{Code}
 use Rattle.golf_data.specs.declared.code.Instr.{Instr}
-use Rattle.golf_data.specs.declared.code.Line.{Line}
+use Rattle.golf_data.specs.declared.code.CodeLine.{CodeLine}
 use Rattle.golf_data.specs.declared.goroutine.Ending.{Ending}
 use Rattle.golf_data.specs.declared.goroutine.Leaving.{Leaving}
 use Rattle.golf_data.specs.declared.goroutine.Mode.{Mode}
@@ -23,7 +23,7 @@ use Rattle.golf_machine.proofs.Turns.{turn-runs}
 use Rattle.golf_machine.specs.Turns.{turned_of}
 use Rattle.golf_machine.specs.declared.turning.Turned.{Turned}
 use Rattle.golf_machine.specs.declared.turning.Turned.TheVariants as t
-use Rattle.golf_state_laws.proofs.Collecting.{collecting-goes}
+use Rattle.golf_model_order.proofs.Collecting.{collecting-goes}
 use Rattle.golf_world.specs.Steps.{place_in}
 
 only-collect : (i : Instr) → is_collection i ≡ true → i ≡ Instr.Collect
@@ -42,7 +42,7 @@ record GoesSome (g : ℕ) (r : GoroutineView) (fs : List FrameView) (cs : List C
   goes : Goes g r frame callers cs
 
 module _ (code : Code) (s : State) (choice : ℕ) where
-  at-line : (g : ℕ) (r : GoroutineView) (f : FrameView) (callers : List FrameView) (m : Option Line) → line_collects m ≡ true → Goes g r f callers (performs code g r f callers choice s m)
+  at-line : (g : ℕ) (r : GoroutineView) (f : FrameView) (callers : List FrameView) (m : Option CodeLine) → line_collects m ≡ true → Goes g r f callers (performs code g r f callers choice s m)
   at-line g r f callers None h = cc
   at-line g r f callers (Some l) h = record { line = l.line; is = ap (λ (i : Instr). changes code i (acting g r f callers l.line) choice s) (only-collect l.instr h) }
 

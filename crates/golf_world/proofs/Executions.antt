@@ -16,7 +16,7 @@ use Rattle.golf_data.specs.Places.{HasPlaces}
 use Rattle.golf_model.specs.Futures.{Leads}
 use Rattle.golf_machine.proofs.Turns.{whose}
 use Rattle.golf_world.proofs.Spawning.{step-size, collect-size}
-use Rattle.golf_state_laws.proofs.Collecting.{collecting-goes}
+use Rattle.golf_model_order.proofs.Collecting.{collecting-goes}
 use Rattle.golf_world.specs.declared.history.HistoryEntry.{HistoryEntry}
 use Rattle.golf_world.specs.declared.history.Stepped.{Stepped}
 use Rattle.golf_world.specs.Steps.{HasAdvanced, Does}

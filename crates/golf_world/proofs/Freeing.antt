@@ -11,15 +11,15 @@ use Rattle.golf_model.specs.Collecting.{plain_collect, removed, cut, sets_finali
 use Rattle.golf_model.specs.Running.{Event, has_ended, collected_if, happens_in, run_by, run}
 use Rattle.golf_model.specs.Reporting.{real_run}
 use Rattle.golf_model.specs.Futures.{Numbered}
-use Rattle.golf_laws.proofs.Closing.{closed-ground}
-use Rattle.golf_laws.proofs.Cutting.{parts}
-use Rattle.golf_laws.proofs.Leading.{numbered-start, numbered-step, numbered-collect}
-use Rattle.golf_laws.proofs.Removing.{GoneOk, stays_by, kept_by}
-use Rattle.golf_laws.proofs.SameTurn.{same-runnable}
-use Rattle.golf_laws.proofs.SameFutures.{same-has_ended, the_step, the_wants}
-use Rattle.golf_laws.proofs.Staying.{turn-running}
-use Rattle.golf_laws.proofs.Modes.{Sim, sim-start, sim-step, sim-collect, none-step}
-use Rattle.golf_laws.proofs.RealStops.{all-ok, real-cut}
+use Rattle.golf_model_futures.proofs.Closing.{closed-ground}
+use Rattle.golf_model_futures.proofs.Cutting.{parts}
+use Rattle.golf_model_futures.proofs.Leading.{numbered-start, numbered-step, numbered-collect}
+use Rattle.golf_model_futures.proofs.Removing.{GoneOk, stays_by, kept_by}
+use Rattle.golf_model_futures.proofs.SameTurn.{same-runnable}
+use Rattle.golf_model_futures.proofs.SameFutures.{same-has_ended, the_step, the_wants}
+use Rattle.golf_model_futures.proofs.Staying.{turn-running}
+use Rattle.golf_model_futures.proofs.Modes.{Sim, sim-start, sim-step, sim-collect, none-step}
+use Rattle.golf_model_futures.proofs.RealStops.{all-ok, real-cut}
 
 module _ (code : Code) (recover : Bool) where
   abbrev Real : State → State

@@ -8,7 +8,7 @@ use Rattle.golf_data.specs.declared.value.Object.{Object}
 use Rattle.golf_data.specs.declared.value.Channel.{Channel}
 use Rattle.golf_data.specs.declared.code.Code.{Code}
 use Rattle.golf_data.specs.declared.code.Instr.{Instr}
-use Rattle.golf_data.specs.declared.code.Line.{Line}
+use Rattle.golf_data.specs.declared.code.CodeLine.{CodeLine}
 use Rattle.golf_data.specs.declared.code.CaseKind.{CaseKind}
 use Rattle.golf_data.specs.declared.goroutine.Deferred.{Deferred}
 use Rattle.golf_data.specs.declared.goroutine.Fault.{Fault}
@@ -364,7 +364,7 @@ few-begins_queued code r [] = tt
 few-begins_queued code r (q ∷ queue) = on-some _ (call_frame code q.function (Value.Ref q.object ∷ []) true) (λ x. tt)
 
 module _ (code : Code) (g choice : ℕ) (s : State) where
-  few-performs : (r : GoroutineView) (f : FrameView) (fs : List FrameView) (m : Option Line) → Few (performs code g r f fs choice s m)
+  few-performs : (r : GoroutineView) (f : FrameView) (fs : List FrameView) (m : Option CodeLine) → Few (performs code g r f fs choice s m)
   few-performs r f fs None = tt
   few-performs r f fs (Some l) = few_changes code (acting g r f fs l.line) s l.instr choice
 

@@ -12,7 +12,7 @@ ghost use Rattle.golf_world.specs.Steps.{HasAdvanced, place_in};
 use golf_base::{GoroutineId, Memory, OpenGate};
 use golf_data::{Code, Report};
 use golf_machine::{Turned, turn};
-use golf_reclaim::{Ledger, Options, collect, sets_finalisers};
+use golf_reclaim::{Ledger, CollectOptions, collect, sets_finalisers};
 use golf_state::{State, advance};
 use std::alloc::Global;
 use std::thread::Threads;
@@ -63,7 +63,7 @@ pub(crate) fn turn_and_collect<R: Threads + Sync>(
         Turned::WantsCollection => {}
         Turned::Went | Turned::Ended(_) => return Ok(None),
     }
-    let options = Options {
+    let options = CollectOptions {
         markers: 1,
         recover: false,
         sets_finalisers: sets_finalisers(code),

@@ -1,10 +1,10 @@
 -- The code of calls as statements and behind `go` and `defer`, against code that was written by hand.
 use Rattle.std.specs.Prelude.{◌≡◌, pos, negsuc, [], ◌∷◌, codes}
 use Rattle.golf_data.specs.declared.code.Instr.{Instr}
-use Rattle.golf_types.specs.Scopes.{meaning, type_name, value_name, call_name, package_name, member, is_here, is_reserved, may_be_declared}
-use Rattle.golf_types.specs.Written.{named_base, made_base, sync_base}
-use Rattle.golf_types.specs.Expressions.{fmt_member, runtime_member, sync_member, condition_member, condition_method, mutex_method, group_method, read_method, write_method, field_type}
-use Rattle.golf_types.specs.Statements.{assigned_name, kept_faults, pair_differs, put_in_faults, range_names_differ}
+use Rattle.golf_check_types.specs.Scopes.{meaning, type_name, value_name, call_name, package_name, member, is_here, is_reserved, may_be_declared}
+use Rattle.golf_check_types.specs.Written.{named_base, made_base, sync_base}
+use Rattle.golf_check_types.specs.Expressions.{fmt_member, runtime_member, sync_member, condition_member, condition_method, mutex_method, group_method, read_method, write_method, field_type}
+use Rattle.golf_check_types.specs.Statements.{assigned_name, kept_faults, pair_differs, put_in_faults, range_names_differ}
 use Rattle.golf_code_of.specs.Table.{text_number}
 use Rattle.golf_code_of.proofs.Examples.Writing.{name, integer, text, select, call, line}
 use Rattle.golf_code_of.proofs.Examples.Doing.{action, does, go, defer, defer_alone, code, works_out}

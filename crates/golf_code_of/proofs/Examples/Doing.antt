@@ -1,34 +1,34 @@
 -- How the small statements of the examples are written: each with its code, by the equations for its kind.
 use Rattle.std.proofs.Common.{◌≡◌, ℕ, pos, ◌&&◌, not, List, [], ◌∷◌, ◌++◌, map, Some, None, refl, ap, ◌∙◌}
-use Rattle.golf_grammar.specs.declared.statements.UpdateOperator.{UpdateOperator}
-use Rattle.golf_grammar.specs.declared.statements.Simple.{Simple}
-use Rattle.golf_grammar.specs.declared.statements.SimpleKind.{SimpleKind}
-use Rattle.golf_grammar.specs.declared.statements.SimpleKind.TheVariants as simple
-use Rattle.golf_grammar.specs.declared.statements.VarContent.TheVariants as content
-use Rattle.golf_grammar.specs.declared.statements.Header.TheVariants as header
-use Rattle.golf_grammar.specs.declared.statements.RangeNames.{RangeNames}
-use Rattle.golf_grammar.specs.declared.statements.Communication.TheVariants as comm
-use Rattle.golf_grammar.specs.declared.statements.Stmt.{Stmt}
-use Rattle.golf_grammar.specs.declared.statements.Stmt.TheVariants as st
-use Rattle.golf_grammar.specs.declared.statements.Clause.{Clause}
-use Rattle.golf_grammar.specs.declared.statements.Clause.TheVariants as cl
+use Rattle.golf_syntax_trees.specs.declared.statements.UpdateOperator.{UpdateOperator}
+use Rattle.golf_syntax_trees.specs.declared.statements.Simple.{Simple}
+use Rattle.golf_syntax_trees.specs.declared.statements.SimpleKind.{SimpleKind}
+use Rattle.golf_syntax_trees.specs.declared.statements.SimpleKind.TheVariants as simple
+use Rattle.golf_syntax_trees.specs.declared.statements.VarContent.TheVariants as content
+use Rattle.golf_syntax_trees.specs.declared.statements.Header.TheVariants as header
+use Rattle.golf_syntax_trees.specs.declared.statements.RangeNames.{RangeNames}
+use Rattle.golf_syntax_trees.specs.declared.statements.Communication.TheVariants as comm
+use Rattle.golf_syntax_trees.specs.declared.statements.Stmt.{Stmt}
+use Rattle.golf_syntax_trees.specs.declared.statements.Stmt.TheVariants as st
+use Rattle.golf_syntax_trees.specs.declared.statements.Clause.{Clause}
+use Rattle.golf_syntax_trees.specs.declared.statements.Clause.TheVariants as cl
 use Rattle.golf_data.specs.declared.code.Instr.{Instr}
-use Rattle.golf_data.specs.declared.code.Line.{Line}
+use Rattle.golf_data.specs.declared.code.CodeLine.{CodeLine}
 use Rattle.golf_data.specs.declared.code.CaseKind.{CaseKind}
-use Rattle.golf_types.specs.declared.types.Base.TheVariants as base
-use Rattle.golf_types.specs.declared.facts.Fact.TheVariants as fact
-use Rattle.golf_types.specs.declared.scopes.Scope.{Scope}
-use Rattle.golf_types.specs.Faults.{broken}
-use Rattle.golf_types.specs.Facts.{new_target}
-use Rattle.golf_types.specs.Types.{has_base, type_given, is_nil, element, assignable}
-use Rattle.golf_types.specs.Names.{is_blank}
-use Rattle.golf_types.specs.Scopes.{is_here, is_reserved, may_be_declared, begun}
-use Rattle.golf_types.specs.Written.{Write}
-use Rattle.golf_types.specs.Expressions.{Judged, used, named_or_used, given_by, facts_of}
-use Rattle.golf_types.specs.Calls.{call_judged}
-use Rattle.golf_types.specs.Judging.{Judge, judge}
-use Rattle.golf_types.specs.Statements as W
-use Rattle.golf_layout.specs.Piece.{Piece, all, op, placed}
+use Rattle.golf_check_types.specs.declared.types.Base.TheVariants as base
+use Rattle.golf_check_types.specs.declared.facts.Fact.TheVariants as fact
+use Rattle.golf_check_types.specs.declared.scopes.Scope.{Scope}
+use Rattle.golf_check_types.specs.Faults.{broken}
+use Rattle.golf_check_types.specs.Facts.{new_target}
+use Rattle.golf_check_types.specs.Types.{has_base, type_given, is_nil, element, assignable}
+use Rattle.golf_check_types.specs.Names.{is_blank}
+use Rattle.golf_check_types.specs.Scopes.{is_here, is_reserved, may_be_declared, begun}
+use Rattle.golf_check_types.specs.Written.{Write}
+use Rattle.golf_check_types.specs.Expressions.{Judged, used, named_or_used, given_by, facts_of}
+use Rattle.golf_check_types.specs.Calls.{call_judged}
+use Rattle.golf_check_types.specs.Judging.{Judge, judge}
+use Rattle.golf_check_types.specs.Statements as W
+use Rattle.golf_code_layout.specs.Piece.{Piece, all, op, placed}
 use Rattle.golf_code_of.specs.Values.{push, zero_value}
 use Rattle.golf_code_of.specs.Coding.{Coded, coded, argument}
 use Rattle.golf_code_of.specs.declared.making.Making.{Making}
@@ -428,7 +428,7 @@ var_untyped l n x = record { tree = st.Var (record { line = l; name = n; content
 
 -- The code of statements one after the other, from place 0 on, and that code worked out.
 
-abbrev pub code : List StmtSample → List Line
+abbrev pub code : List StmtSample → List CodeLine
 code xs = placed ((C.in_order (map (stmt_part tables) (trees xs))).lay outermost scope).piece 0 []
 
 pub works_out : (xs : List StmtSample) → code xs ≡ placed ((C.in_order (parts xs)).lay outermost scope).piece 0 []

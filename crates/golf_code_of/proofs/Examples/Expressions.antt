@@ -1,12 +1,12 @@
 -- The code of expressions, against code that was written by hand.
 use Rattle.std.specs.Prelude.{◌≡◌, pos, neg_ℤ, true, false, [], ◌∷◌, codes}
-use Rattle.golf_grammar.specs.declared.expressions.UnaryOperator.TheVariants as sign
-use Rattle.golf_grammar.specs.declared.expressions.BinaryOperator.TheVariants as operator
+use Rattle.golf_syntax_trees.specs.declared.expressions.UnaryOperator.TheVariants as sign
+use Rattle.golf_syntax_trees.specs.declared.expressions.BinaryOperator.TheVariants as operator
 use Rattle.golf_data.specs.declared.value.Value.{Value}
 use Rattle.golf_data.specs.declared.code.Instr.{Instr}
-use Rattle.golf_types.specs.Scopes.{meaning, type_name, value_name, call_name, package_name, member}
-use Rattle.golf_types.specs.Written.{named_base, made_base, sync_base}
-use Rattle.golf_types.specs.Expressions.{fmt_member, runtime_member, sync_member, condition_member, condition_method, mutex_method, group_method, read_method, write_method, field_type}
+use Rattle.golf_check_types.specs.Scopes.{meaning, type_name, value_name, call_name, package_name, member}
+use Rattle.golf_check_types.specs.Written.{named_base, made_base, sync_base}
+use Rattle.golf_check_types.specs.Expressions.{fmt_member, runtime_member, sync_member, condition_member, condition_method, mutex_method, group_method, read_method, write_method, field_type}
 use Rattle.golf_code_of.specs.Table.{text_number}
 use Rattle.golf_code_of.proofs.Examples.Writing.{named, pointer, slice_of, chan_of, send_chan_of, empty_struct, name, integer, text, unary, binary, parens, select, index, call, struct_literal, sync_literal, new, new_sync, empty_literal, slice_literal, make, make_sized, pushed, works_out, alone}
 

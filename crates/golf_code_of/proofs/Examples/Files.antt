@@ -1,15 +1,15 @@
 -- Tables of texts, functions that are made, and the code of a whole file, against code that was written by hand.
 use Rattle.std.specs.Prelude.{◌≡◌, negsuc, [], ◌∷◌, None, codes, refl}
-use Rattle.golf_grammar.specs.declared.declarations.Const.TheVariants as const
-use Rattle.golf_grammar.specs.declared.declarations.Decl.TheVariants as d
-use Rattle.golf_grammar.specs.declared.declarations.File.{File}
+use Rattle.golf_syntax_trees.specs.declared.declarations.Const.TheVariants as const
+use Rattle.golf_syntax_trees.specs.declared.declarations.Decl.TheVariants as d
+use Rattle.golf_syntax_trees.specs.declared.declarations.File.{File}
 use Rattle.golf_data.specs.declared.code.Instr.{Instr}
-use Rattle.golf_types.specs.declared.types.Layer.TheVariants as layer
-use Rattle.golf_types.specs.declared.types.Base.TheVariants as base
-use Rattle.golf_types.specs.declared.operands.BuiltIn.TheVariants as built_in
-use Rattle.golf_types.specs.Files.{is_main}
-use Rattle.golf_layout.specs.Piece.{placed}
-use Rattle.golf_layout.specs.Depth.{depth}
+use Rattle.golf_check_types.specs.declared.types.Layer.TheVariants as layer
+use Rattle.golf_check_types.specs.declared.types.Base.TheVariants as base
+use Rattle.golf_check_types.specs.declared.operands.BuiltIn.TheVariants as built_in
+use Rattle.golf_check_types.specs.Files.{is_main}
+use Rattle.golf_code_layout.specs.Piece.{placed}
+use Rattle.golf_code_layout.specs.Depth.{depth}
 use Rattle.golf_live.specs.Live.{needed, live}
 use Rattle.golf_code_of.specs.Table.{table_of, text_number}
 use Rattle.golf_code_of.specs.Texts.{texts_of}

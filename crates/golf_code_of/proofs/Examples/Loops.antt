@@ -1,12 +1,12 @@
 -- The code of loops, against code that was written by hand.
 use Rattle.std.specs.Prelude.{◌≡◌, pos, [], ◌∷◌, codes}
-use Rattle.golf_grammar.specs.declared.expressions.BinaryOperator.TheVariants as operator
-use Rattle.golf_grammar.specs.declared.statements.RangeNames.TheVariants as range
+use Rattle.golf_syntax_trees.specs.declared.expressions.BinaryOperator.TheVariants as operator
+use Rattle.golf_syntax_trees.specs.declared.statements.RangeNames.TheVariants as range
 use Rattle.golf_data.specs.declared.code.Instr.{Instr}
-use Rattle.golf_types.specs.Scopes.{meaning, type_name, value_name, call_name, package_name, member, is_here, is_reserved, may_be_declared}
-use Rattle.golf_types.specs.Written.{named_base, made_base, sync_base}
-use Rattle.golf_types.specs.Expressions.{fmt_member, runtime_member, sync_member, condition_member, condition_method, mutex_method, group_method, read_method, write_method, field_type}
-use Rattle.golf_types.specs.Statements.{assigned_name, kept_faults, pair_differs, put_in_faults, range_names_differ}
+use Rattle.golf_check_types.specs.Scopes.{meaning, type_name, value_name, call_name, package_name, member, is_here, is_reserved, may_be_declared}
+use Rattle.golf_check_types.specs.Written.{named_base, made_base, sync_base}
+use Rattle.golf_check_types.specs.Expressions.{fmt_member, runtime_member, sync_member, condition_member, condition_method, mutex_method, group_method, read_method, write_method, field_type}
+use Rattle.golf_check_types.specs.Statements.{assigned_name, kept_faults, pair_differs, put_in_faults, range_names_differ}
 use Rattle.golf_code_of.specs.Table.{text_number}
 use Rattle.golf_code_of.proofs.Examples.Writing.{name, integer, binary, line}
 use Rattle.golf_code_of.proofs.Examples.Doing.{increment, assign, define, does, break, continue, if_then, forever, while, steps_empty, steps, range_over, code, works_out}

@@ -1,33 +1,33 @@
 -- How the small trees of the examples are written: each with its code, by the equations for its kind.
 use Rattle.std.proofs.Common.{◌≡◌, ℕ, pos, neg_ℤ, true, false, List, [], ◌∷◌, map, Option, Some, None, refl, sym, ap, ◌∙◌}
 use Rattle.std.specs.Prelude.{codes}
-use Rattle.golf_grammar.specs.declared.types.TypeExpr.{TypeExpr}
-use Rattle.golf_grammar.specs.declared.types.TypeExpr.TheVariants as ty
-use Rattle.golf_grammar.specs.declared.types.TypeExpr.TheOpen as TF
-use Rattle.golf_grammar.specs.declared.expressions.UnaryOperator.{UnaryOperator}
-use Rattle.golf_grammar.specs.declared.expressions.BinaryOperator.{BinaryOperator}
-use Rattle.golf_grammar.specs.declared.expressions.Expr.{Expr}
-use Rattle.golf_grammar.specs.declared.expressions.Element.{Element}
-use Rattle.golf_grammar.specs.declared.expressions.Expr.TheVariants as ex
-use Rattle.golf_grammar.specs.declared.expressions.Expr.TheOpen as F
+use Rattle.golf_syntax_trees.specs.declared.types.TypeExpr.{TypeExpr}
+use Rattle.golf_syntax_trees.specs.declared.types.TypeExpr.TheVariants as ty
+use Rattle.golf_syntax_trees.specs.declared.types.TypeExpr.TheOpen as TF
+use Rattle.golf_syntax_trees.specs.declared.expressions.UnaryOperator.{UnaryOperator}
+use Rattle.golf_syntax_trees.specs.declared.expressions.BinaryOperator.{BinaryOperator}
+use Rattle.golf_syntax_trees.specs.declared.expressions.Expr.{Expr}
+use Rattle.golf_syntax_trees.specs.declared.expressions.Element.{Element}
+use Rattle.golf_syntax_trees.specs.declared.expressions.Expr.TheVariants as ex
+use Rattle.golf_syntax_trees.specs.declared.expressions.Expr.TheOpen as F
 use Rattle.golf_data.specs.declared.value.Value.{Value}
 use Rattle.golf_data.specs.declared.code.Instr.{Instr}
-use Rattle.golf_data.specs.declared.code.Line.{Line}
-use Rattle.golf_types.specs.declared.types.Layer.{Layer}
-use Rattle.golf_types.specs.declared.types.Layer.TheVariants as layer
-use Rattle.golf_types.specs.declared.types.Base.{Base}
-use Rattle.golf_types.specs.declared.types.Base.TheVariants as base
-use Rattle.golf_types.specs.declared.types.GoType.{GoType}
-use Rattle.golf_types.specs.declared.locals.Local.{Local}
-use Rattle.golf_types.specs.declared.scopes.Meaning.TheVariants as meant
-use Rattle.golf_types.specs.declared.scopes.Member.TheVariants as members
-use Rattle.golf_types.specs.declared.scopes.FileScope.{FileScope}
-use Rattle.golf_types.specs.declared.scopes.Scope.{Scope}
-use Rattle.golf_types.specs.Types.{with_layer}
-use Rattle.golf_types.specs.Written.{Write, write, write_step}
-use Rattle.golf_types.specs.Expressions as T
-use Rattle.golf_types.specs.Judging.{Judge, judge}
-use Rattle.golf_layout.specs.Piece.{on, placed}
+use Rattle.golf_data.specs.declared.code.CodeLine.{CodeLine}
+use Rattle.golf_check_types.specs.declared.types.Layer.{Layer}
+use Rattle.golf_check_types.specs.declared.types.Layer.TheVariants as layer
+use Rattle.golf_check_types.specs.declared.types.Base.{Base}
+use Rattle.golf_check_types.specs.declared.types.Base.TheVariants as base
+use Rattle.golf_check_types.specs.declared.types.GoType.{GoType}
+use Rattle.golf_check_types.specs.declared.locals.Local.{Local}
+use Rattle.golf_check_types.specs.declared.scopes.Entity.TheVariants as meant
+use Rattle.golf_check_types.specs.declared.scopes.Member.TheVariants as members
+use Rattle.golf_check_types.specs.declared.scopes.FileScope.{FileScope}
+use Rattle.golf_check_types.specs.declared.scopes.Scope.{Scope}
+use Rattle.golf_check_types.specs.Types.{with_layer}
+use Rattle.golf_check_types.specs.Written.{Write, write, write_step}
+use Rattle.golf_check_types.specs.Expressions as T
+use Rattle.golf_check_types.specs.Judging.{Judge, judge}
+use Rattle.golf_code_layout.specs.Piece.{on, placed}
 use Rattle.golf_code_of.specs.declared.tables.Tables.{Tables}
 use Rattle.golf_code_of.specs.Expressions as C
 use Rattle.golf_code_of.specs.Coding.{Coded, CodedPut, coded, coded_step, piece_at}
@@ -49,7 +49,7 @@ abbrev pub file : FileScope
 file = record {
   imports = record { fmt = true; runtime = true; sync = true };
   names = (codes "T", 0) ∷ (codes "f", 1) ∷ (codes "g", 2) ∷ (codes "k", 3) ∷ (codes "s", 4) ∷ [];
-  meanings = meant.Struct 0 ∷ meant.Function 0 ∷ meant.Global 0 ∷ meant.Constant 0 base.Int ∷ meant.Constant 1 base.Text ∷ [];
+  entities = meant.Struct 0 ∷ meant.Function 0 ∷ meant.Global 0 ∷ meant.Constant 0 base.Int ∷ meant.Constant 1 base.Text ∷ [];
   structs = record { names = (codes "n", 0) ∷ (codes "next", 1) ∷ (codes "m", 2) ∷ []; kinds = members.Field 0 ∷ members.Field 1 ∷ members.Method 1 ∷ [] } ∷ [];
   fields = (plain base.Int ∷ plain (base.Pointer 0) ∷ []) ∷ [];
   globals = plain base.Int ∷ [];
@@ -240,17 +240,17 @@ make_sized t x = record {
 
 -- The code of an expression on line 1, from place 0 on, and that code worked out.
 
-abbrev pub pushed : Sample → List Line
+abbrev pub pushed : Sample → List CodeLine
 pushed x = placed (piece_at tables 1 scope x.tree) 0 []
 
 pub works_out : (x : Sample) → pushed x ≡ placed (x.value.code 1 scope).piece 0 []
 works_out x = ap (λ (c : Coded). placed (c.code 1 scope).piece 0 []) x.same
 
 -- instructions on a line, and more
-abbrev pub line : ℕ → List Instr → List Line → List Line
+abbrev pub line : ℕ → List Instr → List CodeLine → List CodeLine
 line l [] rest = rest
 line l (i ∷ is) rest = on i l ∷ line l is rest
 
 -- instructions on line 1
-abbrev pub alone : List Instr → List Line
+abbrev pub alone : List Instr → List CodeLine
 alone is = line 1 is []

@@ -5,7 +5,7 @@ use Rattle.golf_data.specs.declared.value.Value.{Value}
 use Rattle.golf_data.specs.declared.code.Code.{Code}
 use Rattle.golf_data.specs.declared.code.Function.{Function}
 use Rattle.golf_data.specs.declared.code.Instr.{Instr}
-use Rattle.golf_data.specs.declared.code.Line.{Line}
+use Rattle.golf_data.specs.declared.code.CodeLine.{CodeLine}
 use Rattle.golf_data.specs.declared.code.SelectCase.{SelectCase}
 use Rattle.golf_data.specs.declared.code.CaseKind.{CaseKind}
 use Rattle.golf_data.specs.declared.goroutine.Ending.{Ending}
@@ -18,7 +18,7 @@ use Rattle.golf_model.specs.Running.{Event, run, stops}
 use Rattle.golf_model.specs.Reporting.{book_of}
 
 -- the instructions from this line on, one a line
-abbrev pub lines_from : ℕ → List Instr → List Line
+abbrev pub lines_from : ℕ → List Instr → List CodeLine
 lines_from line [] = []
 lines_from line (i ∷ is) = record { instr = i; line = line } ∷ lines_from (line + 1) is
 

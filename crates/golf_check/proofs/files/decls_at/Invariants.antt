@@ -1,5 +1,5 @@
 use Rattle.std.proofs.Common.{◌≡◌, ◌++◌, drop}
-use Rattle.golf_types.specs.Files.{walk_faults, walk_facts}
+use Rattle.golf_check_types.specs.Files.{walk_faults, walk_facts}
 use Rattle.golf_check.proofs.files.decls_at.Given as goal
 
 abbrev pub invariant-loop-decl : goal.invariant-loop-decl

@@ -1,6 +1,6 @@
 use Rattle.std.proofs.Common.{ap}
 use Rattle.std.specs.Prelude.{Ok}
-use Rattle.golf_types.specs.declared.scopes.Scope.{Scope}
+use Rattle.golf_check_types.specs.declared.scopes.Scope.{Scope}
 use Rattle.golf_check.specs.Heads.{body_walks}
 use Rattle.golf_check.proofs.Laws.{inner_tells}
 use Rattle.golf_check.proofs.functions.behind_receiver.Goals as goal

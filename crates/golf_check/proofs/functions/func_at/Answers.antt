@@ -1,5 +1,5 @@
 use Rattle.std.proofs.Common.{ap, ◌∙◌}
-use Rattle.golf_types.specs.Files.{all_typed_names}
+use Rattle.golf_check_types.specs.Files.{all_typed_names}
 use Rattle.golf_check.proofs.Laws.{func_tells}
 use Rattle.golf_check.proofs.functions.func_at.Goals as goal
 

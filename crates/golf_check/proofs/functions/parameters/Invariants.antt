@@ -1,6 +1,6 @@
 use Rattle.std.proofs.Common.{◌≡◌, map, drop}
-use Rattle.golf_types.specs.Statements.{in_order, behind}
-use Rattle.golf_types.specs.Files.{parameter_walk}
+use Rattle.golf_check_types.specs.Statements.{in_order, behind}
+use Rattle.golf_check_types.specs.Files.{parameter_walk}
 use Rattle.golf_check.proofs.functions.parameters.Given as goal
 
 abbrev pub invariant-loop-named : goal.invariant-loop-named

@@ -1,5 +1,5 @@
 use Rattle.std.proofs.Common.{◌≡◌, drop}
-use Rattle.golf_types.specs.Calls.{argument_faults}
+use Rattle.golf_check_types.specs.Calls.{argument_faults}
 use Rattle.golf_check_calls.proofs.calls.arguments_fit.Given as goal
 
 -- the values left are those of the parameters left

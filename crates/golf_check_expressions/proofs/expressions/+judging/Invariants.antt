@@ -1,8 +1,8 @@
 use Rattle.std.proofs.Common.{◌≡◌, ◌++◌, ◌+◌, ◌*◌, max, map, drop}
 use Rattle.std.specs.Prelude.{flat_map}
-use Rattle.golf_grammar.specs.declared.expressions.Expr.{size-Expr}
-use Rattle.golf_types.specs.Expressions.{given_by, used, facts_of, put_facts}
-use Rattle.golf_types.specs.Judging.{judge_at, value_at}
+use Rattle.golf_syntax_trees.specs.declared.expressions.Expr.{size-Expr}
+use Rattle.golf_check_types.specs.Expressions.{given_by, used, facts_of, put_facts}
+use Rattle.golf_check_types.specs.Judging.{judge_at, value_at}
 use Rattle.golf_check_expressions.proofs.expressions.+judging.Given as goal
 
 abbrev pub invariant-all_given-loop-e : goal.invariant-all_given-loop-e

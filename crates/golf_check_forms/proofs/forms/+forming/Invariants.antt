@@ -1,5 +1,5 @@
 use Rattle.std.proofs.Common.{◌+◌, ◌*◌}
-use Rattle.golf_grammar.specs.declared.expressions.Expr.{size-Expr}
+use Rattle.golf_syntax_trees.specs.declared.expressions.Expr.{size-Expr}
 use Rattle.golf_check_forms.proofs.forms.+forming.Given as goal
 
 abbrev pub decreases-form : goal.decreases-form

@@ -1,5 +1,5 @@
 use Rattle.std.proofs.Common.{◌≡◌, drop}
-use Rattle.golf_types.specs.Files.{outside, with_forms}
+use Rattle.golf_check_types.specs.Files.{outside, with_forms}
 use Rattle.golf_check_forms.proofs.globals.form_globals.Given as goal
 
 abbrev pub invariant-loop-decl : goal.invariant-loop-decl

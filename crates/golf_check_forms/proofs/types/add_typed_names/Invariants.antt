@@ -1,6 +1,6 @@
 use Rattle.std.proofs.Common.{◌≡◌, ◌++◌, drop, map}
-use Rattle.golf_types.specs.Written.{write_at}
-use Rattle.golf_types.specs.Files.{typed_names}
+use Rattle.golf_check_types.specs.Written.{write_at}
+use Rattle.golf_check_types.specs.Files.{typed_names}
 use Rattle.golf_check_forms.proofs.types.add_typed_names.Given as goal
 
 abbrev pub invariant-loop-name : goal.invariant-loop-name

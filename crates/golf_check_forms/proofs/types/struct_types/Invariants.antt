@@ -1,6 +1,6 @@
 use Rattle.std.proofs.Common.{◌≡◌, ◌++◌, drop}
 use Rattle.std.specs.Prelude.{flat_map}
-use Rattle.golf_types.specs.Files.{struct_types}
+use Rattle.golf_check_types.specs.Files.{struct_types}
 use Rattle.golf_check_forms.proofs.types.struct_types.Given as goal
 
 abbrev pub invariant-loop-decl : goal.invariant-loop-decl

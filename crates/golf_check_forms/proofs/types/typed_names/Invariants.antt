@@ -1,5 +1,5 @@
 use Rattle.std.proofs.Common.{◌≡◌, ◌++◌, drop}
-use Rattle.golf_types.specs.Files.{all_typed_names}
+use Rattle.golf_check_types.specs.Files.{all_typed_names}
 use Rattle.golf_check_forms.proofs.types.typed_names.Given as goal
 
 abbrev pub invariant-loop-field : goal.invariant-loop-field

@@ -1,5 +1,5 @@
 use Rattle.std.proofs.Common.{◌≡◌, ◌++◌, drop}
-use Rattle.golf_types.specs.Files.{types_alone}
+use Rattle.golf_check_types.specs.Files.{types_alone}
 use Rattle.golf_check_forms.proofs.types.types_alone.Given as goal
 
 abbrev pub invariant-loop-name : goal.invariant-loop-name

@@ -1,5 +1,5 @@
 use Rattle.std.proofs.Common.{◌≡◌, drop}
-use Rattle.golf_types.specs.Files.{methods_added}
+use Rattle.golf_check_types.specs.Files.{methods_added}
 use Rattle.golf_check_names.proofs.declared.add_methods.Given as goal
 
 abbrev pub invariant-loop-decl : goal.invariant-loop-decl

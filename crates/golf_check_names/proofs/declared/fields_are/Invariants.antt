@@ -1,5 +1,5 @@
 use Rattle.std.proofs.Common.{◌≡◌, drop}
-use Rattle.golf_types.specs.Files.{fields_are}
+use Rattle.golf_check_types.specs.Files.{fields_are}
 use Rattle.golf_check_names.proofs.declared.fields_are.Given as goal
 
 abbrev pub invariant-loop-i : goal.invariant-loop-i

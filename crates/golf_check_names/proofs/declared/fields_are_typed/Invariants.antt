@@ -1,6 +1,6 @@
 use Rattle.std.proofs.Common.{◌≡◌, drop}
 use Rattle.std.specs.Prelude.{flat_map}
-use Rattle.golf_types.specs.Files.{field_fault}
+use Rattle.golf_check_types.specs.Files.{field_fault}
 use Rattle.golf_check_names.proofs.declared.fields_are_typed.Given as goal
 
 abbrev pub invariant-loop-field : goal.invariant-loop-field

@@ -1,5 +1,5 @@
 use Rattle.std.proofs.Common.{◌≡◌, drop}
-use Rattle.golf_types.specs.Files.{main_faults}
+use Rattle.golf_check_types.specs.Files.{main_faults}
 use Rattle.golf_check_names.proofs.declared.main_is_there.Given as goal
 
 abbrev pub invariant-loop-decl : goal.invariant-loop-decl

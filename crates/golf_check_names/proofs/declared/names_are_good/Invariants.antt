@@ -1,5 +1,5 @@
 use Rattle.std.proofs.Common.{◌≡◌, drop}
-use Rattle.golf_types.specs.Files.{names_faults, none_above}
+use Rattle.golf_check_types.specs.Files.{names_faults, none_above}
 use Rattle.golf_check_names.proofs.declared.names_are_good.Given as goal
 
 abbrev pub invariant-loop-decl : goal.invariant-loop-decl

@@ -1,6 +1,6 @@
 use Rattle.std.proofs.Common.{◌≡◌, drop}
 use Rattle.std.specs.Prelude.{flat_map}
-use Rattle.golf_types.specs.Files.{type_faults}
+use Rattle.golf_check_types.specs.Files.{type_faults}
 use Rattle.golf_check_names.proofs.declared.types_are_there.Given as goal
 
 abbrev pub invariant-loop-decl : goal.invariant-loop-decl

@@ -1,5 +1,5 @@
 use Rattle.std.proofs.Common.{◌≡◌, drop}
-use Rattle.golf_types.specs.Files.{path_faults, with_paths}
+use Rattle.golf_check_types.specs.Files.{path_faults, with_paths}
 use Rattle.golf_check_names.proofs.imports.import_paths.Given as goal
 
 abbrev pub invariant-loop-path : goal.invariant-loop-path

@@ -1,5 +1,5 @@
 use Rattle.std.proofs.Common.{◌≡◌, drop}
-use Rattle.golf_types.specs.Files.{import_faults, with_imports, no_imports}
+use Rattle.golf_check_types.specs.Files.{import_faults, with_imports, no_imports}
 use Rattle.golf_check_names.proofs.imports.imported.Given as goal
 
 abbrev pub invariant-loop-import : goal.invariant-loop-import

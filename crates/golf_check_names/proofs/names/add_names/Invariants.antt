@@ -1,5 +1,5 @@
 use Rattle.std.proofs.Common.{◌≡◌, ◌++◌, drop}
-use Rattle.golf_types.specs.Files.{field_names}
+use Rattle.golf_check_types.specs.Files.{field_names}
 use Rattle.golf_check_names.proofs.names.add_names.Given as goal
 
 abbrev pub invariant-loop-name : goal.invariant-loop-name

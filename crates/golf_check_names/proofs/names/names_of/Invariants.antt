@@ -1,6 +1,6 @@
 use Rattle.std.proofs.Common.{◌≡◌, ◌++◌, drop}
 use Rattle.std.specs.Prelude.{flat_map}
-use Rattle.golf_types.specs.Files.{field_names}
+use Rattle.golf_check_types.specs.Files.{field_names}
 use Rattle.golf_check_names.proofs.names.names_of.Given as goal
 
 abbrev pub invariant-loop-field : goal.invariant-loop-field

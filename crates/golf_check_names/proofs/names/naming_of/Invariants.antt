@@ -1,6 +1,6 @@
 use Rattle.std.proofs.Common.{◌≡◌, drop}
 use Rattle.std.specs.Prelude.{fold}
-use Rattle.golf_types.specs.Files.{decl_added, naming_of}
+use Rattle.golf_check_types.specs.Files.{decl_added, naming_of}
 use Rattle.golf_check_names.proofs.names.naming_of.Given as goal
 
 abbrev pub invariant-loop-decl : goal.invariant-loop-decl

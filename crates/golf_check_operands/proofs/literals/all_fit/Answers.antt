@@ -1,7 +1,7 @@
 use Rattle.std.proofs.Common.{rules, subst, sym, ◌∙◌}
-use Rattle.golf_types.specs.Faults.{Refuses}
-use Rattle.golf_types.specs.Expressions.{field_type, put_faults}
-use Rattle.golf_types.proofs.Seams.{refuses_front}
+use Rattle.golf_check_types.specs.Faults.{Refuses}
+use Rattle.golf_check_types.specs.Expressions.{field_type, put_faults}
+use Rattle.golf_check_types.proofs.Seams.{refuses_front}
 use Rattle.golf_check_operands.proofs.Puts.{first_put}
 use Rattle.golf_check_operands.proofs.literals.all_fit.Goals as goal
 

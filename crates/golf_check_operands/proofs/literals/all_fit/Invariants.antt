@@ -1,5 +1,5 @@
 use Rattle.std.proofs.Common.{◌≡◌, drop, map}
-use Rattle.golf_types.specs.Expressions.{all_put_faults}
+use Rattle.golf_check_types.specs.Expressions.{all_put_faults}
 use Rattle.golf_check_operands.proofs.literals.all_fit.Given as goal
 
 -- the values left are those of the elements left

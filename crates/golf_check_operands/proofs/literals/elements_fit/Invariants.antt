@@ -1,7 +1,7 @@
 use Rattle.std.proofs.Common.{◌≡◌, drop}
 use Rattle.std.specs.Prelude.{flat_map}
-use Rattle.golf_types.specs.Faults.{broken}
-use Rattle.golf_types.specs.Types.{assignable}
+use Rattle.golf_check_types.specs.Faults.{broken}
+use Rattle.golf_check_types.specs.Types.{assignable}
 use Rattle.golf_check_operands.proofs.literals.elements_fit.Given as goal
 
 abbrev pub invariant-loop-v : goal.invariant-loop-v

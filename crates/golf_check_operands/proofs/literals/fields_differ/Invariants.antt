@@ -1,5 +1,5 @@
 use Rattle.std.proofs.Common.{◌≡◌, [], drop, take, map}
-use Rattle.golf_types.specs.Expressions.{fields_differ}
+use Rattle.golf_check_types.specs.Expressions.{fields_differ}
 use Rattle.golf_check_operands.proofs.literals.fields_differ.Given as goal
 
 abbrev pub invariant-loop-i : goal.invariant-loop-i

@@ -1,5 +1,5 @@
 use Rattle.std.proofs.Common.{◌≡◌, ◌≤◌, drop}
-use Rattle.golf_types.specs.Expressions.{value_from}
+use Rattle.golf_check_types.specs.Expressions.{value_from}
 use Rattle.golf_check_operands.specs.declared.literals.TheConstants.{MAX_INT}
 use Rattle.golf_check_operands.proofs.literals.small_value.Given as goal
 

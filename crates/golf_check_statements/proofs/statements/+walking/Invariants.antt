@@ -1,7 +1,7 @@
 use Rattle.std.proofs.Common.{◌≡◌, ◌++◌, ◌+◌, ◌*◌, max, map, drop}
-use Rattle.golf_grammar.specs.declared.statements.Stmt.{size-Stmt}
-use Rattle.golf_grammar.specs.declared.statements.Clause.{size-Clause}
-use Rattle.golf_types.specs.Statements.{in_order, behind, walk, walk_clause_at}
+use Rattle.golf_syntax_trees.specs.declared.statements.Stmt.{size-Stmt}
+use Rattle.golf_syntax_trees.specs.declared.statements.Clause.{size-Clause}
+use Rattle.golf_check_types.specs.Statements.{in_order, behind, walk, walk_clause_at}
 use Rattle.golf_check_statements.proofs.statements.+walking.Given as goal
 
 abbrev pub invariant-all-loop-stmt : goal.invariant-all-loop-stmt

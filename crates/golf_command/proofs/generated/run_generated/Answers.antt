@@ -1,8 +1,8 @@
 use Rattle.std.proofs.Common.{◌≡◌, ◌≤◌, ℕ, List, length, subst, sym, ◌∙◌, arith}
-use Rattle.golf_generate.specs.File.{file as generated_file}
-use Rattle.golf_words.specs.declared.line.Line.{Line}
-use Rattle.golf_texts.specs.declared.status.Status.TheVariants as s
-use Rattle.golf_texts.specs.declared.status.TheConstants.{LIMIT, NO_MEMORY}
+use Rattle.golf_command_sample.specs.File.{file as generated_file}
+use Rattle.golf_command_words.specs.declared.line.CommandLine.{CommandLine}
+use Rattle.golf_run_texts.specs.declared.status.Status.TheVariants as s
+use Rattle.golf_run_texts.specs.declared.status.TheConstants.{LIMIT, NO_MEMORY}
 use Rattle.golf_command.proofs.Sinking.{says}
 use Rattle.golf_command.proofs.Filing.{wanting-tells}
 use Rattle.golf_command.proofs.NeverRefused.{short, not-lexical, not-syntax, not-untyped}
@@ -11,11 +11,11 @@ use Rattle.golf_command.proofs.generated.run_generated.Goals as goal
 
 pub returns-in-Err : goal.returns-in-Err
 returns-in-Err g c =
-    wanting-tells (Line.Generate c.args.parts) (generated_file c.args.parts) (c.requires.some, c.requires.most) _ _ c.end.result (says _ _ _ _ _ _ s.Memory c.end.result NO_MEMORY.now c.end.ensures)
+    wanting-tells (CommandLine.Generate c.args.parts) (generated_file c.args.parts) (c.requires.some, c.requires.most) _ _ c.end.result (says _ _ _ _ _ _ s.Memory c.end.result NO_MEMORY.now c.end.ensures)
 
 pub returns-in-Ok-read : goal.returns-in-Ok-read
 returns-in-Ok-read g c =
-    let line = Line.Generate c.args.parts in
+    let line = CommandLine.Generate c.args.parts in
     let has = c.in-Ok-read.ensures.answer in
     let bytes = c.as_slice.result.now in
     let code = c.in-Ok-read.code in
@@ -33,7 +33,7 @@ read-requires g c =
 
 pub returns-in-Err-Memory : goal.returns-in-Err-Memory
 returns-in-Err-Memory g c =
-    wanting-tells (Line.Generate c.args.parts) (generated_file c.args.parts) (c.requires.some, c.requires.most) _ _ c.end-in-Err-Memory.result (says _ _ _ _ _ _ s.Memory c.end-in-Err-Memory.result NO_MEMORY.now c.end-in-Err-Memory.ensures)
+    wanting-tells (CommandLine.Generate c.args.parts) (generated_file c.args.parts) (c.requires.some, c.requires.most) _ _ c.end-in-Err-Memory.result (says _ _ _ _ _ _ s.Memory c.end-in-Err-Memory.result NO_MEMORY.now c.end-in-Err-Memory.ensures)
 
 pub unreachable-requires : goal.unreachable-requires
 unreachable-requires g c = not-lexical c.args.parts c.requires.some c.requires.most c.as_slice.result.now (c.as_slice.ensures ∙ c.in-Ok.ensures) c.in-Err-Lexical.field-0 c.in-Err-Lexical.ensures.answer _ _ c.in-Err-Lexical.field-0-is

@@ -1,5 +1,5 @@
-use Rattle.golf_texts.specs.declared.status.Status.TheVariants as s
-use Rattle.golf_texts.specs.declared.status.TheConstants.{NO_MEMORY}
+use Rattle.golf_run_texts.specs.declared.status.Status.TheVariants as s
+use Rattle.golf_run_texts.specs.declared.status.TheConstants.{NO_MEMORY}
 use Rattle.golf_command.proofs.Sinking.{says}
 use Rattle.golf_command.proofs.Writing.{none-told, same-text, told-cut, told-whole}
 use Rattle.golf_command.proofs.texts.write_told.Goals as goal

@@ -1,14 +1,14 @@
-use Rattle.golf_words.specs.declared.line.Line.{Line}
+use Rattle.golf_command_words.specs.declared.line.CommandLine.{CommandLine}
 use Rattle.golf_command.proofs.Fetching.{loaded-tells}
 use Rattle.golf_command.proofs.Writing.{written-tells, made-by-threads}
 use Rattle.golf_command.proofs.threads.serve_threads.Goals as goal
 
 pub returns-in-Err : goal.returns-in-Err
-returns-in-Err g c = c.in-Err.ensures.loads (Line.Threads c.args.threads) tt (c.requires.some, c.requires.few) _ _
+returns-in-Err g c = c.in-Err.ensures.loads (CommandLine.Threads c.args.threads) tt (c.requires.some, c.requires.few) _ _
 
 pub returns : goal.returns
 returns g c =
-    let line = Line.Threads c.args.threads in
+    let line = CommandLine.Threads c.args.threads in
     let loads = c.in-Ok.ensures.loads in
     let l = loads.1 in
     loaded-tells line tt loads.0 _ _ _ _ l _ _ _ _ _ _ _ c.write_texts.result loads.3 loads.4

@@ -1,6 +1,6 @@
 use Rattle.std.proofs.Common.{◌≡◌, ◌++◌, length, ap, ◌∙◌}
-use Rattle.golf_texts.specs.Texts.{reports_text, last_line, history_line}
-use Rattle.golf_texts.specs.Meaning.{anyone_reported, status_by}
+use Rattle.golf_run_texts.specs.Texts.{reports_text, last_line, history_line}
+use Rattle.golf_run_texts.specs.Output.{anyone_reported, status_by}
 use Rattle.golf_command.proofs.Turns.{numbers_in}
 use Rattle.golf_command.proofs.Threading.{texts-are}
 use Rattle.golf_command.proofs.threads.texts_by_threads.Goals as goal

@@ -1,16 +1,16 @@
 use Rattle.std.proofs.Common.{refl}
-use Rattle.golf_words.specs.declared.line.Line.{Line}
+use Rattle.golf_command_words.specs.declared.line.CommandLine.{CommandLine}
 use Rattle.golf_command.specs.Ways.{Way}
 use Rattle.golf_command.proofs.Filing.{went-tells, failed-tells, stopped-tells}
 use Rattle.golf_command.proofs.Fetching.{loaded-tells}
 use Rattle.golf_command.proofs.top.run_source.Goals as goal
 
 pub returns-in-Err : goal.returns-in-Err
-returns-in-Err g c = c.in-Err.ensures.loads (Line.Run c.args.options) tt c.requires _ _
+returns-in-Err g c = c.in-Err.ensures.loads (CommandLine.Run c.args.options) tt c.requires _ _
 
 pub returns-in-Ok-run : goal.returns-in-Ok-run
 returns-in-Ok-run g c =
-    let line = Line.Run c.args.options in
+    let line = CommandLine.Run c.args.options in
     let loads = c.in-Ok.ensures.loads in
     let l = loads.1 in
     loaded-tells line tt loads.0 _ _ _ _ l _ _ _ _ _ _ _ c.in-Ok-run.status loads.3 loads.4
@@ -18,7 +18,7 @@ returns-in-Ok-run g c =
 
 pub returns-in-Err-Write : goal.returns-in-Err-Write
 returns-in-Err-Write g c =
-    let line = Line.Run c.args.options in
+    let line = CommandLine.Run c.args.options in
     let loads = c.in-Ok.ensures.loads in
     let l = loads.1 in
     let was = rw c.in-Err-Write.field-0-is at c.in-Err-Write.ensures in
@@ -28,7 +28,7 @@ returns-in-Err-Write g c =
 
 pub returns : goal.returns
 returns g c =
-    let line = Line.Run c.args.options in
+    let line = CommandLine.Run c.args.options in
     let loads = c.in-Ok.ensures.loads in
     let l = loads.1 in
     let was = rw c.in-Err-Memory.field-0-is at c.in-Err-Memory.ensures in

@@ -2,8 +2,8 @@ use Rattle.std.proofs.Common.{◌≡◌, ◌∙◌, ◌+◌, ◌-◌, ◌≤◌,
 use Rattle.std.proofs.lemmas.List.Sums.{count_by-le-length}
 use Rattle.std.proofs.lemmas.List.{length-take}
 use Rattle.std.specs.Prelude.{Some, None, Ok, Err, nat_eq}
-use Rattle.golf_tokens.specs.Bytes.{newlines}
-use Rattle.golf_tokens.specs.Lexes.{Lexes, IsFault}
+use Rattle.golf_lex_tokens.specs.Bytes.{newlines}
+use Rattle.golf_lex_tokens.specs.Lexes.{Lexes, IsFault}
 use Rattle.golf_lex.specs.declared.automaton.Growth.TheVariants.{To, Over, Fault}
 use Rattle.golf_lex.specs.Automaton.{growth, begun, is_complete, step_by}
 use Rattle.golf_lex.specs.Output.{with_lexemes, finished}

@@ -1,5 +1,5 @@
 use Rattle.std.proofs.Common.{◌≡◌, ◌≤◌, ◌+◌, drop}
-use Rattle.golf_function_meaning.specs.Files.{function_count as count_of}
+use Rattle.golf_meaning_functions.specs.Files.{function_count as count_of}
 use Rattle.golf_meaning.proofs.judging.function_count.Given as goal
 
 abbrev pub invariant-loop-declaration : goal.invariant-loop-declaration

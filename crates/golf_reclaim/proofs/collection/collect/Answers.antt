@@ -13,7 +13,7 @@ use Rattle.golf_model.specs.Reporting.{numbers, entries, retained_objects}
 use Rattle.golf_heap.specs.Objects.{kept}
 use Rattle.golf_reclaim.proofs.Reports.{report-is, book-is, dead-apart, new-apart, fewer-gone}
 use Rattle.golf_reclaim.proofs.States.{queued-alike, collected, stays-are}
-use Rattle.golf_reclaim.proofs.Meaning.{retained-flags}
+use Rattle.golf_reclaim.proofs.Translating.{retained-flags}
 use Rattle.golf_reclaim.proofs.Promises.{are-still, is-unseen, leaves-exactly, moves-on}
 use Rattle.golf_reclaim.proofs.collection.collect.Goals as goal
 

@@ -5,7 +5,7 @@ use Rattle.golf_model.specs.Reporting.{numbers}
 use Rattle.golf_mark.specs.Marking.{MarksLeast}
 use Rattle.golf_heap.specs.Objects.{left_out}
 use Rattle.golf_reclaim.specs.Flags.{count_set, IsUnkept}
-use Rattle.golf_reclaim.proofs.Meaning.{live-count, dead-flags}
+use Rattle.golf_reclaim.proofs.Translating.{live-count, dead-flags}
 use Rattle.golf_reclaim.proofs.Gone.{removed-are}
 use Rattle.golf_reclaim.proofs.marking.find_dead.Goals as goal
 

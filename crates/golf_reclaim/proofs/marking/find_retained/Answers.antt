@@ -3,7 +3,7 @@ use Rattle.golf_model.specs.declared.graph.GraphParts.{GraphParts}
 use Rattle.golf_mark.specs.Marking.{MarksLeast}
 use Rattle.golf_model.specs.Reporting.{numbers}
 use Rattle.golf_reclaim.specs.Flags.{count_set, either}
-use Rattle.golf_reclaim.proofs.Meaning.{left-flags, left-count}
+use Rattle.golf_reclaim.proofs.Translating.{left-flags, left-count}
 use Rattle.golf_reclaim.proofs.marking.find_retained.Goals as goal
 
 pub returns-clause-marked : goal.returns-clause-marked

@@ -1,5 +1,5 @@
 use Rattle.std.proofs.Common.{ap, ◌∙◌}
-use Rattle.golf_texts.specs.Texts.{last_line}
+use Rattle.golf_run_texts.specs.Texts.{last_line}
 use Rattle.golf_run.proofs.Finishing.{passed-on, line-wanting, line-broken, line-whole}
 use Rattle.golf_run.proofs.running.run.Goals as goal
 

@@ -1,5 +1,5 @@
 use Rattle.std.proofs.Common.{ap, ◌∙◌}
-use Rattle.golf_texts.specs.Texts.{last_line}
+use Rattle.golf_run_texts.specs.Texts.{last_line}
 use Rattle.golf_run.proofs.Finishing.{status-is}
 use Rattle.golf_run.proofs.surveying.survey.Goals as goal
 

@@ -1,5 +1,5 @@
 use Rattle.std.proofs.Common.{[], ◌∷◌, map, refl, ◌∙◌}
-use Rattle.golf_texts.specs.Texts.{entry_line}
+use Rattle.golf_run_texts.specs.Texts.{entry_line}
 use Rattle.golf_run.proofs.Lines.{loop-next, loop-cut}
 use Rattle.golf_run.proofs.telling.write_entries.Goals as goal
 

@@ -1,7 +1,7 @@
 use Rattle.std.proofs.Common.{◌≡◌, map, take}
 use Rattle.std.specs.Io.KnownBytes.{Appends}
-use Rattle.golf_texts.specs.Meaning.{joined}
-use Rattle.golf_texts.specs.Texts.{entry_line}
+use Rattle.golf_run_texts.specs.Output.{joined}
+use Rattle.golf_run_texts.specs.Texts.{entry_line}
 use Rattle.golf_run.proofs.telling.write_entries.Given as goal
 
 -- the first lines stand

@@ -1,6 +1,6 @@
 use Rattle.std.proofs.Common.{[], subst, ◌∙◌}
 use Rattle.golf_base.specs.Causes.{WritesFront}
-use Rattle.golf_texts.specs.Texts.{entry_line}
+use Rattle.golf_run_texts.specs.Texts.{entry_line}
 use Rattle.golf_run.proofs.Lines.{line-broken}
 use Rattle.golf_run.proofs.telling.write_entry.Goals as goal
 

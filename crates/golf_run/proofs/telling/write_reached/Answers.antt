@@ -2,8 +2,8 @@ use Rattle.std.proofs.Common.{◌+◌, ◌<◌, ◌≤◌, map, length, get_or, 
 use Rattle.std.specs.Io.KnownBytes.{Appends}
 use Rattle.std.proofs.lemmas.List.{map-append, take_all}
 use Rattle.golf_why.specs.Explaining.{reached_at, reached_from}
-use Rattle.golf_texts.specs.Texts.{reached_line}
-use Rattle.golf_texts.specs.Meaning.{joined}
+use Rattle.golf_run_texts.specs.Texts.{reached_line}
+use Rattle.golf_run_texts.specs.Output.{joined}
 use Rattle.golf_run.specs.Lines.{HasWritten}
 use Rattle.golf_run.proofs.Lines.{loop-next, loop-cut}
 use Rattle.golf_run.proofs.Sleepers.{at-is}

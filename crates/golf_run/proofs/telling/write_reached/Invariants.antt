@@ -1,8 +1,8 @@
 use Rattle.std.proofs.Common.{◌≡◌, map, take}
 use Rattle.std.specs.Io.KnownBytes.{Appends}
 use Rattle.golf_why.specs.Explaining.{reached_from}
-use Rattle.golf_texts.specs.Meaning.{joined}
-use Rattle.golf_texts.specs.Texts.{reached_line}
+use Rattle.golf_run_texts.specs.Output.{joined}
+use Rattle.golf_run_texts.specs.Texts.{reached_line}
 use Rattle.golf_run.proofs.telling.write_reached.Given as goal
 
 -- the lines of the first sleepers stand

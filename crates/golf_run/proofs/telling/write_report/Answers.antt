@@ -1,7 +1,7 @@
 use Rattle.std.proofs.Common.{[], ◌∷◌, map, subst, ◌∙◌}
 use Rattle.std.specs.Io.KnownBytes.{Appends}
 use Rattle.golf_base.specs.Causes.{WritesFront}
-use Rattle.golf_texts.specs.Texts.{entry_line, report_line}
+use Rattle.golf_run_texts.specs.Texts.{entry_line, report_line}
 use Rattle.golf_run.specs.Lines.{HasWritten}
 use Rattle.golf_run.proofs.Lines.{line-broken, one-line, written-after}
 use Rattle.golf_run.proofs.telling.write_report.Goals as goal

@@ -1,7 +1,7 @@
 use Rattle.std.proofs.Common.{[], map, sym, ap, subst, ◌∙◌}
 use Rattle.golf_base.specs.Causes.{WritesFront}
 use Rattle.golf_why.specs.Explaining.{listed}
-use Rattle.golf_texts.specs.Texts.{reached_line}
+use Rattle.golf_run_texts.specs.Texts.{reached_line}
 use Rattle.golf_run.specs.Lines.{HasWritten}
 use Rattle.golf_run.proofs.Lines.{line-broken}
 use Rattle.golf_run.proofs.telling.write_sleeper.Goals as goal

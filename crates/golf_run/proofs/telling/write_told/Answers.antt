@@ -1,4 +1,4 @@
-use Rattle.golf_texts.specs.Texts.{report_lines}
+use Rattle.golf_run_texts.specs.Texts.{report_lines}
 use Rattle.golf_run.specs.Told.{explained_lines}
 use Rattle.golf_run.proofs.Lines.{passed-early, written-after}
 use Rattle.golf_run.proofs.telling.write_told.Goals as goal

@@ -2,7 +2,7 @@ use Rattle.std.proofs.Common.{◌≡◌, [], ◌∷◌, map, ap, subst, Some, �
 use Rattle.std.specs.Io.KnownBytes.{Appends}
 use Rattle.golf_base.specs.Causes.{WritesFront}
 use Rattle.golf_why.specs.Explaining.{reached_from}
-use Rattle.golf_texts.specs.Texts.{certificate_line, reached_line}
+use Rattle.golf_run_texts.specs.Texts.{certificate_line, reached_line}
 use Rattle.golf_run.specs.Lines.{HasWritten}
 use Rattle.golf_run.specs.Told.{explained_lines}
 use Rattle.golf_run.proofs.Lines.{line-broken, one-line, written-after}

@@ -4,7 +4,7 @@ use Rattle.std.specs.Io.KnownBytes.{Appends}
 use Rattle.golf_model.specs.Futures.{Numbered}
 use Rattle.golf_model.specs.Presence.{IsWhole}
 use Rattle.golf_reclaim.specs.Noting.{AreGone}
-use Rattle.golf_texts.specs.Meaning.{joined}
+use Rattle.golf_run_texts.specs.Output.{joined}
 use Rattle.golf_run.specs.Told.{told_by, totalled, noted, collected}
 use Rattle.golf_run.specs.Coming.{coming_left}
 use Rattle.golf_run.specs.HasRun.{sinks}

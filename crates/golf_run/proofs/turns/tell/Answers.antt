@@ -1,7 +1,7 @@
 use Rattle.std.proofs.Common.{◌++◌, subst}
 use Rattle.std.specs.Io.KnownBytes.{Appends}
-use Rattle.golf_texts.specs.Texts.{report_lines}
-use Rattle.golf_texts.specs.Meaning.{joined}
+use Rattle.golf_run_texts.specs.Texts.{report_lines}
+use Rattle.golf_run_texts.specs.Output.{joined}
 use Rattle.golf_run.specs.Told.{explained_lines}
 use Rattle.golf_run.proofs.Tellings.{lines-told, totals-told, collected-told, noted-told, told-failed}
 use Rattle.golf_run.proofs.turns.tell.Goals as goal

@@ -4,7 +4,7 @@ use Rattle.std.proofs.lemmas.Bool.{ltb-true, ltb-false}
 use Rattle.std.proofs.lemmas.List.Sorted.{IsPartitionedBy-ltb, IsPartitionPoint-from_clause}
 use Rattle.golf_model.specs.Views.{goroutine_view}
 use Rattle.golf_state.specs.declared.places.Place.{Place}
-use Rattle.golf_queues.proofs.Keyed.{sorted-keyed, rank-keyed}
+use Rattle.golf_state_queues.proofs.Keyed.{sorted-keyed, rank-keyed}
 use Rattle.golf_state.proofs.places.rank_of.Goals as goal
 
 pub returns-in-None : goal.returns-in-None

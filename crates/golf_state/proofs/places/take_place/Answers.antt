@@ -8,7 +8,7 @@ use Rattle.golf_state.specs.Places.{plain_entry, plain_entries}
 use Rattle.golf_state.specs.Ready.{AllReady}
 use Rattle.golf_state.specs.declared.places.Place.{Place}
 use Rattle.golf_state.proofs.FinaliserLaws.{only-absent}
-use Rattle.golf_queues.proofs.Keyed.{remove-keyed}
+use Rattle.golf_state_queues.proofs.Keyed.{remove-keyed}
 use Rattle.golf_state.proofs.Readiness.{ready-remove}
 use Rattle.golf_state.proofs.places.take_place.Goals as goal
 use Rattle.golf_state.proofs.places.take_place.Goals.{else-at-len-via-then-at-len+else-index-number, else-at-len-via-else-at-len}

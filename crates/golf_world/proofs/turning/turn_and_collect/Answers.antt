@@ -6,8 +6,8 @@ use Rattle.golf_model.specs.Turn.{step, whose_turn}
 use Rattle.golf_model.specs.Waking.{on_top}
 use Rattle.golf_model.specs.Futures.{Leads, Numbered}
 use Rattle.golf_model.specs.Presence.{IsWhole}
-use Rattle.golf_laws.proofs.Leading.{leads-numbered}
-use Rattle.golf_state_laws.proofs.Leading.{leads-whole}
+use Rattle.golf_model_futures.proofs.Leading.{leads-numbered}
+use Rattle.golf_model_order.proofs.Leading.{leads-whole}
 use Rattle.golf_state.specs.Going.{went}
 use Rattle.golf_state.specs.Looked.{frames_of, reframed, runs}
 use Rattle.golf_machine.proofs.Turns.{whose}

@@ -11,14 +11,14 @@ use Rattle.golf_theory.specs.Stored.{without}
 use Rattle.golf_model.specs.Views.{GoroutineView, goroutine_view}
 use Rattle.golf_model.specs.State.{State, is_running}
 use Rattle.golf_model.specs.Changes.{block}
-use Rattle.golf_queues.specs.Lines.{StandsInAll}
+use Rattle.golf_state_queues.specs.WaitQueues.{StandsInAll}
 use Rattle.golf_state.specs.Inside.{plain_state}
-use Rattle.golf_state.specs.Lined.{AreLined}
+use Rattle.golf_state.specs.Enqueued.{AreEnqueued}
 use Rattle.golf_state.specs.Looked.{on_goroutine, advanced}
 use Rattle.golf_state.specs.Places.{plain_entries}
 use Rattle.golf_state.specs.Roominess.{HasRoom, IsReadyIn}
 use Rattle.golf_state.specs.declared.places.Place.{Place}
-use Rattle.golf_state.proofs.LinedLaws.{lined-blocked, lined-joined}
+use Rattle.golf_state.proofs.EnqueuedLaws.{enqueued-blocked, enqueued-joined}
 use Rattle.golf_state.proofs.PlaceLaws.{found-there, absent-there, absent-past, stands-read, set-at, same-at, kept-set, kept-same, runs-blocked}
 use Rattle.golf_state.proofs.Readiness.{ready-read}
 use Rattle.golf_state.proofs.Rises.{Rises-keys_where}
@@ -51,13 +51,13 @@ still : (m : Mode) (fs gs : List Frame) → (HasRoom fs → HasRoom gs) → IsRe
 still Mode.Running fs gs h r = tt
 still (Mode.Blocked kind line waits ticket) fs gs h r = h r
 
--- some of its lines have the goroutine, which does not block
+-- some of its queues have the goroutine, which does not block
 pub invariant_of-self : goal.invariant_of-self
 invariant_of-self c =
     let s = c.self.inside in
     record {
       kept = c.self.invariant.kept;
-      lined = lined-joined s.are_mutexes_lined (plain_entries s.goroutines.items) s.waiting c.enter_all.new.self s.next_ticket c.self.invariant.lined c.enter_all.ensures.below c.enter_all.ensures.kept;
+      enqueued = enqueued-joined s.are_mutexes_enqueued (plain_entries s.goroutines.items) s.waiting c.enter_all.new.self s.next_ticket c.self.invariant.enqueued c.enter_all.ensures.below c.enter_all.ensures.kept;
       finalisers = c.self.invariant.finalisers;
     }
 
@@ -79,8 +79,8 @@ invariant_of-self-in_err-settle c =
     let seen = ap (λ (r : GoroutineView). (p.number, r)) (c.in_err-settle.ensures.err ∙ ap goroutine_view c.get_mut-goroutine.ensures.value) in
     record {
       kept = kept-same gs _ _ _ s.next_goroutine c.rank_of-at.result p q k h seen mode;
-      lined = subst (λ (es : List (ℕ × GoroutineView)). AreLined s.are_mutexes_lined es c.enter_all.new.self s.next_ticket) (sym (same-at gs c.rank_of-at.result p q h seen))
-          (lined-joined s.are_mutexes_lined (plain_entries gs) s.waiting c.enter_all.new.self s.next_ticket c.self.invariant.lined c.enter_all.ensures.below c.enter_all.ensures.kept);
+      enqueued = subst (λ (es : List (ℕ × GoroutineView)). AreEnqueued s.are_mutexes_enqueued es c.enter_all.new.self s.next_ticket) (sym (same-at gs c.rank_of-at.result p q h seen))
+          (enqueued-joined s.are_mutexes_enqueued (plain_entries gs) s.waiting c.enter_all.new.self s.next_ticket c.self.invariant.enqueued c.enter_all.ensures.below c.enter_all.ensures.kept);
       finalisers = c.self.invariant.finalisers;
     }
 
@@ -116,12 +116,12 @@ invariant_of-self-2 c =
     let q : Place = record { number = p.number; goroutine = record { frames = c.settle.new.goroutine.frames; mode = mode; started = c.settle.new.goroutine.started } } in
     let next : c.in_ok-next_ticket.next_ticket ≡ s.next_ticket + 1 = search rules in
     let joins : StandsInAll s.next_ticket g c.args.waits c.enter_all.new.self = subst (λ (ws : List Wait). StandsInAll s.next_ticket g ws c.enter_all.new.self) c.as_slice-2.ensures c.in_ok-enter_all.ensures.joins in
-    let line = lined-blocked s.are_mutexes_lined (plain_entries gs) s.waiting c.enter_all.new.self s.next_ticket g (goroutine_view p.goroutine) (goroutine_view q.goroutine) c.args.kind c.args.line c.args.waits c.self.invariant.lined k.rises found refl c.enter_all.ensures.below c.enter_all.ensures.kept joins in
+    let line = enqueued-blocked s.are_mutexes_enqueued (plain_entries gs) s.waiting c.enter_all.new.self s.next_ticket g (goroutine_view p.goroutine) (goroutine_view q.goroutine) c.args.kind c.args.line c.args.waits c.self.invariant.enqueued k.rises found refl c.enter_all.ensures.below c.enter_all.ensures.kept joins in
     record {
       kept = kept-set gs _ _ _ _ _ s.next_goroutine g c.rank_of-at.result p q (goroutine_view p.goroutine) k stands refl c.in_ok-settle.ensures.room
           (c.leave_out.ensures.others ∙ ap (without g) k.running ∙ runs-blocked (plain_entries gs) g (goroutine_view q.goroutine) refl) (omega (arith, c.leave_out.ensures.room));
-      lined = subst (λ (n : ℕ). AreLined s.are_mutexes_lined (plain_entries (slice_set gs c.rank_of-at.result q)) c.enter_all.new.self n) (sym next)
-          (subst (λ (es : List (ℕ × GoroutineView)). AreLined s.are_mutexes_lined es c.enter_all.new.self (s.next_ticket + 1)) (sym (set-at gs g c.rank_of-at.result p q (goroutine_view p.goroutine) k.rises stands refl)) line);
+      enqueued = subst (λ (n : ℕ). AreEnqueued s.are_mutexes_enqueued (plain_entries (slice_set gs c.rank_of-at.result q)) c.enter_all.new.self n) (sym next)
+          (subst (λ (es : List (ℕ × GoroutineView)). AreEnqueued s.are_mutexes_enqueued es c.enter_all.new.self (s.next_ticket + 1)) (sym (set-at gs g c.rank_of-at.result p q (goroutine_view p.goroutine) k.rises stands refl)) line);
       finalisers = c.self.invariant.finalisers;
     }
 

@@ -8,12 +8,12 @@ use Rattle.golf_model.specs.Changes.{become, apply_all}
 use Rattle.golf_model.specs.Clearing.{clears}
 use Rattle.golf_state.specs.Clearing.{tidied}
 use Rattle.golf_state.specs.Inside.{plain_state}
-use Rattle.golf_state.specs.Lined.{AreLined}
+use Rattle.golf_state.specs.Enqueued.{AreEnqueued}
 use Rattle.golf_state.specs.Places.{plain_entries}
 use Rattle.golf_state.specs.Roominess.{IsReadyIn}
 use Rattle.golf_state.specs.declared.places.Place.{Place}
 use Rattle.golf_state.proofs.ClearingLaws.{tidied-clears}
-use Rattle.golf_state.proofs.LinedLaws.{lined-same}
+use Rattle.golf_state.proofs.EnqueuedLaws.{enqueued-same}
 use Rattle.golf_state.proofs.PlaceLaws.{found-there, absent-there, absent-past, stands-read, set-at, kept-set, runs-same}
 use Rattle.golf_state.proofs.Readiness.{ready-read}
 use Rattle.golf_state.proofs.state.State.clear_slots.Goals as goal
@@ -65,7 +65,7 @@ invariant_of-self c =
     record {
       kept = kept-set gs _ _ _ _ _ s.next_goroutine g c.rank_of-at.result p q was k stands refl ready
           (k.running ∙ runs-same (plain_entries gs) g was v k.rises found (ap is_running mode)) (omega arith);
-      lined = subst (λ (es : List (ℕ × GoroutineView)). AreLined s.are_mutexes_lined es s.waiting s.next_ticket) (sym (set-at gs g c.rank_of-at.result p q was k.rises stands refl)) (lined-same s.are_mutexes_lined (plain_entries gs) s.waiting s.next_ticket g was v c.self.invariant.lined k.rises found mode);
+      enqueued = subst (λ (es : List (ℕ × GoroutineView)). AreEnqueued s.are_mutexes_enqueued es s.waiting s.next_ticket) (sym (set-at gs g c.rank_of-at.result p q was k.rises stands refl)) (enqueued-same s.are_mutexes_enqueued (plain_entries gs) s.waiting s.next_ticket g was v c.self.invariant.enqueued k.rises found mode);
       finalisers = c.self.invariant.finalisers;
     }
 

@@ -7,8 +7,8 @@ use Rattle.golf_state.specs.Inside.{plain_state}
 use Rattle.golf_state.specs.Looked.{on_goroutine, runs, frames_in}
 use Rattle.golf_state.specs.Places.{plain_entries}
 use Rattle.golf_state.specs.declared.places.Place.{Place}
-use Rattle.golf_state.specs.Lined.{AreLined}
-use Rattle.golf_state.proofs.LinedLaws.{lined-same}
+use Rattle.golf_state.specs.Enqueued.{AreEnqueued}
+use Rattle.golf_state.proofs.EnqueuedLaws.{enqueued-same}
 use Rattle.golf_state.proofs.PlaceLaws.{put-same, within, stands-found, running-found, set-at, kept-set, runs-same}
 use Rattle.golf_state.proofs.Readiness.{running-ready}
 use Rattle.golf_state.proofs.state.State.frames_mut.Goals as goal
@@ -39,7 +39,7 @@ invariant_of-self-lent c = λ w.
     let v : GoroutineView = record { frames = frame_views w; mode = lent.mode; started = lent.started } in
     record {
       kept = kept-set gs _ _ _ _ _ s.next_goroutine g c.rank_of-at.result p q f.0 k stands refl (running-ready lent.mode w (runs ∙ f.2)) (k.running ∙ runs-same (plain_entries gs) g f.0 v k.rises f.1 (sym runs)) (omega arith);
-      lined = subst (λ (es : List (ℕ × GoroutineView)). AreLined s.are_mutexes_lined es s.waiting s.next_ticket) (sym (set-at gs g c.rank_of-at.result p q f.0 k.rises stands refl)) (lined-same s.are_mutexes_lined (plain_entries gs) s.waiting s.next_ticket g f.0 v c.self.invariant.lined k.rises f.1 (sym (ap (λ (r : GoroutineView). r.mode) seen)));
+      enqueued = subst (λ (es : List (ℕ × GoroutineView)). AreEnqueued s.are_mutexes_enqueued es s.waiting s.next_ticket) (sym (set-at gs g c.rank_of-at.result p q f.0 k.rises stands refl)) (enqueued-same s.are_mutexes_enqueued (plain_entries gs) s.waiting s.next_ticket g f.0 v c.self.invariant.enqueued k.rises f.1 (sym (ap (λ (r : GoroutineView). r.mode) seen)));
       finalisers = c.self.invariant.finalisers;
     }
 

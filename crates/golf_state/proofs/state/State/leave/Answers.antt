@@ -8,10 +8,10 @@ use Rattle.golf_model.specs.Views.{GoroutineView}
 use Rattle.golf_state.specs.Inside.{plain_state}
 use Rattle.golf_state.specs.Places.{plain_entries, running_of}
 use Rattle.golf_state.specs.Left.{leaves_where}
-use Rattle.golf_state.specs.Lined.{AreLined}
-use Rattle.golf_queues.proofs.Partings.{below-without}
+use Rattle.golf_state.specs.Enqueued.{AreEnqueued}
+use Rattle.golf_state_queues.proofs.Partings.{below-without}
 use Rattle.golf_state.proofs.Leaving.{others-stay-where}
-use Rattle.golf_state.proofs.LinedLaws.{lined-left}
+use Rattle.golf_state.proofs.EnqueuedLaws.{enqueued-left}
 use Rattle.golf_state.proofs.PlaceLaws.{runs-left}
 use Rattle.golf_state.proofs.Rises.{Rises-keys, Rises-keys_where}
 use Rattle.golf_state.proofs.state.State.leave.Goals as goal
@@ -35,7 +35,7 @@ invariant_of-self c =
         room = omega (arith, c.take_place.ensures.fewer, c.leave_out-2.ensures.room, k.room);
         ready = c.take_place.ensures.ready;
       };
-      lined = subst (λ (fs : List (ℕ × GoroutineView)). AreLined s.are_mutexes_lined fs c.forget.new.queues s.next_ticket) (sym e) (lined-left s.are_mutexes_lined es s.waiting c.forget.new.queues s.next_ticket c.self.invariant.lined k.rises g (below-without (leaves_where g was) s.waiting c.forget.new.queues c.forget.ensures) (others-stay-where g was s.waiting c.forget.new.queues c.forget.ensures));
+      enqueued = subst (λ (fs : List (ℕ × GoroutineView)). AreEnqueued s.are_mutexes_enqueued fs c.forget.new.queues s.next_ticket) (sym e) (enqueued-left s.are_mutexes_enqueued es s.waiting c.forget.new.queues s.next_ticket c.self.invariant.enqueued k.rises g (below-without (leaves_where g was) s.waiting c.forget.new.queues c.forget.ensures) (others-stay-where g was s.waiting c.forget.new.queues c.forget.ensures));
       finalisers = c.self.invariant.finalisers;
     }
 

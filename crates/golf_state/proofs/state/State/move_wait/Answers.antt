@@ -13,10 +13,10 @@ use Rattle.golf_state.specs.Places.{plain_entries}
 use Rattle.golf_state.specs.Roominess.{IsReadyIn}
 use Rattle.golf_state.specs.declared.places.Place.{Place}
 use Rattle.golf_state.specs.Left.{leaves_in}
-use Rattle.golf_state.specs.Lined.{AreLined}
-use Rattle.golf_queues.proofs.Partings.{below-without}
+use Rattle.golf_state.specs.Enqueued.{AreEnqueued}
+use Rattle.golf_state_queues.proofs.Partings.{below-without}
 use Rattle.golf_state.proofs.Leaving.{others-stay}
-use Rattle.golf_state.proofs.LinedLaws.{lined-moved}
+use Rattle.golf_state.proofs.EnqueuedLaws.{enqueued-moved}
 use Rattle.golf_state.proofs.PlaceLaws.{within, stands-found, blocked-found, set-at, kept-set, runs-same}
 use Rattle.golf_state.proofs.Readiness.{ready-at}
 use Rattle.golf_state.proofs.state.State.move_wait.Goals as goal
@@ -40,7 +40,7 @@ index_mut-place-requires c =
 
 pub enter_for_mutex-self-inside-requires : goal.enter_for_mutex-self-inside-requires
 enter_for_mutex-self-inside-requires c =
-    below-without (leaves_in c.args.g.0 c.get_mut-goroutine.result.now.mode) c.self.inside.waiting c.leave_lines.new.queues c.leave_lines.ensures (c.self.inside.next_ticket + 1) c.self.invariant.lined.below
+    below-without (leaves_in c.args.g.0 c.get_mut-goroutine.result.now.mode) c.self.inside.waiting c.leave_queues.new.queues c.leave_queues.ensures (c.self.inside.next_ticket + 1) c.self.invariant.enqueued.below
 
 pub invariant_of-self : goal.invariant_of-self
 invariant_of-self c =
@@ -62,9 +62,9 @@ invariant_of-self c =
     let ready : IsReadyIn c.move_mode.new.mode lent.frames = subst (λ (k : Mode). IsReadyIn k lent.frames) (sym c.move_mode.ensures) (moved-ready m s.next_ticket lent.mode lent.frames was) in
     record {
       kept = kept-set gs _ _ _ _ _ s.next_goroutine g c.rank_of-at.result p q f.0 k stands refl ready (k.running ∙ runs-same (plain_entries gs) g f.0 w k.rises f.1 same) (omega arith);
-      lined = subst (λ (es : List (ℕ × GoroutineView)). AreLined c.enter_for_mutex-self-inside.result es c.enter_for_mutex-self-inside.new.queues (s.next_ticket + 1)) (sym (set-at gs g c.rank_of-at.result p q f.0 k.rises stands refl))
-          (lined-moved s.are_mutexes_lined (plain_entries gs) s.waiting c.enter_for_mutex-self-inside.new.queues s.next_ticket c.self.invariant.lined k.rises c.enter_for_mutex-self-inside.result g m f.0 w lent.mode c.enter_for_mutex-self-inside.ensures.still f.1 c.move_mode.ensures c.enter_for_mutex-self-inside.ensures.below
-          (λ j t h d l i. c.enter_for_mutex-self-inside.ensures.kept j t h l (others-stay g lent.mode s.waiting c.leave_lines.new.queues c.leave_lines.ensures j t h d i)) c.enter_for_mutex-self-inside.ensures.joins);
+      enqueued = subst (λ (es : List (ℕ × GoroutineView)). AreEnqueued c.enter_for_mutex-self-inside.result es c.enter_for_mutex-self-inside.new.queues (s.next_ticket + 1)) (sym (set-at gs g c.rank_of-at.result p q f.0 k.rises stands refl))
+          (enqueued-moved s.are_mutexes_enqueued (plain_entries gs) s.waiting c.enter_for_mutex-self-inside.new.queues s.next_ticket c.self.invariant.enqueued k.rises c.enter_for_mutex-self-inside.result g m f.0 w lent.mode c.enter_for_mutex-self-inside.ensures.still f.1 c.move_mode.ensures c.enter_for_mutex-self-inside.ensures.below
+          (λ j t h d l i. c.enter_for_mutex-self-inside.ensures.kept j t h l (others-stay g lent.mode s.waiting c.leave_queues.new.queues c.leave_queues.ensures j t h d i)) c.enter_for_mutex-self-inside.ensures.joins);
       finalisers = c.self.invariant.finalisers;
     }
 

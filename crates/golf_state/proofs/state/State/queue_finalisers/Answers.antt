@@ -6,6 +6,6 @@ use Rattle.golf_state.proofs.state.State.queue_finalisers.Goals as goal
 pub invariant_of-self-2 : goal.invariant_of-self-2
 invariant_of-self-2 c = record {
   kept = c.self.invariant.kept;
-  lined = c.self.invariant.lined;
+  enqueued = c.self.invariant.enqueued;
   finalisers = subst (Rises 0) (sym c.close_up.ensures) (Rises-kept 0 c.args.stays.now c.self.inside.finalisers.items c.self.invariant.finalisers);
 }

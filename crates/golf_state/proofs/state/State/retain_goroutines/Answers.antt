@@ -5,14 +5,14 @@ use Rattle.golf_model.specs.Views.{GoroutineView}
 use Rattle.golf_state.specs.Inside.{numbers, plain_state}
 use Rattle.golf_state.specs.Places.{plain_entry, plain_entries, running_of}
 use Rattle.golf_state.specs.Ready.{AllReady}
-use Rattle.golf_state.specs.Lined.{AreLined}
+use Rattle.golf_state.specs.Enqueued.{AreEnqueued}
 use Rattle.golf_state.specs.declared.places.Place.{Place}
 use Rattle.golf_state.proofs.Retaining.{map-kept, kept-short, Rises-kept, AllBelow-kept, ready-kept}
-use Rattle.golf_state.proofs.Leaving.{lined-kept, Rises-listed}
+use Rattle.golf_state.proofs.Leaving.{enqueued-kept, Rises-listed}
 use Rattle.golf_state.proofs.Rises.{Rises-keys}
 use Rattle.golf_base.specs.declared.ids.GoroutineId.{GoroutineId}
 use Rattle.golf_theory.specs.Membership.{is_in}
-use Rattle.golf_queues.specs.Lines.{Keeps}
+use Rattle.golf_state_queues.specs.WaitQueues.{Keeps}
 use Rattle.golf_state.specs.Rising.{RisesFrom}
 use Rattle.golf_state.proofs.state.State.retain_goroutines.Goals as goal
 
@@ -21,8 +21,8 @@ there : (stays : List Bool) (ps : List Place) (gs left seen : List GoroutineId) 
 there stays ps gs left seen all is same =
     ap numbers (same ∙ is) ∙ map-kept (λ (g : GoroutineId). g.0) stays gs ∙ ap (kept stays) all ∙ sym (map-kept (λ (x : ℕ × GoroutineView). x.0) stays (plain_entries ps))
 
-pub narrow_lines-requires : goal.narrow_lines-requires
-narrow_lines-requires c =
+pub narrow_queues-requires : goal.narrow_queues-requires
+narrow_queues-requires c =
     let s = c.self.inside in
     let k = c.self.invariant.kept in
     let stays = c.args.stays.now in
@@ -49,10 +49,10 @@ invariant_of-self c =
         room = omega (arith, fewer, c.list_running.ensures.room, k.room);
         ready = subst AllReady (sym c.close_up.ensures) (ready-kept stays ps k.ready);
       };
-      lined = subst (λ (xs : List (ℕ × GoroutineView)). AreLined s.are_mutexes_lined xs c.narrow_lines.new.queues s.next_ticket) (sym e)
-          (lined-kept s.are_mutexes_lined stays es s.waiting c.narrow_lines.new.queues s.next_ticket c.self.invariant.lined
-          (subst (λ (gs : List ℕ). Keeps (λ t h. is_in h gs ≡ true) s.waiting c.narrow_lines.new.queues) (there stays ps s.present.items c.close_up-2.new.items.items c.as_slice.result.now k.present c.close_up-2.ensures c.as_slice.ensures.value) c.narrow_lines.ensures.kept)
-          c.narrow_lines.ensures.below);
+      enqueued = subst (λ (xs : List (ℕ × GoroutineView)). AreEnqueued s.are_mutexes_enqueued xs c.narrow_queues.new.queues s.next_ticket) (sym e)
+          (enqueued-kept s.are_mutexes_enqueued stays es s.waiting c.narrow_queues.new.queues s.next_ticket c.self.invariant.enqueued
+          (subst (λ (gs : List ℕ). Keeps (λ t h. is_in h gs ≡ true) s.waiting c.narrow_queues.new.queues) (there stays ps s.present.items c.close_up-2.new.items.items c.as_slice.result.now k.present c.close_up-2.ensures c.as_slice.ensures.value) c.narrow_queues.ensures.kept)
+          c.narrow_queues.ensures.below);
       finalisers = c.self.invariant.finalisers;
     }
 

@@ -17,6 +17,6 @@ invariant_of-self c =
     let none : find c.args.object.0 s.finalisers.items ≡ None = ap (λ (t : State). find c.args.object.0 t.finalisers) c.self.view_is ∙ c.requires in
     record {
       kept = c.self.invariant.kept;
-      lined = c.self.invariant.lined;
+      enqueued = c.self.invariant.enqueued;
       finalisers = rises c.put_finaliser.result s.finalisers.items c.put_finaliser.new.finalisers.items c.args.object.0 c.args.function none c.self.invariant.finalisers c.put_finaliser.ensures.ok c.put_finaliser.ensures.err;
     }

@@ -10,8 +10,8 @@ use Rattle.golf_model.specs.State.{is_running}
 use Rattle.golf_state.specs.Inside.{numbers, plain_state}
 use Rattle.golf_state.specs.Places.{plain_entry, plain_entries, running_of}
 use Rattle.golf_state.specs.Ready.{AllReady}
-use Rattle.golf_state.specs.Lined.{AreLined}
-use Rattle.golf_state.proofs.LinedLaws.{lined-spawned}
+use Rattle.golf_state.specs.Enqueued.{AreEnqueued}
+use Rattle.golf_state.proofs.EnqueuedLaws.{enqueued-spawned}
 use Rattle.golf_state.proofs.PlaceLaws.{push-at, runs-spawned}
 use Rattle.golf_state.proofs.Readiness.{running-few, ready-push, running-ready}
 use Rattle.golf_state.proofs.state.State.spawn.Goals as goal
@@ -48,7 +48,7 @@ invariant_of-self-2 c =
         room = omega (arith, ap length c.in_ok-push.ensures.items, length-append gs (q ∷ []), c.add_last-2.ensures.room, c.in_ok-reserve-2.ensures.ok, c.saturating_sub-more.ensures, s.goroutines.ok.0);
         ready = subst AllReady (sym c.in_ok-push.ensures.items) (ready-push gs q k.ready (running-ready q.goroutine.mode q.goroutine.frames (ap (λ (d : ℕ × GoroutineView). is_running d.1.mode) c.in_ok-place.ensures)));
       };
-      lined = subst (λ (fs : List (ℕ × GoroutineView)). AreLined s.are_mutexes_lined fs s.waiting s.next_ticket) (sym e) (lined-spawned s.are_mutexes_lined es s.waiting s.next_ticket n v c.self.invariant.lined refl);
+      enqueued = subst (λ (fs : List (ℕ × GoroutineView)). AreEnqueued s.are_mutexes_enqueued fs s.waiting s.next_ticket) (sym e) (enqueued-spawned s.are_mutexes_enqueued es s.waiting s.next_ticket n v c.self.invariant.enqueued refl);
       finalisers = c.self.invariant.finalisers;
     }
 

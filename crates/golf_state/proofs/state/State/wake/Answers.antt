@@ -14,10 +14,10 @@ use Rattle.golf_state.specs.Wakening.{wakened}
 use Rattle.golf_state.specs.Places.{plain_entry, plain_entries}
 use Rattle.golf_state.specs.declared.places.Place.{Place}
 use Rattle.golf_state.specs.Left.{leaves_in}
-use Rattle.golf_state.specs.Lined.{AreLined}
-use Rattle.golf_queues.proofs.Partings.{below-without}
+use Rattle.golf_state.specs.Enqueued.{AreEnqueued}
+use Rattle.golf_state_queues.proofs.Partings.{below-without}
 use Rattle.golf_state.proofs.Leaving.{others-stay}
-use Rattle.golf_state.proofs.LinedLaws.{lined-woken}
+use Rattle.golf_state.proofs.EnqueuedLaws.{enqueued-woken}
 use Rattle.golf_state.proofs.PlaceLaws.{within, stands-found, blocked-found, set-at, kept-set, runs-woken}
 use Rattle.golf_state.proofs.Readiness.{ready-at, running-ready, blocked-room, wakened-runs, running-few}
 use Rattle.golf_state.proofs.Rises.{Rises-keys_where}
@@ -72,7 +72,7 @@ invariant_of-self c =
     record {
       kept = kept-set gs _ _ _ _ _ s.next_goroutine g c.rank_of-at.result p q f.0 k stands refl (running-ready c.waken.new.goroutine.mode c.waken.new.goroutine.frames runs)
           (c.put_in.ensures.all ∙ ap (placed g) k.running ∙ runs-woken (plain_entries gs) g f.0 w k.rises f.1 f.2 runs) c.put_in.ensures.room;
-      lined = subst (λ (es : List (ℕ × GoroutineView)). AreLined s.are_mutexes_lined es c.leave_lines.new.queues s.next_ticket) (sym (set-at gs g c.rank_of-at.result p q f.0 k.rises stands refl)) (lined-woken s.are_mutexes_lined (plain_entries gs) s.waiting c.leave_lines.new.queues s.next_ticket c.self.invariant.lined k.rises g f.0 w f.1 (below-without (leaves_in g lent.mode) s.waiting c.leave_lines.new.queues c.leave_lines.ensures) (others-stay g lent.mode s.waiting c.leave_lines.new.queues c.leave_lines.ensures) runs);
+      enqueued = subst (λ (es : List (ℕ × GoroutineView)). AreEnqueued s.are_mutexes_enqueued es c.leave_queues.new.queues s.next_ticket) (sym (set-at gs g c.rank_of-at.result p q f.0 k.rises stands refl)) (enqueued-woken s.are_mutexes_enqueued (plain_entries gs) s.waiting c.leave_queues.new.queues s.next_ticket c.self.invariant.enqueued k.rises g f.0 w f.1 (below-without (leaves_in g lent.mode) s.waiting c.leave_queues.new.queues c.leave_queues.ensures) (others-stay g lent.mode s.waiting c.leave_queues.new.queues c.leave_queues.ensures) runs);
       finalisers = c.self.invariant.finalisers;
     }
 

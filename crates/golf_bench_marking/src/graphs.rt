@@ -1,0 +1,51 @@
+//! Graphs whose least closed set is certified.
+
+use golf_base::List;
+use golf_model::Graph;
+use golf_tests_support::{GraphFault, GraphMaker, Shape, shaped};
+use std::alloc::Global;
+
+/// How the places of a graph hang together.
+#[derive(Clone, Copy, Debug, PartialEq, Eq)]
+pub(crate) enum Places {
+    /// Nodes alone, in one of the shapes that are marked.
+    Nodes(Shape),
+    /// The root refers to each other node.
+    Star,
+    /// Half of the places are sleepers. Each waits on the node of its number, and refers to the
+    /// next one.
+    Relay,
+}
+
+/// A graph with so many places.
+pub(crate) fn graph_of(alloc: Global, places: Places, count: u32) -> Result<Graph, GraphFault> {
+    match places {
+        Places::Nodes(shape) => shaped(alloc, shape, count),
+        Places::Star => star(alloc, count),
+        Places::Relay => relay(alloc, count / 2),
+    }
+}
+
+fn star(alloc: Global, nodes: u32) -> Result<Graph, GraphFault> {
+    let mut children = List::new(alloc);
+    for node in 1..nodes {
+        children.push(node)?;
+    }
+    let mut maker = GraphMaker::new(alloc, nodes).node(alloc, children.as_slice())?;
+    for _ in 1..nodes {
+        maker = maker.node(alloc, &[])?;
+    }
+    maker.root(0)?.finish()
+}
+
+// As many sleepers as nodes.
+fn relay(alloc: Global, nodes: u32) -> Result<Graph, GraphFault> {
+    let mut maker = GraphMaker::new(alloc, nodes);
+    for _ in 0..nodes {
+        maker = maker.node(alloc, &[])?;
+    }
+    for node in 1..nodes {
+        maker = maker.sleeper(alloc, &[node - 1], &[node])?;
+    }
+    maker.root(0)?.finish()
+}

@@ -1,0 +1,123 @@
+-- What an expression is depends on the names that are known, and on nothing else of its scope.
+use Rattle.std.proofs.Common.{◌≡◌, ℕ, Bool, List, [], ◌∷◌, map, Option, refl, sym, ap, ◌∙◌, subst}
+use Rattle.golf_syntax_trees.specs.declared.types.TypeExpr.{TypeExpr, roll-TypeExpr}
+use Rattle.golf_syntax_trees.specs.declared.types.TypeExpr.TheOpen.{TypeExpr-F}
+use Rattle.golf_syntax_trees.specs.declared.types.TypeExpr.TheOpen as TF
+use Rattle.golf_syntax_trees.specs.declared.types.TypeExpr.TheFolds.{fold-roll-TypeExpr, ind-TypeExpr, map-TypeExpr}
+use Rattle.golf_syntax_trees.specs.declared.expressions.Expr.{Expr, roll-Expr}
+use Rattle.golf_syntax_trees.specs.declared.expressions.Element.{Element, roll-Element}
+use Rattle.golf_syntax_trees.specs.declared.expressions.Expr.TheOpen.{Expr-F, Element-F}
+use Rattle.golf_syntax_trees.specs.declared.expressions.Expr.TheOpen as F
+use Rattle.golf_syntax_trees.specs.declared.expressions.Expr.TheFolds.{fold-Element, fold-roll-Expr, fold-roll-Element, ind-Expr, map-Expr, map-Element}
+use Rattle.golf_check_types.specs.declared.types.Layer.TheVariants as layer
+use Rattle.golf_check_types.specs.declared.types.GoType.{GoType}
+use Rattle.golf_check_types.specs.declared.scopes.Scope.{Scope}
+use Rattle.golf_check_types.specs.Types.{with_layer}
+use Rattle.golf_check_types.specs.Scopes.{meaning}
+use Rattle.golf_check_types.specs.Written.{Write, write, write_step, behind_layer, pointer_to}
+use Rattle.golf_check_types.specs.Expressions.{struct_literal, slice_literal, made, made_sized, selector, unary_judged, binary_judged, index_judged, in_parens}
+use Rattle.golf_check_types.specs.Calls.{call_judged}
+use Rattle.golf_check_types.specs.Judging.{Judge, Put, judge, judge_step, element_step}
+
+-- the same names, elsewhere
+abbrev pub elsewhere : Scope → ℕ → Option GoType → Bool → Bool → ℕ → Scope
+elsewhere s d o b k n = record s { depth = d; result = o; breaks = b; loops = k; next = n }
+
+module _ (d : ℕ) (o : Option GoType) (b k : Bool) (n : ℕ) where
+  abbrev there : Scope → Scope
+  there s = elsewhere s d o b k n
+
+  same-meaning : (s : Scope) (x : List ℕ) → meaning (there s) x ≡ meaning s x
+  unfolding meaning
+  same-meaning s x = refl
+
+  -- written types
+
+  abbrev W : TypeExpr → Type 0
+  W x = (l : ℕ) (s : Scope) → write x l (there s) ≡ write x l s
+
+  abbrev TypePart : Type 0
+  TypePart = TypeExpr-F ((x : TypeExpr) × W x)
+
+  abbrev bare-type : TypePart → TypeExpr-F TypeExpr
+  bare-type y = map-TypeExpr ((x : TypeExpr) × W x) TypeExpr (λ p. p.0) y
+
+  write-at : (y : TypePart) (l : ℕ) (s : Scope) → write_step (map-TypeExpr TypeExpr Write write (bare-type y)) l (there s) ≡ write_step (map-TypeExpr TypeExpr Write write (bare-type y)) l s
+  unfolding meaning
+  write-at (TF.Slice x) l s = ap (behind_layer layer.Slice) (x.1 l s)
+  write-at (TF.Chan x) l s = ap (behind_layer layer.Chan) (x.1 l s)
+  write-at (TF.SendChan x) l s = ap (behind_layer layer.SendChan) (x.1 l s)
+  write-at (TF.ReceiveChan x) l s = ap (behind_layer layer.ReceiveChan) (x.1 l s)
+  write-at _ l s = refl
+
+  write-rolled : (y : TypePart) → W (roll-TypeExpr (bare-type y))
+  unfolding write
+  write-rolled y l s = subst (λ (w : Write). w l (there s) ≡ w l s) (sym (fold-roll-TypeExpr Write write_step (bare-type y))) (write-at y l s)
+
+  write-same : (x : TypeExpr) → W x
+  write-same = ind-TypeExpr W (λ x y is. subst (λ z. W (roll-TypeExpr z)) is (write-rolled y))
+
+  -- expressions
+
+  abbrev P : Expr → Type 0
+  P e = (l : ℕ) (s : Scope) → judge e l (there s) ≡ judge e l s
+
+  abbrev element_judge : Element → Put
+  element_judge = fold-Element Judge Put judge_step element_step
+
+  abbrev Q : Element → Type 0
+  Q x = (l : ℕ) (s : Scope) → (element_judge x).judge l (there s) ≡ (element_judge x).judge l s
+
+  abbrev E : Type 0
+  E = (e : Expr) × P e
+
+  abbrev D : Type 0
+  D = (x : Element) × Q x
+
+  abbrev bare : Expr-F E D → Expr-F Expr Element
+  bare y = map-Expr E D Expr Element (λ p. p.0) (λ p. p.0) y
+
+  abbrev judged : Expr-F E D → Judge
+  judged y = judge_step (map-Expr Expr Element Judge Put judge element_judge (bare y))
+
+  all-same : (l : ℕ) (s : Scope) (xs : List E) → map (λ (j : Judge). j l (there s)) (map judge (map (λ (p : E). p.0) xs)) ≡ map (λ (j : Judge). j l s) (map judge (map (λ (p : E). p.0) xs))
+  all-same l s [] = refl
+  all-same l s (x ∷ xs) = ap (λ j. j ∷ map (λ (j : Judge). j l (there s)) (map judge (map (λ (p : E). p.0) xs))) (x.1 l s) ∙ ap (λ js. judge x.0 l s ∷ js) (all-same l s xs)
+
+  puts-same : (l : ℕ) (s : Scope) (xs : List D) → map (λ (p : Put). p.judge l (there s)) (map element_judge (map (λ (p : D). p.0) xs)) ≡ map (λ (p : Put). p.judge l s) (map element_judge (map (λ (p : D). p.0) xs))
+  puts-same l s [] = refl
+  puts-same l s (x ∷ xs) = ap (λ j. j ∷ map (λ (p : Put). p.judge l (there s)) (map element_judge (map (λ (p : D). p.0) xs))) (x.1 l s) ∙ ap (λ js. (element_judge x.0).judge l s ∷ js) (puts-same l s xs)
+
+  at : (y : Expr-F E D) (l : ℕ) (s : Scope) → judged y l (there s) ≡ judged y l s
+  unfolding meaning
+  at (F.Integer digits) l s = refl
+  at (F.Text bytes) l s = refl
+  at (F.Name x) l s = refl
+  at (F.Parens e) l s = ap in_parens (e.1 l s)
+  at (F.StructLiteral x xs) l s = ap (struct_literal l s.file (pointer_to (meaning s x)) (map (λ (p : Put). p.name) (map element_judge (map (λ (p : D). p.0) xs)))) (puts-same l s xs)
+  at (F.SyncLiteral x) l s = refl
+  at (F.SliceLiteral t xs) l s =
+      ap (λ w. slice_literal l w (with_layer layer.Slice w.type) (map (λ (j : Judge). j l (there s)) (map judge (map (λ (p : E). p.0) xs)))) (write-same t l s)
+      ∙ ap (slice_literal l (write t l s) (with_layer layer.Slice (write t l s).type)) (all-same l s xs)
+  at F.EmptyLiteral l s = refl
+  at (F.Make t) l s = ap (made l) (write-same t l s)
+  at (F.MakeSized t e) l s = ap (λ w. made_sized l w (judge e.0 l (there s))) (write-same t l s) ∙ ap (made_sized l (write t l s)) (e.1 l s)
+  at (F.New x) l s = refl
+  at (F.NewSync x) l s = refl
+  at (F.Selector e x) l s = ap (selector l s x) (e.1 l s)
+  at (F.Index a i) l s = ap (λ j. index_judged l j (judge i.0 l (there s))) (a.1 l s) ∙ ap (index_judged l (judge a.0 l s)) (i.1 l s)
+  at (F.Call f xs) l s = ap (λ j. call_judged l s j (map (λ (j : Judge). j l (there s)) (map judge (map (λ (p : E). p.0) xs)))) (f.1 l s) ∙ ap (call_judged l s (judge f.0 l s)) (all-same l s xs)
+  at (F.Unary u e) l s = ap (unary_judged l s u) (e.1 l s)
+  at (F.Binary u x y) l s = ap (λ j. binary_judged l u j (judge y.0 l (there s))) (x.1 l s) ∙ ap (binary_judged l u (judge x.0 l s)) (y.1 l s)
+
+  rolled : (y : Expr-F E D) → P (roll-Expr (bare y))
+  unfolding judge
+  rolled y l s = subst (λ (j : Judge). j l (there s) ≡ j l s) (sym (fold-roll-Expr Judge Put judge_step element_step (bare y))) (at y l s)
+
+  element-rolled : (y : Element-F E D) → Q (roll-Element (map-Element E D Expr Element (λ p. p.0) (λ p. p.0) y))
+  unfolding judge
+  element-rolled y l s =
+      subst (λ (p : Put). p.judge l (there s) ≡ p.judge l s) (sym (fold-roll-Element Judge Put judge_step element_step (map-Element E D Expr Element (λ p. p.0) (λ p. p.0) y))) (y.value.1 l s)
+
+  pub judged-by-names : (e : Expr) (l : ℕ) (s : Scope) → judge e l (elsewhere s d o b k n) ≡ judge e l s
+  judged-by-names = ind-Expr P Q (λ x y is. subst (λ z. P (roll-Expr z)) is (rolled y)) (λ x y is. subst (λ z. Q (roll-Element z)) is (element-rolled y))

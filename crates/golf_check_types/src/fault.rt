@@ -1,0 +1,35 @@
+//! Why a check stopped.
+
+ghost use Rattle.std.specs.Prelude.{◌≡◌};
+ghost use Rattle.golf_check_types.specs.declared.fault.TypeFault.TheVariants as faults;
+ghost use Rattle.golf_check_types.specs.Faults.{Tells, broken as broken_of};
+
+use golf_base::Memory;
+
+/// Why a file is not accepted.
+#[derive(Clone, Copy, Debug, PartialEq, Eq)]
+pub enum TypeFault {
+    /// Memory was wanting.
+    Memory,
+    /// This rule is broken on this line, and none before it in the order of the walk.
+    At { line: u32, rule: u32 },
+}
+
+impl From<Memory> for TypeFault {
+    ghost from_gives = { λ _ e. e ≡ faults.Memory };
+
+    fn from(_: Memory) -> Self {
+        TypeFault::Memory
+    }
+}
+
+/// The rule is broken on this line, unless the test holds.
+pub fn require(line: u32, rule: u32, holds: bool) -> Result<(), TypeFault>
+    ensures { Tells result (broken_of line rule holds) (λ _. Unit {0}) }
+{
+    if holds {
+        Ok(())
+    } else {
+        Err(TypeFault::At { line, rule })
+    }
+}

@@ -1,0 +1,30 @@
+//! Types, what expressions and names are, scopes, and the definitions of which rules a file
+//! breaks.
+#![tactic(auto)]
+
+mod assigned;
+mod endings;
+mod facts;
+mod fault;
+mod locals;
+mod operands;
+mod scopes;
+mod table;
+mod types;
+
+pub use assigned::{assigned_name, is_new};
+pub use endings::{Terminates, Panics};
+pub use facts::Fact;
+pub use fault::{TypeFault, require};
+pub use locals::{Local, Locals};
+pub use operands::{
+    BuiltIn, Given, Operand, Package, Signature, Where, copy_operand, given_type, type_of, value_of,
+};
+pub use scopes::{
+    FileScope, Imports, Entity, Member, Members, Naming, Scope, begin, copy_name, declare, end,
+    hide, is_blank, is_here, is_reserved, kind_at, may_be_declared, meaning_at, member_at, type_at,
+};
+pub use table::Table;
+pub use types::{
+    Base, GoType, Layer, copy_optional, plain, same_base, same_layers, same_type, with_layer,
+};

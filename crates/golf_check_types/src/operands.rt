@@ -1,0 +1,273 @@
+//! What an expression can be.
+
+ghost use Rattle.std.specs.Prelude.{◌≡◌, IfOk};
+ghost use Rattle.golf_check_types.specs.Types.{given as given_of, type_of as type_of_of, given_type as given_type_of, type_given, element};
+
+use crate::types::{Base, GoType, copy_optional, plain};
+use golf_base::{List, Memory};
+use std::alloc::Global;
+
+/// Where a variable stands.
+#[derive(Clone, Copy, Debug, PartialEq, Eq)]
+pub enum Where {
+    /// A slot of the function: receiver and parameters are numbered from 0, then one for each local
+    /// and each hidden name of a `range`, in source order.
+    Slot(u32),
+    /// The globals of a file are numbered from 0 in source order.
+    Global(u32),
+}
+
+/// The types of a function. `None` stands for a type that is not known.
+#[derive(Debug)]
+pub struct Signature {
+    pub parameters: List<Option<GoType>>,
+    /// None where the function has no result.
+    pub result: Option<GoType>,
+}
+
+impl Drop for Signature {
+    fn drop(self) {
+        let Signature {
+            parameters: _,
+            result: _,
+        } = self;
+    }
+}
+
+/// A package of the language.
+#[derive(Clone, Copy, Debug, PartialEq, Eq)]
+pub enum Package {
+    Fmt,
+    Runtime,
+    Sync,
+}
+
+/// What can be called and is no function of the file.
+#[derive(Clone, Copy, Debug, PartialEq, Eq)]
+pub enum BuiltIn {
+    /// `len`
+    Length,
+    /// `close`
+    Close,
+    /// `panic`
+    Panic,
+    /// `fmt.Println`
+    Print,
+    /// `runtime.GC`
+    Collect,
+    /// `runtime.SetFinalizer`
+    SetFinalizer,
+    /// `sync.NewCond`
+    NewCondition,
+    /// `Lock` of a mutex.
+    Lock,
+    /// `Unlock` of a mutex.
+    Unlock,
+    /// `Add` of a wait group.
+    Add,
+    /// `Done` of a wait group.
+    Done,
+    /// `Wait` of a wait group.
+    WaitGroup,
+    /// `Lock` of a reader and writer mutex.
+    WriteLock,
+    /// `Unlock` of a reader and writer mutex.
+    WriteUnlock,
+    /// `RLock`
+    ReadLock,
+    /// `RUnlock`
+    ReadUnlock,
+    /// `Wait` of a condition.
+    WaitCondition,
+    /// `Signal`
+    Signal,
+    /// `Broadcast`
+    Broadcast,
+}
+
+/// What an expression is. `None` stands for a type that is not known.
+#[derive(Debug)]
+pub enum Operand {
+    /// A value that stands nowhere.
+    Value(Option<GoType>),
+    /// What a call or a receive gives, which may be dropped.
+    Outcome(Option<GoType>),
+    /// The constants of a file are numbered from 0 in source order.
+    Constant(u32, Base),
+    /// `true` or `false`
+    Truth(bool),
+    Variable(Where, Option<GoType>),
+    /// A field, by its place in its struct.
+    Field(u32, Option<GoType>),
+    /// An element of a slice.
+    Element(Option<GoType>),
+    /// A field or a method of a value whose type is not known.
+    Unknown,
+    /// `nil`
+    Nil,
+    /// `_`
+    Blank,
+    /// A call without a result, and the rule that its arguments break, if any.
+    Nothing(Option<u32>),
+    /// Functions and methods of a file are numbered from 0 in source order.
+    Function(u32),
+    Method(u32),
+    BuiltIn(BuiltIn),
+    Package(Package),
+    /// A struct of the file.
+    Struct(u32),
+    /// `int`, `bool`, `string`, `make`, `new`, a type of a package, or a package in parentheses: a
+    /// name that is no value.
+    TypeName,
+}
+
+// Written out once here, so that no other crate goes through the variants where it lets an operand go.
+impl Drop for Operand {
+    fn drop(self) {
+        match self {
+            Operand::Value(_) => {}
+            Operand::Outcome(_) => {}
+            Operand::Constant(_, _) => {}
+            Operand::Truth(_) => {}
+            Operand::Variable(_, _) => {}
+            Operand::Field(_, _) => {}
+            Operand::Element(_) => {}
+            Operand::Unknown => {}
+            Operand::Nil => {}
+            Operand::Blank => {}
+            Operand::Nothing(_) => {}
+            Operand::Function(_) => {}
+            Operand::Method(_) => {}
+            Operand::BuiltIn(_) => {}
+            Operand::Package(_) => {}
+            Operand::Struct(_) => {}
+            Operand::TypeName => {}
+        }
+    }
+}
+
+impl Operand {
+    /// What it gives as a value.
+    pub fn into_given(self, alloc: Global) -> Given
+        ensures { result ≡ given_of self }
+    {
+        match self {
+            Operand::Value(t)
+            | Operand::Outcome(t)
+            | Operand::Variable(_, t)
+            | Operand::Field(_, t)
+            | Operand::Element(t) => given_type(t),
+            Operand::Constant(_, base) => Given::Typed(plain(alloc, base)),
+            Operand::Truth(_) => Given::Typed(plain(alloc, Base::Bool)),
+            Operand::Nil => Given::Nil,
+            Operand::Unknown
+            | Operand::Blank
+            | Operand::Nothing(_)
+            | Operand::Function(_)
+            | Operand::Method(_)
+            | Operand::BuiltIn(_)
+            | Operand::Package(_)
+            | Operand::Struct(_)
+            | Operand::TypeName => Given::Unknown,
+        }
+    }
+}
+
+/// What an expression gives where it stands as a value.
+#[derive(Debug)]
+pub enum Given {
+    Typed(GoType),
+    Nil,
+    /// A value whose type is not known breaks no rule.
+    Unknown,
+}
+
+impl Drop for Given {
+    fn drop(self) {
+        match self {
+            Given::Typed(_) => {}
+            Given::Nil => {}
+            Given::Unknown => {}
+        }
+    }
+}
+
+impl Given {
+    /// Its type, where it has one.
+    pub fn into_type(self) -> Option<GoType>
+        ensures { result ≡ type_given self }
+    {
+        match self {
+            Given::Typed(t) => Some(t),
+            Given::Nil | Given::Unknown => None,
+        }
+    }
+
+    /// What a slice has or a channel carries.
+    pub fn into_element(self) -> Option<GoType>
+        ensures { result ≡ element self }
+    {
+        match self {
+            Given::Typed(t) => t.into_element(),
+            Given::Nil | Given::Unknown => None,
+        }
+    }
+}
+
+/// What a type gives as a value.
+pub fn given_type(t: Option<GoType>) -> Given
+    ensures { result ≡ given_type_of t }
+{
+    match t {
+        None => Given::Unknown,
+        Some(t) => Given::Typed(t),
+    }
+}
+
+/// What an operand gives as a value.
+pub fn value_of(alloc: Global, operand: Operand) -> Given
+    ensures { result ≡ given_of operand }
+{
+    operand.into_given(alloc)
+}
+
+/// The type of an operand, where it has one.
+pub fn type_of(alloc: Global, operand: &Operand) -> Result<Option<GoType>, Memory>
+    ensures { IfOk result (λ t. t ≡ type_of_of operand.now) }
+{
+    match operand {
+        Operand::Value(t)
+        | Operand::Outcome(t)
+        | Operand::Variable(_, t)
+        | Operand::Field(_, t)
+        | Operand::Element(t) => Ok(copy_optional(alloc, t)?),
+        Operand::Constant(_, base) => Ok(Some(plain(alloc, *base))),
+        Operand::Truth(_) => Ok(Some(plain(alloc, Base::Bool))),
+        _ => Ok(None),
+    }
+}
+
+/// The same operand.
+pub fn copy_operand(alloc: Global, operand: &Operand) -> Result<Operand, Memory>
+    ensures { IfOk result (λ m. m ≡ operand.now) }
+{
+    match operand {
+        Operand::Value(t) => Ok(Operand::Value(copy_optional(alloc, t)?)),
+        Operand::Outcome(t) => Ok(Operand::Outcome(copy_optional(alloc, t)?)),
+        Operand::Constant(number, base) => Ok(Operand::Constant(*number, *base)),
+        Operand::Truth(b) => Ok(Operand::Truth(*b)),
+        Operand::Variable(place, t) => Ok(Operand::Variable(*place, copy_optional(alloc, t)?)),
+        Operand::Field(place, t) => Ok(Operand::Field(*place, copy_optional(alloc, t)?)),
+        Operand::Element(t) => Ok(Operand::Element(copy_optional(alloc, t)?)),
+        Operand::Unknown => Ok(Operand::Unknown),
+        Operand::Nil => Ok(Operand::Nil),
+        Operand::Blank => Ok(Operand::Blank),
+        Operand::Nothing(late) => Ok(Operand::Nothing(*late)),
+        Operand::Function(number) => Ok(Operand::Function(*number)),
+        Operand::Method(number) => Ok(Operand::Method(*number)),
+        Operand::BuiltIn(built_in) => Ok(Operand::BuiltIn(*built_in)),
+        Operand::Package(package) => Ok(Operand::Package(*package)),
+        Operand::Struct(number) => Ok(Operand::Struct(*number)),
+        Operand::TypeName => Ok(Operand::TypeName),
+    }
+}

@@ -1,0 +1,206 @@
+//! The facts of what is still to be written.
+
+ghost use Rattle.std.specs.Prelude.{◌≡◌, ◌∷◌, [], IfSome, IfNone};
+ghost use Rattle.golf_code_facts.specs.Facts.{skip as skip_of, skip_all as skip_all_of, past_one, next as next_of, next_is, operand_in as operand_in_of, parts_in as parts_in_of, number_in as number_in_of, field_in as field_in_of, hidden_in as hidden_in_of};
+
+use golf_check_types::{Fact, Operand};
+use std::marker::Model;
+
+/// The facts of what is still to be written, in the order of the checker's walk.
+#[derive(Drop)]
+pub struct Facts<'a> {
+    left: &'a [Fact],
+    // What an expression is that has no fact.
+    unknown: &'a Operand,
+}
+
+impl<'a> Model for Facts<'a> {
+    ghost use Rattle.std.specs.Prelude.{◌≡◌, List};
+    ghost use Rattle.golf_check_types.specs.declared.facts.Fact.{Fact};
+    ghost use Rattle.golf_check_types.specs.declared.operands.Operand.TheVariants as operand;
+
+    ghost Value = { List Fact };
+
+    ghost view = { λ f. f.left.now };
+
+    ghost invariant = { λ f. f.unknown.now ≡ operand.Unknown };
+}
+
+// What an expression is, or what is stored to.
+fn operand_in<'a>(fact: &'a Fact, unknown: &'a Operand) -> &'a Operand
+    requires { unknown.now ≡ Operand.Unknown }
+    ensures { result.now ≡ operand_in_of fact.now }
+{
+    match fact {
+        Fact::Expression { operand, parts: _ } => operand,
+        Fact::Target(operand) => operand,
+        Fact::Number(_)
+        | Fact::Field(_)
+        | Fact::Hidden(_)
+        | Fact::Part(_)
+        | Fact::Function {
+            arguments: _,
+            slots: _,
+            parts: _,
+        } => unknown,
+    }
+}
+
+fn parts_in(fact: &Fact) -> usize
+    ensures { result ≡ parts_in_of fact.now }
+{
+    match fact {
+        Fact::Expression { operand: _, parts } => *parts,
+        Fact::Part(parts) => *parts,
+        Fact::Function {
+            arguments: _,
+            slots: _,
+            parts,
+        } => *parts,
+        Fact::Number(_) | Fact::Field(_) | Fact::Target(_) | Fact::Hidden(_) => 0,
+    }
+}
+
+fn number_in(fact: &Fact) -> i64
+    ensures { result ≡ number_in_of fact.now }
+{
+    match fact {
+        Fact::Number(number) => *number,
+        _ => 0,
+    }
+}
+
+fn field_in(fact: &Fact) -> u32
+    ensures { result ≡ field_in_of fact.now }
+{
+    match fact {
+        Fact::Field(place) => *place,
+        _ => 0,
+    }
+}
+
+fn hidden_in(fact: &Fact) -> u32
+    ensures { result ≡ hidden_in_of fact.now }
+{
+    match fact {
+        Fact::Hidden(slot) => *slot,
+        _ => 0,
+    }
+}
+
+fn skipped(facts: &[Fact]) -> &[Fact]
+    ensures { result.now ≡ skip_of facts.now }
+{
+    match facts {
+        [] => facts,
+        [fact, rest @ ..] => {
+            let parts = parts_in(fact);
+            if parts < rest.len() {
+                &rest[parts..]
+            } else {
+                &[]
+            }
+        }
+    }
+}
+
+impl<'a> Facts<'a> {
+    /// These facts. An expression that has none is this.
+    pub fn new(facts: &'a [Fact], unknown: &'a Operand) -> Facts<'a>
+        requires { unknown.now ≡ Operand.Unknown }
+        ensures { result ≡ facts.now }
+    {
+        Facts {
+            left: facts,
+            unknown,
+        }
+    }
+
+    /// The same facts once more.
+    pub fn copy(&self) -> Facts<'a>
+        ensures { result ≡ self.now }
+    {
+        Facts {
+            left: self.left,
+            unknown: self.unknown,
+        }
+    }
+
+    /// Takes the next fact, if there is one.
+    pub fn take(&mut self) -> Option<&'a Fact>
+        ensures some { IfSome result (λ fact. self.old ≡ fact.now ∷ self.new) }
+        ensures none { IfNone result ((self.old ≡ []) × (self.new ≡ [])) }
+    {
+        match self.left {
+            [] => None,
+            [fact, rest @ ..] => {
+                self.left = rest;
+                Some(fact)
+            }
+        }
+    }
+
+    /// Passes over the next fact.
+    pub fn pass(&mut self)
+        ensures { self.new ≡ past_one self.old }
+    {
+        match self.left {
+            [] => {}
+            [_, rest @ ..] => self.left = rest,
+        }
+    }
+
+    /// Passes over the next fact and all that belong to it.
+    pub fn skip(&mut self)
+        ensures { self.new ≡ skip_of self.old }
+    {
+        self.left = skipped(self.left);
+    }
+
+    /// What the next expression is, or what is stored to next.
+    pub fn operand(&self) -> &'a Operand
+        ensures { result.now ≡ next_is self.now }
+    {
+        match self.left {
+            [] => self.unknown,
+            [fact, ..] => operand_in(fact, self.unknown),
+        }
+    }
+
+    /// What an expression is that has this fact.
+    pub fn operand_of(&self, fact: &'a Fact) -> &'a Operand
+        ensures { result.now ≡ operand_in_of fact.now }
+    {
+        operand_in(fact, self.unknown)
+    }
+
+    /// The value of an integer, or 0.
+    pub fn number(&self) -> i64
+        ensures { result ≡ number_in_of (next_of self.now) }
+    {
+        match self.left {
+            [] => 0,
+            [fact, ..] => number_in(fact),
+        }
+    }
+
+    /// The place of a field, or 0.
+    pub fn field(&self) -> u32
+        ensures { result ≡ field_in_of (next_of self.now) }
+    {
+        match self.left {
+            [] => 0,
+            [fact, ..] => field_in(fact),
+        }
+    }
+
+    /// The first hidden slot of a `range`, or 0.
+    pub fn hidden(&self) -> u32
+        ensures { result ≡ hidden_in_of (next_of self.now) }
+    {
+        match self.left {
+            [] => 0,
+            [fact, ..] => hidden_in(fact),
+        }
+    }
+}

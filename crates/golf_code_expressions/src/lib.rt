@@ -1,0 +1,19 @@
+//! The code of expressions, written by their facts to flat parts, from left to right in one walk over the tree.
+#![tactic(auto)]
+
+mod calls;
+mod expressions;
+mod facts;
+mod names;
+mod operators;
+mod places;
+mod values;
+mod writer;
+
+pub use calls::operation;
+pub use expressions::expression;
+pub use facts::Facts;
+pub use names::store;
+pub use places::{Place, left_side, read, twice, write};
+pub use values::{base_zero, count, push, zero_value};
+pub use writer::{Draft, Writer};

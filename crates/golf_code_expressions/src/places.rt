@@ -1,0 +1,168 @@
+//! Left sides: what tells a place, and how it is read and stored to.
+
+ghost use Rattle.std.specs.Prelude.{◌∷◌};
+ghost use Rattle.golf_code_layout.specs.Emission.{Adds};
+ghost use Rattle.golf_code_of.specs.Expressions.{name as name_of, selector, index};
+ghost use Rattle.golf_code_facts.specs.Facts.{skip};
+ghost use Rattle.golf_code_facts.specs.Expressions.{taking};
+ghost use Rattle.golf_code_expressions.specs.Places.{twice_of, read_of, store_of, IsVariable, Tells, TellsAll};
+
+use crate::expressions::expression;
+use crate::writer::Writer;
+use golf_base::{List, Memory};
+use golf_data::Instr;
+use golf_code_layout::{Emitted, op};
+use golf_syntax_trees::Expr;
+use golf_check_types::{Fact, Operand, Where};
+
+/// What stands on a left side.
+#[derive(Clone, Copy, Debug, PartialEq, Eq)]
+pub enum Place {
+    /// A variable in a slot or a global.
+    Variable(Where),
+    /// `_`, which drops the value.
+    Blank,
+    /// A field by its place, of the struct that was pushed.
+    Field(u32),
+    /// An element, of the slice and at the index that were pushed.
+    Element,
+    /// What is no place: no code.
+    Nothing,
+}
+
+/// Doubles what tells the place.
+pub fn twice(emitted: &mut List<Emitted>, line: u32, place: Place) -> Result<(), Memory>
+    ensures { Adds result (twice_of line place) emitted.old emitted.new }
+{
+    match place {
+        Place::Field(_) => op(emitted, line, Instr::Dup),
+        Place::Element => op(emitted, line, Instr::Dup2),
+        Place::Variable(_) => Ok(()),
+        Place::Blank => Ok(()),
+        Place::Nothing => Ok(()),
+    }
+}
+
+/// Turns what tells the place into its value.
+pub fn read(emitted: &mut List<Emitted>, line: u32, place: Place) -> Result<(), Memory>
+    ensures { Adds result (read_of line place) emitted.old emitted.new }
+{
+    match place {
+        Place::Variable(at) => match at {
+            Where::Slot(slot) => op(emitted, line, Instr::Load(slot)),
+            Where::Global(number) => op(emitted, line, Instr::LoadGlobal(number)),
+        },
+        Place::Field(field) => op(emitted, line, Instr::Field(field)),
+        Place::Element => op(emitted, line, Instr::Index),
+        Place::Blank => Ok(()),
+        Place::Nothing => Ok(()),
+    }
+}
+
+/// Takes what tells the place and a new value on top.
+pub fn write(emitted: &mut List<Emitted>, line: u32, place: Place) -> Result<(), Memory>
+    ensures { Adds result (store_of line place) emitted.old emitted.new }
+{
+    match place {
+        Place::Variable(at) => match at {
+            Where::Slot(slot) => op(emitted, line, Instr::Store(slot)),
+            Where::Global(number) => op(emitted, line, Instr::StoreGlobal(number)),
+        },
+        Place::Blank => op(emitted, line, Instr::Drop),
+        Place::Field(field) => op(emitted, line, Instr::SetField(field)),
+        Place::Element => op(emitted, line, Instr::SetIndex),
+        Place::Nothing => Ok(()),
+    }
+}
+
+// The place that a name is, if the name means this.
+fn named(operand: &Operand) -> Place
+    ensures { IsVariable operand.now result }
+{
+    match operand {
+        Operand::Variable(at, _) => Place::Variable(*at),
+        Operand::Blank => Place::Blank,
+        _ => Place::Nothing,
+    }
+}
+
+// What a selector is, after the struct that has the field.
+fn selected(writer: &mut Writer, line: u32, operand: &Operand, e: &Expr) -> Result<Place, Memory>
+    ensures { Tells line result (selector line operand.now (taking writer.old.draft.tables.now e.now line writer.old.facts).piece) writer.old writer.new }
+{
+    match operand {
+        Operand::Field(field, _) => {
+            expression(writer, line, e)?;
+            Ok(Place::Field(*field))
+        }
+        Operand::Value(_)
+        | Operand::Method(_)
+        | Operand::BuiltIn(_)
+        | Operand::Outcome(_)
+        | Operand::Constant(_, _)
+        | Operand::Truth(_)
+        | Operand::Variable(_, _)
+        | Operand::Element(_)
+        | Operand::Unknown
+        | Operand::Nil
+        | Operand::Blank
+        | Operand::Nothing(_)
+        | Operand::Function(_)
+        | Operand::Package(_)
+        | Operand::Struct(_)
+        | Operand::TypeName => Ok(Place::Nothing),
+    }
+}
+
+// An element, after the slice and the index.
+fn element(writer: &mut Writer, line: u32, a: &Expr, i: &Expr) -> Result<Place, Memory>
+    ensures { Tells line result (index line (taking writer.old.draft.tables.now a.now line writer.old.facts).piece (taking writer.old.draft.tables.now i.now line (skip writer.old.facts)).piece) writer.old writer.new }
+{
+    expression(writer, line, a)?;
+    expression(writer, line, i)?;
+    Ok(Place::Element)
+}
+
+// The left side has this fact, and its parts have those that come next.
+#[cycle(placing)]
+#[tactic(auto, unfolding(golf_code_facts::specs::Expressions::taking))]
+fn whole<'a>(writer: &mut Writer<'a>, line: u32, e: &Expr, fact: &'a Fact) -> Result<Place, Memory>
+    ensures { Tells line result (taking writer.old.draft.tables.now e.now line (fact.now ∷ writer.old.facts)) writer.old writer.new }
+{
+    let operand = writer.facts.operand_of(fact);
+    match e {
+        Expr::Name(_) => Ok(named(operand)),
+        Expr::Parens(e) => left_side(writer, line, e.get()),
+        Expr::Selector(e, _) => selected(writer, line, operand, e.get()),
+        Expr::Index(a, i) => element(writer, line, a.get(), i.get()),
+        Expr::Integer(_) => Ok(Place::Nothing),
+        Expr::Text(_) => Ok(Place::Nothing),
+        Expr::StructLiteral(_, _) => Ok(Place::Nothing),
+        Expr::SyncLiteral(_) => Ok(Place::Nothing),
+        Expr::SliceLiteral(_, _) => Ok(Place::Nothing),
+        Expr::EmptyLiteral => Ok(Place::Nothing),
+        Expr::Make(_) => Ok(Place::Nothing),
+        Expr::MakeSized(_, _) => Ok(Place::Nothing),
+        Expr::New(_) => Ok(Place::Nothing),
+        Expr::NewSync(_) => Ok(Place::Nothing),
+        Expr::Call(_, _) => Ok(Place::Nothing),
+        Expr::Unary(_, _) => Ok(Place::Nothing),
+        Expr::Binary(_, _, _) => Ok(Place::Nothing),
+    }
+}
+
+/// Adds what tells the place of a left side whose facts come next, passes over these, and says which kind of place
+/// it is.
+#[cycle(placing)]
+pub fn left_side(writer: &mut Writer, line: u32, e: &Expr) -> Result<Place, Memory>
+    ensures { TellsAll line result (taking writer.old.draft.tables.now e.now line writer.old.facts) (skip writer.old.facts) writer.old writer.new }
+{
+    let mut after = writer.facts.copy();
+    after.skip();
+    let Some(fact) = writer.facts.take() else {
+        return Ok(Place::Nothing);
+    };
+    let found = whole(writer, line, e, fact)?;
+    writer.facts = after;
+    Ok(found)
+}

@@ -1,0 +1,75 @@
+//! Lines and numbers of functions.
+
+ghost use Rattle.std.specs.Prelude.{◌≡◌, ◌+◌, false, length, is_some, IfOk};
+ghost use Rattle.golf_check_types.specs.Scopes.{meaning_in};
+ghost use Rattle.golf_code_of.specs.Files.{number_of_function as number_of_function_at, main_number as main_number_in, main_line as main_line_in, giving as giving_in};
+
+use golf_base::{List, Memory};
+use golf_check_names::{declares_main, line_of};
+use golf_syntax_trees::Decl;
+use golf_check_types::{FileScope, Entity};
+use std::alloc::Global;
+
+// What a name of the file means.
+fn meaning_of(file: &FileScope, name: &[u8]) -> Option<Entity>
+    ensures { result ≡ meaning_in file.now name.now }
+{
+    match file.names.number_of(name) {
+        None => None,
+        Some(number) => file.entities.as_slice().get(number).copied(),
+    }
+}
+
+fn number_of_function(meaning: Option<Entity>) -> Result<u32, Memory>
+    ensures { IfOk result (λ n. n ≡ number_of_function_at meaning) }
+{
+    match meaning {
+        Some(Entity::Function(number)) => Ok(number.checked_add(1).ok_or(Memory)?),
+        Some(Entity::Constant(_, _)) => Ok(0),
+        Some(Entity::Global(_)) => Ok(0),
+        Some(Entity::Struct(_)) => Ok(0),
+        None => Ok(0),
+    }
+}
+
+/// The number of `main`.
+pub fn main_number(file: &FileScope) -> Result<u32, Memory>
+    ensures { IfOk result (λ n. n ≡ main_number_in file.now) }
+{
+    number_of_function(meaning_of(file, b"main".as_slice()))
+}
+
+/// The line of `main`, or 0 where it is not declared.
+pub fn main_line(decls: &[Decl]) -> u32
+    ensures { result ≡ main_line_in decls.now }
+{
+    for decl in decls {
+        if declares_main(decl) {
+            return line_of(decl);
+        }
+    }
+    0
+}
+
+/// Which functions give a value.
+pub fn giving(alloc: Global, file: &FileScope) -> Result<List<bool>, Memory>
+    ensures { IfOk result (λ gives. gives ≡ giving_in file.now) }
+{
+    let functions = file.functions.as_slice();
+    let mut gives = List::new(alloc);
+    gives.push(false)?;
+    for function in functions {
+        gives.push(function.result.is_some())?;
+    }
+    Ok(gives)
+}
+
+/// The number of the first function that is made.
+pub fn first_made(file: &FileScope) -> Result<u32, Memory>
+    ensures { IfOk result (λ n. n ≡ length file.now.functions + 1) }
+{
+    match u32::try_from(file.functions.len()) {
+        Ok(count) => Ok(count.checked_add(1).ok_or(Memory)?),
+        Err(_) => Err(Memory),
+    }
+}

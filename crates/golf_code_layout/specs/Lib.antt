@@ -1,0 +1,4 @@
+pub mod Piece
+pub mod Depth
+pub mod Laws
+pub mod Emission

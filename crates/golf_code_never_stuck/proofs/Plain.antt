@@ -1,0 +1,65 @@
+-- The machine that frees and reclaims nothing is never stuck.
+use Rattle.std.proofs.Common.{ℕ, List, [], false}
+use Rattle.golf_theory.specs.Membership.{In}
+use Rattle.golf_data.specs.declared.code.Code.{Code}
+use Rattle.golf_model.specs.State.{State, start}
+use Rattle.golf_model.specs.Turn.{step}
+use Rattle.golf_model.specs.Collecting.{plain_collect}
+use Rattle.golf_model.specs.Running.{Event, run, stops}
+use Rattle.golf_model.specs.Futures.{Leads}
+use Rattle.golf_model_futures.proofs.Leading.{numbered-collect}
+use Rattle.golf_model_futures.proofs.Presence.{Sane, sane-start, sane-step, whole-collect}
+use Rattle.golf_model_futures.proofs.Stopping.{run-kept, stops-kept}
+use Rattle.golf_model_order.specs.Orderly.{IsOrderly}
+use Rattle.golf_model_order.proofs.Keeping.{order-step}
+use Rattle.golf_model_order.proofs.Leading.{leads-orderly}
+use Rattle.golf_model_typing.specs.Types.{ValueType, Typing}
+use Rattle.golf_model_typing.specs.Shapes.{HasShapes}
+use Rattle.golf_model_typing.specs.WellTyped.{WellTyped}
+use Rattle.golf_model_progress.proofs.Leading.{typed-real}
+use Rattle.golf_model_progress.proofs.Turning.{move-on, turns-keep-types, start-is-typed}
+use Rattle.golf_code_of.specs.Files.{CodeOf}
+use Rattle.golf_code_shapes.specs.FileLaws.{types_of_file}
+use Rattle.golf_code_never_stuck.specs.Laws.{PlainGoesOn, PlainRunsGoOn}
+use Rattle.golf_code_never_stuck.proofs.Reaching.{files-have-shapes}
+
+module _ (code : Code) (types : Typing) (shapes : HasShapes code types) where
+  -- what keeps a state from being stuck
+  record Sound (s : State) : Type 0 where
+    pub known : List (ℕ × ValueType)
+    pub typed : WellTyped types known s
+    pub sane : Sane s
+    pub orderly : IsOrderly s
+
+  sound-start : Sound (start code)
+  sound-start = record { known = []; typed = start-is-typed code types shapes; sane = sane-start code; orderly = leads-orderly code (start code) Leads.Start }
+
+  sound-step : (s : State) (c : ℕ) → Sound s → Sound (step code s c)
+  sound-step s c h =
+      let t = turns-keep-types code types h.known s c shapes h.typed h.sane.whole h.sane.numbered h.orderly in
+      record { known = t.0; typed = t.1; sane = sane-step code s c h.sane; orderly = order-step code s c h.sane.numbered.goroutines_rise h.orderly }
+
+  -- a collection that removes nobody queues the same finalisers
+  sound-collect : (s : State) → Sound s → Sound (plain_collect s)
+  sound-collect s h =
+      let w = h.typed in
+      let v = typed-real types h.known s w h.sane.numbered false false in record {
+        known = h.known;
+        typed = record { globals = w.globals; objects = w.objects; goroutines = w.goroutines; finalisers = v.finalisers; queue = v.queue; below = w.below; fresh = w.fresh };
+        sane = record { numbered = numbered-collect s h.sane.numbered; whole = whole-collect s h.sane.numbered h.sane.whole };
+        orderly = record { goroutines = h.orderly.goroutines; conditions = h.orderly.conditions };
+      }
+
+  sound-goes-on : (s : State) → Sound s → PlainGoesOn code s
+  sound-goes-on s h events c e =
+      let k = run-kept code Sound sound-step sound-collect events s h in
+      move-on code types k.known (run code s events) c shapes k.typed k.sane.whole k.sane.numbered k.orderly e
+
+  pub runs-go-on : PlainGoesOn code (start code) × ((events : List Event) (p : State) → In p (stops code events) → PlainGoesOn code p)
+  runs-go-on = (
+    sound-goes-on (start code) sound-start,
+    λ events p i. sound-goes-on p (stops-kept code Sound sound-step sound-collect events (start code) p sound-start i),
+  )
+
+pub plain-runs-go-on : PlainRunsGoOn
+plain-runs-go-on file p = let h = files-have-shapes file p in runs-go-on (CodeOf file) (record { of = types_of_file file; shapes = h.0 }) h.1

@@ -1,0 +1,11 @@
+-- What the calls that write statements without functions tell. After want of memory they tell nothing.
+use Rattle.std.specs.Prelude.{◌≡◌, Result, Ok, Err}
+use Rattle.golf_base.specs.declared.Memory.{Memory}
+use Rattle.golf_code_facts.specs.Statements.{PieceBy}
+use Rattle.golf_code_expressions.specs.declared.writer.Writer.{Writer}
+use Rattle.golf_code_expressions.specs.Writing.{with_piece}
+
+-- the code of a statement was added, and the facts after it are left
+abbrev pub Does : {A : Type 0} → Result A Memory → PieceBy → Writer → Writer → Type 0
+Does (Ok a) x old new = new ≡ record { facts = x.left; draft = with_piece old.draft x.piece }
+Does (Err e) x old new = Unit {0}

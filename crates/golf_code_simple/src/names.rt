@@ -1,0 +1,38 @@
+//! Values that are stored under names.
+
+ghost use Rattle.golf_code_facts.specs.Statements.{stores_next, stores_two, past_two, defines_by};
+ghost use Rattle.golf_code_expressions.specs.Writing.{Writes};
+ghost use Rattle.golf_code_simple.specs.Doing.{Does};
+
+use golf_base::Memory;
+use golf_syntax_trees::Expr;
+use golf_code_expressions::{Writer, expression, store};
+
+/// Stores what is on top under the name whose fact comes next.
+pub fn store_next(writer: &mut Writer, line: u32) -> Result<(), Memory>
+    ensures { Does result (stores_next line writer.old.draft.tables.now writer.old.facts) writer.old writer.new }
+{
+    let operand = writer.facts.operand();
+    writer.facts.pass();
+    store(&mut writer.draft.emitted, line, operand)
+}
+
+/// Stores two values under the two names whose facts come next. That of the second stands on top.
+pub fn store_two(writer: &mut Writer, line: u32) -> Result<(), Memory>
+    ensures { Writes result (stores_two line writer.old.draft.tables.now writer.old.facts) (past_two writer.old.facts) writer.old writer.new }
+{
+    let first = writer.facts.operand();
+    writer.facts.pass();
+    let second = writer.facts.operand();
+    writer.facts.pass();
+    store(&mut writer.draft.emitted, line, second)?;
+    store(&mut writer.draft.emitted, line, first)
+}
+
+/// An expression, whose value is stored under a name.
+pub fn define(writer: &mut Writer, line: u32, e: &Expr) -> Result<(), Memory>
+    ensures { Does result (defines_by writer.old.draft.tables.now line e.now writer.old.facts) writer.old writer.new }
+{
+    expression(writer, line, e)?;
+    store_next(writer, line)
+}

@@ -1,0 +1,54 @@
+-- Code for which no function is made, and one statement after another.
+use Rattle.std.proofs.Common.{◌≡◌, ℕ, ◌+◌, List, [], ◌∷◌, ◌++◌, length, ap, sym, ◌∙◌, append_assoc, append-nil, length-append, arith}
+use Rattle.std.specs.Prelude.{Result, Ok, Err}
+use Rattle.golf_base.specs.declared.Memory.{Memory}
+use Rattle.golf_check_types.specs.declared.facts.Fact.{Fact}
+use Rattle.golf_code_layout.specs.Piece.{Piece}
+use Rattle.golf_code_of.specs.declared.making.Making.{Making}
+use Rattle.golf_code_of.specs.Statements.{laid, follow}
+use Rattle.golf_code_layout.specs.declared.emitted.Emitted.{Emitted}
+use Rattle.golf_code_layout.specs.declared.emitted.Emitted.TheVariants as emit
+use Rattle.golf_code_layout.specs.Emission.{onto}
+use Rattle.golf_code_facts.specs.Statements.{LaidBy, by, branches}
+use Rattle.golf_code_expressions.specs.declared.writer.Draft.{Draft}
+use Rattle.golf_code_expressions.specs.declared.writer.Writer.{Writer}
+use Rattle.golf_code_expressions.specs.Writing.{with_piece, Writes}
+use Rattle.golf_code_statements.specs.Lays.{after, Lays}
+
+-- with these parts, these functions that are made, and so many before the next one
+abbrev pub drafted : Draft → List Emitted → List Making → ℕ → Draft
+drafted d ms made n = record d { emitted = ms; made = made; functions = n }
+
+abbrev pub written : List Fact → Draft → Writer
+written fs d = record { facts = fs; draft = d }
+
+pub nothing_made : (d : Draft) (ms : List Emitted) → record d { emitted = ms } ≡ drafted d ms (d.made ++ []) (d.functions + 0)
+nothing_made d ms =
+    ap (λ made. drafted d ms made d.functions) (sym (append-nil d.made))
+    ∙ ap (drafted d ms (d.made ++ [])) (let e : d.functions ≡ d.functions + 0 = omega arith in e)
+
+-- code for which no function is made
+pub quiet : (w : Writer) (p : Piece) (left : List Fact) → written left (with_piece w.draft p) ≡ after w (by (laid p) left)
+quiet w p left = ap (written left) (nothing_made w.draft (onto w.draft.emitted p))
+
+-- the same after any answer
+pub as_lays : {A : Type 0} (r : Result A Memory) (x : LaidBy) (p : Piece) (left : List Fact) (old new : Writer) → written left (with_piece old.draft p) ≡ after old x → Writes r p left old new → Lays r x old new
+as_lays (Ok a) x p left old new e h = h ∙ e
+as_lays (Err k) x p left old new e h = tt
+
+-- what one statement makes, and then another
+pub made_twice : (d : Draft) (ms : List Emitted) (xs ys : List Making) → drafted d ms ((d.made ++ xs) ++ ys) (d.functions + length xs + length ys) ≡ drafted d ms (d.made ++ (xs ++ ys)) (d.functions + length (xs ++ ys))
+made_twice d ms xs ys =
+    ap (λ made. drafted d ms made (d.functions + length xs + length ys)) (append_assoc d.made xs ys)
+    ∙ ap (drafted d ms (d.made ++ (xs ++ ys))) (let e : d.functions + length xs + length ys ≡ d.functions + length (xs ++ ys) = omega (arith, length-append xs ys) in e)
+
+pub laid_twice : (w : Writer) (x y : LaidBy) → after (after w x) y ≡ after w (by (follow x.laid y.laid) y.left)
+laid_twice w x y = ap (written y.left) (made_twice w.draft (onto (onto w.draft.emitted x.laid.piece) y.laid.piece) x.laid.made y.laid.made)
+
+-- the first of two branches, which leads to the end of both, and the second
+pub branches_laid : (l : ℕ) (w : Writer) (x y : LaidBy)
+    → (let first = after (written w.facts (record w.draft { emitted = (w.draft.emitted ++ emit.Block ∷ []) ++ emit.Block ∷ [] })) x in
+    let second = after (written first.facts (record first.draft { emitted = onto first.draft.emitted (Piece.Exit l 1) ++ emit.End ∷ [] })) y in
+    written second.facts (record second.draft { emitted = second.draft.emitted ++ emit.End ∷ [] }))
+    ≡ after w (by (branches l x.laid y.laid) y.left)
+branches_laid l w x y = ap (written y.left) (made_twice w.draft (onto w.draft.emitted (branches l x.laid y.laid).piece) x.laid.made y.laid.made)

@@ -1,0 +1,152 @@
+//! What stands around the bodies of loops.
+
+ghost use Rattle.std.specs.Prelude.{◌≡◌, ◌+◌, [], ◌∷◌, ◌++◌, pos, OnOk, IfOk};
+ghost use Rattle.golf_check_types.specs.Types.{is_slice as is_slice_layer, given, given_type, starts_with};
+ghost use Rattle.golf_check_types.specs.Statements.{is_outer};
+ghost use Rattle.golf_code_layout.specs.Piece.{Piece, all, op as op_of};
+ghost use Rattle.golf_code_layout.specs.Emission.{Adds, onto};
+ghost use Rattle.golf_code_layout.specs.declared.emitted.Emitted.TheVariants as emit;
+ghost use Rattle.golf_code_facts.specs.Facts.{skip};
+ghost use Rattle.golf_code_facts.specs.Expressions.{taking};
+ghost use Rattle.golf_code_facts.specs.Loops.{optional_test as optional_test_of};
+ghost use Rattle.golf_code_expressions.specs.Writing.{Writes};
+ghost use Rattle.golf_code_simple.specs.Doing.{Does};
+
+use golf_base::{List, Memory};
+use golf_data::Instr;
+use golf_code_layout::{Emitted, again, block, end, exit, op, unless};
+use golf_syntax_trees::{Expr, OwnedExpr};
+use golf_check_types::{GoType, Layer, Operand};
+use golf_code_expressions::{Writer, expression};
+
+/// The end and the beginning of a loop become targets.
+pub fn begin_round(emitted: &mut List<Emitted>) -> Result<(), Memory>
+    ensures { OnOk result (emitted.new ≡ (emitted.old ++ emit.Block ∷ []) ++ emit.Again ∷ []) }
+{
+    block(emitted)?;
+    again(emitted)
+}
+
+/// A loop goes on at its beginning.
+pub fn end_round(emitted: &mut List<Emitted>, line: u32) -> Result<(), Memory>
+    ensures { OnOk result (emitted.new ≡ (onto emitted.old (Piece.Exit line 0) ++ emit.End ∷ []) ++ emit.End ∷ []) }
+{
+    exit(emitted, line, 0)?;
+    end(emitted)?;
+    end(emitted)
+}
+
+/// A condition; if it is false, it goes on at a target.
+pub fn condition(writer: &mut Writer, line: u32, test: &Expr, target: u32) -> Result<(), Memory>
+    ensures { Writes result (all ((taking writer.old.draft.tables.now test.now line writer.old.facts).piece ∷ Piece.Unless line target ∷ [])) (skip writer.old.facts) writer.old writer.new }
+{
+    expression(writer, line, test)?;
+    unless(&mut writer.draft.emitted, line, target)
+}
+
+/// A condition of a loop, if there is one.
+pub fn optional_test(writer: &mut Writer, line: u32, test: &Option<OwnedExpr>) -> Result<(), Memory>
+    ensures { Does result (optional_test_of writer.old.draft.tables.now line test.now writer.old.facts) writer.old writer.new }
+{
+    match test {
+        None => Ok(()),
+        Some(test) => condition(writer, line, test.get(), 1),
+    }
+}
+
+fn begins_slice(layers: &[Layer]) -> bool
+    ensures { result ≡ starts_with is_slice_layer layers.now }
+{
+    match layers {
+        [Layer::Slice, _rest @ ..] => true,
+        _ => false,
+    }
+}
+
+fn slice_type(t: &Option<GoType>) -> bool
+    ensures { result ≡ is_outer is_slice_layer (given_type t.now) }
+{
+    match t {
+        None => false,
+        Some(t) => begins_slice(t.layers.as_slice()),
+    }
+}
+
+/// Whether a value is a slice.
+pub fn is_slice(operand: &Operand) -> bool
+    ensures { result ≡ is_outer is_slice_layer (given operand.now) }
+{
+    match operand {
+        Operand::Value(t)
+        | Operand::Outcome(t)
+        | Operand::Variable(_, t)
+        | Operand::Field(_, t)
+        | Operand::Element(t) => slice_type(t),
+        Operand::Constant(_, _)
+        | Operand::Truth(_)
+        | Operand::Unknown
+        | Operand::Nil
+        | Operand::Blank
+        | Operand::Nothing(_)
+        | Operand::Function(_)
+        | Operand::Method(_)
+        | Operand::BuiltIn(_)
+        | Operand::Package(_)
+        | Operand::Struct(_)
+        | Operand::TypeName => false,
+    }
+}
+
+/// The slot that stands so many after another.
+pub fn slot_after(slot: u32, count: u32) -> Result<u32, Memory>
+    ensures { IfOk result (λ k. k ≡ slot + count) }
+{
+    slot.checked_add(count).ok_or(Memory)
+}
+
+/// The hidden slots of a `range` over a slice take the slice, its length and the first index.
+pub fn store_slice(
+    emitted: &mut List<Emitted>,
+    line: u32,
+    slice: u32,
+    length: u32,
+    index: u32,
+) -> Result<(), Memory>
+    ensures { Adds result (all (op_of line (Instr.Store slice) ∷ op_of line (Instr.Load slice) ∷ op_of line Instr.Len ∷ op_of line (Instr.Store length) ∷ op_of line (Instr.Int (pos 0)) ∷ op_of line (Instr.Store index) ∷ [])) emitted.old emitted.new }
+{
+    op(emitted, line, Instr::Store(slice))?;
+    op(emitted, line, Instr::Load(slice))?;
+    op(emitted, line, Instr::Len)?;
+    op(emitted, line, Instr::Store(length))?;
+    op(emitted, line, Instr::Int(0))?;
+    op(emitted, line, Instr::Store(index))
+}
+
+/// Whether the index is below the length.
+pub fn test_index(emitted: &mut List<Emitted>, line: u32, length: u32, index: u32) -> Result<(), Memory>
+    ensures { Adds result (all (op_of line (Instr.Load index) ∷ op_of line (Instr.Load length) ∷ op_of line Instr.Less ∷ Piece.Unless line 1 ∷ [])) emitted.old emitted.new }
+{
+    op(emitted, line, Instr::Load(index))?;
+    op(emitted, line, Instr::Load(length))?;
+    op(emitted, line, Instr::Less)?;
+    unless(emitted, line, 1)
+}
+
+/// The next index.
+pub fn step_index(emitted: &mut List<Emitted>, line: u32, index: u32) -> Result<(), Memory>
+    ensures { Adds result (all (op_of line (Instr.Load index) ∷ op_of line (Instr.Int (pos 1)) ∷ op_of line Instr.Add ∷ op_of line (Instr.Store index) ∷ [])) emitted.old emitted.new }
+{
+    op(emitted, line, Instr::Load(index))?;
+    op(emitted, line, Instr::Int(1))?;
+    op(emitted, line, Instr::Add)?;
+    op(emitted, line, Instr::Store(index))
+}
+
+/// Receives from the channel in a hidden slot, as long as it is open.
+pub fn receive_open(emitted: &mut List<Emitted>, line: u32, channel: u32) -> Result<(), Memory>
+    ensures { Adds result (all (op_of line (Instr.Load channel) ∷ op_of line Instr.ReceiveOk ∷ Piece.Unless line 1 ∷ [])) emitted.old emitted.new }
+{
+    op(emitted, line, Instr::Load(channel))?;
+    op(emitted, line, Instr::ReceiveOk)?;
+    unless(emitted, line, 1)
+}

@@ -1,0 +1,144 @@
+//! The second pass: the lines, with the targets put in.
+
+ghost use Rattle.std.specs.Prelude.{◌≡◌, map, IfOk, OnOk};
+ghost use Rattle.std.specs.Option.{option_map};
+ghost use Rattle.golf_code_layout.specs.Piece.{target as target_of, case_at};
+ghost use Rattle.golf_code_targets.specs.Passes.{rest, with_line, entered, line_step, line_steps, no_lines as none_yet};
+
+use crate::copies::copy_instr;
+use crate::stack::Stack;
+use golf_base::{List, Memory};
+use golf_data::{Instr, CodeLine, SelectCase};
+use golf_code_layout::Emitted;
+use std::alloc::Global;
+
+/// The lines of a body, as far as a pass over parts has come.
+#[derive(Drop)]
+pub struct Body {
+    /// The targets of the blocks around.
+    pub around: Stack<u32>,
+    /// How many blocks have begun.
+    pub next: usize,
+    pub lines: List<CodeLine>,
+}
+
+fn no_lines(alloc: Global) -> Body
+    ensures { result ≡ none_yet }
+{
+    Body {
+        around: Stack::new(alloc),
+        next: 0,
+        lines: List::new(alloc),
+    }
+}
+
+// The place of a target, counted from the innermost one.
+#[tactic(auto, using(crate::proofs::Looks::target_got))]
+fn target(around: &Stack<u32>, number: u32) -> u32
+    ensures { result ≡ target_of around.now number }
+{
+    around.get(number as usize).unwrap_or(0)
+}
+
+fn cases(
+    alloc: Global,
+    around: &Stack<u32>,
+    cases: &[SelectCase],
+) -> Result<List<SelectCase>, Memory>
+    ensures { IfOk result (λ cs. cs ≡ map (case_at around.now) cases.now) }
+{
+    let mut placed = List::new(alloc);
+    for case in cases {
+        placed.push(SelectCase {
+            kind: case.kind,
+            target: target(around, case.target),
+        })?;
+    }
+    Ok(placed)
+}
+
+fn optional_target(around: &Stack<u32>, number: Option<u32>) -> Option<u32>
+    ensures { result ≡ option_map (target_of around.now) number }
+{
+    match number {
+        None => None,
+        Some(number) => Some(target(around, number)),
+    }
+}
+
+fn add_line(body: &mut Body, instr: Instr, line: u32) -> Result<(), Memory>
+    ensures { OnOk result (body.new ≡ with_line body.old instr line) }
+{
+    body.lines.push(CodeLine { instr, line })?;
+    Ok(())
+}
+
+fn add_choice(
+    alloc: Global,
+    body: &mut Body,
+    line: u32,
+    choice: &[SelectCase],
+    otherwise: Option<u32>,
+) -> Result<(), Memory>
+    ensures { OnOk result (body.new ≡ with_line body.old (Instr.Select (map (case_at body.old.around) choice.now) (option_map (target_of body.old.around) otherwise)) line) }
+{
+    let placed = cases(alloc, &body.around, choice)?;
+    let default = optional_target(&body.around, otherwise);
+    add_line(body, Instr::Select(placed, default), line)
+}
+
+// A block begins, and its target is the next one.
+fn enter(found: &[u32], body: &mut Body) -> Result<(), Memory>
+    ensures { OnOk result (body.new ≡ entered found.now body.old) }
+{
+    let target = found.get(body.next).copied().unwrap_or(0);
+    body.around.push(target)?;
+    body.next = body.next.checked_add(1).ok_or(Memory)?;
+    Ok(())
+}
+
+fn leave(body: &mut Body)
+    ensures { body.new ≡ record body.old { around = rest body.old.around } }
+{
+    body.around.pop();
+}
+
+fn step(alloc: Global, found: &[u32], body: &mut Body, part: &Emitted) -> Result<(), Memory>
+    ensures { OnOk result (body.new ≡ line_step found.now part.now body.old) }
+{
+    match part {
+        Emitted::Op(instr, line) => {
+            let copy = copy_instr(alloc, instr)?;
+            add_line(body, copy, *line)
+        }
+        Emitted::Exit(line, number) => {
+            let place = target(&body.around, *number);
+            add_line(body, Instr::Jump(place), *line)
+        }
+        Emitted::Unless(line, number) => {
+            let place = target(&body.around, *number);
+            add_line(body, Instr::JumpIfNot(place), *line)
+        }
+        Emitted::Choose(line, cases, otherwise) => {
+            add_choice(alloc, body, *line, cases.as_slice(), *otherwise)
+        }
+        Emitted::Block => enter(found, body),
+        Emitted::Again => enter(found, body),
+        Emitted::End => {
+            leave(body);
+            Ok(())
+        }
+    }
+}
+
+/// The lines of a body whose blocks have these targets.
+pub fn lines_of(alloc: Global, found: &[u32], emitted: &[Emitted]) -> Result<List<CodeLine>, Memory>
+    ensures { IfOk result (λ lines. lines ≡ (line_steps found.now emitted.now none_yet).lines) }
+{
+    let mut body = no_lines(alloc);
+    for part in emitted {
+        step(alloc, found, &mut body, part)?;
+    }
+    let Body { lines, .. } = body;
+    Ok(lines)
+}

@@ -1,0 +1,50 @@
+//! From parts to functions.
+
+ghost use Rattle.std.specs.Prelude.{◌≡◌, IfOk};
+ghost use Rattle.golf_code_targets.specs.Passes.{lines_of as lines_in};
+ghost use Rattle.golf_code_targets.specs.Functions.{IsFunction};
+
+use crate::bodies::lines_of;
+use crate::heights::most_of;
+use crate::targets::targets_of;
+use golf_base::{List, Memory};
+use golf_data::{Function, CodeLine};
+use golf_code_layout::Emitted;
+use golf_live::live;
+use std::alloc::Global;
+
+fn body_of(alloc: Global, emitted: &[Emitted]) -> Result<List<CodeLine>, Memory>
+    ensures { IfOk result (λ lines. lines ≡ lines_in emitted.now) }
+{
+    let found = targets_of(alloc, emitted)?;
+    lines_of(alloc, found.as_slice(), emitted)
+}
+
+/// The function that these parts are the code of, where these functions give a value.
+///
+/// # Errors
+///
+/// `Memory` also where the body has more instructions, or more operands stand at a place, than a `u32` can count. No body of a
+/// file that is read has so many instructions (`golf_code_places`).
+pub fn function(
+    alloc: Global,
+    gives: &[bool],
+    params: u32,
+    slots: u32,
+    line: u32,
+    emitted: &[Emitted],
+) -> Result<Function, Memory>
+    ensures { IfOk result (λ f. IsFunction gives.now params slots line emitted.now f) }
+{
+    let body = body_of(alloc, emitted)?;
+    let depth = most_of(alloc, gives, emitted)?;
+    let live = live(alloc, slots, body.as_slice())?;
+    Ok(Function {
+        params,
+        slots,
+        depth,
+        line,
+        body,
+        live,
+    })
+}

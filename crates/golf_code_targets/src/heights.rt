@@ -1,0 +1,281 @@
+//! The third pass: the most operands that stand at a place.
+
+ghost use Rattle.std.specs.Prelude.{◌≡◌, ◌-◌, ◌∷◌, ◌<◌, true, false, Some, None, max, IfOk, OnOk};
+ghost use Rattle.std.specs.Option.{option_map};
+ghost use Rattle.golf_code_layout.specs.Depth.{height as height_of, met as met_of, reached, behind as behind_of, through as through_of, above as above_of, case_left as left_by_case, case_taken as taken_by_case, cases_taken as taken_by_cases, innermost, outer};
+ghost use Rattle.golf_code_targets.specs.Passes.{rest};
+ghost use Rattle.golf_code_targets.specs.Heights.{stands, leads, takes_in, choice_flow, case_chosen, cases_chosen, default_chosen, end_height, height_step, no_heights as none_yet, most_of as most_in};
+
+use crate::instructions::{goes_on, left, taken};
+use crate::stack::Stack;
+use golf_base::{List, Memory};
+use golf_data::{CaseKind, Instr, SelectCase};
+use golf_code_layout::Emitted;
+use std::alloc::Global;
+
+/// How many operands stand at places, as far as a pass over parts has come.
+#[derive(Drop)]
+pub struct Heights {
+    /// The most so far.
+    pub most: u32,
+    /// How many stand here; None where no way leads here.
+    pub here: Option<u32>,
+    /// Whether the target of each block around is its end.
+    pub kinds: Stack<bool>,
+    /// How many stand at the target of each block around, as far as it is led to.
+    pub targets: Stack<Option<u32>>,
+}
+
+fn no_heights(alloc: Global) -> Heights
+    ensures { result ≡ none_yet }
+{
+    Heights {
+        most: 0,
+        here: Some(0),
+        kinds: Stack::new(alloc),
+        targets: Stack::new(alloc),
+    }
+}
+
+// How many operands stand behind an instruction that has so many before it.
+fn through(gives: &[bool], instr: &Instr, before: u32) -> Result<Option<u32>, Memory>
+    ensures { IfOk result (λ h. h ≡ through_of gives.now instr.now before) }
+{
+    let rest = before.saturating_sub(taken(instr));
+    let after = rest.checked_add(left(gives, instr)).ok_or(Memory)?;
+    if goes_on(instr) {
+        Ok(Some(after))
+    } else {
+        Ok(None)
+    }
+}
+
+fn behind(gives: &[bool], instr: &Instr, before: Option<u32>) -> Result<Option<u32>, Memory>
+    ensures { IfOk result (λ h. h ≡ behind_of gives.now instr.now before) }
+{
+    match before {
+        None => Ok(None),
+        Some(before) => through(gives, instr, before),
+    }
+}
+
+fn height(h: Option<u32>) -> u32
+    ensures { result ≡ height_of h }
+{
+    h.unwrap_or(0)
+}
+
+fn met(h: Option<u32>, other: Option<u32>) -> Option<u32>
+    ensures { result ≡ met_of h other }
+{
+    match h {
+        None => other,
+        Some(n) => Some(n),
+    }
+}
+
+fn lower(h: Option<u32>, by: u32) -> Option<u32>
+    ensures { result ≡ option_map (λ n. n - by) h }
+{
+    match h {
+        None => None,
+        Some(n) => Some(n.saturating_sub(by)),
+    }
+}
+
+fn raise(h: Option<u32>, by: u32) -> Result<Option<u32>, Memory>
+    ensures { IfOk result (λ r. r ≡ above_of h by) }
+{
+    match h {
+        None => Ok(None),
+        Some(n) => Ok(Some(n.checked_add(by).ok_or(Memory)?)),
+    }
+}
+
+// A target is led to with so many operands.
+#[tactic(auto, using(crate::proofs::Looks::reached_there, crate::proofs::Looks::reached_past))]
+fn reach(targets: &mut Stack<Option<u32>>, number: u32, h: Option<u32>)
+    ensures { targets.new ≡ reached targets.old number h }
+{
+    match targets.get(number as usize) {
+        None => {}
+        Some(target) => targets.set(number as usize, met(target, h)),
+    }
+}
+
+// So many operands stand here now.
+fn stand(heights: &mut Heights, after: Option<u32>)
+    ensures { heights.new ≡ stands after heights.old }
+{
+    heights.most = heights.most.max(height(after));
+    heights.here = after;
+}
+
+fn operate(heights: &mut Heights, gives: &[bool], instr: &Instr) -> Result<(), Memory>
+    ensures { OnOk result (heights.new ≡ stands (behind_of gives.now instr.now heights.old.here) heights.old) }
+{
+    let after = behind(gives, instr, heights.here)?;
+    stand(heights, after);
+    Ok(())
+}
+
+fn exit(heights: &mut Heights, number: u32)
+    ensures { heights.new ≡ record heights.old { here = None; targets = reached heights.old.targets number heights.old.here } }
+{
+    reach(&mut heights.targets, number, heights.here);
+    heights.here = None;
+}
+
+fn unless(heights: &mut Heights, number: u32)
+    ensures { heights.new ≡ leads number (option_map (λ n. n - 1) heights.old.here) (stands (option_map (λ n. n - 1) heights.old.here) heights.old) }
+{
+    let after = lower(heights.here, 1);
+    stand(heights, after);
+    reach(&mut heights.targets, number, after);
+}
+
+fn case_left(kind: CaseKind) -> u32
+    ensures { result ≡ left_by_case kind }
+{
+    match kind {
+        CaseKind::Send => 0,
+        CaseKind::Take => 1,
+        CaseKind::TakeOk => 2,
+    }
+}
+
+fn case_taken(kind: CaseKind) -> u32
+    ensures { result ≡ taken_by_case kind }
+{
+    match kind {
+        CaseKind::Send => 2,
+        CaseKind::Take => 1,
+        CaseKind::TakeOk => 1,
+    }
+}
+
+fn cases_taken(cases: &[SelectCase]) -> Result<u32, Memory>
+    ensures { IfOk result (λ n. n ≡ taken_by_cases cases.now) }
+{
+    let mut sum = 0u32;
+    for case in cases {
+        sum = sum.checked_add(case_taken(case.kind)).ok_or(Memory)?;
+    }
+    Ok(sum)
+}
+
+// The target of a case is led to.
+fn choose_case(heights: &mut Heights, below: Option<u32>, case: SelectCase) -> Result<(), Memory>
+    ensures { OnOk result (heights.new ≡ case_chosen below case heights.old) }
+{
+    let after = raise(below, case_left(case.kind))?;
+    heights.most = heights.most.max(height(after));
+    reach(&mut heights.targets, case.target, after);
+    Ok(())
+}
+
+fn choose_cases(
+    heights: &mut Heights,
+    below: Option<u32>,
+    cases: &[SelectCase],
+) -> Result<(), Memory>
+    ensures { OnOk result (heights.new ≡ cases_chosen below cases.now heights.old) }
+{
+    for case in cases {
+        choose_case(heights, below, *case)?;
+    }
+    Ok(())
+}
+
+// The target of `default` is led to, where there is one; the next place is not.
+fn choose_default(heights: &mut Heights, below: Option<u32>, otherwise: Option<u32>)
+    ensures { heights.new ≡ default_chosen below otherwise heights.old }
+{
+    heights.here = None;
+    match otherwise {
+        None => {}
+        Some(number) => reach(&mut heights.targets, number, below),
+    }
+}
+
+#[tactic(auto, using(crate::proofs::Looks::choice_taken))]
+fn choose(heights: &mut Heights, cases: &[SelectCase], otherwise: Option<u32>) -> Result<(), Memory>
+    ensures { OnOk result (heights.new ≡ takes_in heights.old (choice_flow cases.now otherwise heights.old)) }
+{
+    let taken = cases_taken(cases)?;
+    let below = lower(heights.here, taken);
+    choose_cases(heights, below, cases)?;
+    choose_default(heights, below, otherwise);
+    Ok(())
+}
+
+fn begin_block(heights: &mut Heights) -> Result<(), Memory>
+    ensures { OnOk result (heights.new ≡ record heights.old { kinds = true ∷ heights.old.kinds; targets = None ∷ heights.old.targets }) }
+{
+    heights.kinds.push(true)?;
+    heights.targets.push(None)?;
+    Ok(())
+}
+
+fn begin_again(heights: &mut Heights) -> Result<(), Memory>
+    ensures { OnOk result (heights.new ≡ record heights.old { kinds = false ∷ heights.old.kinds; targets = heights.old.here ∷ heights.old.targets }) }
+{
+    heights.kinds.push(false)?;
+    heights.targets.push(heights.here)?;
+    Ok(())
+}
+
+fn pop_target(targets: &mut Stack<Option<u32>>) -> Option<u32>
+    ensures first { result ≡ innermost targets.old }
+    ensures others { targets.new ≡ outer targets.old }
+{
+    match targets.pop() {
+        None => None,
+        Some(target) => target,
+    }
+}
+
+fn end(heights: &mut Heights)
+    ensures { heights.new ≡ record heights.old { here = end_height heights.old.kinds heights.old.here heights.old.targets; kinds = rest heights.old.kinds; targets = outer heights.old.targets } }
+{
+    let target = pop_target(&mut heights.targets);
+    match heights.kinds.pop() {
+        None => {}
+        Some(false) => {}
+        Some(true) => heights.here = met(heights.here, target),
+    }
+}
+
+fn step(gives: &[bool], heights: &mut Heights, part: &Emitted) -> Result<(), Memory>
+    ensures { OnOk result (heights.new ≡ height_step gives.now part.now heights.old) }
+{
+    match part {
+        Emitted::Op(instr, _) => operate(heights, gives, instr),
+        Emitted::Exit(_, number) => {
+            exit(heights, *number);
+            Ok(())
+        }
+        Emitted::Unless(_, number) => {
+            unless(heights, *number);
+            Ok(())
+        }
+        Emitted::Choose(_, cases, otherwise) => choose(heights, cases.as_slice(), *otherwise),
+        Emitted::Block => begin_block(heights),
+        Emitted::Again => begin_again(heights),
+        Emitted::End => {
+            end(heights);
+            Ok(())
+        }
+    }
+}
+
+/// The most operands that stand at a place of these parts, where these functions give a value.
+pub fn most_of(alloc: Global, gives: &[bool], emitted: &[Emitted]) -> Result<u32, Memory>
+    ensures { IfOk result (λ most. most ≡ most_in gives.now emitted.now) }
+{
+    let mut heights = no_heights(alloc);
+    for part in emitted {
+        step(gives, &mut heights, part)?;
+    }
+    Ok(heights.most)
+}

@@ -1,0 +1,106 @@
+//! The first pass: the target of each block.
+
+ghost use Rattle.std.specs.Prelude.{◌≡◌, ◌+◌, ◌∷◌, ◌++◌, [], Some, None, length, slice_set, OnOk, IfOk};
+ghost use Rattle.golf_code_targets.specs.Passes.{rest, ended, target_step, no_targets as none_yet, targets_of as found_in};
+
+use crate::stack::Stack;
+use golf_base::{List, Memory};
+use golf_code_layout::Emitted;
+use std::alloc::Global;
+
+/// The targets of blocks, as far as a pass over parts has come.
+#[derive(Drop)]
+pub struct Targets {
+    /// The place of the next instruction.
+    pub at: u32,
+    /// The blocks around, and for each that waits for its end, which target is then known.
+    pub waiting: Stack<Option<usize>>,
+    /// The target of each block that has begun.
+    pub found: List<u32>,
+}
+
+fn no_targets(alloc: Global) -> Targets
+    ensures { result ≡ none_yet }
+{
+    Targets {
+        at: 0,
+        waiting: Stack::new(alloc),
+        found: List::new(alloc),
+    }
+}
+
+// An instruction is gone past.
+fn pass(targets: &mut Targets) -> Result<(), Memory>
+    ensures { OnOk result (targets.new ≡ record targets.old { at = targets.old.at + 1 }) }
+{
+    targets.at = targets.at.checked_add(1).ok_or(Memory)?;
+    Ok(())
+}
+
+// A block begins, whose target is its end.
+fn begin_block(targets: &mut Targets) -> Result<(), Memory>
+    ensures { OnOk result (targets.new ≡ record targets.old { waiting = Some (length targets.old.found) ∷ targets.old.waiting; found = targets.old.found ++ 0 ∷ [] }) }
+{
+    let place = targets.found.len();
+    targets.waiting.push(Some(place))?;
+    targets.found.push(0)?;
+    Ok(())
+}
+
+// A block begins, whose target is its beginning.
+fn begin_again(targets: &mut Targets) -> Result<(), Memory>
+    ensures { OnOk result (targets.new ≡ record targets.old { waiting = None ∷ targets.old.waiting; found = targets.old.found ++ targets.old.at ∷ [] }) }
+{
+    targets.waiting.push(None)?;
+    targets.found.push(targets.at)?;
+    Ok(())
+}
+
+// Puts a target in its place, where there is one.
+fn put(found: &mut List<u32>, place: usize, target: u32)
+    ensures { found.new ≡ slice_set found.old place target }
+{
+    if place < found.len() {
+        found.set(place, target);
+    }
+}
+
+// A block ends.
+fn end(targets: &mut Targets)
+    ensures { targets.new ≡ record targets.old { waiting = rest targets.old.waiting; found = ended targets.old.at targets.old.waiting targets.old.found } }
+{
+    match targets.waiting.pop() {
+        None => {}
+        Some(None) => {}
+        Some(Some(place)) => put(&mut targets.found, place, targets.at),
+    }
+}
+
+fn step(targets: &mut Targets, part: &Emitted) -> Result<(), Memory>
+    ensures { OnOk result (targets.new ≡ target_step part.now targets.old) }
+{
+    match part {
+        Emitted::Op(_, _) => pass(targets),
+        Emitted::Exit(_, _) => pass(targets),
+        Emitted::Unless(_, _) => pass(targets),
+        Emitted::Choose(_, _, _) => pass(targets),
+        Emitted::Block => begin_block(targets),
+        Emitted::Again => begin_again(targets),
+        Emitted::End => {
+            end(targets);
+            Ok(())
+        }
+    }
+}
+
+/// The target of each block, in the order in which the blocks begin.
+pub fn targets_of(alloc: Global, emitted: &[Emitted]) -> Result<List<u32>, Memory>
+    ensures { IfOk result (λ found. found ≡ found_in emitted.now) }
+{
+    let mut targets = no_targets(alloc);
+    for part in emitted {
+        step(&mut targets, part)?;
+    }
+    let Targets { found, .. } = targets;
+    Ok(found)
+}

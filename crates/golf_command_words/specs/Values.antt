@@ -1,0 +1,63 @@
+-- The values of options: numbers and schedules (profile).
+use Rattle.std.specs.Prelude.{◌≡◌, ◌++◌, ℕ, zero, suc, ◌+◌, ◌-◌, ◌*◌, ◌^◌, ◌&&◌, ◌==◌, Bool, true, false, if◌then◌else◌, List, [], ◌∷◌, length, Option, Some, None, option_and_then, option_map, nat_lt, nat_le, codes, bytes_eq}
+use Rattle.std.specs.List.{position_or_len, before_first, after_first}
+use Rattle.golf_run_schedules.specs.declared.schedule.Schedule.{Schedule}
+
+-- the bytes of a word or of a part of one
+abbrev pub Text : Type 0
+Text = List ℕ
+
+-- what stands before and behind the first c of a text that has one
+abbrev pub cut : ℕ → Text → Option (Text × Text)
+cut c text =
+    if nat_lt (position_or_len (λ b. b == c) text) (length text)
+    then Some (before_first (λ b. b == c) text, after_first (λ b. b == c) text) else None
+
+-- ---- numbers
+
+abbrev pub is_digit : ℕ → Bool
+is_digit b = nat_le 48 b && nat_le b 57
+
+-- the number that digits write behind those of n; none where a byte is no digit, or past 2^64 - 1
+abbrev pub digits_after : ℕ → Text → Option ℕ
+digits_after n [] = Some n
+digits_after n (b ∷ bs) =
+    if is_digit b && nat_lt (n * 10 + (b - 48)) (2 ^ 64) then digits_after (n * 10 + (b - 48)) bs else None
+
+-- one to twenty decimal digits, leading zeros allowed
+abbrev pub number_of : Text → Option ℕ
+number_of text = if nat_le 1 (length text) && nat_le (length text) 20 then digits_after 0 text else None
+
+abbrev pub if_within : ℕ → ℕ → ℕ → Option ℕ
+if_within least most n = if nat_le least n && nat_le n most then Some n else None
+
+abbrev pub number_within : ℕ → ℕ → Text → Option ℕ
+number_within least most text = option_and_then (if_within least most) (number_of text)
+
+-- ---- schedules
+
+-- what a list comes to whose first number was cut off at a comma, and whose rest is read by `next`
+abbrev pub after_comma : Option (Text × Text) → Text → (Text → Option (List ℕ)) → Option (List ℕ)
+after_comma None text next = option_map (λ n. n ∷ []) (number_of text)
+after_comma (Some parts) text next = option_and_then (λ n. option_map (λ ns. n ∷ ns) (next parts.1)) (number_of parts.0)
+
+-- one number or more, at most so many, with a comma (44) between two of them
+unfoldable pub numbers_of : ℕ → Text → Option (List ℕ)
+numbers_of zero text = None
+numbers_of (suc more) text = after_comma (cut 44 text) text (numbers_of more)
+
+abbrev pub schedule_with : Option (Text × Text) → Text → Option Schedule
+schedule_with None text = if bytes_eq (codes "rotate") text then Some Schedule.Rotate else None
+schedule_with (Some parts) text =
+    if bytes_eq (codes "seed") parts.0 then option_map (λ n. Schedule.Seed n) (number_of parts.1)
+    else (if bytes_eq (codes "choices") parts.0 then option_map (λ ns. Schedule.Choices ns) (numbers_of 4096 parts.1)
+    else None)
+
+-- `rotate`, `seed:N` or `choices:N,N,..`
+abbrev pub schedule_of : Text → Option Schedule
+schedule_of text = schedule_with (cut 58 text) text
+
+-- a list that gained the numbers that were read; a text that is no list may leave some
+abbrev pub Gains : Option (List ℕ) → List ℕ → List ℕ → Bool → Type 0
+Gains None old new is_list = is_list ≡ false
+Gains (Some ns) old new is_list = (is_list ≡ true) × (new ≡ old ++ ns)

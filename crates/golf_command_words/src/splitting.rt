@@ -1,0 +1,126 @@
+//! The words, split by `clap`.
+
+ghost use Rattle.std.specs.Prelude.{◌≡◌, IfOk, false, map, option_and_then, string_bytes};
+ghost use Rattle.clap.specs.declared.builder.Command.TheViews.{out-Command};
+ghost use Rattle.clap.specs.Walk.{rule_of};
+ghost use Rattle.clap.specs.Simple.{app_of, subcommand_rows_of, with_rule};
+ghost use Rattle.golf_command_words.specs.Splitting.{flag as flag_rule, generate_app, golf_app, meaning_app, nameless_app, positional as positional_rule, program_app, run_app, split_of, valued};
+
+use clap::error::ErrorKind;
+use clap::{Arg, ArgAction, ArgMatches, Command};
+use golf_base::Memory;
+use std::alloc::{AllocError, Global};
+
+// An option with a value.
+fn option<'a>(alloc: Global, name: &'a str) -> Arg<'a>
+    ensures rule { rule_of result ≡ valued name.now }
+    ensures local { result.global ≡ false }
+{
+    Arg::new(alloc, name).long(name).action(ArgAction::Set)
+}
+
+// An option without one.
+fn flag<'a>(alloc: Global, name: &'a str) -> Arg<'a>
+    ensures rule { rule_of result ≡ flag_rule name.now }
+    ensures local { result.global ≡ false }
+{
+    Arg::new(alloc, name).long(name).action(ArgAction::SetTrue)
+}
+
+fn positional<'a>(alloc: Global, name: &'a str) -> Arg<'a>
+    ensures rule { rule_of result ≡ positional_rule name.now }
+    ensures local { result.global ≡ false }
+{
+    Arg::new(alloc, name).action(ArgAction::Set)
+}
+
+// The command with one argument more.
+fn with<'a>(command: Command<'a>, arg: Arg<'a>) -> Result<Command<'a>, AllocError>
+    requires { arg.global ≡ false }
+    ensures rule { IfOk result (λ more. app_of more ≡ with_rule (app_of command.entry) (rule_of arg.entry)) }
+    ensures local { IfOk result (λ more. (out-Command more).has_globals ≡ (out-Command command.entry).has_globals) }
+{
+    command.arg(arg)
+}
+
+// `run`, with its options.
+fn run_command<'a>(alloc: Global) -> Result<Command<'a>, AllocError>
+    ensures app { IfOk result (λ command. app_of command ≡ run_app) }
+    ensures local { IfOk result (λ command. (out-Command command).has_globals ≡ false) }
+{
+    let bare = Command::new(alloc, "run");
+    let one = with(bare, option(alloc, "schedule"))?;
+    let two = with(one, option(alloc, "turns"))?;
+    let three = with(two, option(alloc, "every"))?;
+    let four = with(three, option(alloc, "markers"))?;
+    let five = with(four, option(alloc, "threads"))?;
+    let six = with(five, flag(alloc, "recover"))?;
+    let seven = with(six, flag(alloc, "why"))?;
+    Ok(seven)
+}
+
+// `generate`, with its number.
+fn generate_command<'a>(alloc: Global) -> Result<Command<'a>, AllocError>
+    ensures app { IfOk result (λ command. app_of command ≡ generate_app) }
+    ensures local { IfOk result (λ command. (out-Command command).has_globals ≡ false) }
+{
+    let bare = Command::new(alloc, "generate");
+    let one = with(bare, positional(alloc, "number"))?;
+    Ok(one)
+}
+
+// `meaning`, which takes nothing.
+fn meaning_command<'a>(alloc: Global) -> Command<'a>
+    ensures app { app_of result ≡ meaning_app }
+    ensures local { (out-Command result).has_globals ≡ false }
+{
+    Command::new(alloc, "meaning")
+}
+
+// The program without its subcommands, of words without its name, and without the flag of help.
+fn nameless<'a>(alloc: Global) -> Command<'a>
+    ensures app { app_of result ≡ nameless_app }
+    ensures local { (out-Command result).has_globals ≡ false }
+{
+    Command::new(alloc, "golf")
+        .no_binary_name(true)
+        .disable_help_flag(true)
+}
+
+// The same without any word of help and version.
+fn program<'a>(alloc: Global) -> Command<'a>
+    ensures app { app_of result ≡ program_app }
+    ensures local { (out-Command result).has_globals ≡ false }
+{
+    nameless(alloc)
+        .disable_help_subcommand(true)
+        .disable_version_flag(true)
+}
+
+// The program.
+fn whole<'a>(alloc: Global) -> Result<Command<'a>, AllocError>
+    ensures { IfOk result (λ command. app_of command ≡ golf_app) }
+{
+    let bare = program(alloc);
+    let run = run_command(alloc)?;
+    let one = bare.subcommand(run)?;
+    let generate = generate_command(alloc)?;
+    let two = one.subcommand(generate)?;
+    let three = two.subcommand(meaning_command(alloc))?;
+    Ok(three)
+}
+
+/// What `clap` makes of the words; none where it refuses them.
+pub(crate) fn split<'a>(
+    alloc: Global,
+    words: &'a [String],
+) -> Result<Option<ArgMatches<'a>>, Memory>
+    ensures { IfOk result (λ found. option_and_then subcommand_rows_of found ≡ split_of (map string_bytes words.now)) }
+{
+    let command = whole(alloc)?;
+    match command.try_get_matches_from(words) {
+        Ok(matches) => Ok(Some(matches)),
+        Err(error) if error.kind() == ErrorKind::OutOfMemory => Err(Memory),
+        Err(_) => Ok(None),
+    }
+}

@@ -1,0 +1,112 @@
+//! The values of options.
+
+ghost use Rattle.std.specs.Prelude.{◌≡◌, option_map, IfOk};
+ghost use Rattle.golf_command_words.specs.Values.{cut, digits_after as digits_behind, Gains, number_of, number_within as number_between, numbers_of, schedule_of};
+
+use golf_base::{List, Memory};
+use golf_run_schedules::Schedule;
+use std::alloc::Global;
+
+/// The most numbers of a schedule that is written out.
+const CHOICES: u32 = 4_096;
+
+// The number that digits write behind those of `number`.
+fn digits_after(number: u64, text: &[u8]) -> Option<u64>
+    ensures { result ≡ digits_behind number text.now }
+{
+    let Some((digit, rest)) = text.split_first() else {
+        return Some(number);
+    };
+    if !digit.is_ascii_digit() {
+        return None;
+    }
+    let tens = number.checked_mul(10)?;
+    let next = tens.checked_add(u64::from(*digit - b'0'))?;
+    digits_after(next, rest)
+}
+
+// One to twenty decimal digits, at most 2^64 - 1.
+fn number(text: &str) -> Option<u64>
+    ensures { result ≡ number_of text.now }
+{
+    if text.is_empty() || text.len() > 20 {
+        return None;
+    }
+    digits_after(0, text.as_bytes())
+}
+
+/// A number from `least` to `most`.
+pub(crate) fn number_within(least: u32, most: u32, text: &str) -> Option<u32>
+    ensures { result ≡ number_between least most text.now }
+{
+    let number = number(text)?;
+    if u64::from(least) <= number && number <= u64::from(most) {
+        Some(number as u32)
+    } else {
+        None
+    }
+}
+
+// What stands before and behind the first comma.
+fn at_comma(text: &str) -> Option<(&str, &str)>
+    ensures { option_map (λ parts. (parts.0.now, parts.1.now)) result ≡ cut 44 text.now }
+{
+    text.split_once(',')
+}
+
+// What stands before and behind the first colon.
+fn at_colon(text: &str) -> Option<(&str, &str)>
+    ensures { option_map (λ parts. (parts.0.now, parts.1.now)) result ≡ cut 58 text.now }
+{
+    text.split_once(':')
+}
+
+// Adds the numbers of a written list, of which `more` may come. It answers whether the text is such
+// a list.
+fn add_numbers(list: &mut List<u64>, more: u32, text: &str) -> Result<bool, Memory>
+    ensures { IfOk result (Gains (numbers_of more text.now) list.old list.new) }
+{
+    if more == 0 {
+        return Ok(false);
+    }
+    match at_comma(text) {
+        None => match number(text) {
+            Some(last) => {
+                list.push(last)?;
+                Ok(true)
+            }
+            None => Ok(false),
+        },
+        Some((first, rest)) => match number(first) {
+            Some(first) => {
+                list.push(first)?;
+                add_numbers(list, more - 1, rest)
+            }
+            None => Ok(false),
+        },
+    }
+}
+
+fn choices(alloc: Global, text: &str) -> Result<Option<Schedule>, Memory>
+    ensures { IfOk result (λ schedule. schedule ≡ option_map (λ ns. Schedule.Choices ns) (numbers_of CHOICES text.now)) }
+{
+    let mut list = List::new(alloc);
+    if add_numbers(&mut list, CHOICES, text)? {
+        Ok(Some(Schedule::Choices(list)))
+    } else {
+        Ok(None)
+    }
+}
+
+/// `rotate`, `seed:N` or `choices:N,N,..`.
+pub(crate) fn schedule(alloc: Global, text: &str) -> Result<Option<Schedule>, Memory>
+    ensures { IfOk result (λ schedule. schedule ≡ schedule_of text.now) }
+{
+    match at_colon(text) {
+        None if text == "rotate" => Ok(Some(Schedule::Rotate)),
+        None => Ok(None),
+        Some((kind, seed)) if kind == "seed" => Ok(number(seed).map(Schedule::Seed)),
+        Some((kind, list)) if kind == "choices" => choices(alloc, list),
+        Some(_) => Ok(None),
+    }
+}

@@ -1,5 +1,0 @@
-use Rattle.golf_expressions.proofs.Found.{expressions-found}
-use Rattle.golf_expressions.proofs.laws.expressions_found.Goals as goal
-
-pub returns : goal.returns
-returns c = expressions-found

@@ -1,5 +1,0 @@
-use Rattle.golf_expressions.proofs.Found.{expressions-read}
-use Rattle.golf_expressions.proofs.laws.expressions_read.Goals as goal
-
-pub returns : goal.returns
-returns c = expressions-read

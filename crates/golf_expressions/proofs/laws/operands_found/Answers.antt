@@ -1,5 +1,0 @@
-use Rattle.golf_expressions.proofs.Found.{operands-found}
-use Rattle.golf_expressions.proofs.laws.operands_found.Goals as goal
-
-pub returns : goal.returns
-returns c = operands-found

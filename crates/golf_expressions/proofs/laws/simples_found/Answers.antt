@@ -1,5 +1,0 @@
-use Rattle.golf_expressions.proofs.Found.{simples-found}
-use Rattle.golf_expressions.proofs.laws.simples_found.Goals as goal
-
-pub returns : goal.returns
-returns c = simples-found

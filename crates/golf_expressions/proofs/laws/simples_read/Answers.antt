@@ -1,5 +1,0 @@
-use Rattle.golf_expressions.proofs.Found.{simples-read}
-use Rattle.golf_expressions.proofs.laws.simples_read.Goals as goal
-
-pub returns : goal.returns
-returns c = simples-read

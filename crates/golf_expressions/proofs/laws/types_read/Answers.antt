@@ -1,5 +1,0 @@
-use Rattle.golf_expressions.proofs.Found.{types-read}
-use Rattle.golf_expressions.proofs.laws.types_read.Goals as goal
-
-pub returns : goal.returns
-returns c = types-read

@@ -1,5 +1,0 @@
-use Rattle.golf_facts.proofs.Expressions.{expressions-follow}
-use Rattle.golf_facts.proofs.expressions_follow.Goals as goal
-
-pub returns : goal.returns
-returns c = expressions-follow

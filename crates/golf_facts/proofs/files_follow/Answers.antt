@@ -1,5 +1,0 @@
-use Rattle.golf_facts.proofs.Files.{files-follow}
-use Rattle.golf_facts.proofs.files_follow.Goals as goal
-
-pub returns : goal.returns
-returns c = files-follow

@@ -1,7 +1,0 @@
-use Rattle.golf_generate.proofs.Joins.{whole}
-use Rattle.golf_generate.proofs.file.generate.Goals as goal
-
-pub returns : goal.returns
-returns c =
-    whole c.args.count _ _ _ _ _ _ c.new-text.ensures c.in_ok-extend_from_slice.ensures.ok c.in_ok-add_parts.ensures c.in_ok-extend_from_slice-2.ensures.ok
-    c.in_ok-add_calls.ensures c.in_ok-add_tail.ensures

@@ -1,8 +1,0 @@
-//! The generated file: one that leaves many goroutines blocked for ever, and many that are not.
-#![tactic(auto)]
-
-mod file;
-mod summary;
-
-pub use file::{file_lines, generate};
-pub use summary::{Summary, summary_line};

@@ -1,8 +1,0 @@
-pub mod Words
-pub mod Types
-pub mod Expressions
-pub mod Simple
-pub mod Statements
-pub mod Declarations
-pub mod Pieces
-pub mod Reads

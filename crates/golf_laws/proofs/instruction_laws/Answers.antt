@@ -1,8 +1,0 @@
-use Rattle.golf_laws.proofs.MainLaws as Law
-use Rattle.golf_laws.proofs.instruction_laws.Goals as goal
-
-pub returns-clause-moves : goal.returns-clause-moves
-returns-clause-moves c = Law.instructions_move_members
-
-pub returns-clause-same : goal.returns-clause-same
-returns-clause-same c = Law.instructions_same

@@ -1,5 +1,0 @@
-use Rattle.golf_laws.proofs.MainLaws as Law
-use Rattle.golf_laws.proofs.real_runs_agree.Goals as goal
-
-pub returns : goal.returns
-returns c = Law.real_runs_agree

@@ -1,5 +1,0 @@
-use Rattle.golf_laws.proofs.MainLaws as Law
-use Rattle.golf_laws.proofs.references_are_present.Goals as goal
-
-pub returns : goal.returns
-returns c = Law.references_are_present

@@ -1,5 +1,0 @@
-use Rattle.golf_laws.proofs.MainLaws as Law
-use Rattle.golf_laws.proofs.reported_are_still.Goals as goal
-
-pub returns : goal.returns
-returns c = Law.reported_are_still

@@ -1,8 +1,0 @@
-use Rattle.golf_laws.proofs.MainLaws as Law
-use Rattle.golf_laws.proofs.turn_laws.Goals as goal
-
-pub returns-clause-keep : goal.returns-clause-keep
-returns-clause-keep c = Law.turns_keep
-
-pub returns-clause-same : goal.returns-clause-same
-returns-clause-same c = Law.turns_cut

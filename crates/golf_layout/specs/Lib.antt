@@ -1,3 +1,0 @@
-pub mod Piece
-pub mod Depth
-pub mod Laws

@@ -1,5 +1,0 @@
-use Rattle.golf_layout_shapes.proofs.Bodies.{bodies-fit}
-use Rattle.golf_layout_shapes.proofs.bodies_fit.Goals as goal
-
-pub returns : goal.returns
-returns c = bodies-fit

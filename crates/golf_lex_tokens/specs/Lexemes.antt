@@ -1,0 +1,82 @@
+-- The bytes of a file cut into blanks, comments and tokens (Go specification, "Comments", "Tokens").
+use Rattle.std.specs.Prelude.{◌≡◌, ℕ, ◌<◌, Bool, true, false, ◌&&◌, ◌||◌, not, nat_eq, List, [], ◌∷◌, ◌++◌, length, codes}
+use Rattle.std.specs.List.{list_all}
+use Rattle.golf_lex_tokens.specs.declared.token.TokenKind.{TokenKind}
+use Rattle.golf_lex_tokens.specs.declared.token.TokenKind.TheVariants.{Integer, Punctuation as PunctuationToken}
+use Rattle.golf_lex_tokens.specs.declared.token.Punctuation.TheVariants.{Slash}
+use Rattle.golf_lex_tokens.specs.Bytes.{is_blank, is_word_byte}
+use Rattle.golf_lex_tokens.specs.Spelling.{Spells}
+
+-- what a lexeme of a file is
+pub data Class : Type 0 where
+  Blank : Class
+  LineComment : Class
+  GeneralComment : Class
+  Of : TokenKind → Class
+
+-- a lexeme, and its bytes
+pub record Lexeme : Type 0 where
+  pub class : Class
+  pub bytes : List ℕ
+
+abbrev pub lexemes_text : List Lexeme → List ℕ
+lexemes_text [] = []
+lexemes_text (p ∷ ps) = p.bytes ++ lexemes_text ps
+
+-- `*/` stands somewhere in the bytes
+abbrev pub has_end : List ℕ → Bool
+has_end [] = false
+has_end (b ∷ []) = false
+has_end (b ∷ c ∷ bs) = (nat_eq b 42 && nat_eq c 47) || has_end (c ∷ bs)
+
+abbrev pub is_nonzero : ℕ → Bool
+is_nonzero b = not (nat_eq b 0)
+
+-- `//` and what stands behind it on its line; no comment has a NUL
+pub record IsLineComment (bytes : List ℕ) : Type 0 where
+  pub body : List ℕ
+  pub spelled : bytes ≡ codes "//" ++ body
+  pub valid : list_all (λ b. is_nonzero b && not (nat_eq b 10)) body ≡ true
+
+-- `/*` and all up to the first `*/` behind it, which is that after the body
+pub record IsGeneralComment (bytes : List ℕ) : Type 0 where
+  pub body : List ℕ
+  pub spelled : bytes ≡ codes "/*" ++ (body ++ codes "*/")
+  pub valid : list_all is_nonzero body ≡ true
+  pub first : has_end (body ++ codes "*") ≡ false
+
+-- the bytes are such a lexeme
+abbrev pub Forms : Class → List ℕ → Type 0
+Forms Blank bytes = (b : ℕ) × (bytes ≡ b ∷ []) × (is_blank b ≡ true)
+Forms LineComment bytes = IsLineComment bytes
+Forms GeneralComment bytes = IsGeneralComment bytes
+Forms (Of kind) bytes = Spells kind bytes
+
+-- no longer front of the bytes and of what follows them spells a token
+abbrev pub IsLongest : List ℕ → List ℕ → Type 0
+IsLongest bytes rest =
+    (longer behind : List ℕ) → bytes ++ rest ≡ longer ++ behind → length bytes < length longer → (kind : TokenKind) → Spells kind longer → ⊥
+
+-- the bytes begin with a byte that passes
+abbrev pub begins : (ℕ → Bool) → List ℕ → Bool
+begins test [] = false
+begins test (b ∷ bs) = test b
+
+-- no `/` stands right before a `/` or a `*`, and no letter, `_` or digit right behind an integer
+abbrev pub stands_clear : TokenKind → List ℕ → Bool
+stands_clear (Integer digits) rest = not (begins is_word_byte rest)
+stands_clear (PunctuationToken Slash) rest = not (begins (λ b. nat_eq b 47 || nat_eq b 42) rest)
+stands_clear _ rest = true
+
+-- Such a lexeme may stand before the rest: a line comment goes to the end of its line, and a token is the longest.
+abbrev pub MayPrecede : Class → List ℕ → List ℕ → Type 0
+MayPrecede Blank bytes rest = Unit {0}
+MayPrecede LineComment bytes [] = Unit {0}
+MayPrecede LineComment bytes (b ∷ rest) = b ≡ 10
+MayPrecede GeneralComment bytes rest = Unit {0}
+MayPrecede (Of kind) bytes rest = IsLongest bytes rest × (stands_clear kind rest ≡ true)
+
+-- each is a lexeme, and may stand before those behind it
+abbrev pub Cut : List Lexeme → Type 0
+Cut [] = Unit {0}
+Cut (p ∷ ps) = Forms p.class p.bytes × MayPrecede p.class p.bytes (lexemes_text ps) × Cut ps

@@ -1,9 +1,0 @@
-use Rattle.golf_laws.proofs.Leading.{leads-numbered}
-use Rattle.golf_state_laws.proofs.Leading.{leads-whole}
-use Rattle.golf_machine_bench.proofs.pairs.blocked_state.Goals as goal
-
-pub returns-clause-numbered : goal.returns-clause-numbered
-returns-clause-numbered c = leads-numbered c.in_ok-code.code c.in_ok-state.state c.in_ok-state.ensures
-
-pub returns-clause-whole : goal.returns-clause-whole
-returns-clause-whole c = leads-whole c.in_ok-code.code c.in_ok-state.state c.in_ok-state.ensures

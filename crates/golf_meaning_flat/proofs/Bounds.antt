@@ -1,0 +1,224 @@
+-- Two meanings by bounds agree.
+use Rattle.std.proofs.Common.{◌≡◌, ℕ, zero, suc, ◌+◌, ◌<◌, ◌≤◌, ◌==◌, Bool, true, false, cond, List, [], ◌∷◌, ◌++◌, Option, Some, None, refl, ap, sym, ◌∙◌, subst, ⊎_elim, slice_get, arith, append_assoc, append-nil, ℤ, int_lt, int_le}
+use Rattle.std.proofs.lemmas.Bool.{cases_lt}
+use Rattle.golf_data.specs.declared.value.Value.{Value}
+use Rattle.golf_data.specs.declared.code.Instr.{Instr}
+use Rattle.golf_data.specs.declared.code.CodeLine.{CodeLine}
+use Rattle.golf_data.specs.declared.code.SelectCase.{SelectCase}
+use Rattle.golf_model.specs.Values.{int_of, bool_of, equality, is_zero}
+use Rattle.golf_model.specs.Calculating.{sum, difference, product, quotient, remainder}
+use Rattle.golf_meaning_flat.specs.Worlds.{Misfit, Operation, Answer, Halt, End, Told, World, Part, halted, bind, asks, asked, done, pushed}
+use Rattle.golf_meaning_flat.specs.Doing.{Frame, Act, on_some, one, two, some_from, chosen_by, negated, inverted, ints, computed, divided, compared, equated, Doing, doing}
+use Rattle.golf_meaning_flat.specs.Doing as D
+use Rattle.golf_meaning_flat.specs.Flat.{on_clause, targets, lower, clause_of, picks, tests, Next, ended, does, at_line, exec}
+use Rattle.golf_meaning_flat.specs.Laws.{BeginsWith, IsPrefix, Within, Agree, Enough, Done, NeverUnfit, BothWays}
+
+begins-self : (os : List Operation) → BeginsWith os os
+begins-self os = ([], sym (append-nil os))
+
+begins-then : (a b c : List Operation) → BeginsWith b a → BeginsWith c b → BeginsWith c a
+begins-then a b c h k = (h.0 ++ k.0, k.1 ∙ ap (λ x. x ++ k.0) h.1 ∙ append_assoc a h.0 k.0)
+
+-- what is done before stays done
+
+abbrev Keeps : {A : Type 0} → List Operation → Part A → Type 0
+Keeps os (Part.Gives a u) = BeginsWith u.operations os
+Keeps os (Part.Stops h done) = BeginsWith done os
+
+keeps-some : {A X : Type 0} (w : World) (f : X → Part A) (m : Option X) → ((x : X) → Keeps w.operations (f x)) → Keeps w.operations (on_some f w m)
+keeps-some w f None h = begins-self w.operations
+keeps-some w f (Some x) h = h x
+
+keeps-one : {A : Type 0} (w : World) (f : Value → List Value → Part A) (vs : List Value) → ((x : Value) (rest : List Value) → Keeps w.operations (f x rest)) → Keeps w.operations (one w f vs)
+keeps-one w f [] h = begins-self w.operations
+keeps-one w f (v ∷ vs) h = h v vs
+
+keeps-two : {A : Type 0} (w : World) (f : Value → Value → List Value → Part A) (vs : List Value) → ((x y : Value) (rest : List Value) → Keeps w.operations (f x y rest)) → Keeps w.operations (two w f vs)
+keeps-two w f [] h = begins-self w.operations
+keeps-two w f (v ∷ []) h = begins-self w.operations
+keeps-two w f (y ∷ x ∷ vs) h = h x y vs
+
+keeps-from : {A : Type 0} (w : World) (n : ℕ) (acc ops : List Value) (f : List Value → List Value → Part A) → ((vs rest : List Value) → Keeps w.operations (f vs rest)) → Keeps w.operations (some_from w n acc f ops)
+keeps-from w zero acc ops f h = h acc ops
+keeps-from w (suc n) acc [] f h = begins-self w.operations
+keeps-from w (suc n) acc (v ∷ ops) f h = keeps-from w n (v ∷ acc) ops f h
+
+keeps-bind : {A B : Type 0} (os : List Operation) (p : Part A) (f : A → World → Part B) → Keeps os p → ((a : A) (u : World) → Keeps u.operations (f a u)) → Keeps os (bind p f)
+keeps-bind {B = B} os (Part.Gives a u) f h k = keeps-on (f a u) (k a u)
+  where
+    keeps-on : (q : Part B) → Keeps u.operations q → Keeps os q
+    keeps-on (Part.Gives b v) r = begins-then os u.operations v.operations h r
+    keeps-on (Part.Stops s done) r = begins-then os u.operations done h r
+keeps-bind {B = B} os (Part.Stops s done) f h k = h
+
+keeps-asked : (os : List Operation) (o : Operation) (xs : List Answer) → Keeps os (asked xs (os ++ o ∷ []))
+keeps-asked os o [] = (o ∷ [], refl)
+keeps-asked os o (a ∷ more) = (o ∷ [], refl)
+
+keeps-asks : (i : Instr) (vs : List Value) (w : World) → Keeps w.operations (asks i vs w)
+keeps-asks i vs w = keeps-asked w.operations (record { instr = i; operands = vs }) w.answers
+
+keeps-chosen : {A : Type 0} (os : List Operation) (b : Bool) (p q : Part A) → Keeps os p → Keeps os q → Keeps os (chosen_by b p q)
+keeps-chosen os true p q h k = h
+keeps-chosen os false p q h k = k
+
+abbrev KeepsAct : Act → Type 0
+KeepsAct f = (c : Frame) (w : World) → Keeps w.operations (f c w)
+
+abbrev KeepsDoing : Doing → Type 0
+KeepsDoing (Doing.Acts f) = KeepsAct f
+KeepsDoing _ = Unit {0}
+
+keeps-push : (v : Value) → KeepsAct (D.pushes v)
+keeps-push v c w = begins-self w.operations
+
+keeps-on-one : (f : World → Value → Part Value) → ((w : World) (x : Value) → Keeps w.operations (f w x)) → KeepsAct (D.acts_on_one f)
+keeps-on-one f h c w = keeps-one w _ c.operands (λ x rest. keeps-bind w.operations (f w x) _ (h w x) (λ v u. begins-self u.operations))
+
+keeps-on-two : (f : World → Value → Value → Part Value) → ((w : World) (x y : Value) → Keeps w.operations (f w x y)) → KeepsAct (D.acts_on_two f)
+keeps-on-two f h c w = keeps-two w _ c.operands (λ x y rest. keeps-bind w.operations (f w x y) _ (h w x y) (λ v u. begins-self u.operations))
+
+keeps-ints : {A : Type 0} (w : World) (f : ℤ → ℤ → Part A) (x y : Value) → ((m n : ℤ) → Keeps w.operations (f m n)) → Keeps w.operations (ints w f x y)
+keeps-ints w f x y h = keeps-some w _ (int_of x) (λ m. keeps-some w _ (int_of y) (λ n. h m n))
+
+keeps-computed : (f : ℤ → ℤ → ℤ) → KeepsAct (D.acts_on_two (computed f))
+keeps-computed f = keeps-on-two (computed f) (λ w x y. keeps-ints w _ x y (λ m n. begins-self w.operations))
+
+keeps-divided : (f : ℤ → ℤ → ℤ) → KeepsAct (D.acts_on_two (divided f))
+keeps-divided f = keeps-on-two (divided f) (λ w x y. keeps-ints w _ x y (λ m n. keeps-chosen w.operations (is_zero n) _ _ (begins-self w.operations) (begins-self w.operations)))
+
+keeps-compared : (f : ℤ → ℤ → Bool) → KeepsAct (D.acts_on_two (compared f))
+keeps-compared f = keeps-on-two (compared f) (λ w x y. keeps-ints w _ x y (λ m n. begins-self w.operations))
+
+keeps-shows : (i : Instr) → KeepsAct (D.shows i)
+keeps-shows i c w = keeps-from w _ [] c.operands _ (λ vs rest. keeps-bind w.operations (asks i vs w) _ (keeps-asks i vs w) (λ a u. keeps-chosen u.operations (a.clause == 0) _ _ (begins-self u.operations) (begins-self u.operations)))
+
+keeps-doing : (i : Instr) → KeepsDoing (doing i)
+keeps-doing (Instr.Int n) = keeps-push (Value.Int n)
+keeps-doing (Instr.Bool b) = keeps-push (Value.Bool b)
+keeps-doing (Instr.Text k) = keeps-push (Value.Text k)
+keeps-doing Instr.Unit = keeps-push Value.Unit
+keeps-doing Instr.Nil = keeps-push Value.Nil
+keeps-doing (Instr.Load i) = λ c w. keeps-some w _ (slice_get c.slots i) (λ v. begins-self w.operations)
+keeps-doing (Instr.Store i) = λ c w. keeps-one w _ c.operands (λ v rest. keeps-some w _ (slice_get c.slots i) (λ old. begins-self w.operations))
+keeps-doing Instr.Drop = λ c w. keeps-one w _ c.operands (λ v rest. begins-self w.operations)
+keeps-doing Instr.Dup = λ c w. keeps-one w _ c.operands (λ v rest. begins-self w.operations)
+keeps-doing Instr.Dup2 = λ c w. keeps-two w _ c.operands (λ x y rest. begins-self w.operations)
+keeps-doing Instr.Neg = keeps-on-one negated (λ w x. keeps-some w _ (int_of x) (λ n. begins-self w.operations))
+keeps-doing Instr.Not = keeps-on-one inverted (λ w x. keeps-some w _ (bool_of x) (λ b. begins-self w.operations))
+keeps-doing Instr.Add = keeps-computed sum
+keeps-doing Instr.Sub = keeps-computed difference
+keeps-doing Instr.Mul = keeps-computed product
+keeps-doing Instr.Div = keeps-divided quotient
+keeps-doing Instr.Rem = keeps-divided remainder
+keeps-doing Instr.Eq = keeps-on-two equated (λ w x y. keeps-some w _ (equality x y) (λ b. begins-self w.operations))
+keeps-doing Instr.Less = keeps-compared int_lt
+keeps-doing Instr.AtMost = keeps-compared int_le
+keeps-doing (Instr.Jump t) = tt
+keeps-doing (Instr.JumpIfNot t) = tt
+keeps-doing (Instr.Select cases otherwise) = tt
+keeps-doing Instr.Return = λ c w. begins-self w.operations
+keeps-doing Instr.ReturnValue = λ c w. keeps-one w _ c.operands (λ v rest. begins-self w.operations)
+keeps-doing Instr.Panic = λ c w. keeps-from w 1 [] c.operands _ (λ vs rest. keeps-bind w.operations (asks Instr.Panic vs w) (λ a u. D.misfit u) (keeps-asks Instr.Panic vs w) (λ a u. begins-self u.operations))
+keeps-doing i = keeps-shows i
+
+keeps-tests : (c : Frame) (w : World) → Keeps w.operations (tests c w)
+keeps-tests c w = keeps-one w _ c.operands (λ x rest. keeps-some w _ (bool_of x) (λ b. begins-self w.operations))
+
+keeps-clause : {A X : Type 0} (w : World) (f : X → Part A) (m : Option X) → ((x : X) → Keeps w.operations (f x)) → Keeps w.operations (on_clause f w m)
+keeps-clause w f None h = begins-self w.operations
+keeps-clause w f (Some x) h = h x
+
+keeps-picks : (label : ℕ → ℕ) (cs : List SelectCase) (o : Option ℕ) (c : Frame) (w : World) → Keeps w.operations (picks label cs o c w)
+keeps-picks label cs o c w = keeps-from w _ [] c.operands _ (λ vs rest. keeps-bind w.operations (asks _ vs w) _ (keeps-asks _ vs w) (λ a u. keeps-clause u _ (clause_of label a.clause cs o) (λ t. begins-self u.operations)))
+
+abbrev KeepsNext : Next → Type 0
+KeepsNext f = (at : ℕ) (c : Frame) (w : World) → BeginsWith (f at c w).operations w.operations
+
+ended-keeps : {A : Type 0} (os : List Operation) (p : Part A) (f : A → World → Told) → Keeps os p → ((a : A) (u : World) → BeginsWith (f a u).operations u.operations) → BeginsWith (ended p f).operations os
+ended-keeps os (Part.Gives a u) f h k = begins-then os u.operations (f a u).operations h (k a u)
+ended-keeps os (Part.Stops s done) f h k = h
+
+does-keeps : (d : Doing) (f : Next) → KeepsDoing d → KeepsNext f → KeepsNext (does d f)
+does-keeps (Doing.Acts g) f h k at c w = ended-keeps w.operations (g c w) _ (h c w) (λ d u. k (at + 1) d u)
+does-keeps (Doing.Jumps t) f h k at c w = k t c w
+does-keeps (Doing.Tests t) f h k at c w = ended-keeps w.operations (tests c w) _ (keeps-tests c w) (λ r u. k (cond r.0 (at + 1) t) r.1 u)
+does-keeps (Doing.Chooses cs o) f h k at c w = ended-keeps w.operations (picks (lower (targets cs o)) cs o c w) _ (keeps-picks (lower (targets cs o)) cs o c w) (λ r u. k r.0 r.1 u)
+
+line-keeps : (o : Option CodeLine) (f : Next) → KeepsNext f → KeepsNext (at_line o f)
+line-keeps None f k at c w = begins-self w.operations
+line-keeps (Some l) f k at c w = does-keeps (doing l.instr) f (keeps-doing l.instr) k at c w
+
+exec-keeps : (code : List CodeLine) (n : ℕ) → KeepsNext (exec code n)
+exec-keeps code zero at c w = begins-self w.operations
+exec-keeps code (suc n) at c w = line-keeps (slice_get code at) (exec code n) (exec-keeps code n) at c w
+
+-- more instructions change nothing of what has ended
+
+abbrev Grows : Next → Next → Type 0
+Grows f g = (at : ℕ) (c : Frame) (w : World) → Within (f at c w) (g at c w)
+
+ended-grows : {A : Type 0} (p : Part A) (f g : A → World → Told) → ((a : A) (u : World) → Within (f a u) (g a u)) → Within (ended p f) (ended p g)
+ended-grows (Part.Gives a u) f g h = h a u
+ended-grows (Part.Stops s done) f g h = refl
+
+does-grows : (d : Doing) (f g : Next) → Grows f g → Grows (does d f) (does d g)
+does-grows (Doing.Acts a) f g h at c w = ended-grows (a c w) _ _ (λ d u. h (at + 1) d u)
+does-grows (Doing.Jumps t) f g h at c w = h t c w
+does-grows (Doing.Tests t) f g h at c w = ended-grows (tests c w) _ _ (λ r u. h (cond r.0 (at + 1) t) r.1 u)
+does-grows (Doing.Chooses cs o) f g h at c w = ended-grows (picks (lower (targets cs o)) cs o c w) _ _ (λ r u. h r.0 r.1 u)
+
+line-grows : (o : Option CodeLine) (f g : Next) → Grows f g → Grows (at_line o f) (at_line o g)
+line-grows None f g h at c w = refl
+line-grows (Some l) f g h at c w = does-grows (doing l.instr) f g h at c w
+
+exec-grows : (code : List CodeLine) (m n : ℕ) → m ≤ n → Grows (exec code m) (exec code n)
+exec-grows code zero n le at c w = exec-keeps code n at c w
+exec-grows code (suc m) zero le at c w = absurd (omega (arith, le))
+exec-grows code (suc m) (suc n) le at c w = line-grows (slice_get code at) (exec code m) (exec code n) (exec-grows code m n (omega (arith, le))) at c w
+
+-- both ways
+
+within-self : (os : List Operation) (e : End) → IsPrefix e (record { operations = os; end = e }) (record { operations = os; end = e })
+within-self os (End.Halts h) = refl
+within-self os End.Short = begins-self os
+
+module _ (code : List CodeLine) (c : Frame) (w : World) where
+  abbrev G : ℕ → Told
+  G m = exec code m 0 c w
+
+  ahead : (os : List Operation) (e : End) → (j : ℕ) × (G j ≡ record { operations = os; end = e }) → (m : ℕ) × Within (record { operations = os; end = e }) (G m)
+  ahead os e d = (d.0, subst (λ t. IsPrefix e (record { operations = os; end = e }) t) (sym d.1) (within-self os e))
+
+  abbrev T : List Operation → End → Told
+  T os e = record { operations = os; end = e }
+
+  forth-from : (n : ℕ) (os : List Operation) (e : End) → Done code c w n (T os e) e → ((of : Misfit) → e ≡ End.Halts (Halt.Unfit of) → ⊥) → (m : ℕ) × Within (T os e) (G m)
+  forth-from n os (End.Halts (Halt.Unfit why)) d never = absurd (never why refl)
+  forth-from n os (End.Halts (Halt.Returned v)) d never = ahead os (End.Halts (Halt.Returned v)) (d.0, d.2)
+  forth-from n os (End.Halts Halt.Divided) d never = ahead os (End.Halts Halt.Divided) (d.0, d.2)
+  forth-from n os (End.Halts Halt.Waits) d never = ahead os (End.Halts Halt.Waits) (d.0, d.2)
+  forth-from n os End.Short d never = ahead os End.Short (d.0, d.2)
+
+  -- what has ended after j instructions has ended so after m
+  ended-same : (m j : ℕ) (os : List Operation) (h : Halt) → G j ≡ T os (End.Halts h) → Within (G m) (T os (End.Halts h))
+  ended-same m j os h e =
+      ⊎_elim
+      (λ lt. subst (λ t. Within (G m) t) e (exec-grows code m j (omega (arith, lt)) 0 c w))
+      (λ le.
+      let same : G m ≡ T os (End.Halts h) = subst (λ t. Within t (G m)) e (exec-grows code j m le 0 c w) in
+      subst (λ t. Within t (T os (End.Halts h))) (sym same) refl)
+      (cases_lt m j)
+
+  back-from : (m : ℕ) (os : List Operation) (e : End) → Done code c w m (T os e) e → ((of : Misfit) → e ≡ End.Halts (Halt.Unfit of) → ⊥) → Within (G m) (T os e)
+  back-from m os (End.Halts (Halt.Unfit why)) d never = absurd (never why refl)
+  back-from m os (End.Halts (Halt.Returned v)) d never = ended-same m d.0 os (Halt.Returned v) d.2
+  back-from m os (End.Halts Halt.Divided) d never = ended-same m d.0 os Halt.Divided d.2
+  back-from m os (End.Halts Halt.Waits) d never = ended-same m d.0 os Halt.Waits d.2
+  back-from m os End.Short d never = subst (λ t. Within (G m) t) d.2 (exec-grows code m d.0 d.1 0 c w)
+
+pub both-ways : BothWays
+both-ways code c w f d never = record {
+  forth = λ n. forth-from code c w n (f n).operations (f n).end (d n) (never n);
+  back = λ m. (m, back-from code c w m (f m).operations (f m).end (d m) (never m));
+}

@@ -1,0 +1,73 @@
+-- The meaning of flat code: at most so many instructions.
+use Rattle.std.specs.Prelude.{ℕ, zero, suc, ◌+◌, ◌==◌, nat_lt, cond, Bool, true, false, List, [], ◌∷◌, map, Option, Some, None, slice_get}
+use Rattle.std.specs.Option.{option_map}
+use Rattle.golf_data.specs.declared.value.Value.{Value}
+use Rattle.golf_data.specs.declared.code.Instr.{Instr}
+use Rattle.golf_data.specs.declared.code.CodeLine.{CodeLine}
+use Rattle.golf_data.specs.declared.code.SelectCase.{SelectCase}
+use Rattle.golf_model.specs.Values.{bool_of}
+use Rattle.golf_code_layout.specs.Depth.{cases_taken}
+use Rattle.golf_meaning_flat.specs.Worlds.{Answer, Misfit, Halt, Told, World, Part, halted, cut_short, bind, asks, pushed}
+use Rattle.golf_meaning_flat.specs.Doing.{Frame, misfit, unfit, goes, on_some, one, some_from, chosen_by, Doing, doing}
+
+-- Clauses of a `select`: the place of the clause that begins at a target is how many of the targets are lower.
+
+abbrev pub targets : List SelectCase → Option ℕ → List ℕ
+targets [] None = []
+targets [] (Some t) = t ∷ []
+targets (c ∷ cs) o = c.target ∷ targets cs o
+
+abbrev pub lower : List ℕ → ℕ → ℕ
+lower [] t = 0
+lower (x ∷ xs) t = cond (nat_lt x t) (suc (lower xs t)) (lower xs t)
+
+abbrev pub relabelled : (ℕ → ℕ) → SelectCase → SelectCase
+relabelled label c = record { kind = c.kind; target = label c.target }
+
+-- the target of the clause at a place
+abbrev pub default_of : (ℕ → ℕ) → ℕ → Option ℕ → Option ℕ
+default_of label clause None = None
+default_of label clause (Some t) = cond (label t == clause) (Some t) None
+
+abbrev pub clause_of : (ℕ → ℕ) → ℕ → List SelectCase → Option ℕ → Option ℕ
+clause_of label clause [] o = default_of label clause o
+clause_of label clause (c ∷ cs) o = cond (label c.target == clause) (Some c.target) (clause_of label clause cs o)
+
+-- an answer that names no clause does not fit
+abbrev pub on_clause : {A X : Type 0} → (X → Part A) → World → Option X → Part A
+on_clause act w None = misfit w
+on_clause act w (Some x) = act x
+
+-- the operands of all cases are taken; the answer tells the clause, and what stands at its target
+abbrev pub picks : (ℕ → ℕ) → List SelectCase → Option ℕ → Frame → World → Part (ℕ × Frame)
+picks label cs o c w =
+    some_from w (cases_taken cs) [] (λ vs rest.
+    bind (asks (Instr.Select (map (relabelled label) cs) (option_map label o)) vs w) (λ a u.
+    on_clause (λ t. Part.Gives (t, record { slots = c.slots; operands = pushed a.values rest }) u) u (clause_of label a.clause cs o))) c.operands
+
+-- a truth value on top
+abbrev pub tests : Frame → World → Part (Bool × Frame)
+tests c w = one w (λ x rest. on_some (λ b. Part.Gives (b, record { slots = c.slots; operands = rest }) w) w (bool_of x)) c.operands
+
+-- what comes next, from this place
+abbrev pub Next : Type 0
+Next = ℕ → Frame → World → Told
+
+abbrev pub ended : {A : Type 0} → Part A → (A → World → Told) → Told
+ended (Part.Gives a w) next = next a w
+ended (Part.Stops h os) next = halted h os
+
+abbrev pub does : Doing → Next → Next
+does (Doing.Acts f) next at c w = ended (f c w) (next (at + 1))
+does (Doing.Jumps t) next at c w = next t c w
+does (Doing.Tests t) next at c w = ended (tests c w) (λ r u. next (cond r.0 (at + 1) t) r.1 u)
+does (Doing.Chooses cs o) next at c w = ended (picks (lower (targets cs o)) cs o c w) (λ r u. next r.0 r.1 u)
+
+abbrev pub at_line : Option CodeLine → Next → Next
+at_line None next at c w = halted (Halt.Unfit Misfit.OfRule) w.operations
+at_line (Some l) next at c w = does (doing l.instr) next at c w
+
+-- at most n instructions of these, from a place
+abbrev pub exec : List CodeLine → ℕ → Next
+exec code zero at c w = cut_short w
+exec code (suc n) at c w = at_line (slice_get code at) (exec code n) at c w

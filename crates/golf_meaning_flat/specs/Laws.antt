@@ -1,0 +1,64 @@
+-- The laws of flat and of structured code, as statements.
+use Rattle.std.specs.Prelude.{◌≡◌, ℕ, ◌+◌, ◌<◌, ◌≤◌, List, [], ◌∷◌, ◌++◌, Some, slice_get}
+use Rattle.golf_data.specs.declared.code.CodeLine.{CodeLine}
+use Rattle.golf_code_layout.specs.Piece.{Piece, size, target, placed}
+use Rattle.golf_meaning_flat.specs.Worlds.{Operation, Misfit, Halt, End, Told, World}
+use Rattle.golf_meaning_flat.specs.Doing.{Frame}
+use Rattle.golf_meaning_flat.specs.Flat.{exec}
+use Rattle.golf_meaning_flat.specs.Structured.{Way, run}
+
+-- these lines stand at this place
+abbrev pub Stand : List CodeLine → ℕ → List CodeLine → Type 0
+Stand code at [] = Unit {0}
+Stand code at (l ∷ ls) = (slice_get code at ≡ Some l) × Stand code (at + 1) ls
+
+-- the code goes from one place to another, by one instruction or more; or by any number
+pub record Leads (code : List CodeLine) (at : ℕ) (c : Frame) (w : World) (to : ℕ) (d : Frame) (u : World) : Type 0 where
+  pub by : (k : ℕ) → (j : ℕ) × (k < j) × (exec code j at c w ≡ exec code k to d u)
+
+pub record Comes (code : List CodeLine) (at : ℕ) (c : Frame) (w : World) (to : ℕ) (d : Frame) (u : World) : Type 0 where
+  pub by : (k : ℕ) → (j : ℕ) × (k ≤ j) × (exec code j at c w ≡ exec code k to d u)
+
+-- what is short needs as many instructions
+abbrev pub Enough : End → ℕ → ℕ → Type 0
+Enough End.Short n j = n ≤ j
+Enough (End.Halts h) n j = Unit {0}
+
+-- the code at a place does what the piece does
+abbrev pub Follows : List CodeLine → ℕ → ℕ → List ℕ → ℕ → Frame → World → Way → Type 0
+Follows code n at ts to c w (Way.Through d u) = Comes code at c w to d u
+Follows code n at ts to c w (Way.Leaves k d u) = Leads code at c w (target ts k) d u
+Follows code n at ts to c w (Way.Ends t) = (j : ℕ) × Enough t.end n j × (exec code j at c w ≡ t)
+Follows code n at ts to c w Way.Lost = Unit {0}
+
+-- placed code does what its piece does, wherever it is placed
+abbrev pub PlacedFollows : Type 0
+PlacedFollows = (code : List CodeLine) (n : ℕ) (p : Piece) (at : ℕ) (ts : List ℕ) (c : Frame) (w : World) → Stand code at (placed p at ts) → Follows code n at ts (at + size p) c w (run n p at ts c w)
+
+-- Two meanings by bounds: each bound of one has a bound of the other.
+
+abbrev pub BeginsWith : List Operation → List Operation → Type 0
+BeginsWith xs ys = (zs : List Operation) × (xs ≡ ys ++ zs)
+
+-- one with a bound is that of the other; the operations of a short one are a prefix of its operations
+abbrev pub IsPrefix : End → Told → Told → Type 0
+IsPrefix End.Short a b = BeginsWith b.operations a.operations
+IsPrefix (End.Halts h) a b = b ≡ a
+
+abbrev pub Within : Told → Told → Type 0
+Within a b = IsPrefix a.end a b
+
+pub record Agree (f g : ℕ → Told) : Type 0 where
+  pub forth : (n : ℕ) → (m : ℕ) × Within (f n) (g m)
+  pub back : (m : ℕ) → (n : ℕ) × Within (g m) (f n)
+
+-- unless it is unfit, what is meant is what the code does, with as many instructions if it is short
+abbrev pub Done : List CodeLine → Frame → World → ℕ → Told → End → Type 0
+Done code c w n t (End.Halts (Halt.Unfit of)) = Unit {0}
+Done code c w n t e = (j : ℕ) × Enough e n j × (exec code j 0 c w ≡ t)
+
+abbrev pub NeverUnfit : (ℕ → Told) → Type 0
+NeverUnfit f = (n : ℕ) (of : Misfit) → (f n).end ≡ End.Halts (Halt.Unfit of) → ⊥
+
+abbrev pub BothWays : Type 0
+BothWays = (code : List CodeLine) (c : Frame) (w : World) (f : ℕ → Told) → ((n : ℕ) → Done code c w n (f n) (f n).end) → NeverUnfit f → Agree f (λ m. exec code m 0 c w)

@@ -1,0 +1,72 @@
+-- The meaning of structured code, by recursion over it: each block that is begun anew is gone through at most n times. The places are looked at by `select` alone.
+use Rattle.std.specs.Prelude.{ℕ, zero, suc, ◌+◌, Bool, true, false, List, [], ◌∷◌, map, Option}
+use Rattle.std.specs.Option.{option_map}
+use Rattle.golf_data.specs.declared.code.SelectCase.{SelectCase}
+use Rattle.golf_code_layout.specs.Piece.{Piece, size, target, case_at}
+use Rattle.golf_meaning_flat.specs.Worlds.{Told, World, Part, halted, cut_short}
+use Rattle.golf_meaning_flat.specs.Doing.{Frame, Doing, doing}
+use Rattle.golf_meaning_flat.specs.Flat.{targets, lower, picks, tests}
+
+-- how a piece is left: at its end, by a target, or with the whole meaning; nothing is said of an instruction with a target of its own
+pub data Way : Type 0 where
+  Through : (c : Frame) (w : World) → Way
+  Leaves : (k : ℕ) (c : Frame) (w : World) → Way
+  Ends : (t : Told) → Way
+  Lost : Way
+
+abbrev pub from_part : Part Frame → Way
+from_part (Part.Gives c w) = Way.Through c w
+from_part (Part.Stops h os) = Way.Ends (halted h os)
+
+abbrev pub acted : Doing → Frame → World → Way
+acted (Doing.Acts f) c w = from_part (f c w)
+acted _ c w = Way.Lost
+
+abbrev pub then_way : Way → (Frame → World → Way) → Way
+then_way (Way.Through c w) next = next c w
+then_way (Way.Leaves k c w) next = Way.Leaves k c w
+then_way (Way.Ends t) next = Way.Ends t
+then_way Way.Lost next = Way.Lost
+
+abbrev pub unless_true : Part (Bool × Frame) → ℕ → Way
+unless_true (Part.Gives r w) k = elim r.0 [ true ↦ Way.Through r.1 w | false ↦ Way.Leaves k r.1 w ]
+unless_true (Part.Stops h os) k = Way.Ends (halted h os)
+
+abbrev pub picked : Part (ℕ × Frame) → Way
+picked (Part.Gives r w) = Way.Leaves r.0 r.1 w
+picked (Part.Stops h os) = Way.Ends (halted h os)
+
+-- out of a block: target 0 is the place after it
+abbrev pub out_of : Way → Way
+out_of (Way.Through c w) = Way.Through c w
+out_of (Way.Leaves zero c w) = Way.Through c w
+out_of (Way.Leaves (suc k) c w) = Way.Leaves k c w
+out_of (Way.Ends t) = Way.Ends t
+out_of Way.Lost = Way.Lost
+
+-- target 0 is the beginning
+abbrev pub once_more : Way → (Frame → World → Way) → Way
+once_more (Way.Through c w) next = Way.Through c w
+once_more (Way.Leaves zero c w) next = next c w
+once_more (Way.Leaves (suc k) c w) next = Way.Leaves k c w
+once_more (Way.Ends t) next = Way.Ends t
+once_more Way.Lost next = Way.Lost
+
+-- at most so many times
+abbrev pub rounds : ℕ → (Frame → World → Way) → Frame → World → Way
+rounds zero f c w = Way.Ends (cut_short w)
+rounds (suc m) f c w = once_more (f c w) (rounds m f)
+
+-- the targets of a choice as they are placed
+abbrev pub placed_targets : List SelectCase → Option ℕ → List ℕ → List ℕ
+placed_targets cs o ts = targets (map (case_at ts) cs) (option_map (target ts) o)
+
+abbrev pub run : ℕ → Piece → ℕ → List ℕ → Frame → World → Way
+run n Piece.Empty at ts c w = Way.Through c w
+run n (Piece.Op i line) at ts c w = acted (doing i) c w
+run n (Piece.Then p q) at ts c w = then_way (run n p at ts c w) (run n q (at + size p) ts)
+run n (Piece.Exit line k) at ts c w = Way.Leaves k c w
+run n (Piece.Unless line k) at ts c w = unless_true (tests c w) k
+run n (Piece.Choose line cs o) at ts c w = picked (picks (λ k. lower (placed_targets cs o ts) (target ts k)) cs o c w)
+run n (Piece.Block p) at ts c w = out_of (run n p at ((at + size p) ∷ ts) c w)
+run n (Piece.Again p) at ts c w = rounds n (run n p at (at ∷ ts)) c w

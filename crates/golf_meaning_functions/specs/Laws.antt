@@ -1,0 +1,25 @@
+-- The laws of functions and of files.
+use Rattle.std.specs.Prelude.{◌≡◌, ℕ, ◌<◌, ◌≤◌, Bool, List, length, Some, slice_get}
+use Rattle.golf_syntax_trees.specs.declared.declarations.Func.{Func}
+use Rattle.golf_syntax_trees.specs.declared.declarations.File.{File}
+use Rattle.golf_data.specs.declared.value.Value.{Value}
+use Rattle.golf_data.specs.declared.code.Function.{Function}
+use Rattle.golf_check_types.specs.declared.scopes.FileScope.{FileScope}
+use Rattle.golf_check_types.specs.Files.{outside}
+use Rattle.golf_code_of.specs.declared.tables.Tables.{Tables}
+use Rattle.golf_code_of.specs.Files.{body_laid, function_of, CodeOf}
+use Rattle.golf_meaning_flat.specs.Worlds.{Answer}
+use Rattle.golf_meaning_flat.specs.Laws.{Agree, NeverUnfit}
+use Rattle.golf_meaning_functions.specs.Functions.{Meaning, CodeMeaning}
+use Rattle.golf_meaning_functions.specs.Files.{function_count, MeaningOf}
+
+-- with as many arguments as it has parameters, and answers that fit, the code of a function and its source agree, both ways
+abbrev pub FunctionsAgree : Type 0
+FunctionsAgree = (t : Tables) (gives : List Bool) (names : FileScope) (k : ℕ) (f : Func) (arguments : List Value) (answers : List Answer)
+    → let fn = function_of t gives (outside names) f (body_laid t (outside names) k f).piece in length arguments ≡ fn.params → NeverUnfit (Meaning t (outside names) k f arguments answers)
+    → Agree (Meaning t (outside names) k f arguments answers) (CodeMeaning fn arguments answers)
+
+-- for each number from 1 to that of the functions and methods of a file, its code has a function, and that agrees with the source
+abbrev pub FilesAgree : Type 0
+FilesAgree = (file : File) (k : ℕ) → 0 < k → k ≤ function_count file.declarations
+    → (fn : Function) × (slice_get (CodeOf file).functions k ≡ Some fn) × ((arguments : List Value) (answers : List Answer) → length arguments ≡ fn.params → NeverUnfit (MeaningOf file k arguments answers) → Agree (MeaningOf file k arguments answers) (CodeMeaning fn arguments answers))

@@ -1,0 +1,14 @@
+//! The source of a function and its code agree.
+#![tactic(auto)]
+
+ghost use Rattle.golf_meaning_functions.specs.Laws.{FilesAgree, FunctionsAgree};
+
+/// With as many arguments as it has parameters, and answers that fit, the code of a function and its source agree, both ways.
+pub fn functions_agree()
+    ensures { FunctionsAgree }
+{}
+
+/// For each number of a function or method of a file, the function of that number in its code agrees with its source.
+pub fn files_agree()
+    ensures { FilesAgree }
+{}

@@ -1,0 +1,182 @@
+-- The code of every expression does what the expression does: one step for each kind, and an induction.
+use Rattle.std.proofs.Common.{◌≡◌, ℕ, pos, List, [], ◌∷◌, map, refl, ap, sym, ◌∙◌, subst}
+use Rattle.golf_data.specs.declared.value.Value.{Value}
+use Rattle.golf_data.specs.declared.code.Instr.{Instr}
+use Rattle.golf_syntax_trees.specs.declared.expressions.Expr.{Expr, roll-Expr}
+use Rattle.golf_syntax_trees.specs.declared.expressions.Element.{Element, roll-Element}
+use Rattle.golf_syntax_trees.specs.declared.expressions.Expr.TheOpen.{Expr-F, Element-F}
+use Rattle.golf_syntax_trees.specs.declared.expressions.Expr.TheOpen as F
+use Rattle.golf_syntax_trees.specs.declared.expressions.Expr.TheFolds.{fold-Element, fold-roll-Expr, fold-roll-Element, ind-Expr, map-Expr, map-Element}
+use Rattle.golf_check_types.specs.declared.operands.Operand.{Operand}
+use Rattle.golf_check_types.specs.declared.types.Base.{Base}
+use Rattle.golf_check_types.specs.declared.scopes.Scope.{Scope}
+use Rattle.golf_check_types.specs.declared.scopes.FileScope.{FileScope}
+use Rattle.golf_check_types.specs.declared.types.Layer.TheVariants as layer
+use Rattle.golf_check_types.specs.Types.{with_layer}
+use Rattle.golf_check_types.specs.Names.{is_blank}
+use Rattle.golf_check_types.specs.Scopes.{meaning}
+use Rattle.golf_check_types.specs.Written.{write, pointer_to, made_base}
+use Rattle.golf_check_types.specs.Expressions.{value_from, selected_from, unary_judged, index_judged, struct_of}
+use Rattle.golf_check_types.specs.Calls.{call_judged}
+use Rattle.golf_check_types.specs.Judging.{Judge, judge}
+use Rattle.golf_code_layout.specs.Piece.{Piece, op}
+use Rattle.golf_code_of.specs.Table.{text_number}
+use Rattle.golf_code_of.specs.declared.tables.Tables.{Tables}
+use Rattle.golf_code_of.specs.Expressions.{Made}
+use Rattle.golf_code_of.specs.Expressions as C
+use Rattle.golf_code_of.specs.Calls as K
+use Rattle.golf_code_of.specs.Coding as G
+use Rattle.golf_code_of.specs.Coding.{Coded, CodedPut, coded, coded_step, element_coded_step}
+use Rattle.golf_code_of.proofs.Judgments.{agree}
+use Rattle.golf_meaning_source.specs.Names.{Env}
+use Rattle.golf_meaning_source.specs.Operations.{Gives, gives, then_do}
+use Rattle.golf_meaning_source.specs.Exprs as X
+use Rattle.golf_meaning_source.specs.Meaning as M
+use Rattle.golf_meaning_source.specs.Meaning.{Meant, MeantPut, meant, meant_step, element_meant_step, outer}
+use Rattle.golf_meaning_source.specs.Does.{Turns, Matches, Known}
+use Rattle.golf_meaning_source.specs.Laws.{ExpressionMeans, ExpressionsMean}
+use Rattle.golf_meaning_source.proofs.Turning.{turn-none, turn-after, turn-visible, turn-pair}
+use Rattle.golf_meaning_source.proofs.Places.{matches-only, matches-element}
+use Rattle.golf_meaning_source.proofs.Constructs.{turn-puts, AllTurn, turn-made, turn-made-sized, turn-slice, turn-unary-operator, turn-binary, AllArguments, turn-call, MatchesDoes, matches-selector, matches-sync, matches-name}
+use Rattle.golf_meaning_source.proofs.Meanings as A
+
+element-meant-is : (t : Tables) (x : Element) → fold-Element Meant MeantPut (meant_step t) element_meant_step x ≡ record { name = x.field; value = meant t x.value }
+unfolding meant
+element-meant-is t x = fold-roll-Element Meant MeantPut (meant_step t) element_meant_step (record { field = x.field; value = x.value })
+
+element-coded-is : (t : Tables) (x : Element) → fold-Element Coded CodedPut (coded_step t) element_coded_step x ≡ record { name = x.field; value = coded t x.value }
+unfolding coded
+element-coded-is t x = fold-roll-Element Coded CodedPut (coded_step t) element_coded_step (record { field = x.field; value = x.value })
+
+module _ (t : Tables) where
+  -- both know the same of an expression
+  judges : (e : Expr) → (meant t e).judge ≡ (coded t e).judge
+  judges e = A.agree t e ∙ sym (agree t e)
+
+  abbrev P : Expr → Type 0
+  P e = ExpressionMeans (meant t e).does (coded t e).code
+
+  abbrev Q : Element → Type 0
+  Q x = P x.value
+
+  abbrev E : Type 0
+  E = (e : Expr) × P e
+
+  abbrev D : Type 0
+  D = (x : Element) × Q x
+
+  abbrev element_meant : Element → MeantPut
+  element_meant = fold-Element Meant MeantPut (meant_step t) element_meant_step
+
+  abbrev element_coded : Element → CodedPut
+  element_coded = fold-Element Coded CodedPut (coded_step t) element_coded_step
+
+  abbrev Part : Type 0
+  Part = Expr-F E D
+
+  abbrev bare : Part → Expr-F Expr Element
+  bare y = map-Expr E D Expr Element (λ p. p.0) (λ p. p.0) y
+
+  abbrev does : Part → ℕ → Scope → X.Does
+  does y = (meant_step t (map-Expr Expr Element Meant MeantPut (meant t) element_meant (bare y))).does
+
+  abbrev made : Part → ℕ → Scope → Made
+  made y = (coded_step t (map-Expr Expr Element Coded CodedPut (coded t) element_coded (bare y))).code
+
+  module _ (l : ℕ) (s : Scope) (env : Env) (slots : List Value) (ok : Known s.locals s.next env slots) where
+    abbrev Means : X.Does → Made → Type 0
+    Means = MatchesDoes slots s.locals env
+
+    abbrev T : Piece → List Value → Gives → Type 0
+    T = Turns slots
+
+    abbrev bares : List E → List Expr
+    bares xs = map (λ (p : E). p.0) xs
+
+    abbrev code_of : E → Piece
+    code_of x = ((coded t x.0).code l s).piece
+
+    abbrev value_of : E → Gives
+    value_of x = ((meant t x.0).does l s).value env
+
+    abbrev codes_of : List E → List Piece
+    codes_of xs = map (λ (c : Coded). (c.code l s).piece) (map (coded t) (bares xs))
+
+    abbrev values_of : List E → List Gives
+    values_of xs = map (λ (m : Meant). (m.does l s).value env) (map (meant t) (bares xs))
+
+    -- the value of a part
+    turns : (x : E) → T ((coded t x.0).code l s).piece [] (((meant t x.0).does l s).value env)
+    turns x = (x.1 l s env slots ok).value_turns
+
+    all-turn : (xs : List E) → AllTurn slots (map (λ (c : Coded). (c.code l s).piece) (map (coded t) (bares xs))) (map (λ (m : Meant). (m.does l s).value env) (map (meant t) (bares xs)))
+    all-turn [] = tt
+    all-turn (x ∷ xs) = (turns x, all-turn xs)
+
+    all-arguments : (xs : List E) → AllArguments slots (map (M.argument l s env) (map (meant t) (bares xs))) (map (G.argument l s) (map (coded t) (bares xs)))
+    all-arguments [] = tt
+    all-arguments (x ∷ xs) = (ap (λ (j : Judge). (j l s).meaning) (judges x.0), turns x, all-arguments xs)
+
+    abbrev elements_of : List D → List Element
+    elements_of xs = map (λ (p : D). p.0) xs
+
+    all-puts : (b : Rattle.std.specs.Prelude.Option Base) (xs : List D) (p : List Value)
+        → T (C.puts l s.file b (map (λ (c : CodedPut). c.name) (map element_coded (elements_of xs))) (map (λ (c : CodedPut). (c.value.code l s).piece) (map element_coded (elements_of xs)))) p
+        (X.puts s.file b (map (λ (m : MeantPut). m.name) (map element_meant (elements_of xs))) (map (λ (m : MeantPut). (m.value.does l s).value env) (map element_meant (elements_of xs))) p)
+    all-puts b [] p = turn-none slots p
+    all-puts b (x ∷ xs) p =
+        let ns = map (λ (c : CodedPut). c.name) (map element_coded (elements_of xs)) in
+        let es = map (λ (c : CodedPut). (c.value.code l s).piece) (map element_coded (elements_of xs)) in
+        let ms = map (λ (m : MeantPut). m.name) (map element_meant (elements_of xs)) in
+        let gs = map (λ (m : MeantPut). (m.value.does l s).value env) (map element_meant (elements_of xs)) in
+        subst (λ (c : CodedPut). T (C.puts l s.file b (c.name ∷ ns) ((c.value.code l s).piece ∷ es)) p (X.puts s.file b ((element_meant x.0).name ∷ ms) (((element_meant x.0).value.does l s).value env ∷ gs) p)) (sym (element-coded-is t x.0))
+        (subst (λ (m : MeantPut). T (C.puts l s.file b (x.0.field ∷ ns) (((coded t x.0.value).code l s).piece ∷ es)) p (X.puts s.file b (m.name ∷ ms) ((m.value.does l s).value env ∷ gs) p)) (sym (element-meant-is t x.0))
+        (same-names ns ms es gs (all-puts b xs)))
+      where
+        same-names : (ns ms : List (List ℕ)) (es : List Piece) (gs : List Gives) → ((q : List Value) → T (C.puts l s.file b ns es) q (X.puts s.file b ms gs q)) → T (C.puts l s.file b (x.0.field ∷ ns) (((coded t x.0.value).code l s).piece ∷ es)) p (X.puts s.file b (x.0.field ∷ ms) (((meant t x.0.value).does l s).value env ∷ gs) p)
+        same-names ns ms es gs h = turn-puts slots l s.file b x.0.field ((coded t x.0.value).code l s).piece (((meant t x.0.value).does l s).value env) ns ms es gs p ((x.1 l s env slots ok).value_turns) h
+
+    only : (p : Piece) (f : Env → Gives) → T p [] (f env) → Means (X.only f) (C.only p)
+    only p f h = matches-only slots s.locals env p (f env) h
+
+    at : (y : Part) → Means (does y l s) (made y l s)
+    unfolding meaning
+    at (F.Integer digits) = only (op l (Instr.Int (pos (value_from 0 digits)))) (X.constant_gives (X.int_value (value_from 0 digits) ∷ [])) (λ n at ts rest w. refl)
+    at (F.Text bytes) = only (op l (Instr.Text (text_number t.texts bytes))) (X.constant_gives (Value.Text (text_number t.texts bytes) ∷ [])) (λ n at ts rest w. refl)
+    at (F.Name n) = matches-name slots s.locals env t l s.next s.initialises n (is_blank n) (outer s n) ok
+    at (F.Parens x) = x.1 l s env slots ok
+    at (F.StructLiteral n xs) =
+        let b = pointer_to (meaning s n) in
+        only (made (F.StructLiteral n xs) l s).piece (does (F.StructLiteral n xs) l s).value
+        (turn-after slots (op l (Instr.NewStruct (struct_of b))) (C.puts l s.file b (map (λ (c : CodedPut). c.name) (map element_coded (elements_of xs))) (map (λ (c : CodedPut). (c.value.code l s).piece) (map element_coded (elements_of xs)))) (X.new_struct b) (X.puts s.file b (map (λ (m : MeantPut). m.name) (map element_meant (elements_of xs))) (map (λ (m : MeantPut). (m.value.does l s).value env) (map element_meant (elements_of xs)))) (turn-visible slots l (Instr.NewStruct (struct_of b)) (X.pointer_type b) [] refl) (all-puts b xs))
+    at (F.SyncLiteral n) = matches-sync slots s.locals env l (made_base n)
+    at (F.SliceLiteral w xs) = only (made (F.SliceLiteral w xs) l s).piece (does (F.SliceLiteral w xs) l s).value (turn-slice slots l (with_layer layer.Slice (write w l s).type) (codes_of xs) (values_of xs) (all-turn xs))
+    at F.EmptyLiteral = only (op l Instr.Unit) (X.constant_gives (Value.Unit ∷ [])) (λ n at ts rest w. refl)
+    at (F.Make w) = only (made (F.Make w) l s).piece (does (F.Make w) l s).value (turn-made slots l (write w l s).type)
+    at (F.MakeSized w e) = only (made (F.MakeSized w e) l s).piece (does (F.MakeSized w e) l s).value (turn-made-sized slots l (write w l s).type (code_of e) (value_of e) (turns e))
+    at (F.New n) = only (op l (Instr.NewStruct (struct_of (pointer_to (meaning s n))))) (λ env. X.new_struct (pointer_to (meaning s n))) (turn-visible slots l (Instr.NewStruct (struct_of (pointer_to (meaning s n)))) (X.pointer_type (pointer_to (meaning s n))) [] refl)
+    at (F.NewSync n) = matches-sync slots s.locals env l (made_base n)
+    at (F.Selector e n) =
+        subst (λ (j : Judge). Means (does (F.Selector e n) l s) (C.selector l (selected_from l s.file n (j l s).meaning).meaning ((coded t e.0).code l s).piece)) (judges e.0)
+        (matches-selector slots s.locals env l s.next (selected_from l s.file n ((meant t e.0).judge l s).meaning).meaning ((coded t e.0).code l s).piece (λ env. ((meant t e.0).does l s).value env) ok (turns e))
+    at (F.Index a i) = matches-element slots s.locals env l (X.element_type (index_judged l ((meant t a.0).judge l s) ((meant t i.0).judge l s)).meaning) (Rattle.golf_code_layout.specs.Piece.all (code_of a ∷ code_of i ∷ [])) (Rattle.golf_meaning_source.specs.Operations.both (value_of a) (value_of i)) (turn-pair slots (code_of a) (code_of i) (value_of a) (value_of i) (turns a) (turns i)) ok.stored
+    at (F.Call f xs) =
+        subst (λ (j : Judge). Means (does (F.Call f xs) l s) (K.call l (j l s).meaning ((coded t f.0).code l s).piece (map (G.argument l s) (map (coded t) (bares xs))))) (judges f.0)
+        (only (K.call l ((meant t f.0).judge l s).meaning ((coded t f.0).code l s).piece (map (G.argument l s) (map (coded t) (bares xs)))).piece (does (F.Call f xs) l s).value
+        (turn-call slots l ((meant t f.0).judge l s).meaning (call_judged l s ((meant t f.0).judge l s) (map (λ (x : Meant). x.judge l s) (map (meant t) (bares xs)))).meaning ((coded t f.0).code l s).piece (((meant t f.0).does l s).value env) (map (M.argument l s env) (map (meant t) (bares xs))) (map (G.argument l s) (map (coded t) (bares xs))) (turns f) (all-arguments xs)))
+    at (F.Unary o e) = only (made (F.Unary o e) l s).piece (does (F.Unary o e) l s).value (turn-unary-operator slots l o (unary_judged l s o ((meant t e.0).judge l s)).meaning (code_of e) (value_of e) (turns e))
+    at (F.Binary o a b) = only (made (F.Binary o a b) l s).piece (does (F.Binary o a b) l s).value (turn-binary slots l o (code_of a) (code_of b) (value_of a) (value_of b) (turns a) (turns b))
+
+  rolled : (y : Part) → P (roll-Expr (bare y))
+  unfolding meant coded
+  rolled y = subst (λ (m : Meant). ExpressionMeans m.does (coded t (roll-Expr (bare y))).code) (sym (fold-roll-Expr Meant MeantPut (meant_step t) element_meant_step (bare y)))
+      (subst (λ (c : Coded). ExpressionMeans (does y) c.code) (sym (fold-roll-Expr Coded CodedPut (coded_step t) element_coded_step (bare y))) (λ l s env slots ok. at l s env slots ok y))
+
+  element-rolled : (y : Element-F E D) → Q (roll-Element (map-Element E D Expr Element (λ p. p.0) (λ p. p.0) y))
+  element-rolled y = y.value.1
+
+  pub means : (e : Expr) → P e
+  means = ind-Expr P Q (λ x y is. subst (λ z. P (roll-Expr z)) is (rolled y)) (λ x y is. subst (λ z. Q (roll-Element z)) is (element-rolled y))
+
+pub expressions-mean : ExpressionsMean
+expressions-mean t e = means t e

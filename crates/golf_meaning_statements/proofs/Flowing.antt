@@ -1,0 +1,260 @@
+-- Statements put together.
+use Rattle.std.proofs.Common.{◌≡◌, ℕ, zero, suc, ◌+◌, ◌<◌, ◌≤◌, Bool, true, false, List, [], ◌∷◌, ◌++◌, length, map, take, Option, Some, None, refl, ap, sym, ◌∙◌, subst, slice_get, arith, append_assoc, append-nil, length-append}
+use Rattle.golf_data.specs.declared.value.Value.{Value}
+use Rattle.golf_check_types.specs.declared.locals.Local.{Local}
+use Rattle.golf_check_types.specs.declared.types.GoType.{GoType}
+use Rattle.golf_check_types.specs.declared.scopes.Scope.{Scope}
+use Rattle.golf_check_types.specs.Scopes.{begun}
+use Rattle.golf_check_types.specs.Statements as W
+use Rattle.golf_check_types.specs.Statements.{Walk, Walked, behind}
+use Rattle.golf_code_layout.specs.Piece.{Piece, size}
+use Rattle.golf_code_of.specs.declared.making.Around.{Around}
+use Rattle.golf_code_of.specs.Statements.{Part, Lay, then_lay, lay_all}
+use Rattle.golf_code_of.specs.Statements as L
+use Rattle.golf_meaning_flat.specs.Worlds as V
+use Rattle.golf_meaning_flat.specs.Worlds.{Halt, End, Told, World, Operation, halted, cut_short}
+use Rattle.golf_meaning_flat.specs.Doing.{Frame, on_some}
+use Rattle.golf_meaning_flat.specs.Structured.{Way, then_way, unless_true, out_of, once_more, rounds, run}
+use Rattle.golf_meaning_source.specs.Names.{Env}
+use Rattle.golf_meaning_source.specs.Does.{frame, Sim, Stored, Rising, Apart, Kept, Changed, Known}
+use Rattle.golf_meaning_statements.specs.Flows.{Course, Flow, on, after, then_flow, cut, ends_here, or_else, unfit_flow, by_test, turned, turns}
+use Rattle.golf_meaning_statements.specs.Steps.{Deed, Step, nothing, then_deed, in_order, in_block, parts}
+use Rattle.golf_meaning_statements.specs.Follows.{Stands, EndsAlike, Goes, StatementMeans}
+
+-- ends go through what lets them through
+
+pub ends-in : (t : Told) (e : End) (C : Way → Way) (o : Way) → C (Way.Ends t) ≡ Way.Ends t → EndsAlike t e o → EndsAlike t e (C o)
+ends-in t (End.Halts (Halt.Unfit why)) C o strict h = tt
+ends-in t (End.Halts (Halt.Returned v)) C o strict h = ap C h ∙ strict
+ends-in t (End.Halts Halt.Divided) C o strict h = ap C h ∙ strict
+ends-in t (End.Halts Halt.Waits) C o strict h = ap C h ∙ strict
+ends-in t End.Short C o strict h = ap C h ∙ strict
+
+pub ends-halted : (h : Halt) (os : List Operation) → EndsAlike (halted h os) (End.Halts h) (Way.Ends (halted h os))
+ends-halted (Halt.Returned v) os = refl
+ends-halted Halt.Divided os = refl
+ends-halted Halt.Waits os = refl
+ends-halted (Halt.Unfit why) os = tt
+
+-- names and slots
+
+pub stored-prefix : (ds es : List Local) (env : Env) (now : List Value) → Stored (ds ++ es) env now → Stored ds (take (length ds) env) now
+stored-prefix [] es [] now h = tt
+stored-prefix [] es (x ∷ env) now h = tt
+stored-prefix (d ∷ ds) es [] now h = absurd h
+stored-prefix (d ∷ ds) es (x ∷ env) now h = (h.0, h.1, stored-prefix ds es env now h.2)
+
+stored-shorter : (ds es : List Local) (env : Env) (now : List Value) → Stored (ds ++ es) (take (length (ds ++ es)) env) now → Stored ds (take (length ds) env) now
+stored-shorter [] es [] now h = tt
+stored-shorter [] es (x ∷ env) now h = tt
+stored-shorter (d ∷ ds) es [] now h = absurd h
+stored-shorter (d ∷ ds) es (x ∷ env) now h = (h.0, h.1, stored-shorter ds es env now h.2)
+
+pub stored-take : (ds : List Local) (env : Env) (now : List Value) → Stored ds env now → Stored ds (take (length ds) env) now
+stored-take [] [] now h = tt
+stored-take [] (x ∷ env) now h = absurd h
+stored-take (d ∷ ds) [] now h = absurd h
+stored-take (d ∷ ds) (x ∷ env) now h = (h.0, h.1, stored-take ds env now h.2)
+
+pub stored-length : (ds : List Local) (env : Env) (now : List Value) → Stored ds env now → length env ≡ length ds
+stored-length [] [] now h = refl
+stored-length [] (x ∷ env) now h = absurd h
+stored-length (d ∷ ds) [] now h = absurd h
+stored-length (d ∷ ds) (x ∷ env) now h = ap suc (stored-length ds env now h.2)
+
+pub rising-append : (ds es : List Local) (low mid high : ℕ) → Rising low mid ds → Rising mid high es → Rising low high (ds ++ es)
+rising-append [] [] low mid high h k = omega (arith, h, k)
+rising-append [] (e ∷ es) low mid high h k = let l = k.0 in (omega (arith, h, l), k.1)
+rising-append (d ∷ ds) es low mid high h k = (h.0, rising-append ds es (d.slot + 1) mid high h.1 k)
+
+pub apart-rising : (es : List Local) (low high i : ℕ) → i < low → Rising low high es → Apart i es
+apart-rising [] low high i lt r = tt
+apart-rising (e ∷ es) low high i lt r = let l = r.0 in (λ q. omega (arith, q, lt, l), apart-rising es (e.slot + 1) high i (omega (arith, lt, l)) r.1)
+
+pub apart-append : (ds es : List Local) (i : ℕ) → Apart i ds → Apart i es → Apart i (ds ++ es)
+apart-append [] es i h k = k
+apart-append (d ∷ ds) es i h k = (h.0, apart-append ds es i h.1 k)
+
+pub apart-below : (ds : List Local) (low high j : ℕ) → Rising low high ds → high ≤ j → Apart j ds
+apart-below [] low high j r le = tt
+apart-below (d ∷ ds) low high j r le = let k = reaches ds (d.slot + 1) high r.1 in (λ q. omega (arith, q, le, k), apart-below ds (d.slot + 1) high j r.1 le)
+  where
+    reaches : (es : List Local) (a b : ℕ) → Rising a b es → a ≤ b
+    reaches [] a b h = h
+    reaches (e ∷ es) a b h = let k = reaches es (e.slot + 1) b h.1 in let l = h.0 in omega (arith, k, l)
+
+-- a first change and a second one, from more names and slots on
+pub kept-then : (ds es : List Local) (next next1 : ℕ) (slots now1 now : List Value) → next ≤ next1 → Rising next next1 es → Kept ds next slots now1 → Kept (ds ++ es) next1 now1 now → Kept ds next slots now
+kept-then ds es next next1 slots now1 now le r h k i lt a = k i (omega (arith, lt, le)) (apart-append ds es i a (apart-rising es next next1 i lt r)) ∙ h i lt a
+
+pub kept-trans : (ds : List Local) (next : ℕ) (slots now1 now : List Value) → Kept ds next slots now1 → Kept ds next now1 now → Kept ds next slots now
+kept-trans ds next slots now1 now h k i lt a = k i lt a ∙ h i lt a
+
+module _ (rest : List Value) (a : Around) where
+  -- after a first part, which declares these
+  pub goes-base : (ds es after : List Local) (next next1 : ℕ) (slots now1 : List Value) (f : Flow) (o : Way) → next ≤ next1 → Rising next next1 es → length now1 ≡ length slots → Kept ds next slots now1
+      → Goes (ds ++ es) next1 now1 rest after a f o → Goes ds next slots rest after a f o
+  goes-base ds es after next next1 slots now1 (Flow.Goes Course.On env u) o le r long kept h = (h.0, h.1, (h.2.0, h.2.1 ∙ long, kept-then ds es next next1 slots now1 h.0 le r kept h.2.2))
+  goes-base ds es after next next1 slots now1 (Flow.Goes Course.Skips env u) o le r long kept h = (h.0, h.1, (h.2.0, h.2.1 ∙ long, kept-then ds es next next1 slots now1 h.0 le r kept h.2.2))
+  goes-base ds es after next next1 slots now1 (Flow.Goes Course.Breaks env u) o le r long kept h = (h.0, h.1, (stored-shorter ds es env h.0 h.2.0, h.2.1 ∙ long, kept-then ds es next next1 slots now1 h.0 le r kept h.2.2))
+  goes-base ds es after next next1 slots now1 (Flow.Goes Course.Continues env u) o le r long kept h = (h.0, h.1, (stored-shorter ds es env h.0 h.2.0, h.2.1 ∙ long, kept-then ds es next next1 slots now1 h.0 le r kept h.2.2))
+  goes-base ds es after next next1 slots now1 (Flow.Ends t) o le r long kept h = h
+
+  pub goes-then : (ds mid after : List Local) (next : ℕ) (slots : List Value) (f : Flow) (g : Env → World → Flow) (o : Way) (to : Frame → World → Way) → Goes ds next slots rest mid a f o
+      → ((env : Env) (u : World) (now : List Value) → Stands ds next slots mid env now → Goes ds next slots rest after a (g env u) (to (frame now rest) u)) → Goes ds next slots rest after a (then_flow f g) (then_way o to)
+  goes-then ds mid after next slots (Flow.Goes Course.On env u) g o to h k = subst (λ z. Goes ds next slots rest after a (g env u) (then_way z to)) (sym h.1) (k env u h.0 h.2)
+  goes-then ds mid after next slots (Flow.Goes Course.Skips env u) g o to h k = tt
+  goes-then ds mid after next slots (Flow.Goes Course.Breaks env u) g o to h k = (h.0, ap (λ z. then_way z to) h.1, h.2)
+  goes-then ds mid after next slots (Flow.Goes Course.Continues env u) g o to h k = (h.0, ap (λ z. then_way z to) h.1, h.2)
+  goes-then ds mid after next slots (Flow.Ends t) g o to h k = ends-in t t.end (λ z. then_way z to) o refl h
+
+  -- after an expression
+  pub goes-after : {A : Type 0} (ds after_locals : List Local) (next : ℕ) (slots : List Value) (p : V.Part A) (f : A → World → Flow) (K : A → World → Way → Type 0) (C : Way → Way) (o : Way) → ((h : Halt) (os : List Operation) → C (Way.Ends (halted h os)) ≡ Way.Ends (halted h os)) → Sim p K o
+      → ((x : A) (u : World) (i : Way) → K x u i → Goes ds next slots rest after_locals a (f x u) (C i)) → Goes ds next slots rest after_locals a (after p f) (C o)
+  goes-after ds al next slots (V.Part.Gives x u) f K C o strict h k = k x u o h
+  goes-after ds al next slots (V.Part.Stops (Halt.Returned v) os) f K C o strict h k = ap C h ∙ strict (Halt.Returned v) os
+  goes-after ds al next slots (V.Part.Stops Halt.Divided os) f K C o strict h k = ap C h ∙ strict Halt.Divided os
+  goes-after ds al next slots (V.Part.Stops Halt.Waits os) f K C o strict h k = ap C h ∙ strict Halt.Waits os
+  goes-after ds al next slots (V.Part.Stops (Halt.Unfit why) os) f K C o strict h k = tt
+
+  -- a part that changes names
+  pub goes-on : (ds al : List Local) (next : ℕ) (slots : List Value) (p : V.Part Env) (o : Way) → Sim p (λ env u i. (now : List Value) × (i ≡ Way.Through (frame now rest) u) × Stands ds next slots al env now) o → Goes ds next slots rest al a (on p) o
+  goes-on ds al next slots (V.Part.Gives env u) o h = h
+  goes-on ds al next slots (V.Part.Stops (Halt.Returned v) os) o h = h
+  goes-on ds al next slots (V.Part.Stops Halt.Divided os) o h = h
+  goes-on ds al next slots (V.Part.Stops Halt.Waits os) o h = h
+  goes-on ds al next slots (V.Part.Stops (Halt.Unfit why) os) o h = tt
+
+  pub goes-changed : (ds : List Local) (next : ℕ) (slots : List Value) (p : V.Part Env) (o : Way) → Sim p (Changed ds slots rest) o → Goes ds next slots rest (ds ++ []) a (on p) o
+  goes-changed ds next slots p o h = goes-on ds (ds ++ []) next slots p o (by p h)
+    where
+      by : (q : V.Part Env) → Sim q (Changed ds slots rest) o → Sim q (λ env u i. (now : List Value) × (i ≡ Way.Through (frame now rest) u) × Stands ds next slots (ds ++ []) env now) o
+      by (V.Part.Gives env u) k = (k.0, k.1, (subst (λ xs. Stored xs env k.0) (sym (append-nil ds)) k.2, k.3, λ i lt ap'. k.4 i ap'))
+      by (V.Part.Stops (Halt.Returned v) os) k = k
+      by (V.Part.Stops Halt.Divided os) k = k
+      by (V.Part.Stops Halt.Waits os) k = k
+      by (V.Part.Stops (Halt.Unfit why) os) k = tt
+
+  -- a test of a truth value
+  pub goes-test : (ds al : List Local) (next : ℕ) (slots base : List Value) (m : Option Bool) (u : World) (k : ℕ) (f g : Flow) (to : Frame → World → Way) → Goes ds next base rest al a f (to (frame slots rest) u) → Goes ds next base rest al a g (Way.Leaves k (frame slots rest) u)
+      → Goes ds next base rest al a (by_test m u f g) (then_way (unless_true (on_some (λ b. V.Part.Gives (b, frame slots rest) u) u m) k) to)
+  goes-test ds al next slots base None u k f g to h i = tt
+  goes-test ds al next slots base (Some true) u k f g to h i = h
+  goes-test ds al next slots base (Some false) u k f g to h i = i
+
+  -- blocks: what is declared inside is forgotten
+
+  -- all ways have the names of before
+  abbrev pub Exactly : List Local → ℕ → List Value → Flow → Way → Type 0
+  Exactly ds next slots (Flow.Goes Course.On env u) o = (now : List Value) × (o ≡ Way.Through (frame now rest) u) × Stands ds next slots ds env now
+  Exactly ds next slots (Flow.Goes Course.Skips env u) o = ⊥
+  Exactly ds next slots (Flow.Goes Course.Breaks env u) o = (now : List Value) × (o ≡ Way.Leaves a.breaks (frame now rest) u) × Stands ds next slots ds env now
+  Exactly ds next slots (Flow.Goes Course.Continues env u) o = (now : List Value) × (o ≡ Way.Leaves a.continues (frame now rest) u) × Stands ds next slots ds env now
+  Exactly ds next slots (Flow.Ends t) o = EndsAlike t t.end o
+
+  -- the names of before have their values first, before those of others
+  abbrev pub GoesPrefix : List Local → ℕ → List Value → Flow → Way → Type 0
+  GoesPrefix ds next slots (Flow.Goes Course.On env u) o = (now : List Value) × (o ≡ Way.Through (frame now rest) u) × Stands ds next slots ds (take (length ds) env) now
+  GoesPrefix ds next slots (Flow.Goes Course.Skips env u) o = Unit {0}
+  GoesPrefix ds next slots (Flow.Goes Course.Breaks env u) o = (now : List Value) × (o ≡ Way.Leaves a.breaks (frame now rest) u) × Stands ds next slots ds (take (length ds) env) now
+  GoesPrefix ds next slots (Flow.Goes Course.Continues env u) o = (now : List Value) × (o ≡ Way.Leaves a.continues (frame now rest) u) × Stands ds next slots ds (take (length ds) env) now
+  GoesPrefix ds next slots (Flow.Ends t) o = EndsAlike t t.end o
+
+  pub goes-prefix : (ds es : List Local) (next : ℕ) (slots : List Value) (f : Flow) (o : Way) → Goes ds next slots rest (ds ++ es) a f o → GoesPrefix ds next slots f o
+  goes-prefix ds es next slots (Flow.Goes Course.On env u) o h = (h.0, h.1, (stored-prefix ds es env h.0 h.2.0, h.2.1, h.2.2))
+  goes-prefix ds es next slots (Flow.Goes Course.Skips env u) o h = tt
+  goes-prefix ds es next slots (Flow.Goes Course.Breaks env u) o h = h
+  goes-prefix ds es next slots (Flow.Goes Course.Continues env u) o h = h
+  goes-prefix ds es next slots (Flow.Ends t) o h = h
+
+  pub cut-exactly : (ds : List Local) (next : ℕ) (slots : List Value) (f : Flow) (o : Way) → GoesPrefix ds next slots f o → Exactly ds next slots (cut (length ds) f) o
+  cut-exactly ds next slots (Flow.Goes Course.On env u) o h = h
+  cut-exactly ds next slots (Flow.Goes Course.Skips env u) o h = tt
+  cut-exactly ds next slots (Flow.Goes Course.Breaks env u) o h = h
+  cut-exactly ds next slots (Flow.Goes Course.Continues env u) o h = h
+  cut-exactly ds next slots (Flow.Ends t) o h = h
+
+  pub exactly-goes : (ds : List Local) (next : ℕ) (slots : List Value) (f : Flow) (o : Way) → Exactly ds next slots f o → Goes ds next slots rest (ds ++ []) a f o
+  exactly-goes ds next slots f o h = subst (λ xs. Goes ds next slots rest xs a f o) (sym (append-nil ds)) (by f h)
+    where
+      by : (g : Flow) → Exactly ds next slots g o → Goes ds next slots rest ds a g o
+      by (Flow.Goes Course.On env u) k = k
+      by (Flow.Goes Course.Skips env u) k = absurd k
+      by (Flow.Goes Course.Breaks env u) k = (k.0, k.1, (stored-take ds env k.0 k.2.0, k.2.1, k.2.2))
+      by (Flow.Goes Course.Continues env u) k = (k.0, k.1, (stored-take ds env k.0 k.2.0, k.2.1, k.2.2))
+      by (Flow.Ends t) k = k
+
+-- break and continue lead to the same targets
+pub around-same : (ds : List Local) (next : ℕ) (slots rest : List Value) (al : List Local) (a b : Around) (f : Flow) (o : Way) → b.breaks ≡ a.breaks → b.continues ≡ a.continues → Goes ds next slots rest al b f o → Goes ds next slots rest al a f o
+around-same ds next slots rest al a b (Flow.Goes Course.On env u) o p q h = h
+around-same ds next slots rest al a b (Flow.Goes Course.Skips env u) o p q h = h
+around-same ds next slots rest al a b (Flow.Goes Course.Breaks env u) o p q h = (h.0, h.1 ∙ ap (λ k. Way.Leaves k (frame h.0 rest) u) p, h.2)
+around-same ds next slots rest al a b (Flow.Goes Course.Continues env u) o p q h = (h.0, h.1 ∙ ap (λ k. Way.Leaves k (frame h.0 rest) u) q, h.2)
+around-same ds next slots rest al a b (Flow.Ends t) o p q h = h
+
+-- statements that mean what their code does
+
+pub means-nothing : StatementMeans (λ s. W.nothing) (λ b s. L.no_code) nothing
+means-nothing = record {
+  rises = λ s. omega arith;
+  goes = λ a s n env slots ok room at ts rest u. (slots, refl, (subst (λ xs. Stored xs env slots) (sym (append-nil s.locals)) ok.stored, refl, λ i lt q. refl));
+}
+
+-- after a first part, which went as it is told, comes a statement
+pub goes-and : (v w : Walk) (x y : Lay) (e : Deed) → ((s : Scope) → Rising s.next (behind s (v s)).next (v s).declares) → StatementMeans w y e
+    → (a : Around) (s : Scope) (n : ℕ) (f : Flow) (slots : List Value) → Rising 0 s.next s.locals → (behind s (W.then v w s)).next ≤ length slots → (at : ℕ) (ts : List ℕ) (rest : List Value) (c : Frame) (u : World)
+    → Goes s.locals s.next slots rest (behind s (v s)).locals a f (run n (x a s).piece at ts c u)
+    → Goes s.locals s.next slots rest (behind s (W.then v w s)).locals a (then_flow f (e (L.past a (x a s)) (behind s (v s)) n)) (run n (then_lay x v y a s).piece at ts c u)
+goes-and v w x y e rises hy a s n f slots rising room at ts rest c u h =
+    let s1 = behind s (v s) in
+    let b = L.past a (x a s) in
+    let l = length-append (v s).slots (w s1).slots in
+    let first = (x a s).piece in
+    subst (λ xs. Goes s.locals s.next slots rest xs a (then_flow f (e b s1 n)) (run n (then_lay x v y a s).piece at ts c u)) (append_assoc s.locals (v s).declares (w s1).declares)
+    (goes-then rest a s.locals s1.locals (behind s1 (w s1)).locals s.next slots f (e b s1 n) (run n first at ts c u) (run n (y b s1).piece (at + size first) ts) h
+    (λ env1 u1 now st.
+    goes-base rest a s.locals (v s).declares (behind s1 (w s1)).locals s.next s1.next slots now (e b s1 n env1 u1) _ (omega arith) (rises s) st.1 st.2
+    (around-same s1.locals s1.next now rest (behind s1 (w s1)).locals a b (e b s1 n env1 u1) _ refl refl
+    (hy.goes b s1 n env1 now (record { stored = st.0; rising = rising-append s.locals (v s).declares 0 s.next s1.next rising (rises s) }) (let q = st.1 in omega (arith, room, l, q)) (at + size first) ts rest u1))))
+
+pub means-then : (v w : Walk) (x y : Lay) (d e : Deed) → StatementMeans v x d → StatementMeans w y e
+    → StatementMeans (W.then v w) (then_lay x v y) (λ a s n env u. then_flow (d a s n env u) (e (L.past a (x a s)) (behind s (v s)) n))
+means-then v w x y d e hx hy = record {
+  rises = λ s.
+      let s1 = behind s (v s) in
+      let l = length-append (v s).slots (w s1).slots in
+      subst (λ k. Rising s.next k ((v s).declares ++ (w s1).declares)) (omega (arith, l)) (rising-append (v s).declares (w s1).declares s.next s1.next (behind s1 (w s1)).next (hx.rises s) (hy.rises s1));
+  goes = λ a s n env slots ok room at ts rest u.
+      let l = length-append (v s).slots (w (behind s (v s))).slots in
+      goes-and v w x y e hx.rises hy a s n (d a s n env u) slots ok.rising room at ts rest (frame slots rest) u (hx.goes a s n env slots ok (omega (arith, room, l)) at ts rest u);
+}
+
+abbrev pub StepMeans : Step → Type 0
+StepMeans x = StatementMeans x.part.walk x.part.lay x.deed
+
+abbrev pub EachMeans : List Step → Type 0
+EachMeans [] = Unit {0}
+EachMeans (x ∷ xs) = StepMeans x × EachMeans xs
+
+pub means-order : (xs : List Step) → EachMeans xs → StatementMeans (L.in_order (parts xs)).walk (L.in_order (parts xs)).lay (in_order xs)
+means-order [] h = means-nothing
+means-order (x ∷ xs) h = means-then x.part.walk (L.in_order (parts xs)).walk x.part.lay (L.in_order (parts xs)).lay x.deed (in_order xs) h.0 (means-order xs h.1)
+
+-- in a block, all ways have the names of before
+pub exactly-prefix : (d : Deed) (p : Piece) (a : Around) (s : Scope) (n : ℕ) (env : Env) (slots : List Value) → Known s.locals s.next env slots → (at : ℕ) (ts : List ℕ) (rest : List Value) (u : World)
+    → GoesPrefix rest a s.locals s.next slots (d a (begun s) n env u) (run n p at ts (frame slots rest) u) → Exactly rest a s.locals s.next slots (in_block d a s n env u) (run n p at ts (frame slots rest) u)
+exactly-prefix d p a s n env slots ok at ts rest u h =
+    subst (λ k. Exactly rest a s.locals s.next slots (cut k (d a (begun s) n env u)) (run n p at ts (frame slots rest) u)) (sym (stored-length s.locals env slots ok.stored))
+    (cut-exactly rest a s.locals s.next slots (d a (begun s) n env u) (run n p at ts (frame slots rest) u) h)
+
+pub exactly-block : (w : Walk) (x : Lay) (d : Deed) → StatementMeans w x d → (a : Around) (s : Scope) (n : ℕ) (env : Env) (slots : List Value) → Known s.locals s.next env slots → (behind s (W.in_block w s)).next ≤ length slots
+    → (at : ℕ) (ts : List ℕ) (rest : List Value) (u : World) → Exactly rest a s.locals s.next slots (in_block d a s n env u) (run n (x a (begun s)).piece at ts (frame slots rest) u)
+exactly-block w x d h a s n env slots ok room at ts rest u =
+    exactly-prefix d (x a (begun s)).piece a s n env slots ok at ts rest u
+    (goes-prefix rest a s.locals (w (begun s)).declares s.next slots (d a (begun s) n env u) (run n (x a (begun s)).piece at ts (frame slots rest) u) (h.goes a (begun s) n env slots (record { stored = ok.stored; rising = ok.rising }) room at ts rest u))
+
+pub means-block : (w : Walk) (x : Lay) (d : Deed) → StatementMeans w x d → StatementMeans (W.in_block w) (λ a s. x a (begun s)) (in_block d)
+means-block w x d h = record {
+  rises = λ s. omega arith;
+  goes = λ a s n env slots ok room at ts rest u. exactly-goes rest a s.locals s.next slots (in_block d a s n env u) (run n (x a (begun s)).piece at ts (frame slots rest) u) (exactly-block w x d h a s n env slots ok room at ts rest u);
+}

@@ -1,5 +1,0 @@
-use Rattle.golf_meaning_typed.proofs.Operators.{conditions-decide}
-use Rattle.golf_meaning_typed.proofs.conditions_decide.Goals as goal
-
-pub returns : goal.returns
-returns c = conditions-decide

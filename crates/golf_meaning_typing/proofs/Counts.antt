@@ -1,0 +1,139 @@
+-- How many values are given, and places of each kind.
+use Rattle.std.proofs.Common.{◌≡◌, ℕ, ◌+◌, Bool, true, false, cond, List, [], ◌∷◌, ◌++◌, length, length-append, Option, Some, None, refl, sym, subst, arith}
+use Rattle.std.proofs.lemmas.Bool.{eq-eqb, false≢true}
+use Rattle.std.specs.Prelude.{is_some}
+use Rattle.std.specs.Str.{bytes_eq}
+use Rattle.golf_data.specs.declared.value.Value.{Value}
+use Rattle.golf_data.specs.declared.code.Instr.{Instr}
+use Rattle.golf_check_types.specs.declared.types.GoType.{GoType}
+use Rattle.golf_check_types.specs.declared.locals.Local.{Local}
+use Rattle.golf_code_layout.specs.Depth.{taken}
+use Rattle.golf_meaning_flat.specs.Worlds.{World, Part, bind}
+use Rattle.golf_meaning_source.specs.Names.{Env, Bound, find, first_some, here, assign}
+use Rattle.golf_meaning_source.specs.Operations.{Gives, gives, both, then_do, in_order, all_fit, visible}
+use Rattle.golf_meaning_source.specs.Exprs.{Place, found, if_none, assigned, read, store}
+use Rattle.golf_meaning_source.proofs.Environments.{last}
+use Rattle.golf_model_typing.specs.Types.{ValueType}
+use Rattle.golf_code_shapes.specs.Types.{value_type}
+use Rattle.golf_meaning_typing.specs.Sound.{Sound, is_of, One, Yields, Held, NamesFit}
+use Rattle.golf_meaning_typing.specs.Meets.{Many, Placed}
+use Rattle.golf_meaning_typing.proofs.Calculus.{sound-bind, sound-as, sound-visible, yields-visible}
+use Rattle.golf_meaning_typing.proofs.NameValues.{Paired, paired}
+
+-- counts
+
+pub many-one : (u : ValueType) (f : Gives) → Yields u f → Many 1 f
+many-one u f h w = sound-as (f w) (One u) (λ vs. length vs ≡ 1) (h w) one
+  where
+    one : (vs : List Value) → One u vs → length vs ≡ 1
+    one [] q = absurd q
+    one (v ∷ []) q = refl
+    one (v ∷ (x ∷ vs)) q = absurd q
+
+pub many-both : (m n : ℕ) (f g : Gives) → Many m f → Many n g → Many (m + n) (both f g)
+many-both m n f g hf hg w = sound-bind (f w) (λ xs u. bind (g u) (λ ys v. Part.Gives (xs ++ ys) v)) (λ xs. length xs ≡ m) (λ vs. length vs ≡ m + n) (hf w)
+    (λ xs u e. sound-bind (g u) (λ ys v. Part.Gives (xs ++ ys) v) (λ ys. length ys ≡ n) (λ vs. length vs ≡ m + n) (hg u) (λ ys v d. omega (arith, length-append xs ys, e, d)))
+
+pub many-then : (n : ℕ) (f : Gives) (g : List Value → Gives) (L : List Value → Type 0) → Many n f → ((vs : List Value) → length vs ≡ n → (w : World) → Sound L (g vs w)) → (w : World) → Sound L (then_do f g w)
+many-then n f g L h k w = sound-bind (f w) g (λ vs. length vs ≡ n) L (h w) (λ vs u e. k vs e u)
+
+abbrev pub EachOne : List Gives → Type 0
+EachOne [] = Unit {0}
+EachOne (f ∷ fs) = Many 1 f × EachOne fs
+
+pub many-order : (fs : List Gives) → EachOne fs → Many (length fs) (in_order fs)
+many-order [] h w = refl
+many-order (f ∷ fs) h w = sound-as (both f (in_order fs) w) (λ vs. length vs ≡ 1 + length fs) (λ vs. length vs ≡ length (f ∷ fs)) (many-both 1 (length fs) f (in_order fs) h.0 (many-order fs h.1) w) (λ vs e. omega (arith, e))
+
+-- operations with as many operands as they take
+
+pub one-left : (i : Instr) (e : GoType) (vs : List Value) → length vs ≡ taken i → Yields (value_type e) (visible i (Some e ∷ []) vs)
+one-left i e vs h = yields-visible i e vs (eq-eqb (length vs) (taken i) h)
+
+none-fit : (us : List Value) → all_fit [] us ≡ true → length us ≡ 0
+none-fit [] h = refl
+none-fit (x ∷ us) h = absurd (false≢true h)
+
+pub none-left-over : (i : Instr) (vs : List Value) → length vs ≡ taken i → Many 0 (visible i [] vs)
+none-left-over i vs h w = sound-as (visible i [] vs w) (λ us. all_fit [] us ≡ true) (λ us. length us ≡ 0) (sound-visible i [] vs w (eq-eqb (length vs) (taken i) h)) none-fit
+
+-- an operation that stores
+pub stored : {A : Type 0} (K : A → Type 0) (a : A) (i : Instr) (vs : List Value) (w : World) → length vs ≡ taken i → K a → Sound K (bind (visible i [] vs w) (λ us u. if_none us u (Part.Gives a u)))
+stored K a i vs w h k = sound-bind (visible i [] vs w) (λ us u. if_none us u (Part.Gives a u)) (λ us. length us ≡ 0) K (none-left-over i vs h w) by
+  where
+    by : (us : List Value) (u : World) → length us ≡ 0 → Sound K (if_none us u (Part.Gives a u))
+    by [] u e = k
+    by (x ∷ us) u e = absurd (omega (arith, e))
+
+-- no values
+
+pub at-none : (P : List Value → Type 0) → P [] → (vs : List Value) → length vs ≡ 0 → P vs
+at-none P h [] e = h
+at-none P h (x ∷ vs) e = absurd (omega (arith, e))
+
+-- names
+
+pub held-known : (o : Option GoType) (v : Value) → Held o v → (e : GoType) × (o ≡ Some e) × (is_of (value_type e) v ≡ true)
+held-known None v h = absurd h
+held-known (Some e) v h = (e, refl, h)
+
+-- a local takes a value of its type
+abbrev pub Takes : Option Local → Value → Type 0
+Takes None v = Unit {0}
+Takes (Some d) v = Held d.of_type v
+
+kept-step : (ds : List Local) (xs later : Env) (d : Local) (x : Bound) (v : Value) (a : Option Local) (o : Option Value) (same : Bool) → NamesFit (d ∷ ds) (x ∷ xs) → Paired a o → Takes (first_some a (here same d)) v → (Takes a v → NamesFit ds later)
+    → NamesFit (d ∷ ds) (cond (is_some o) (x ∷ later) (cond same (record { name = x.name; value = v } ∷ xs) (x ∷ xs)))
+kept-step ds xs later d x v None None true h p k r = (h.0, k, h.2)
+kept-step ds xs later d x v None None false h p k r = h
+kept-step ds xs later d x v None (Some z) same h p k r = absurd p
+kept-step ds xs later d x v (Some y) None same h p k r = absurd p
+kept-step ds xs later d x v (Some y) (Some z) same h p k r = (h.0, h.1, r k)
+
+-- after a value of its type was assigned to the last local of a name, all have values of their types
+pub kept-names : (ds : List Local) (env : Env) (n : List ℕ) (v : Value) → NamesFit ds env → Takes (last ds n) v → NamesFit ds (assign env n v)
+kept-names [] [] n v h k = tt
+kept-names [] (x ∷ xs) n v h k = absurd h
+kept-names (d ∷ ds) [] n v h k = absurd h
+kept-names (d ∷ ds) (x ∷ xs) n v h k =
+    kept-step ds xs (assign xs n v) d x v (last ds n) (find xs n) (bytes_eq n x.name) h (paired ds xs n h.2)
+    (subst (λ m. Takes (first_some (last ds n) (here (bytes_eq n m) d)) v) (sym h.0) k) (λ q. kept-names ds xs n v h.2 q)
+
+module _ (ds : List Local) (env : Env) (fit : NamesFit ds env) where
+  -- the last local of a name
+  pub placed-local : (n : List ℕ) (d : Local) (e : GoType) (v : Value) → last ds n ≡ Some d → d.of_type ≡ Some e → find env n ≡ Some v → is_of (value_type e) v ≡ true → Placed ds env (value_type e) (Place.Local n) (gives [])
+  placed-local n d e v is typed at held = record {
+    told = 0;
+    parts = λ w. refl;
+    reads = at-none (λ vs. Yields (value_type e) (read env (Place.Local n) vs)) (λ w. subst (λ o. Sound (One (value_type e)) (found o w)) (sym at) held);
+    stores = λ vs x len of w. at-none (λ us. Sound (NamesFit ds) (store env (Place.Local n) (us ++ x ∷ []) w))
+        (subst (λ o. Sound (NamesFit ds) (assigned env n o x w)) (sym at) (kept-names ds env n x fit (subst (λ o. Takes o x) (sym is) (subst (λ o. Held o x) (sym typed) of)))) vs len;
+  }
+
+  pub placed-global : (g : ℕ) (e : GoType) → Placed ds env (value_type e) (Place.Global g (Some e)) (gives [])
+  placed-global g e = record {
+    told = 0;
+    parts = λ w. refl;
+    reads = at-none (λ vs. Yields (value_type e) (read env (Place.Global g (Some e)) vs)) (one-left (Instr.LoadGlobal g) e [] refl);
+    stores = λ vs x len of w. at-none (λ us. Sound (NamesFit ds) (store env (Place.Global g (Some e)) (us ++ x ∷ []) w)) (stored (NamesFit ds) env (Instr.StoreGlobal g) (x ∷ []) w refl fit) vs len;
+  }
+
+  pub placed-field : (i : ℕ) (e : GoType) (f : Gives) → Many 1 f → Placed ds env (value_type e) (Place.Field i (Some e)) f
+  placed-field i e f h = record {
+    told = 1;
+    parts = h;
+    reads = λ vs len. one-left (Instr.Field i) e vs len;
+    stores = λ vs x len of w. stored (NamesFit ds) env (Instr.SetField i) (vs ++ x ∷ []) w (omega (arith, length-append vs (x ∷ []), len)) fit;
+  }
+
+  pub placed-element : (e : GoType) (f : Gives) → Many 2 f → Placed ds env (value_type e) (Place.Element (Some e)) f
+  placed-element e f h = record {
+    told = 2;
+    parts = h;
+    reads = λ vs len. one-left Instr.Index e vs len;
+    stores = λ vs x len of w. stored (NamesFit ds) env Instr.SetIndex (vs ++ x ∷ []) w (omega (arith, length-append vs (x ∷ []), len)) fit;
+  }
+
+  -- a place is read after what tells it
+  pub yields-place : (u : ValueType) (p : Place) (f : Gives) → Placed ds env u p f → Yields u (then_do f (read env p))
+  yields-place u p f h = many-then h.told f (read env p) (One u) h.parts (λ vs len w. h.reads vs len w)

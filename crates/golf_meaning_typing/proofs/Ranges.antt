@@ -1,0 +1,177 @@
+-- Loops over a slice and over a channel.
+use Rattle.std.proofs.Common.{◌≡◌, ℕ, zero, suc, ℤ, pos, Bool, true, false, cond, not, ◌&&◌, List, [], ◌∷◌, ◌++◌, length, Option, Some, refl, sym, subst, append_assoc}
+use Rattle.std.specs.Prelude.{int_lt}
+use Rattle.golf_syntax_trees.specs.declared.expressions.Expr.{Expr}
+use Rattle.golf_syntax_trees.specs.declared.statements.RangeNames.{RangeNames}
+use Rattle.golf_syntax_trees.specs.declared.statements.RangeNames.TheVariants as range
+use Rattle.golf_data.specs.declared.value.Value.{Value}
+use Rattle.golf_data.specs.declared.code.Instr.{Instr}
+use Rattle.golf_model.specs.Values.{bool_of}
+use Rattle.golf_model.specs.Calculating.{sum}
+use Rattle.golf_check_types.specs.declared.types.Layer.{Layer}
+use Rattle.golf_check_types.specs.declared.types.Layer.TheVariants as layer
+use Rattle.golf_check_types.specs.declared.types.Base.{Base}
+use Rattle.golf_check_types.specs.declared.types.Base.TheVariants as base
+use Rattle.golf_check_types.specs.declared.types.GoType.{GoType}
+use Rattle.golf_check_types.specs.declared.operands.Given.{Given}
+use Rattle.golf_check_types.specs.declared.operands.Given.TheVariants as given_as
+use Rattle.golf_check_types.specs.declared.locals.Local.{Local}
+use Rattle.golf_check_types.specs.declared.scopes.Scope.{Scope}
+use Rattle.golf_check_types.specs.Faults.{broken}
+use Rattle.golf_check_types.specs.Names.{is_blank}
+use Rattle.golf_check_types.specs.Scopes.{begun}
+use Rattle.golf_check_types.specs.Types.{plain, is_slice, element}
+use Rattle.golf_check_types.specs.Expressions.{used, given_by}
+use Rattle.golf_check_types.specs.Judging.{judge}
+use Rattle.golf_check_types.specs.Statements as W
+use Rattle.golf_check_types.specs.Statements.{Walk, behind, one_new, int_type, bool_type, are_two, is_outer, range_faults, range_names_differ}
+use Rattle.golf_model_typing.specs.Types.{ValueType, Types}
+use Rattle.golf_code_of.specs.declared.tables.Tables.{Tables}
+use Rattle.golf_code_of.specs.declared.making.Around.{Around}
+use Rattle.golf_code_shapes.specs.Types.{value_type}
+use Rattle.golf_code_shapes.specs.Sound.{FileFits}
+use Rattle.golf_code_shapes.proofs.Typings.{none-left, none-right, kept}
+use Rattle.golf_meaning_flat.specs.Worlds.{World, Part, bind}
+use Rattle.golf_meaning_flat.specs.Doing.{computed}
+use Rattle.golf_meaning_source.specs.Names.{Env}
+use Rattle.golf_meaning_source.specs.Operations.{visible, all_fit}
+use Rattle.golf_meaning_source.specs.Exprs.{int_value}
+use Rattle.golf_meaning_statements.specs.Flows.{Course, Flow, cut, after, by_test, turned}
+use Rattle.golf_meaning_statements.specs.Steps.{Deed, bound, declared, value_at, in_block, in_loop, named_one, range_named, ranges, measured, range_step, over_slice, channel_named, received_two, receives, channel_step, by_channel, over, ranging}
+use Rattle.golf_meaning_typing.specs.Sound.{Sound, is_of, One, YieldsBy, Held, NamesFit}
+use Rattle.golf_meaning_typing.specs.Flowing.{Fitting, Out, Never}
+use Rattle.golf_meaning_typing.proofs.ValueKinds.{int-is, bool-is}
+use Rattle.golf_meaning_typing.proofs.Calculus.{sound-visible, yields-visible}
+use Rattle.golf_meaning_typing.proofs.NamesKept.{names-bound, names-cut}
+use Rattle.golf_meaning_typing.proofs.Given.{at-one, at-two, two-fit}
+use Rattle.golf_meaning_typing.proofs.Flows.{fitting-after, fitting-cut, fitting-turned}
+use Rattle.golf_meaning_typing.proofs.Simples.{declaring, value-of}
+use Rattle.golf_meaning_typing.proofs.Blocks.{quiet, exact-fits, block-cut, fits-begin, Fits, body-fits, left-fits}
+
+-- a name that is `_` is not declared
+
+named-fit : (b : Bool) (ds : List Local) (at : Scope) (n : List ℕ) (o : Option GoType) (v : Value) (env : Env) → NamesFit ds env → Held o v → NamesFit (ds ++ (one_new (not b) n o at).declares) (cond b env (bound env n v))
+named-fit true ds at n o v env h k = quiet ds [] env refl h
+named-fit false ds at n o v env h k = names-bound ds at n o env v h k
+
+element-fit : (b : Bool) (ds : List Local) (at : Scope) (m : List ℕ) (e : GoType) (x i : Value) (env : Env) (w : World) → NamesFit ds env → Sound (NamesFit (ds ++ (one_new (not b) m (Some e) at).declares)) (cond b (Part.Gives env w) (bind (visible Instr.Index (Some e ∷ []) (x ∷ (i ∷ [])) w) (declared env m)))
+element-fit true ds at m e x i env w h = quiet ds [] env refl h
+element-fit false ds at m e x i env w h = declaring ds at m (Some e) e env (visible Instr.Index (Some e ∷ []) (x ∷ (i ∷ []))) refl h (yields-visible Instr.Index e (x ∷ (i ∷ [])) refl) w
+
+range-named : (ds : List Local) (at : Scope) (names : RangeNames) (e : GoType) (x : Value) (i : ℤ) (env : Env) (w : World) → NamesFit ds env → Sound (NamesFit (ds ++ (W.range_names names true (Some e) at).declares)) (range_named (Some e) names x (Value.Int i) env w)
+range-named ds at range.Neither e x i env w h = quiet ds [] env refl h
+range-named ds at (range.One n) e x i env w h = named-fit (is_blank n) ds at n int_type (Value.Int i) env h refl
+range-named ds at (range.Two n m) e x i env w h =
+    let v = W.range_name n int_type at in
+    subst (λ es. Sound (NamesFit es) (range_named (Some e) (range.Two n m) x (Value.Int i) env w)) (append_assoc ds v.declares (W.range_name m (Some e) (behind at v)).declares)
+    (element-fit (is_blank m) (ds ++ v.declares) (behind at v) m e x (Value.Int i) (named_one n (Value.Int i) env) w (named-fit (is_blank n) ds at n int_type (Value.Int i) env h refl))
+
+channel-named : (ds : List Local) (at : Scope) (names : RangeNames) (e : GoType) (v : Value) (env : Env) → are_two names ≡ false → NamesFit ds env → is_of (value_type e) v ≡ true → NamesFit (ds ++ (W.range_names names false (Some e) at).declares) (channel_named names v env)
+channel-named ds at range.Neither e v env one h of = quiet ds [] env refl h
+channel-named ds at (range.One n) e v env one h of = named-fit (is_blank n) ds at n (Some e) v env h of
+channel-named ds at (range.Two n m) e v env one h of = cc
+
+one-name : (names : RangeNames) → not (are_two names && true) ≡ true → are_two names ≡ false
+one-name range.Neither e = refl
+one-name (range.One n) e = refl
+one-name (range.Two n m) e = cc
+
+-- Loops from names of these locals.
+module _ (ds : List Local) (B C : Env → Type 0) where
+  abbrev I : Env → Type 0
+  I = NamesFit ds
+
+  abbrev pub Loop : Flow → Type 0
+  Loop f = Fitting (NamesFit ds) B C Never f
+
+  -- a turn ends with the names of before
+  cut-turn : (es : List Local) (env : Env) (f : Flow) → NamesFit ds env → Fitting (NamesFit (ds ++ es)) (NamesFit (ds ++ es)) (NamesFit (ds ++ es)) Never f → Fitting I I I I (cut (length env) f)
+  cut-turn es env f fit h = fitting-cut (NamesFit ds) (NamesFit ds) (NamesFit ds) (NamesFit ds) (NamesFit (ds ++ es)) (NamesFit (ds ++ es)) (NamesFit (ds ++ es)) (length env) f h
+      (λ z k. names-cut ds env z fit (es, k)) (λ z k. names-cut ds env z fit (es, k)) (λ z k. names-cut ds env z fit (es, k))
+
+  slice-turns : (b : ℤ) (step : Value → Env → World → Flow) → ((i : ℤ) (env : Env) (w : World) → NamesFit ds env → Fitting I I I I (step (Value.Int i) env w)) → (m : ℕ) (i : ℤ) (env : Env) (w : World) → NamesFit ds env → Loop (ranges m (Value.Int b) step (Value.Int i) env w)
+  slice-turns b step h zero i env w k = tt
+  slice-turns b step h (suc m) i env w k = by (λ e v q. slice-turns b step h m (sum i (pos 1)) e v q) (int_lt i b)
+    where
+      by : ((e : Env) (v : World) → NamesFit ds e → Loop (ranges m (Value.Int b) step (Value.Int (sum i (pos 1))) e v)) → (c : Bool) → Loop (by_test (Some c) w (turned (step (Value.Int i) env w) (λ e v. after (computed sum v (Value.Int i) (int_value 1)) (λ j x. ranges m (Value.Int b) step j e x))) (Flow.Goes Course.On env w))
+      by next true = fitting-turned (NamesFit ds) B C Never (NamesFit ds) (step (Value.Int i) env w) _ (h i env w k) next
+      by next false = k
+
+  -- over a slice
+  pub slice-fits : (at : Scope) (names : RangeNames) (e : GoType) (n : ℕ) (d : Env → World → Flow) (x : Value) (env : Env) (w : World) → NamesFit ds env
+      → ((z : Env) (u : World) → NamesFit (ds ++ (W.range_names names true (Some e) at).declares) z → Fitting (NamesFit (ds ++ (W.range_names names true (Some e) at).declares)) (NamesFit (ds ++ (W.range_names names true (Some e) at).declares)) (NamesFit (ds ++ (W.range_names names true (Some e) at).declares)) Never (d z u))
+      → Loop (over_slice n (Some e) names d x env w)
+  slice-fits at names e n d x env w fit h =
+      fitting-after (NamesFit ds) B C Never (visible Instr.Len (int_type ∷ []) (x ∷ []) w) _ (One ValueType.Int) (yields-visible Instr.Len (plain base.Int) (x ∷ []) refl w)
+      (λ ls u q. at-one ValueType.Int (λ us. Loop (measured us u (λ long v. ranges n long (range_step (Some e) names x d) (int_value 0) env v)))
+      (λ long of. let z = int-is long of in subst (λ g. Loop (ranges n g (range_step (Some e) names x d) (int_value 0) env u)) (sym z.1) (slice-turns z.0 (range_step (Some e) names x d) one n (pos 0) env u fit)) ls q)
+    where
+      one : (i : ℤ) (z : Env) (u : World) → NamesFit ds z → Fitting I I I I (range_step (Some e) names x d (Value.Int i) z u)
+      one i z u k =
+          cut-turn (W.range_names names true (Some e) at).declares z (after (range_named (Some e) names x (Value.Int i) z u) d) k
+          (fitting-after (NamesFit (ds ++ (W.range_names names true (Some e) at).declares)) (NamesFit (ds ++ (W.range_names names true (Some e) at).declares)) (NamesFit (ds ++ (W.range_names names true (Some e) at).declares)) Never
+          (range_named (Some e) names x (Value.Int i) z u) d (NamesFit (ds ++ (W.range_names names true (Some e) at).declares)) (range-named ds at names e x i z u k) h)
+
+  chan-turns : (e : GoType) (c : Value) (step : Value → Env → World → Flow) → ((v : Value) (env : Env) (w : World) → NamesFit ds env → is_of (value_type e) v ≡ true → Fitting I I I I (step v env w)) → (m : ℕ) (env : Env) (w : World) → NamesFit ds env → Loop (receives m (Some e) c step env w)
+  chan-turns e c step h zero env w k = tt
+  chan-turns e c step h (suc m) env w k =
+      fitting-after (NamesFit ds) B C Never (visible Instr.ReceiveOk (Some e ∷ (bool_type ∷ [])) (c ∷ []) w) _ (λ us. all_fit (Some e ∷ (bool_type ∷ [])) us ≡ true) (sound-visible Instr.ReceiveOk (Some e ∷ (bool_type ∷ [])) (c ∷ []) w refl)
+      (λ vs u r. at-two (value_type e) ValueType.Bool (λ zs. Loop (received_two zs u (λ v ok y. by_test (bool_of ok) y (turned (step v env y) (receives m (Some e) c step)) (Flow.Goes Course.On env y))))
+      (λ v ok p q. let z = bool-is ok q in subst (λ g. Loop (by_test (bool_of g) u (turned (step v env u) (receives m (Some e) c step)) (Flow.Goes Course.On env u))) (sym z.1) (by (λ z2 y q2. chan-turns e c step h m z2 y q2) v p u z.0)) vs (two-fit e (plain base.Bool) vs r))
+    where
+      by : ((z : Env) (y : World) → NamesFit ds z → Loop (receives m (Some e) c step z y)) → (v : Value) → is_of (value_type e) v ≡ true → (u : World) (b : Bool) → Loop (by_test (Some b) u (turned (step v env u) (receives m (Some e) c step)) (Flow.Goes Course.On env u))
+      by next v p u true = fitting-turned (NamesFit ds) B C Never (NamesFit ds) (step v env u) (receives m (Some e) c step) (h v env u k p) next
+      by next v p u false = k
+
+  -- over a channel
+  pub channel-fits : (at : Scope) (names : RangeNames) (e : GoType) (n : ℕ) (d : Env → World → Flow) (x : Value) (env : Env) (w : World) → are_two names ≡ false → NamesFit ds env
+      → ((z : Env) (u : World) → NamesFit (ds ++ (W.range_names names false (Some e) at).declares) z → Fitting (NamesFit (ds ++ (W.range_names names false (Some e) at).declares)) (NamesFit (ds ++ (W.range_names names false (Some e) at).declares)) (NamesFit (ds ++ (W.range_names names false (Some e) at).declares)) Never (d z u))
+      → Loop (over false n (Some e) names d x env w)
+  channel-fits at names e n d x env w one fit h = by names one (chan-turns e x (channel_step names d) turn n env w fit)
+    where
+      turn : (v : Value) (z : Env) (u : World) → NamesFit ds z → is_of (value_type e) v ≡ true → Fitting I I I I (channel_step names d v z u)
+      turn v z u k of = cut-turn (W.range_names names false (Some e) at).declares z (d (channel_named names v z) u) k (h (channel_named names v z) u (channel-named ds at names e v z one k of))
+
+      by : (r : RangeNames) → are_two r ≡ false → Loop (receives n (Some e) x (channel_step names d) env w) → Loop (by_channel r (receives n (Some e) x (channel_step names d) env w) w)
+      by range.Neither p k = k
+      by (range.One n) p k = k
+      by (range.Two n m) p k = cc
+
+module _ (types : Types) (t : Tables) (w : Walk) (e : Deed) (he : Fits types t w e) where
+  abbrev Body : Around → Scope → ℕ → Env → World → Flow
+  Body = in_loop 2 0 (in_block e)
+
+  over-typed : (l n : ℕ) (a : Around) (s : Scope) (names : RangeNames) (xs : List Layer) (b : Base) (x : Value) (env : Env) (u : World) → FileFits types t s.file → NamesFit s.locals env → range_faults l names (given_as.Typed (record { layers = xs; base = b })) ≡ []
+      → (W.looping (W.in_block w) (behind s (W.range_slots names (given_as.Typed (record { layers = xs; base = b })) s))).faults ≡ []
+      → Loop s.locals (Out s.breaks s.locals) (Out s.loops s.locals) (over (is_outer is_slice (given_as.Typed (record { layers = xs; base = b }))) n (element (given_as.Typed (record { layers = xs; base = b }))) names (Body a (behind s (W.range_slots names (given_as.Typed (record { layers = xs; base = b })) s)) n) x env u)
+  over-typed l n a s names [] b x env u file fit none clean = let e : false ≡ true = kept l 17 false (none-right (broken l 16 true) (broken l 17 false) (none-right (broken l 2 (range_names_differ names)) _ none)) in cc
+  over-typed l n a s names (layer.Slice ∷ ys) b x env u file fit none clean =
+      slice-fits s.locals (Out s.breaks s.locals) (Out s.loops s.locals) _ names (record { layers = ys; base = b }) n _ x env u fit (λ z y k. body-fits types t w e he 2 0 a (behind s (W.range_slots names (given_as.Typed (record { layers = layer.Slice ∷ ys; base = b })) s)) n z y file k clean)
+  over-typed l n a s names (layer.Chan ∷ ys) b x env u file fit none clean =
+      channel-fits s.locals (Out s.breaks s.locals) (Out s.loops s.locals) _ names (record { layers = ys; base = b }) n _ x env u (one-name names (kept l 17 _ (none-right (broken l 16 true) _ (none-right (broken l 2 _) _ none)))) fit (λ z y k. body-fits types t w e he 2 0 a (behind s (W.range_slots names (given_as.Typed (record { layers = layer.Chan ∷ ys; base = b })) s)) n z y file k clean)
+  over-typed l n a s names (layer.ReceiveChan ∷ ys) b x env u file fit none clean =
+      channel-fits s.locals (Out s.breaks s.locals) (Out s.loops s.locals) _ names (record { layers = ys; base = b }) n _ x env u (one-name names (kept l 17 _ (none-right (broken l 16 true) _ (none-right (broken l 2 _) _ none)))) fit (λ z y k. body-fits types t w e he 2 0 a (behind s (W.range_slots names (given_as.Typed (record { layers = layer.ReceiveChan ∷ ys; base = b })) s)) n z y file k clean)
+  over-typed l n a s names (layer.SendChan ∷ ys) b x env u file fit none clean = let e : false ≡ true = kept l 16 false (none-left (broken l 16 false) (broken l 17 (not (are_two names && true))) (none-right (broken l 2 (range_names_differ names)) _ none)) in cc
+
+  over-given : (l n : ℕ) (a : Around) (s : Scope) (names : RangeNames) (g : Given) (f : World → Part (List Value)) (env : Env) (u : World) → FileFits types t s.file → NamesFit s.locals env → range_faults l names g ≡ [] → YieldsBy g f
+      → (W.looping (W.in_block w) (behind s (W.range_slots names g s))).faults ≡ []
+      → Loop s.locals (Out s.breaks s.locals) (Out s.loops s.locals) (after (f u) (λ vs y. measured vs y (λ x z. over (is_outer is_slice g) n (element g) names (Body a (behind s (W.range_slots names g s)) n) x env z)))
+  over-given l n a s names (given_as.Typed c) f env u file fit none h clean =
+      fitting-after (NamesFit s.locals) (Out s.breaks s.locals) (Out s.loops s.locals) Never (f u) _ (One (value_type c)) (h u)
+      (λ vs y q. at-one (value_type c) (λ us. Loop s.locals (Out s.breaks s.locals) (Out s.loops s.locals) (measured us y (λ x z. over (is_outer is_slice (given_as.Typed c)) n (element (given_as.Typed c)) names (Body a (behind s (W.range_slots names (given_as.Typed c) s)) n) x env z)))
+      (λ x of. over-typed l n a s names c.layers c.base x env y file fit none clean) vs q)
+  over-given l n a s names given_as.Nil f env u file fit none h clean = let e : false ≡ true = kept l 17 false (none-right (broken l 16 true) (broken l 17 false) (none-right (broken l 2 (range_names_differ names)) _ none)) in cc
+  over-given l n a s names given_as.Unknown f env u file fit none h clean = absurd h
+
+  -- a `range` in its block: what the names declare is known inside alone
+  pub range-fits : (l : ℕ) (names : RangeNames) (x : Expr) → Fits types t (W.in_block (λ s. W.both (W.range_head l names x s) (W.then (W.range_slots names (given_by (judge x l s))) (W.looping (W.in_block w)) s))) (in_block (ranging t l names x (in_loop 2 0 (in_block e))))
+  range-fits l names x a s n env u file fit none =
+      let r = begun s in
+      let j = judge x l r in
+      let g = given_by j in
+      let head = none-left (used l j ++ range_faults l names g) _ none in
+      let rest = none-right (used l j ++ range_faults l names g) _ none in
+      let f = ranging t l names x (in_loop 2 0 (in_block e)) a r n env u in
+      exact-fits s (cut (length env) f) (block-cut s env f fit (fits-begin s [] f
+      (left-fits types t w e he r [] f refl
+      (over-given l n a r names g (value_at t l r x env) env u file fit (none-right (used l j) _ head) (value-of types t l r env file fit x (none-left (used l j) _ head)) (none-right (W.range_slots names g r).faults _ rest)))))

@@ -1,0 +1,89 @@
+-- The kinds of values, by what the checker says of their types.
+use Rattle.std.proofs.Common.{◌≡◌, Bool, true, false, ◌&&◌, List, [], ◌∷◌, Some, ℤ, refl, sym, ◌∙◌}
+use Rattle.std.proofs.lemmas.Bool.{false≢true}
+use Rattle.golf_data.specs.declared.value.Value.{Value}
+use Rattle.golf_model.specs.Values.{equality}
+use Rattle.golf_check_types.specs.declared.types.Layer.{Layer}
+use Rattle.golf_check_types.specs.declared.types.Layer.TheVariants as layer
+use Rattle.golf_check_types.specs.declared.types.Base.{Base}
+use Rattle.golf_check_types.specs.declared.types.Base.TheVariants as base
+use Rattle.golf_check_types.specs.declared.types.GoType.{GoType}
+use Rattle.golf_model_typing.specs.Types.{ValueType}
+use Rattle.golf_code_shapes.specs.Types.{base_type, layers_type, value_type}
+use Rattle.golf_meaning_source.specs.Operations.{fits_base, fits_layers, fits, all_fit}
+use Rattle.golf_meaning_typing.specs.Sound.{is_of, One}
+
+fits-base : (b : Base) (v : Value) → fits_base b v ≡ is_of (base_type b) v
+fits-base base.Int v = refl
+fits-base base.Bool v = refl
+fits-base base.Text v = refl
+fits-base base.Unit v = refl
+fits-base (base.Pointer k) v = refl
+fits-base base.Mutex v = refl
+fits-base base.Group v = refl
+fits-base base.ReadWriteMutex v = refl
+fits-base base.Condition v = refl
+
+-- whether a value fits a type is told by its kind
+pub fits-kind : (xs : List Layer) (b : Base) (v : Value) → fits_layers xs b v ≡ is_of (layers_type xs b) v
+fits-kind [] b v = fits-base b v
+fits-kind (layer.Slice ∷ xs) b v = refl
+fits-kind (layer.Chan ∷ xs) b v = refl
+fits-kind (layer.SendChan ∷ xs) b v = refl
+fits-kind (layer.ReceiveChan ∷ xs) b v = refl
+
+-- what an answer leaves is one value of the type
+pub one-fits : (e : GoType) (vs : List Value) → all_fit (Some e ∷ []) vs ≡ true → One (value_type e) vs
+one-fits e [] h = false≢true h
+one-fits e (v ∷ []) h = sym (fits-kind e.layers e.base v) ∙ left (fits (Some e) v) h
+  where
+    left : (b : Bool) → (b && true) ≡ true → b ≡ true
+    left true q = refl
+    left false q = q
+one-fits e (v ∷ (x ∷ vs)) h = false≢true (none (fits (Some e) v) h)
+  where
+    none : (b : Bool) → (b && false) ≡ true → false ≡ true
+    none true q = q
+    none false q = q
+
+pub int-is : (v : Value) → is_of ValueType.Int v ≡ true → (n : ℤ) × (v ≡ Value.Int n)
+int-is (Value.Int n) h = (n, refl)
+int-is (Value.Bool b) h = absurd (false≢true h)
+int-is (Value.Text k) h = absurd (false≢true h)
+int-is Value.Unit h = absurd (false≢true h)
+int-is Value.Nil h = absurd (false≢true h)
+int-is (Value.Ref o) h = absurd (false≢true h)
+
+pub bool-is : (v : Value) → is_of ValueType.Bool v ≡ true → (b : Bool) × (v ≡ Value.Bool b)
+bool-is (Value.Int n) h = absurd (false≢true h)
+bool-is (Value.Bool b) h = (b, refl)
+bool-is (Value.Text k) h = absurd (false≢true h)
+bool-is Value.Unit h = absurd (false≢true h)
+bool-is Value.Nil h = absurd (false≢true h)
+bool-is (Value.Ref o) h = absurd (false≢true h)
+
+-- values of one type are compared
+
+abbrev Compared : Value → Value → Type 0
+Compared v x = (b : Bool) × (equality v x ≡ Some b)
+
+nilable-compared : (v x : Value) → is_of ValueType.Mutex v ≡ true → is_of ValueType.Mutex x ≡ true → Compared v x
+nilable-compared Value.Nil Value.Nil h k = (_, refl)
+nilable-compared Value.Nil (Value.Ref o) h k = (_, refl)
+nilable-compared (Value.Ref o) Value.Nil h k = (_, refl)
+nilable-compared (Value.Ref o) (Value.Ref p) h k = (_, refl)
+nilable-compared v x h k = cc
+
+pub same-compared : (u : ValueType) (v x : Value) → is_of u v ≡ true → is_of u x ≡ true → Compared v x
+same-compared ValueType.Int (Value.Int n) (Value.Int m) h k = (_, refl)
+same-compared ValueType.Bool (Value.Bool n) (Value.Bool m) h k = (_, refl)
+same-compared ValueType.Text (Value.Text n) (Value.Text m) h k = (_, refl)
+same-compared ValueType.EmptyStruct Value.Unit Value.Unit h k = (_, refl)
+same-compared (ValueType.Struct q) v x h k = nilable-compared v x h k
+same-compared ValueType.Mutex v x h k = nilable-compared v x h k
+same-compared ValueType.Group v x h k = nilable-compared v x h k
+same-compared ValueType.Rw v x h k = nilable-compared v x h k
+same-compared ValueType.Cond v x h k = nilable-compared v x h k
+same-compared (ValueType.Slice e) v x h k = nilable-compared v x h k
+same-compared (ValueType.Chan e) v x h k = nilable-compared v x h k
+same-compared u v x h k = cc

@@ -1,0 +1,99 @@
+-- A list of changes, one after another.
+use Rattle.std.proofs.Common.{ℕ, ◌+◌, ◌<◌, List, [], ◌∷◌, inl, inr, sym, subst, arith}
+use Rattle.golf_model.specs.State.{State}
+use Rattle.golf_model.specs.Changes.{Change, apply, apply_all}
+use Rattle.golf_model_futures.specs.Invariant.{Closed, Confined, Sound, objects_after, last_after, finalisable_after}
+use Rattle.golf_model_futures.proofs.Goodness.{good-wider}
+use Rattle.golf_model_futures.proofs.Closing.{closed_change}
+use Rattle.golf_model_futures.proofs.Confining.{confined_change, confined-same, confined-then}
+
+module _ (O G : ℕ → Type 0) where
+  -- what was made is a member already, since fresh numbers are
+  after-in : (n : ℕ) (c : Change) → O (n + 1) → (o : ℕ) → objects_after c O n o → O o
+  after-in n (Change.Make x) i o a = elim a [ inl b ↦ b | inr b ↦ subst O (sym b) i ]
+  after-in n (Change.Replace p y) i o a = a
+  after-in n (Change.SetGlobal k v) i o a = a
+  after-in n (Change.Become h r) i o a = a
+  after-in n (Change.Block h kind line waits r) i o a = a
+  after-in n (Change.Spawn r) i o a = a
+  after-in n (Change.Leave h) i o a = a
+  after-in n (Change.Finish e) i o a = a
+  after-in n (Change.SetFinaliser p k) i o a = a
+  after-in n (Change.ClearFinaliser p) i o a = a
+  after-in n Change.TakeQueued i o a = a
+  after-in n (Change.Output bytes) i o a = a
+  after-in n (Change.WakeAll p how) i o a = a
+  after-in n (Change.PassOn h m) i o a = a
+
+-- wider sets stay wider after a change
+module _ (O O' G F F' : ℕ → Type 0) (w : (o : ℕ) → O o → O' o) (u : (o : ℕ) → F o → F' o) (n : ℕ) where
+  objects-wider : (c : Change) (o : ℕ) → objects_after c O n o → objects_after c O' n o
+  objects-wider (Change.Make x) o a = elim a [ inl b ↦ inl (w o b) | inr b ↦ inr b ]
+  objects-wider (Change.Replace p y) o a = w o a
+  objects-wider (Change.SetGlobal k v) o a = w o a
+  objects-wider (Change.Become h r) o a = w o a
+  objects-wider (Change.Block h kind line waits r) o a = w o a
+  objects-wider (Change.Spawn r) o a = w o a
+  objects-wider (Change.Leave h) o a = w o a
+  objects-wider (Change.Finish e) o a = w o a
+  objects-wider (Change.SetFinaliser p k) o a = w o a
+  objects-wider (Change.ClearFinaliser p) o a = w o a
+  objects-wider Change.TakeQueued o a = w o a
+  objects-wider (Change.Output bytes) o a = w o a
+  objects-wider (Change.WakeAll p how) o a = w o a
+  objects-wider (Change.PassOn h m) o a = w o a
+
+  finalisable-wider : (c : Change) (o : ℕ) → finalisable_after c F o → finalisable_after c F' o
+  finalisable-wider (Change.Make x) o a = u o a
+  finalisable-wider (Change.Replace p y) o a = u o a
+  finalisable-wider (Change.SetGlobal k v) o a = u o a
+  finalisable-wider (Change.Become h r) o a = u o a
+  finalisable-wider (Change.Block h kind line waits r) o a = u o a
+  finalisable-wider (Change.Spawn r) o a = u o a
+  finalisable-wider (Change.Leave h) o a = u o a
+  finalisable-wider (Change.Finish e) o a = u o a
+  finalisable-wider (Change.SetFinaliser p k) o a = a
+  finalisable-wider (Change.ClearFinaliser p) o a = u o a
+  finalisable-wider Change.TakeQueued o a = u o a
+  finalisable-wider (Change.Output bytes) o a = u o a
+  finalisable-wider (Change.WakeAll p how) o a = u o a
+  finalisable-wider (Change.PassOn h m) o a = u o a
+
+pub sound-wider : (O O' G G' F F' : ℕ → Type 0) → ((o : ℕ) → O o → O' o) → ((g : ℕ) → G g → G' g) → ((o : ℕ) → F o → F' o) → (n : ℕ) (cs : List Change) → Sound O G F n cs → Sound O' G' F' n cs
+sound-wider O O' G G' F F' w v u n [] a = tt
+sound-wider O O' G G' F F' w v u n (c ∷ cs) a = (
+  good-wider O O' G G' F F' w v u c a.0,
+  sound-wider (objects_after c O n) (objects_after c O' n) G G' (finalisable_after c F) (finalisable_after c F') (objects-wider O O' G F F' w u n c) v (finalisable-wider O O' G F F' w u n c) (last_after c n) cs a.1,
+)
+
+module _ (O G : ℕ → Type 0) where
+  -- fresh numbers stay in the set
+  pub fresh-after : (n : ℕ) (c : Change) → ((o : ℕ) → n < o → O o) → (o : ℕ) → last_after c n < o → O o
+  fresh-after n (Change.Make x) h o l = h o (omega arith)
+  fresh-after n (Change.Replace p y) h o l = h o l
+  fresh-after n (Change.SetGlobal k v) h o l = h o l
+  fresh-after n (Change.Become g r) h o l = h o l
+  fresh-after n (Change.Block g kind line waits r) h o l = h o l
+  fresh-after n (Change.Spawn r) h o l = h o l
+  fresh-after n (Change.Leave g) h o l = h o l
+  fresh-after n (Change.Finish e) h o l = h o l
+  fresh-after n (Change.SetFinaliser p k) h o l = h o l
+  fresh-after n (Change.ClearFinaliser p) h o l = h o l
+  fresh-after n Change.TakeQueued h o l = h o l
+  fresh-after n (Change.Output bytes) h o l = h o l
+  fresh-after n (Change.WakeAll p how) h o l = h o l
+  fresh-after n (Change.PassOn g m) h o l = h o l
+
+  pub rest-sound : (F : ℕ → Type 0) (n : ℕ) (c : Change) (cs : List Change) → ((o : ℕ) → n < o → O o) → Sound (objects_after c O n) G (finalisable_after c F) (last_after c n) cs → Sound O G (finalisable_after c F) (last_after c n) cs
+  rest-sound F n c cs h a = sound-wider (objects_after c O n) O G G _ _ (after-in O G n c (h (n + 1) (omega arith))) (λ g i. i) (λ o i. i) (last_after c n) cs a
+
+  -- sound changes keep the sets closed, and change nothing outside them
+  pub closed_changes : (F : ℕ → Type 0) (n : ℕ) (cs : List Change) (s : State) → ((o : ℕ) → n < o → O o) → Closed s O G → Sound O G F n cs → Closed (apply_all cs s) O G
+  closed_changes F n [] s h c a = c
+  closed_changes F n (d ∷ cs) s h c a = closed_changes (finalisable_after d F) (last_after d n) cs (apply d s) (fresh-after n d h) (closed_change O G F s d c a.0) (rest-sound F n d cs h a.1)
+
+  pub confined_changes : (F : ℕ → Type 0) (n : ℕ) (cs : List Change) (s : State) → ((o : ℕ) → n < o → O o) → Closed s O G → Sound O G F n cs → Confined O G s (apply_all cs s)
+  confined_changes F n [] s h c a = confined-same O G s
+  confined_changes F n (d ∷ cs) s h c a =
+      confined-then O G s (apply d s) (apply_all cs (apply d s)) (confined_change O G F s d c a.0)
+      (confined_changes (finalisable_after d F) (last_after d n) cs (apply d s) (fresh-after n d h) (closed_change O G F s d c a.0) (rest-sound F n d cs h a.1))

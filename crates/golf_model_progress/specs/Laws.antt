@@ -1,0 +1,38 @@
+-- The laws of well-typed states, as statements.
+use Rattle.std.specs.Prelude.{◌≡◌, ℕ, Bool, List, [], None}
+use Rattle.golf_data.specs.declared.code.Code.{Code}
+use Rattle.golf_model.specs.State.{State, start, ending}
+use Rattle.golf_model.specs.Turn.{step, MovesOn}
+use Rattle.golf_model.specs.Collecting.{real_collect}
+use Rattle.golf_model.specs.Futures.{Numbered, Leads}
+use Rattle.golf_model.specs.Presence.{IsWhole}
+use Rattle.golf_model_order.specs.Orderly.{IsOrderly}
+use Rattle.golf_model_typing.specs.Types.{ValueType, Typing}
+use Rattle.golf_model_typing.specs.Shapes.{HasShapes}
+use Rattle.golf_model_typing.specs.WellTyped.{WellTyped}
+
+-- a well-typed state without an ending moves on, whoever's turn it is
+abbrev pub TypedStatesMoveOn : Type 0
+TypedStatesMoveOn = (code : Code) (types : Typing) (known : List (ℕ × ValueType)) (s : State) (c : ℕ)
+    → HasShapes code types → WellTyped types known s → IsWhole s → Numbered s → IsOrderly s → ending s ≡ None → MovesOn code s c
+
+-- a turn keeps types
+abbrev pub TurnsKeepTypes : Type 0
+TurnsKeepTypes = (code : Code) (types : Typing) (known : List (ℕ × ValueType)) (s : State) (c : ℕ)
+    → HasShapes code types → WellTyped types known s → IsWhole s → Numbered s → IsOrderly s → (later : List (ℕ × ValueType)) × WellTyped types later (step code s c)
+
+-- a collection keeps types, whether it removes goroutines or not
+abbrev pub CollectionsKeepTypes : Type 0
+CollectionsKeepTypes = (types : Typing) (known : List (ℕ × ValueType)) (s : State) → WellTyped types known s → Numbered s → (recover sets_finalisers : Bool) → WellTyped types known (real_collect s recover sets_finalisers)
+
+-- the opening state is well typed
+abbrev pub StartIsTyped : Type 0
+StartIsTyped = (code : Code) (types : Typing) → HasShapes code types → WellTyped types [] (start code)
+
+-- so is every state that moves lead to
+abbrev pub LeadsTyped : Type 0
+LeadsTyped = (code : Code) (types : Typing) → HasShapes code types → (s : State) → Leads code s → (known : List (ℕ × ValueType)) × WellTyped types known s
+
+-- no state that moves lead to from the opening state of a code with shapes is stuck before its ending
+abbrev pub NeverStuck : Type 0
+NeverStuck = (code : Code) (types : Typing) → HasShapes code types → (s : State) (c : ℕ) → Leads code s → ending s ≡ None → MovesOn code s c

@@ -1,5 +1,0 @@
-use Rattle.golf_name_shapes.proofs.Mains.{main-fits}
-use Rattle.golf_name_shapes.proofs.main_fits.Goals as goal
-
-pub returns : goal.returns
-returns c = main-fits

@@ -1,5 +1,0 @@
-use Rattle.golf_name_shapes.proofs.Callees.{names-mean}
-use Rattle.golf_name_shapes.proofs.names_mean.Goals as goal
-
-pub returns : goal.returns
-returns c = names-mean

@@ -1,5 +1,0 @@
-use Rattle.golf_never_stuck.proofs.Reaching.{reached-unseen}
-use Rattle.golf_never_stuck.proofs.reached_recovery_unseen.Goals as goal
-
-pub returns : goal.returns
-returns c = reached-unseen

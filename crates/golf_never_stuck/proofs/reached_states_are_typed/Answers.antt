@@ -1,5 +1,0 @@
-use Rattle.golf_never_stuck.proofs.Reaching.{reached-typed}
-use Rattle.golf_never_stuck.proofs.reached_states_are_typed.Goals as goal
-
-pub returns : goal.returns
-returns c = reached-typed

@@ -1,7 +1,0 @@
-use Rattle.std.proofs.Common.{take}
-use Rattle.golf_queues.specs.Lines.{keys_of, leaves, IsWithout}
-use Rattle.golf_queues.proofs.queues.Queues.leave_all.Given as goal
-
--- the goroutine is gone from the lines of the waits so far
-abbrev pub invariant-loop-wait : goal.invariant-loop-wait
-invariant-loop-wait l = IsWithout (leaves l.ticket l.goroutine.0 (keys_of (take l.wait-index l.waits))) l.initial.self l.self

@@ -1,0 +1,14 @@
+//! The schedules of a run: whose turn each turn is, and behind which turns a collection is added.
+//!
+//! - `Schedule`: where the numbers of the turns come from.
+//! - `Events`: the turns and added collections of a run, one after the other.
+//! - `RunOptions`: how a file is run.
+#![tactic(auto)]
+
+mod events;
+mod options;
+mod schedule;
+
+pub use events::{Event, Events};
+pub use options::RunOptions;
+pub use schedule::Schedule;

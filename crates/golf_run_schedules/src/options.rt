@@ -1,0 +1,21 @@
+//! How a file is run.
+
+use crate::schedule::Schedule;
+
+/// How a file is run.
+#[derive(Debug, Drop)]
+pub struct RunOptions {
+    /// Where the numbers of the turns come from.
+    pub schedule: Schedule,
+    /// The most turns, from 1 to 10,000,000.
+    pub turns: u32,
+    /// A collection is added behind each N-th turn, N from 1 to 10,000,000.
+    pub every: Option<u32>,
+    /// How many markers mark in a collection, from 1 to 16.
+    pub markers: u32,
+    /// Whether dead goroutines are taken back.
+    pub recover: bool,
+    /// Whether each collection tells its certificate, and what leads to each goroutine that waits and
+    /// is live.
+    pub why: bool,
+}

@@ -1,0 +1,5 @@
+pub mod Codes
+pub mod Texts
+pub mod Output
+pub mod Writes
+pub mod Totals

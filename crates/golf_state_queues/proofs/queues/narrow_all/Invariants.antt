@@ -1,0 +1,11 @@
+use Rattle.std.proofs.Common.{◌≡◌, ℕ, List, length, map}
+use Rattle.golf_state_queues.specs.WaitQueues.{among, wait_queues_of}
+use Rattle.golf_state_queues.proofs.Narrowing.{changed_to}
+use Rattle.golf_state_queues.proofs.queues.narrow_all.Given as goal
+
+-- the queues so far
+abbrev pub invariant-loop-at : goal.invariant-loop-at
+invariant-loop-at l = record {
+  size : length l.queues.items ≡ length l.initial.queues.items;
+  queues : wait_queues_of l.queues.items ≡ changed_to (λ (e : ℕ × List (ℕ × ℕ)). (e.0, among (map (λ g. g.0) l.goroutines) e.1)) l.at (wait_queues_of l.initial.queues.items);
+}

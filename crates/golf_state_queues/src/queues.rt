@@ -1,0 +1,211 @@
+//! The queues of all objects.
+
+ghost use Rattle.std.specs.Prelude.{◌≡◌, ◌<◌, ◌≤◌, ◌+◌, ℕ, [], ◌∷◌, true, length, map, OnOk, slice_get};
+ghost use Rattle.golf_theory.specs.Maps.{Entry, Rises};
+ghost use Rattle.golf_theory.specs.Membership.{is_in};
+ghost use Rattle.golf_heap.specs.Objects.{rank};
+ghost use Rattle.golf_model.specs.Waiting.{side_number};
+ghost use Rattle.golf_state_queues.specs.WaitQueues.{WaitQueues, IsInOrder, key, held, wait_queues_of, wait_queue_at, has_key, keys_of, leaves, listed, standing, narrowed, AddsOnly, AreBelow, IsWithout, Keeps, StandsInAll};
+
+use crate::holders::{TicketHolder, has_anyone, join, narrow, part};
+use golf_base::{GoroutineId, Memory, ObjectId};
+use golf_data::{Side, Wait};
+use std::alloc::Global;
+use std::marker::Model;
+
+/// The queue of an object with a side.
+#[derive(Debug, Drop)]
+pub struct Queue {
+    pub object: ObjectId,
+    pub side: Side,
+    pub holders: Vec<TicketHolder>,
+}
+
+/// For each object and side those who stood in the queue there, by rising ticket. Whoever waits there is
+/// among them; one who does not wait there any more may be left.
+///
+/// A queue is found by a binary search. It is made with the first who stands in it, and stays until a
+/// collection finds nobody in it.
+#[derive(Debug, Drop)]
+pub struct Queues {
+    queues: Vec<Queue>,
+}
+
+impl Model for Queues {
+    ghost Value = { WaitQueues };
+
+    ghost view = { λ q. wait_queues_of q.queues.items };
+
+    ghost invariant = { λ q. IsInOrder (wait_queues_of q.queues.items) };
+}
+
+/// The number of a side, in the order in which queues stand.
+pub fn side_number(side: Side) -> u8
+    ensures { result ≡ side_number side }
+{
+    match side {
+        Side::Receive => 0,
+        Side::Send => 1,
+        Side::Lock => 2,
+        Side::Group => 3,
+        Side::Read => 4,
+        Side::Write => 5,
+        Side::Cond => 6,
+    }
+}
+
+// Queues stand in rising order of object, and those of an object by their sides.
+#[inline(always)]
+fn key_of(object: ObjectId, side: Side) -> u64
+    ensures { result ≡ key object.0 side }
+{
+    u64::from(object.0) * 7 + u64::from(side_number(side))
+}
+
+// How many queues stand before the key.
+#[inline(always)]
+fn rank_of(queues: &[Queue], key: u64) -> usize
+    requires { Rises 0 (wait_queues_of queues.now) }
+    ensures place { result ≡ rank key (wait_queues_of queues.now) }
+    ensures within { result ≤ length queues.now }
+{
+    queues.partition_point(|queue| key_of(queue.object, queue.side) < key)
+}
+
+// Whether the queue at a place has the key.
+#[inline(always)]
+fn stands_at(queues: &[Queue], at: usize, key: u64) -> bool
+    ensures { result ≡ has_key key (slice_get (wait_queues_of queues.now) at) }
+{
+    match queues.get(at) {
+        Some(queue) => key_of(queue.object, queue.side) == key,
+        None => false,
+    }
+}
+
+// In each queue those stand still whose goroutine is among these, which rise, and nobody else.
+fn narrow_all(queues: &mut Vec<Queue>, goroutines: &[GoroutineId])
+    requires { Rises 0 (listed goroutines.now) }
+    ensures { wait_queues_of queues.new.items ≡ narrowed (map (λ g. g.0) goroutines.now) (wait_queues_of queues.old.items) }
+{
+    for at in 0..queues.len() {
+        narrow(&mut queues[at].holders, goroutines);
+    }
+}
+
+impl Queues {
+    /// No queue. It takes no memory.
+    pub fn new(alloc: Global) -> Queues
+        ensures { result ≡ [] }
+    {
+        Queues {
+            queues: Vec::new(alloc),
+        }
+    }
+
+    /// Those who stood in the queue for the object with that side.
+    #[inline(always)]
+    pub fn holders(&self, object: ObjectId, side: Side) -> &[TicketHolder]
+        ensures holders { held result.now ≡ wait_queue_at (key object.0 side) self.now }
+        ensures rises { Rises 0 (wait_queue_at (key object.0 side) self.now) }
+    {
+        let key = key_of(object, side);
+        let at = rank_of(self.queues.as_slice(), key);
+        if stands_at(self.queues.as_slice(), at, key) {
+            self.queues[at].holders.as_slice()
+        } else {
+            &[]
+        }
+    }
+
+    /// The goroutine stands last in the queue for the object with that side, with a ticket that nobody
+    /// who waits there has, and nobody else is added.
+    #[inline(always)]
+    pub fn enter(
+        &mut self,
+        object: ObjectId,
+        side: Side,
+        ticket: u64,
+        goroutine: GoroutineId,
+    ) -> Result<(), Memory>
+        requires below { AreBelow (ticket + 1) self.old }
+        ensures joins { OnOk result (Entry (wait_queue_at (key object.0 side) self.new) ticket goroutine.0) }
+        ensures again { OnOk result (Keeps (λ t g. (t ≡ ticket) × (g ≡ goroutine.0)) self.old self.new) }
+        ensures kept { Keeps (λ t g. t < ticket) self.old self.new }
+        ensures only { AddsOnly ticket goroutine.0 (key object.0 side ∷ []) self.old self.new }
+        ensures below { AreBelow (ticket + 1) self.new }
+    {
+        let key = key_of(object, side);
+        let at = rank_of(self.queues.as_slice(), key);
+        if stands_at(self.queues.as_slice(), at, key) {
+            return join(&mut self.queues[at].holders, ticket, goroutine);
+        }
+        let mut holders = Vec::new(*self.queues.allocator());
+        join(&mut holders, ticket, goroutine)?;
+        self.queues.insert(at, Queue { object, side, holders })?;
+        Ok(())
+    }
+
+    /// The goroutine stands last in the queue of each of these waits, and nobody else is added.
+    pub fn enter_all(
+        &mut self,
+        waits: &[Wait],
+        ticket: u64,
+        goroutine: GoroutineId,
+    ) -> Result<(), Memory>
+        requires below { AreBelow (ticket + 1) self.old }
+        ensures joins { OnOk result (StandsInAll ticket goroutine.0 waits.now self.new) }
+        ensures kept { Keeps (λ t g. t < ticket) self.old self.new }
+        ensures only { AddsOnly ticket goroutine.0 (keys_of waits.now) self.old self.new }
+        ensures below { AreBelow (ticket + 1) self.new }
+    {
+        for wait in waits {
+            self.enter(wait.object, wait.side, ticket, goroutine)?;
+        }
+        Ok(())
+    }
+
+    /// The goroutine is gone from the queue for the object with that side, where it stands there with
+    /// this ticket; all others stand where they stood. It takes no memory.
+    #[inline(always)]
+    pub fn leave(&mut self, object: ObjectId, side: Side, ticket: u64, goroutine: GoroutineId)
+        ensures { IsWithout (leaves ticket goroutine.0 (key object.0 side ∷ [])) self.old self.new }
+    {
+        let key = key_of(object, side);
+        let at = rank_of(self.queues.as_slice(), key);
+        if stands_at(self.queues.as_slice(), at, key) {
+            part(&mut self.queues[at].holders, ticket, goroutine);
+        }
+    }
+
+    /// The goroutine is gone from the queues of these waits, where it stands there with this ticket; all
+    /// others stand where they stood. It takes no memory.
+    pub fn leave_all(&mut self, waits: &[Wait], ticket: u64, goroutine: GoroutineId)
+        ensures { IsWithout (leaves ticket goroutine.0 (keys_of waits.now)) self.old self.new }
+    {
+        for wait in waits {
+            self.leave(wait.object, wait.side, ticket, goroutine);
+        }
+    }
+
+    /// Those whose goroutine is among these, which rise, stand in the queue still, and nobody else. It
+    /// takes no memory.
+    pub fn retain(&mut self, goroutines: &[GoroutineId])
+        requires { Rises 0 (listed goroutines.now) }
+        ensures queues { self.new ≡ narrowed (map (λ g. g.0) goroutines.now) self.old }
+        ensures kept { Keeps (λ t g. is_in g (map (λ h. h.0) goroutines.now) ≡ true) self.old self.new }
+        ensures below { (n : ℕ) → AreBelow n self.old → AreBelow n self.new }
+    {
+        narrow_all(&mut self.queues, goroutines);
+    }
+
+    /// Queues in which nobody stands are gone. It takes no memory.
+    pub fn drop_empty(&mut self)
+        ensures queues { self.new ≡ standing self.old }
+        ensures kept { Keeps (λ t g. Unit {0}) self.old self.new }
+        ensures below { (n : ℕ) → AreBelow n self.old → AreBelow n self.new }
+    {
+        self.queues
+            .retain(|queue| has_anyone(queue.holders.as_slice()));
+    }
+}

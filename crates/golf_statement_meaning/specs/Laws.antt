@@ -1,9 +1,0 @@
--- The law of statements.
-use Rattle.golf_grammar.specs.declared.statements.Stmt.{Stmt}
-use Rattle.golf_code_of.specs.declared.tables.Tables.{Tables}
-use Rattle.golf_code_of.specs.Laying.{stmt_part}
-use Rattle.golf_statement_meaning.specs.Statements.{step}
-use Rattle.golf_statement_meaning.specs.Follows.{StatementMeans}
-
-abbrev pub StatementsMean : Type 0
-StatementsMean = (t : Tables) (x : Stmt) → StatementMeans (stmt_part t x).walk (stmt_part t x).lay (step t x).deed

@@ -1,5 +1,0 @@
-use Rattle.golf_statements.proofs.Found.{comms-found}
-use Rattle.golf_statements.proofs.laws.communications_found.Goals as goal
-
-pub returns : goal.returns
-returns c = comms-found

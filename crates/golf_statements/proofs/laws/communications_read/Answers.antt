@@ -1,5 +1,0 @@
-use Rattle.golf_statements.proofs.Found.{comms-read}
-use Rattle.golf_statements.proofs.laws.communications_read.Goals as goal
-
-pub returns : goal.returns
-returns c = comms-read

@@ -1,5 +1,0 @@
-use Rattle.golf_statements.proofs.Found.{headers-found}
-use Rattle.golf_statements.proofs.laws.headers_found.Goals as goal
-
-pub returns : goal.returns
-returns c = headers-found

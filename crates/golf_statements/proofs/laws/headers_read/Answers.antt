@@ -1,5 +1,0 @@
-use Rattle.golf_statements.proofs.Found.{headers-read}
-use Rattle.golf_statements.proofs.laws.headers_read.Goals as goal
-
-pub returns : goal.returns
-returns c = headers-read

@@ -1,5 +1,0 @@
-use Rattle.golf_statements.proofs.Found.{statements-read}
-use Rattle.golf_statements.proofs.laws.statements_read.Goals as goal
-
-pub returns : goal.returns
-returns c = statements-read

@@ -1,5 +1,0 @@
-use Rattle.golf_statements.proofs.Found.{tests-read}
-use Rattle.golf_statements.proofs.laws.tests_read.Goals as goal
-
-pub returns : goal.returns
-returns c = tests-read

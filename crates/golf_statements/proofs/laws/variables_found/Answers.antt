@@ -1,5 +1,0 @@
-use Rattle.golf_statements.proofs.Found.{vars-found}
-use Rattle.golf_statements.proofs.laws.variables_found.Goals as goal
-
-pub returns : goal.returns
-returns c = vars-found

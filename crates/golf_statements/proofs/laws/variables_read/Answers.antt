@@ -1,5 +1,0 @@
-use Rattle.golf_statements.proofs.Found.{vars-read}
-use Rattle.golf_statements.proofs.laws.variables_read.Goals as goal
-
-pub returns : goal.returns
-returns c = vars-read

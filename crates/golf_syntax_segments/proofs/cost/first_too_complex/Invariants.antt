@@ -1,0 +1,12 @@
+use Rattle.std.proofs.Common.{◌≡◌, ◌+◌, ◌≤◌, ◌∷◌, drop}
+use Rattle.std.specs.Prelude.{reverse, sum}
+use Rattle.golf_syntax_trees.specs.Reads.{first_too_complex, no_counts}
+use Rattle.golf_syntax_segments.proofs.cost.first_too_complex.Given as goal
+
+-- the tokens so far cost no more, and these are the counts behind them
+abbrev pub invariant-loop-token : goal.invariant-loop-token
+invariant-loop-token l = record {
+  rest : first_too_complex no_counts l.tokens ≡ first_too_complex (l.counts.inner ∷ reverse l.counts.outer) (drop l.token-index l.tokens);
+  small : l.counts.total ≤ 1000;
+  adds_up : l.counts.total ≡ l.counts.inner + sum l.counts.outer;
+}

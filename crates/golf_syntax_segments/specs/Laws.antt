@@ -1,0 +1,44 @@
+-- What imports, declarations and files print is cut into these segments.
+use Rattle.std.specs.Prelude.{◌≡◌, List, [], ◌∷◌, ◌++◌}
+use Rattle.golf_lex_tokens.specs.declared.token.Token.{Token}
+use Rattle.golf_lex_tokens.specs.declared.token.Punctuation.TheVariants as punctuations
+use Rattle.golf_syntax_trees.specs.declared.declarations.Import.{Import}
+use Rattle.golf_syntax_trees.specs.declared.declarations.Decl.{Decl}
+use Rattle.golf_syntax_trees.specs.declared.declarations.File.{File}
+use Rattle.golf_syntax_trees.specs.Words.{Word, punctuation, Spells}
+use Rattle.golf_syntax_trees.specs.Declarations.{print_import, print_decl}
+use Rattle.golf_syntax_trees.specs.Segments.{segments, IsPackage}
+use Rattle.golf_syntax_trees.specs.Reads.{Prints}
+
+-- these words and a semicolon
+abbrev pub Ended : List Word → List Token → Type 0
+Ended ws p = Spells (ws ++ punctuation punctuations.Semicolon ∷ []) p []
+
+-- in front of whatever else, such tokens are the first segment
+abbrev pub IsSegment : List Word → Type 0
+IsSegment ws = (p rest : List Token) → Ended ws p → segments 0 (p ++ rest) ≡ p ∷ segments 0 rest
+
+abbrev pub ImportsAreSegments : Type 0
+ImportsAreSegments = (i : Import) → IsSegment (print_import i)
+
+abbrev pub DeclsAreSegments : Type 0
+DeclsAreSegments = (d : Decl) → IsSegment (print_decl d)
+
+-- a segment for each declaration, and for each import in front of them
+abbrev pub DeclSegments : List Decl → List (List Token) → Type 0
+DeclSegments [] ps = ps ≡ []
+DeclSegments (d ∷ ds) [] = ⊥
+DeclSegments (d ∷ ds) (p ∷ ps) = Ended (print_decl d) p × DeclSegments ds ps
+
+abbrev pub ImportSegments : List Import → List Decl → List (List Token) → Type 0
+ImportSegments [] ds ps = DeclSegments ds ps
+ImportSegments (i ∷ is) ds [] = ⊥
+ImportSegments (i ∷ is) ds (p ∷ ps) = Ended (print_import i) p × ImportSegments is ds ps
+
+-- a segment for the package, for each import and for each declaration
+abbrev pub FileSegments : File → List (List Token) → Type 0
+FileSegments f [] = ⊥
+FileSegments f (p ∷ ps) = IsPackage p × ImportSegments f.imports f.declarations ps
+
+abbrev pub FilesAreSegments : Type 0
+FilesAreSegments = (f : File) (ts : List Token) → Prints f ts → FileSegments f (segments 0 ts)

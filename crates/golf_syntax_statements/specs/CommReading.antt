@@ -1,0 +1,55 @@
+-- How the communication of a clause of `select` is read (Go specification, "Select statements").
+use Rattle.std.specs.Prelude.{ℕ, false, List, Option, Some, None, option_map}
+use Rattle.std.specs.Borrow.{Bor}
+use Rattle.golf_lex_tokens.specs.declared.token.Token.{Token}
+use Rattle.golf_lex_tokens.specs.declared.token.Punctuation.TheVariants as punctuations
+use Rattle.golf_syntax_trees.specs.declared.expressions.UnaryOperator.{UnaryOperator}
+use Rattle.golf_syntax_trees.specs.declared.expressions.UnaryOperator.TheVariants as unary
+use Rattle.golf_syntax_trees.specs.declared.expressions.Expr.{Expr, out-Expr}
+use Rattle.golf_syntax_trees.specs.declared.expressions.Expr.TheOpen as F
+use Rattle.golf_syntax_trees.specs.declared.expressions.Expr.TheOpen.{Expr-F}
+use Rattle.golf_syntax_trees.specs.declared.expressions.Element.{Element}
+use Rattle.golf_syntax_trees.specs.declared.statements.SimpleKind.{SimpleKind}
+use Rattle.golf_syntax_trees.specs.declared.statements.SimpleKind.TheVariants as s
+use Rattle.golf_syntax_trees.specs.declared.statements.Communication.{Communication}
+use Rattle.golf_syntax_trees.specs.declared.statements.Communication.TheVariants as comm
+use Rattle.golf_syntax_expressions.specs.Plan.{◌>>=◌}
+use Rattle.golf_syntax_expressions.specs.Front.{after, name_at}
+use Rattle.golf_syntax_expressions.specs.ExprReading.{Prefixed, expr_at}
+use Rattle.golf_syntax_expressions.specs.SimpleReading.{simple_at}
+
+abbrev pub operand_of : UnaryOperator → Expr → Option Expr
+operand_of unary.Receive c = Some c
+operand_of _ c = None
+
+abbrev pub channel_in : Expr-F Expr Element → Option Expr
+channel_in (F.Unary o c) = operand_of o c
+channel_in _ = None
+
+-- the channel that an expression receives from
+abbrev pub channel_of : Expr → Option Expr
+channel_of e = channel_in (out-Expr e)
+
+-- the communication that a simple statement is
+abbrev pub comm_of : SimpleKind → Option Communication
+comm_of (s.Expression e) = channel_of e >>= λ c. Some (comm.Receive c)
+comm_of (s.Send c v) = Some (comm.Send c v)
+comm_of (s.Define n v) = channel_of v >>= λ c. Some (comm.Define n c)
+comm_of (s.DefineReceived n m c) = Some (comm.DefineReceived n m c)
+comm_of _ = None
+
+-- `name =`
+abbrev pub assigned_at : List Token → Option (List ℕ × List Token)
+assigned_at ts = name_at ts >>= λ n. after punctuations.Assign n.1 >>= λ us. Some (n.0, us)
+
+abbrev pub comm_by : List Token → Option (List ℕ × List Token) → Option (Communication × List Token)
+comm_by ts (Some n) = after punctuations.Arrow n.1 >>= λ us. expr_at (Prefixed false) us >>= λ c. Some (comm.Assign n.0 c.0, c.1)
+comm_by ts None = simple_at false ts >>= λ x. comm_of x.0.kind >>= λ c. Some (c, x.1)
+
+-- the communication at the front, and what follows it
+unfoldable pub comm_at : List Token → Option (Communication × List Token)
+comm_at ts = comm_by ts (assigned_at ts)
+
+-- what was found by reference
+abbrev pub assigned_seen : Option (Bor (List ℕ) × Bor (List Token)) → Option (List ℕ × List Token)
+assigned_seen o = option_map (λ x. (x.0.now, x.1.now)) o

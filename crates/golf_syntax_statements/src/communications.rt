@@ -1,0 +1,155 @@
+//! Communications of `select`.
+
+ghost use Rattle.std.specs.Prelude.{◌≡◌, ◌<◌, ◌≤◌, length, IfOk, IfSome, Some};
+ghost use Rattle.golf_syntax_expressions.specs.Front.{seen};
+ghost use Rattle.golf_syntax_statements.specs.CommReading as comm_spec;
+ghost use Rattle.golf_syntax_statements.specs.CommReading.{assigned_seen, comm_by};
+
+use golf_base::Memory;
+use golf_syntax_expressions::{Place, after, copied, name_at, operand_at, simple_at};
+use golf_syntax_trees::{
+    Communication, Expr, Name, OwnedCommunication, OwnedExpr, OwnedSimpleKind, SimpleKind,
+    UnaryOperator,
+};
+use golf_lex_tokens::{Punctuation, Token};
+use std::alloc::Global;
+
+// The channel that an expression receives from.
+#[tactic(auto, using(crate::proofs::Channels::channel_steps))]
+fn channel_of(e: OwnedExpr) -> Option<OwnedExpr>
+    ensures { result ≡ comm_spec.channel_of e }
+{
+    match e.into_inner() {
+        Expr::Unary(operator, inner) => match operator {
+            UnaryOperator::Receive => Some(OwnedExpr::new(inner.into_inner())),
+            UnaryOperator::Negate | UnaryOperator::Not => None,
+        },
+        Expr::Integer(_)
+        | Expr::Text(_)
+        | Expr::Name(_)
+        | Expr::Parens(_)
+        | Expr::StructLiteral(_, _)
+        | Expr::SyncLiteral(_)
+        | Expr::SliceLiteral(_, _)
+        | Expr::EmptyLiteral
+        | Expr::Make(_)
+        | Expr::MakeSized(_, _)
+        | Expr::New(_)
+        | Expr::NewSync(_)
+        | Expr::Selector(_, _)
+        | Expr::Index(_, _)
+        | Expr::Call(_, _)
+        | Expr::Binary(_, _, _) => None,
+    }
+}
+
+// A receive.
+fn receive(e: OwnedExpr) -> Option<OwnedCommunication>
+    ensures { result ≡ comm_spec.comm_of (SimpleKind.Expression e) }
+{
+    match channel_of(e) {
+        None => None,
+        Some(channel) => Some(OwnedCommunication::new(Communication::Receive(channel))),
+    }
+}
+
+// A receive into a new name.
+fn define(name: Name, e: OwnedExpr) -> Option<OwnedCommunication>
+    ensures { result ≡ comm_spec.comm_of (SimpleKind.Define name e) }
+{
+    match channel_of(e) {
+        None => None,
+        Some(channel) => Some(OwnedCommunication::new(Communication::Define(name, channel))),
+    }
+}
+
+// A send.
+fn send(channel: OwnedExpr, value: OwnedExpr) -> Option<OwnedCommunication>
+    ensures { result ≡ comm_spec.comm_of (SimpleKind.Send channel value) }
+{
+    Some(OwnedCommunication::new(Communication::Send(channel, value)))
+}
+
+// A receive into two new names.
+fn define_received(name: Name, ok: Name, channel: OwnedExpr) -> Option<OwnedCommunication>
+    ensures { result ≡ comm_spec.comm_of (SimpleKind.DefineReceived name ok channel) }
+{
+    Some(OwnedCommunication::new(Communication::DefineReceived(name, ok, channel)))
+}
+
+// The communication that a simple statement is that begins with names.
+#[tactic(auto, using(crate::proofs::Channels::kind_steps))]
+fn named(kind: SimpleKind) -> Option<OwnedCommunication>
+    requires no_expression { (e : _) → kind ≡ SimpleKind.Expression e → ⊥ }
+    requires no_send { (c v : _) → kind ≡ SimpleKind.Send c v → ⊥ }
+    ensures { result ≡ comm_spec.comm_of kind }
+{
+    match kind {
+        SimpleKind::Define(name, e) => define(name, e),
+        SimpleKind::DefineReceived(name, ok, channel) => define_received(name, ok, channel),
+        _ => None,
+    }
+}
+
+// The communication that a simple statement is.
+fn comm_of(kind: OwnedSimpleKind) -> Option<OwnedCommunication>
+    ensures { result ≡ comm_spec.comm_of kind }
+{
+    match kind.into_inner() {
+        SimpleKind::Expression(e) => receive(e),
+        SimpleKind::Send(channel, value) => send(channel, value),
+        other => named(other),
+    }
+}
+
+// A name and the `=` after it.
+fn assigned_at(tokens: &[Token]) -> Option<(&Name, &[Token])>
+    ensures value { assigned_seen result ≡ comm_spec.assigned_at tokens.now }
+    ensures shorter { IfSome result (λ x. length x.1.now < length tokens.now) }
+{
+    let (name, behind) = name_at(tokens)?;
+    let rest = after(behind, Punctuation::Assign)?;
+    Some((name, rest))
+}
+
+// `<-channel` after a name and `=`.
+fn received(
+    alloc: Global,
+    name: Name,
+    tokens: &[Token],
+) -> Result<Option<(OwnedCommunication, &[Token])>, Memory>
+    ensures value { IfOk result (λ o. seen o ≡ comm_by tokens.now (Some (name, tokens.now))) }
+    ensures shorter { IfOk result (λ o. IfSome o (λ x. length x.1.now ≤ length tokens.now)) }
+{
+    let Some(arrow) = after(tokens, Punctuation::Arrow) else {
+        return Ok(None)
+    };
+    match operand_at(alloc, arrow)? {
+        None => Ok(None),
+        Some((channel, rest)) => Ok(Some((
+            OwnedCommunication::new(Communication::Assign(name, channel)),
+            rest,
+        ))),
+    }
+}
+
+/// The communication at the front, and what follows it.
+#[tactic(auto, unfolding(crate::specs::CommReading::comm_at))]
+pub fn comm_at(
+    alloc: Global,
+    tokens: &[Token],
+) -> Result<Option<(OwnedCommunication, &[Token])>, Memory>
+    ensures value { IfOk result (λ o. seen o ≡ comm_spec.comm_at tokens.now) }
+    ensures shorter { IfOk result (λ o. IfSome o (λ x. length x.1.now < length tokens.now)) }
+{
+    if let Some((name, behind)) = assigned_at(tokens) {
+        return received(alloc, copied(alloc, name)?, behind);
+    }
+    match simple_at(alloc, Place::Elsewhere, tokens)? {
+        None => Ok(None),
+        Some((simple, rest)) => match comm_of(simple.into_inner().kind) {
+            None => Ok(None),
+            Some(communication) => Ok(Some((communication, rest))),
+        },
+    }
+}

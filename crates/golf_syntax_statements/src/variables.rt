@@ -1,0 +1,90 @@
+//! Variables.
+
+ghost use Rattle.std.specs.Prelude.{◌≡◌, ◌<◌, ◌≤◌, length, IfOk, IfSome};
+ghost use Rattle.golf_syntax_expressions.specs.Front as front_spec;
+ghost use Rattle.golf_syntax_expressions.specs.Front.{seen};
+ghost use Rattle.golf_syntax_statements.specs.VarReading as var_spec;
+ghost use Rattle.golf_syntax_statements.specs.VarReading.{typed_by};
+
+use golf_base::Memory;
+use golf_syntax_expressions::{Place, after, copied, expression_at, name_at, type_at};
+use golf_syntax_trees::{OwnedType, OwnedVar, OwnedVarContent, Var, VarContent};
+use golf_lex_tokens::{Punctuation, Token};
+use std::alloc::Global;
+
+// After a type: a value, or nothing.
+fn typed(
+    alloc: Global,
+    of_type: OwnedType,
+    tokens: &[Token],
+) -> Result<Option<(OwnedVarContent, &[Token])>, Memory>
+    ensures value { IfOk result (λ o. seen o ≡ typed_by of_type tokens.now (front_spec.after Punctuation.Assign tokens.now)) }
+    ensures shorter { IfOk result (λ o. IfSome o (λ x. length x.1.now ≤ length tokens.now)) }
+{
+    let Some(valued) = after(tokens, Punctuation::Assign) else {
+        return Ok(Some((OwnedVarContent::new(VarContent::Zero(of_type)), tokens)))
+    };
+    match expression_at(alloc, Place::Elsewhere, valued)? {
+        None => Ok(None),
+        Some((value, rest)) => Ok(Some((
+            OwnedVarContent::new(VarContent::Typed(of_type, value)),
+            rest,
+        ))),
+    }
+}
+
+// `= value` after a name.
+fn untyped(alloc: Global, tokens: &[Token]) -> Result<Option<(OwnedVarContent, &[Token])>, Memory>
+    ensures value { IfOk result (λ o. seen o ≡ var_spec.untyped tokens.now) }
+    ensures shorter { IfOk result (λ o. IfSome o (λ x. length x.1.now ≤ length tokens.now)) }
+{
+    let Some(valued) = after(tokens, Punctuation::Assign) else {
+        return Ok(None)
+    };
+    match expression_at(alloc, Place::Elsewhere, valued)? {
+        None => Ok(None),
+        Some((value, rest)) => Ok(Some((OwnedVarContent::new(VarContent::Untyped(value)), rest))),
+    }
+}
+
+// What stands after the name of a variable.
+#[tactic(auto, unfolding(crate::specs::VarReading::content_at))]
+fn content_at(
+    alloc: Global,
+    tokens: &[Token],
+) -> Result<Option<(OwnedVarContent, &[Token])>, Memory>
+    ensures value { IfOk result (λ o. seen o ≡ var_spec.content_at tokens.now) }
+    ensures shorter { IfOk result (λ o. IfSome o (λ x. length x.1.now ≤ length tokens.now)) }
+{
+    match type_at(alloc, tokens)? {
+        None => untyped(alloc, tokens),
+        Some((of_type, behind)) => typed(alloc, of_type, behind),
+    }
+}
+
+/// The variable after a `var`, which stands on this line, and what follows it.
+#[tactic(auto, unfolding(crate::specs::VarReading::var_at))]
+pub fn var_at(
+    alloc: Global,
+    line: u32,
+    tokens: &[Token],
+) -> Result<Option<(OwnedVar, &[Token])>, Memory>
+    ensures value { IfOk result (λ o. seen o ≡ var_spec.var_at line tokens.now) }
+    ensures shorter { IfOk result (λ o. IfSome o (λ x. length x.1.now < length tokens.now)) }
+{
+    let Some((name, behind)) = name_at(tokens) else {
+        return Ok(None)
+    };
+    let name = copied(alloc, name)?;
+    match content_at(alloc, behind)? {
+        None => Ok(None),
+        Some((content, rest)) => Ok(Some((
+            OwnedVar::new(Var {
+                line,
+                name,
+                content,
+            }),
+            rest,
+        ))),
+    }
+}

@@ -1,0 +1,109 @@
+//! The verdict on a text.
+
+use golf_base::{List, Memory};
+use golf_check::{Checked, check};
+use golf_check_types::{Base, GoType, TypeFault};
+use std::alloc::Global;
+use std::process::Abort;
+
+// What the checker answers to a text that is a file of the language.
+fn checked(rt: &impl Abort, alloc: Global, source: &str) -> Result<Checked, TypeFault> {
+    assert!(rt; source.len() < 100_000);
+    match golf_lex::tokens(alloc, source.as_bytes()) {
+        Err(_) => panic!(rt; "it does not lex: {source}"),
+        Ok(tokens) => match golf_syntax::parse(alloc, tokens.as_slice()) {
+            Err(_) => panic!(rt; "it is no file: {source}"),
+            Ok(file) => check(alloc, file),
+        },
+    }
+}
+
+// The line and the rule that a file breaks first, or zeros where it is typed.
+fn verdict(rt: &impl Abort, alloc: Global, source: &str) -> (u32, u32) {
+    match checked(rt, alloc, source) {
+        Ok(_) => (0, 0),
+        Err(TypeFault::At { line, rule }) => (line, rule),
+        Err(TypeFault::Memory) => panic!(rt; "memory is wanting"),
+    }
+}
+
+// The number that a word of a head is.
+fn number(rt: &impl Abort, word: Option<&str>) -> u32 {
+    match word {
+        None => panic!(rt; "a head without its line and rule"),
+        Some(word) => match word.parse::<u32>() {
+            Ok(number) => number,
+            Err(_) => panic!(rt; "no number: {word}"),
+        },
+    }
+}
+
+// The line and the rule of a head; what stands behind them is a remark.
+fn line_and_rule(rt: &impl Abort, head: &str) -> (u32, u32) {
+    let mut words = head.split_whitespace();
+    let line = number(rt, words.next());
+    let rule = number(rt, words.next());
+    (line, rule)
+}
+
+/// Each text breaks the rule of its head on that line first, or none where both are 0. A head is `\n--- LINE RULE`, and the
+/// text stands on the lines behind it, up to the next head or the end.
+pub(crate) fn expect(rt: &impl Abort, alloc: Global, rows: &str) {
+    for row in rows.split("\n--- ") {
+        match row.split_once('\n') {
+            None => assert!(rt; row.is_empty(), "a head without a text: {row}"),
+            Some((head, source)) => {
+                let expected = line_and_rule(rt, head);
+                assert_eq!(rt; verdict(rt, alloc, source), expected, "in {source}");
+            }
+        }
+    }
+}
+
+/// The same of bodies of `main`, of which the first line is 3.
+pub(crate) fn expect_in_main(rt: &impl Abort, alloc: Global, rows: &str) -> Result<(), Memory> {
+    for row in rows.split("\n--- ") {
+        match row.split_once('\n') {
+            None => assert!(rt; row.is_empty(), "a head without a text: {row}"),
+            Some((head, body)) => {
+                let expected = line_and_rule(rt, head);
+                let text = format!(in alloc; "package main\nfunc main() {{\n{body}\n}}")?;
+                assert_eq!(rt; verdict(rt, alloc, text.as_str()), expected, "in {body}");
+            }
+        }
+    }
+    Ok(())
+}
+
+fn word(t: &Option<GoType>) -> &'static str {
+    match t {
+        None => "none",
+        Some(t) => match t.layers.as_slice() {
+            [] => match t.base {
+                Base::Int => "int",
+                Base::Bool => "bool",
+                Base::Text => "string",
+                _ => "other",
+            },
+            _ => "layered",
+        },
+    }
+}
+
+/// A word for each type of a typed file, in their order.
+pub(crate) fn type_words(
+    rt: &impl Abort,
+    alloc: Global,
+    source: &str,
+) -> Result<List<&'static str>, Memory> {
+    let mut words = List::new(alloc);
+    match checked(rt, alloc, source) {
+        Err(_) => panic!(rt; "it is not typed: {source}"),
+        Ok(checked) => {
+            for t in checked.types(alloc)?.as_slice() {
+                words.push(word(t))?;
+            }
+        }
+    }
+    Ok(words)
+}

@@ -1,0 +1,20 @@
+use Rattle.std.proofs.Common.{◌≡◌, List, [], ◌∷◌, ◌++◌, sym, ap, ◌∙◌, subst}
+use Rattle.golf_data.specs.declared.goroutine.Wait.{Wait}
+use Rattle.golf_model.specs.Futures.{Numbered}
+use Rattle.golf_model.specs.Views.{frame_views}
+use Rattle.golf_model.specs.Presence.{IsWhole}
+use Rattle.golf_tests_collection.proofs.StuckStates.{stuck, stuck-is, stuck-numbered, stuck-whole, receive_from}
+use Rattle.golf_tests_collection.proofs.states.stuck_state.Goals as goal
+
+made : (c : goal.In_ok-block) → c.block.new.self ≡ stuck
+made c =
+    stuck-is c.new-globals.result (frame_views c.new-first.result) (frame_views c.new-second.result) c.new-buffer.result c.push.new.self c.in_ok-g.g.0 c.in_ok-channel.channel.0 c.in_ok-state.state c.make.new.self c.spawn.new.self c.block.new.self
+    c.new-globals.ensures (ap frame_views c.new-first.ensures) (ap frame_views c.new-second.ensures) c.new-buffer.ensures
+    (c.in_ok-push.ensures.ok ∙ ap (λ (ws : List Wait). ws ++ receive_from c.in_ok-channel.channel.0 ∷ []) c.new-waits.ensures)
+    c.in_ok-state.ensures c.in_ok-channel.ensures.ok c.in_ok-channel.ensures.number c.in_ok-g.ensures.ok c.in_ok-g.ensures.number c.in_ok-block.ensures.ok
+
+pub returns-clause-numbered : goal.returns-clause-numbered
+returns-clause-numbered c = subst Numbered (sym (made c)) stuck-numbered
+
+pub returns-clause-whole : goal.returns-clause-whole
+returns-clause-whole c = subst IsWhole (sym (made c)) stuck-whole

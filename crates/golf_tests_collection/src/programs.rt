@@ -1,0 +1,93 @@
+//! Codes for the tests, and the states that they lead to.
+
+ghost use Rattle.std.specs.Prelude.{IfOk};
+ghost use Rattle.golf_model.specs.Futures.{Leads};
+
+use golf_base::{List, Memory};
+use golf_data::{Code, Instr, Value};
+use golf_machine::{start, turn};
+use golf_state::State;
+use golf_tests_support::{can_run, code, function, lines};
+use std::alloc::Global;
+
+/// How many turns lead to the states.
+const TURNS: u64 = 200;
+
+/// The code of `main`, of a function 1 with two arguments and of a function 2 that takes an object and
+/// returns; there is a global, and a struct type with a pointer.
+pub fn program(alloc: Global, main: Vec<Instr>, other: Vec<Instr>) -> Result<Code, Memory> {
+    let mut functions = List::new(alloc);
+    functions.push(function(alloc, 0, lines(alloc, main)?)?)?;
+    functions.push(function(alloc, 2, lines(alloc, other)?)?)?;
+    let last = vec![in alloc; Instr::Return]?;
+    functions.push(function(alloc, 1, lines(alloc, last)?)?)?;
+    code(alloc, functions, &[Value::Nil], &[Value::Nil])
+}
+
+/// `main` runs on after these instructions.
+pub fn forever(alloc: Global, instrs: Vec<Instr>) -> Result<Vec<Instr>, Memory> {
+    let mut main = Vec::new(alloc);
+    let mut end = 0u32;
+    for instr in instrs {
+        main.push(instr)?;
+        end = end.saturating_add(1);
+    }
+    main.push(Instr::Jump(end))?;
+    Ok(main)
+}
+
+/// Receives from the first argument.
+pub fn receiver(alloc: Global) -> Result<Vec<Instr>, Memory> {
+    let other = vec![in alloc; Instr::Load(0), Instr::Receive, Instr::Return]?;
+    Ok(other)
+}
+
+/// Receives from the first argument, and reads the second one after it.
+pub fn holder(alloc: Global) -> Result<Vec<Instr>, Memory> {
+    let other = vec![in alloc;
+        Instr::Load(0),
+        Instr::Receive,
+        Instr::Drop,
+        Instr::Load(1),
+        Instr::Drop,
+        Instr::Return,
+    ]?;
+    Ok(other)
+}
+
+/// The state after turns with rising numbers, until the program has ended or the turns are spent.
+pub fn state_of(alloc: Global, code: &Code) -> Result<State, Memory>
+    ensures { IfOk result (Leads code.now) }
+{
+    let mut state = start(alloc, code)?;
+    go_on(alloc, code, &mut state)?;
+    Ok(state)
+}
+
+// A turn, where the program goes on. It answers whether it did.
+fn take_turn(alloc: Global, code: &Code, state: &mut State, number: u64) -> Result<bool, Memory>
+    requires { Leads code.now state.old }
+    ensures { Leads code.now state.new }
+{
+    if state.ending().is_some() {
+        return Ok(false);
+    }
+    if !can_run(code) {
+        return Ok(false);
+    }
+    turn(alloc, code, state, number)?;
+    Ok(true)
+}
+
+/// Takes turns with rising numbers, until the program has ended or the turns are spent.
+pub fn go_on(alloc: Global, code: &Code, state: &mut State) -> Result<(), Memory>
+    requires { Leads code.now state.old }
+    ensures { Leads code.now state.new }
+{
+    for number in 0..TURNS {
+        if !take_turn(alloc, code, state, number)? {
+            return Ok(());
+        }
+    }
+    Ok(())
+}

@@ -1,0 +1,101 @@
+//! Turns of goroutines by their places, and what a state shows after them.
+
+use golf_base::{GoroutineId, Memory};
+use golf_data::{Code, Ending, Mode, PanicKind, WaitKind};
+use golf_machine::{Turned, start, turn};
+use golf_state::State;
+use golf_tests_support::can_run;
+use std::alloc::Global;
+use std::process::Abort;
+use std::test::Fail;
+
+/// Goroutine 0, which runs finalisers.
+pub const FINALISERS: GoroutineId = GoroutineId(0);
+
+/// The goroutine of `main`.
+pub const MAIN: GoroutineId = GoroutineId(1);
+
+/// The goroutine that `main` starts.
+pub const OTHER: GoroutineId = GoroutineId(2);
+
+/// One turn of the goroutine at this place among those that can run, where the program goes on and the
+/// machine can step its code.
+pub fn step(
+    alloc: Global,
+    code: &Code,
+    state: &mut State,
+    place: u64,
+) -> Result<Option<Turned>, Memory> {
+    if state.ending().is_some() || !can_run(code) {
+        return Ok(None);
+    }
+    Ok(Some(turn(alloc, code, state, place)?))
+}
+
+/// So many turns of the goroutine at this place among those that can run.
+pub fn take(
+    alloc: Global,
+    code: &Code,
+    state: &mut State,
+    place: u64,
+    count: u32,
+) -> Result<(), Memory> {
+    for _ in 0..count {
+        step(alloc, code, state, place)?;
+    }
+    Ok(())
+}
+
+/// The state after these turns: a place, and how many.
+pub fn after(alloc: Global, code: &Code, turns: &[(u64, u32)]) -> Result<State, Memory> {
+    let mut state = start(alloc, code)?;
+    for (place, count) in turns {
+        take(alloc, code, &mut state, *place, *count)?;
+    }
+    Ok(state)
+}
+
+/// How a goroutine is blocked: the kind, the line, and the ticket.
+#[derive(Clone, Copy, Debug, PartialEq, Eq)]
+pub struct HowBlocked(pub WaitKind, pub u32, pub u64);
+
+// How a goroutine in this mode is blocked, where it is.
+fn blocked_by(mode: &Mode) -> Option<HowBlocked> {
+    match mode {
+        Mode::Running => None,
+        Mode::Blocked {
+            kind,
+            line,
+            ticket,
+            ..
+        } => Some(HowBlocked(*kind, *line, *ticket)),
+    }
+}
+
+/// How a goroutine is blocked, where it is there and blocked.
+pub fn blocked(state: &State, g: GoroutineId) -> Option<HowBlocked> {
+    let goroutine = state.goroutine(g)?;
+    blocked_by(&goroutine.mode)
+}
+
+/// The place of the next instruction of a goroutine's innermost frame, and how many operands it has.
+pub fn stands(state: &State, g: GoroutineId) -> Option<(u32, usize)> {
+    let frame = state.frame(g)?;
+    Some((frame.at, frame.operands.len()))
+}
+
+/// Whether the program ended by a panic or fatal error of a goroutine at a line.
+pub fn panicked(state: &State, kind: PanicKind, goroutine: GoroutineId, line: u32) -> bool {
+    state.ending()
+        == Some(Ending::Panicked {
+            kind,
+            goroutine,
+            line,
+        })
+}
+
+/// What is claimed holds.
+pub fn holds<R: Abort>(rt: &R, claim: bool) -> Result<(), Fail> {
+    assert!(rt; claim);
+    Ok(())
+}

@@ -1,0 +1,49 @@
+//! Files, and what the checker finds of them.
+
+ghost use Rattle.std.specs.Prelude.{◌≡◌};
+ghost use Rattle.golf_check_types.specs.Files.{facts_in};
+ghost use Rattle.golf_check.specs.Heads.{scope_of};
+
+use golf_base::Memory;
+use golf_check::{Checked, check};
+use golf_code::generate;
+use golf_data::Code;
+use std::alloc::Global;
+use std::process::Abort;
+
+/// A method, `up`, that adds, and then `main`.
+pub(crate) const METHOD: &str =
+    "package main\nimport \"fmt\"\ntype P struct {\n\tn int\n}\nfunc (p *P) up(d int) int {\n\tp.n += d\n\treturn p.n\n}\nfunc main() {\n\ta := make([]int, 3)\n\tp := &P{n: 4}\n\tfor i := range a {\n\t\ta[i] = p.up(i)\n\t}\n\tfmt.Println(a[0], a[1], a[2], len(a))\n\ta[3] = 1\n}\n";
+
+/// A pool of workers: a method, `add`, and the functions `work`, `ask`, `answer` and `main`.
+pub(crate) const WORKER_POOL: &str =
+    "package main\n\nimport (\n\t\"fmt\"\n\t\"runtime\"\n\t\"sync\"\n)\n\ntype Total struct {\n\tmu  *sync.Mutex\n\tsum int\n}\n\nfunc (t *Total) add(n int) {\n\tt.mu.Lock()\n\tdefer t.mu.Unlock()\n\tt.sum += n\n}\n\nfunc work(jobs <-chan int, t *Total, wg *sync.WaitGroup) {\n\tdefer wg.Done()\n\tfor n := range jobs {\n\t\tt.add(n)\n\t}\n}\n\nfunc ask(n int) chan int {\n\treply := make(chan int)\n\tgo answer(n, reply)\n\treturn reply\n}\n\nfunc answer(n int, reply chan<- int) {\n\treply <- n + 1\n}\n\nfunc main() {\n\tt := &Total{mu: &sync.Mutex{}}\n\twg := &sync.WaitGroup{}\n\tjobs := make(chan int, 4)\n\tfor i := 0; i < 3; i++ {\n\t\twg.Add(1)\n\t\tgo work(jobs, t, wg)\n\t}\n\task(1)\n\tfor i := 1; i <= 10; i++ {\n\t\tjobs <- i\n\t}\n\tclose(jobs)\n\twg.Wait()\n\tfor i := 0; i < 50; i++ {\n\t}\n\truntime.GC()\n\tfmt.Println(\"sum\", t.sum)\n}\n";
+
+/// What the checker finds of a file.
+pub(crate) fn checked(rt: &impl Abort, alloc: Global, source: &str) -> Checked
+    ensures scope { result.scope ≡ scope_of result.file }
+    ensures facts { result.facts ≡ facts_in result.file }
+{
+    assert!(rt; source.len() < 100_000);
+    match golf_lex::tokens(alloc, source.as_bytes()) {
+        Err(_) => panic!(rt; "it does not lex"),
+        Ok(tokens) => match golf_syntax::parse(alloc, tokens.as_slice()) {
+            Err(_) => panic!(rt; "it is no file"),
+            Ok(file) => match check(alloc, file) {
+                Err(_) => panic!(rt; "it is not typed"),
+                Ok(checked) => checked,
+            },
+        },
+    }
+}
+
+/// The code of a checked file.
+pub(crate) fn code_of(rt: &impl Abort, alloc: Global, checked: &Checked) -> Code
+    requires scope { checked.now.scope ≡ scope_of checked.now.file }
+    requires facts { checked.now.facts ≡ facts_in checked.now.file }
+{
+    match generate(alloc, checked) {
+        Ok(code) => code,
+        Err(Memory) => panic!(rt; "out of memory"),
+    }
+}

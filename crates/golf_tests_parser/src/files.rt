@@ -1,0 +1,271 @@
+//! Files. Expected answers are from the Go specification, "Declarations and scope", "Expressions" and "Statements", and the
+//! rules of the language.
+
+use crate::words::tokens_of;
+use golf_syntax_trees::File;
+use golf_lex::{LexFault, tokens};
+use golf_syntax::{SyntaxFault, parse};
+use std::alloc::Global;
+use std::process::Abort;
+use std::test::Fail;
+
+// The line of the fault, or 0 where there is none.
+fn line_of(rt: &impl Abort, answer: &Result<File, SyntaxFault>) -> u32 {
+    match answer {
+        Ok(_) => 0,
+        Err(SyntaxFault::At { line }) => *line,
+        Err(SyntaxFault::Memory) => panic!(rt; "memory is wanting"),
+    }
+}
+
+fn fault_line(rt: &impl Abort, alloc: Global, source: &str) -> u32 {
+    let list = tokens_of(rt, alloc, source);
+    line_of(rt, &parse(alloc, list.as_slice()))
+}
+
+#[test]
+fn the_package_comes_first(rt: HostRuntime) -> Result<(), Fail> {
+    let rows = [
+        ("", 1u32),
+        ("package main", 0),
+        ("package other\nvar x int", 1),
+        ("\n\nvar x int\npackage main", 3),
+        ("package main var x int", 1),
+        ("package main\npackage main", 2),
+    ];
+    for (source, line) in rows {
+        assert_eq!(rt; fault_line(&rt, rt.alloc(), source), line);
+    }
+    Ok(())
+}
+
+// Rows of a declaration behind the package, and the line of the fault, or 0.
+const ROWS: [(&str, u32); 48] = [
+    ("import \"fmt\"", 0),
+    ("import (\n\t\"fmt\"\n\t\"sync\"\n)", 0),
+    ("import ()", 0),
+    ("import \"fmt\"; import \"sync\"\nvar x int", 0),
+    ("const k = -1\nconst s = \"a\"\nconst t = true", 0),
+    ("var x int\nvar y int = 1\nvar z = &T{}", 0),
+    ("var x chan<- chan int", 0),
+    ("type T struct {\n\ta, b int\n\tnext *T\n}", 0),
+    ("type T struct{}", 0),
+    (
+        "func (t *T) f(a, b int, c chan<- int) <-chan int {\n\treturn nil\n}",
+        0,
+    ),
+    ("func f(\n\ta int,\n) {\n}", 0),
+    ("func f() { go g(); defer g(); { } }", 0),
+    ("func f() { for {}; for x {}; for range c {} }", 0),
+    ("func f() { for i := 0; i < n; i++ {}; for ; ; {} }", 0),
+    (
+        "func f() { for v := range c {}; for i, v := range s {} }",
+        0,
+    ),
+    ("func f() { select {} }", 0),
+    (
+        "func f() { select { case c <- 1: x++; case v, ok := <-c: default: } }",
+        0,
+    ),
+    ("func f() { if x := g(); x > 0 {} else if y {} else {} }", 0),
+    (
+        "func f() { x = []int{1, 2,}; y := &T{a: 1}; z := struct{}{} }",
+        0,
+    ),
+    (
+        "func f() { a.b[i](c).d = make([]int, 3); p = new(sync.Mutex) }",
+        0,
+    ),
+    ("func f() { v, ok = <-c; <-c; c <- <-d }", 0),
+    ("func f() { x += 1; x %= 2; x-- }", 0),
+    ("func f() { if (&T{}).a {} }", 0),
+    ("var x", 2),
+    ("var x int\nimport \"fmt\"", 3),
+    ("func f() {\n\tx = func() {}\n}", 2),
+    ("var (\n\tx int\n)", 2),
+    ("const k = 1 + 2", 2),
+    ("type T int", 2),
+    ("func f(a int b int) {}", 2),
+    ("func f(a, b int, c) {}", 2),
+    ("func f() { x := 1 y := 2 }", 2),
+    ("func f() { for i := 0; i < n; j := 1 {} }", 2),
+    ("func f() { select { default: default: } }", 2),
+    ("func f() { if x == &T{} {} }", 2),
+    ("func f() { else {} }", 2),
+    ("func f() { switch x {} }", 2),
+    ("func f() { goto a }", 2),
+    ("func f() { x = make }", 2),
+    ("func f() { a, b := 1, 2 }", 2),
+    ("func f() { go g }", 2),
+    ("var x map[int]int", 2),
+    ("var x int\nvar y = )\nvar z int", 3),
+    ("var x int\n\nfunc f() {\n\tx = 1\n", 4),
+    ("var x int }", 2),
+    ("var x int;;", 2),
+    ("func f() {}\nfunc g() {\n\treturn 1 2\n}\nvar x", 3),
+    (";", 2),
+];
+
+#[test]
+fn declarations_are_read_or_have_the_line_of_the_fault(rt: HostRuntime) -> Result<(), Fail> {
+    for (text, line) in ROWS {
+        let source = format!(in rt.alloc(); "package main\n{text}")?;
+        assert_eq!(rt;
+            fault_line(&rt, rt.alloc(), source.as_str()),
+            line,
+            "{text}"
+        );
+    }
+    Ok(())
+}
+
+// An assignment on line 3 of one in so many parentheses.
+fn nested(alloc: Global, depth: u32) -> Result<String, Fail> {
+    let mut source = String::new(alloc);
+    source.push_str("package main\nfunc main() {\nx = ")?;
+    for _ in 0..depth {
+        source.push_str("(")?;
+    }
+    source.push_str("1")?;
+    for _ in 0..depth {
+        source.push_str(")")?;
+    }
+    source.push_str("\n}\n")?;
+    Ok(source)
+}
+
+#[test]
+fn parentheses_cost_a_thousand_at_most(rt: HostRuntime) -> Result<(), Fail> {
+    let most = nested(rt.alloc(), 992)?;
+    assert_eq!(rt; fault_line(&rt, rt.alloc(), most.as_str()), 0);
+    let more = nested(rt.alloc(), 993)?;
+    assert_eq!(rt; fault_line(&rt, rt.alloc(), more.as_str()), 3);
+    Ok(())
+}
+
+// A file as gofmt writes it.
+const FILE: [&str; 50] = [
+    "package main",
+    "",
+    "import (",
+    "\t\"fmt\"",
+    "\t\"sync\"",
+    ")",
+    "",
+    "const limit = -3",
+    "",
+    "type Node struct {",
+    "\tc    chan int",
+    "\tnext *Node",
+    "}",
+    "",
+    "var root *Node",
+    "",
+    "func (n *Node) add(value int) {",
+    "\tdefer n.lock.Unlock()",
+    "\tn.c <- value",
+    "}",
+    "",
+    "func serve(c, quit chan int, group *sync.WaitGroup) int {",
+    "\ttotal := 0",
+    "\tfor {",
+    "\t\tselect {",
+    "\t\tcase value, ok := <-c:",
+    "\t\t\tif !ok {",
+    "\t\t\t\treturn total",
+    "\t\t\t}",
+    "\t\t\ttotal += value",
+    "\t\tcase <-quit:",
+    "\t\t\tbreak",
+    "\t\tdefault:",
+    "\t\t\tfmt.Println(\"none\", total)",
+    "\t\t}",
+    "\t}",
+    "}",
+    "",
+    "func main() {",
+    "\tc := make(chan int, 2)",
+    "\troot = &Node{c: c, next: root}",
+    "\tfor i, value := range []int{1, 2, 3} {",
+    "\t\tgo root.add(i*value + 1)",
+    "\t}",
+    "\tif n := serve(c, nil, new(sync.WaitGroup)); n > limit && root != nil {",
+    "\t\tfmt.Println(n)",
+    "\t} else {",
+    "\t\tn++",
+    "\t}",
+    "}",
+];
+
+// The text of that file.
+fn file(alloc: Global) -> Result<String, Fail> {
+    let mut source = String::new(alloc);
+    for text in FILE {
+        source.push_str(text)?;
+        source.push_str("\n")?;
+    }
+    Ok(source)
+}
+
+// The lines on which the file's package, imports and declarations begin.
+const STARTS: [u32; 8] = [1, 3, 8, 10, 15, 17, 22, 39];
+
+// The last line up to this one on which something begins.
+fn start_of(line: u32) -> u32 {
+    let mut last = 1;
+    for start in STARTS {
+        if start <= line {
+            last = start;
+        }
+    }
+    last
+}
+
+#[test]
+fn each_prefix_of_a_file_is_read_or_has_the_line_of_its_last_declaration(
+    rt: HostRuntime,
+) -> Result<(), Fail> {
+    let source = file(rt.alloc())?;
+    let list = tokens_of(&rt, rt.alloc(), source.as_str());
+    assert_eq!(rt; line_of(&rt, &parse(rt.alloc(), &[])), 1);
+    let mut read = 0u32;
+    for (i, last) in list.as_slice().iter().enumerate() {
+        let (prefix, _) = list.as_slice().split_at(i + 1);
+        let line = line_of(&rt, &parse(rt.alloc(), prefix));
+        if line == 0 {
+            read = read.wrapping_add(1);
+        } else {
+            assert_eq!(rt; line, start_of(last.line));
+        }
+    }
+    assert_eq!(rt; read, 8);
+    Ok(())
+}
+
+// Whether a front of the file lexes and parses, or is at fault where it ends or where its last declaration begins.
+fn is_front(rt: &impl Abort, alloc: Global, front: &[u8]) -> bool {
+    assert!(rt; front.len() < 100_000);
+    match tokens(alloc, front) {
+        Ok(list) => {
+            let line = line_of(rt, &parse(alloc, list.as_slice()));
+            match list.as_slice().last() {
+                None => line == 1,
+                Some(last) => line == 0 || line == start_of(last.line),
+            }
+        }
+        Err(LexFault::At { byte, .. }) => byte as usize == front.len(),
+        Err(LexFault::Memory) => panic!(rt; "memory is wanting"),
+    }
+}
+
+#[test]
+fn each_front_of_the_bytes_of_a_file_is_read_or_at_fault_where_it_ends(
+    rt: HostRuntime,
+) -> Result<(), Fail> {
+    let source = file(rt.alloc())?;
+    for (length, _) in source.as_bytes().iter().enumerate() {
+        let (front, _) = source.as_bytes().split_at(length);
+        assert!(rt; is_front(&rt, rt.alloc(), front), "{length}");
+    }
+    Ok(())
+}

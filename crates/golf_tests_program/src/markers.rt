@@ -1,0 +1,53 @@
+//! What the markers of the program see at their gate.
+
+use crate::calls::{Outcome, expect_with, run_with};
+use crate::runs::TWO_ROUNDS;
+use crate::worked::{CYCLE, CYCLE_ERRORS};
+use golf_base::Gate;
+use golf_run_texts::Status;
+use golf_tests_support::{MeetingGate, StealingGate};
+use std::sync::Wait;
+use std::test::Fail;
+use std::thread::Threads;
+
+// The one global is a slice of four channels.
+const GLOBALS_IN_A_SLICE: &[u8] =
+    b"package main\nimport \"runtime\"\nvar s = []chan int{make(chan int), make(chan int), make(chan int), make(chan int)}\nfunc main() {\n\truntime.GC()\n}\n";
+
+// Whether a run of this file is clean and writes these errors.
+fn is_clean<R: AllocGlobal + Threads + Wait + Sync, G: Gate + Sync>(
+    rt: &R,
+    file: &[u8],
+    errors: &[u8],
+    gate: &G,
+) -> Result<bool, Fail> {
+    let Outcome { status, err, .. } = run_with(rt, &["run", "--markers", "2"], file, gate)?;
+    Ok(status == Status::Clean && err.written() == errors)
+}
+
+#[test]
+fn the_program_marks_with_two_markers_at_once(rt: HostRuntime) -> Result<(), Fail> {
+    let gate = MeetingGate::new();
+    let line = b"collection 1: marked 2, reported 0, kept 0, reclaimed 0, objects 2\n";
+    let clean = is_clean(&rt, TWO_ROUNDS, line.as_slice(), &gate)?;
+    assert!(rt; clean && gate.both_seen());
+    Ok(())
+}
+
+#[test]
+fn the_markers_of_the_program_share_their_work(rt: HostRuntime) -> Result<(), Fail> {
+    let gate = StealingGate::new();
+    let line = b"collection 1: marked 5, reported 0, kept 0, reclaimed 0, objects 5\n";
+    let clean = is_clean(&rt, GLOBALS_IN_A_SLICE, line.as_slice(), &gate)?;
+    assert!(rt; clean && gate.both_seen());
+    Ok(())
+}
+
+#[test]
+fn marker_counts_agree(rt: HostRuntime) -> Result<(), Fail> {
+    for count in ["1", "2", "16"] {
+        let words = ["run", "--markers", count];
+        expect_with(&rt, &words, CYCLE, Status::Found, b"", CYCLE_ERRORS)?;
+    }
+    Ok(())
+}

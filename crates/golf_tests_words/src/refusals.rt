@@ -1,0 +1,230 @@
+//! Rows of words that stand for no line.
+
+use crate::lines::line;
+use golf_command_words::parse;
+use std::alloc::Global;
+use std::process::Abort;
+use std::test::Fail;
+
+// Each of these ends, behind this front, is a row that stands for no line.
+fn refuses(rt: &impl Abort, alloc: Global, front: &str, ends: &[&str]) -> Result<(), Fail> {
+    for end in ends {
+        let row = format!(in alloc; "{front}{end}")?;
+        assert!(rt; line(alloc, row.as_str())?.is_none(), "{row}");
+    }
+    Ok(())
+}
+
+#[test]
+fn no_words_and_unknown_words_are_refused(rt: HostRuntime) -> Result<(), Fail> {
+    assert!(rt; parse(rt.alloc(), &Vec::new(rt.alloc()))?.is_none());
+    let rows = [
+        "",
+        "ru",
+        "RUN",
+        "help",
+        "--help",
+        "-h",
+        "--version",
+        "--|run",
+        "--recover|run",
+    ];
+    refuses(&rt, rt.alloc(), "", rows.as_slice())
+}
+
+#[test]
+fn a_run_line_has_no_other_words(rt: HostRuntime) -> Result<(), Fail> {
+    let rows = [
+        "run|",
+        "run|run",
+        "run|5",
+        "run|help",
+        "run|--help",
+        "run|-h",
+        "run|-",
+        "run|-r",
+        "run|--rec",
+        "run|--Recover",
+        "run|--turn|2",
+        "run|--=2",
+        "run|--turns|2|3",
+    ];
+    refuses(&rt, rt.alloc(), "", rows.as_slice())
+}
+
+#[test]
+fn two_hyphens_stand_once_and_last(rt: HostRuntime) -> Result<(), Fail> {
+    let rows = [
+        "run|--|--",
+        "run|--|--recover",
+        "run|--turns|--",
+        "run|--turns|--|5",
+    ];
+    refuses(&rt, rt.alloc(), "", rows.as_slice())
+}
+
+#[test]
+fn an_option_stands_at_most_once(rt: HostRuntime) -> Result<(), Fail> {
+    let rows = [
+        "run|--recover|--recover",
+        "run|--turns=2|--turns=2",
+        "run|--turns|2|--recover|--turns|2",
+        "run|--schedule=rotate|--schedule|rotate|--",
+    ];
+    refuses(&rt, rt.alloc(), "", rows.as_slice())
+}
+
+#[test]
+fn an_option_has_a_value_where_it_takes_one(rt: HostRuntime) -> Result<(), Fail> {
+    let rows = [
+        "run|--turns",
+        "run|--turns=",
+        "run|--turns|",
+        "run|--turns|--recover",
+        "run|--turns|-",
+        "run|--why|--why",
+        "run|--why=1",
+        "run|--threads=2|--why",
+        "generate|3|--why",
+        "run|--recover=",
+        "run|--recover=true",
+        "run|--recover|true",
+    ];
+    refuses(&rt, rt.alloc(), "", rows.as_slice())
+}
+
+#[test]
+fn numbers_are_decimal_digits_within_their_range(rt: HostRuntime) -> Result<(), Fail> {
+    let values = [
+        "0",
+        "10000001",
+        "+1",
+        "-1",
+        " 1",
+        "1 ",
+        "1.0",
+        "0x1",
+        "1e3",
+        "1_000",
+        "000000000000000000001",
+        "18446744073709551616",
+        "99999999999999999999",
+    ];
+    for front in [
+        "run|--turns|",
+        "run|--every|",
+        "run|--markers|",
+        "generate|",
+    ] {
+        refuses(&rt, rt.alloc(), front, values.as_slice())?;
+    }
+    refuses(&rt, rt.alloc(), "", &["run|--markers|17", "generate|5001"])
+}
+
+#[test]
+fn schedules_are_rotate_seed_and_choices(rt: HostRuntime) -> Result<(), Fail> {
+    let values = [
+        "",
+        "rotate:",
+        "Rotate",
+        "rotate:0",
+        "seed",
+        "seed:",
+        "seed:-1",
+        "seed:1,2",
+        "seed:1:2",
+        "seed:18446744073709551616",
+        "choices",
+        "choices:",
+        "choices:,",
+        "choices:1,",
+        "choices:,1",
+        "choices:1,,2",
+        "choices:1, 2",
+        "other:1",
+    ];
+    refuses(&rt, rt.alloc(), "run|--schedule|", values.as_slice())
+}
+
+#[test]
+fn more_than_four_thousand_and_ninety_six_choices_are_refused(rt: HostRuntime) -> Result<(), Fail> {
+    let mut row = String::from_str(rt.alloc(), "run|--schedule|choices:0")?;
+    for _ in 0..4095 {
+        row.push_str(",0")?;
+    }
+    assert!(rt; line(rt.alloc(), row.as_str())?.is_some());
+    row.push_str(",0")?;
+    assert!(rt; line(rt.alloc(), row.as_str())?.is_none());
+    Ok(())
+}
+
+#[test]
+fn a_generate_line_has_one_number_and_at_most_one_pair_of_hyphens(
+    rt: HostRuntime,
+) -> Result<(), Fail> {
+    let rows = [
+        "generate",
+        "generate|--",
+        "generate|--|--",
+        "generate|--|5|--",
+        "generate|5|--|--",
+        "generate|5|6",
+        "generate|5|--|6",
+        "generate|--recover|5",
+        "generate|5|--recover",
+        "generate|--number=5",
+        "generate|--help",
+    ];
+    refuses(&rt, rt.alloc(), "", rows.as_slice())
+}
+
+#[test]
+fn a_number_of_threads_is_1_to_16(rt: HostRuntime) -> Result<(), Fail> {
+    let rows = [
+        "run|--threads",
+        "run|--threads=",
+        "run|--threads|0",
+        "run|--threads=17",
+        "run|--threads|000000000000000000002",
+        "run|--threads|two",
+        "run|--threads|--|2",
+        "run|--threads=2|--|--",
+        "run|--threads=2|2",
+    ];
+    refuses(&rt, rt.alloc(), "", rows.as_slice())
+}
+
+#[test]
+fn threads_stand_once_and_with_no_other_option(rt: HostRuntime) -> Result<(), Fail> {
+    let rows = [
+        "--threads=2|--threads=2",
+        "--threads=2|--schedule=rotate",
+        "--threads=2|--turns=1000000",
+        "--threads=2|--every=3",
+        "--threads=2|--markers=1",
+        "--threads=2|--recover",
+        "--threads=2|--threads|2|--",
+        "--schedule=rotate|--threads|2|--",
+        "--turns=1000000|--threads|2|--",
+        "--every=3|--threads|2|--",
+        "--markers=1|--threads|2|--",
+        "--recover|--threads|2|--",
+    ];
+    refuses(&rt, rt.alloc(), "run|", rows.as_slice())
+}
+
+#[test]
+fn a_meaning_line_has_no_other_words(rt: HostRuntime) -> Result<(), Fail> {
+    let rows = [
+        "meaning|x",
+        "meaning|",
+        "meaning|-x",
+        "meaning|--help",
+        "meaning|--|x",
+        "meaning|--|--",
+        "meaning|--threads|2",
+        "Meaning",
+        "--|meaning",
+    ];
+    refuses(&rt, rt.alloc(), "", rows.as_slice())
+}

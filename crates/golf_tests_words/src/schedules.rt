@@ -1,0 +1,80 @@
+//! Schedules and the events of a run.
+
+use golf_base::List;
+use golf_run_schedules::{Event, Events, Schedule};
+use std::test::Fail;
+
+// Whether the events are these and no more.
+fn are(events: Events, wanted: &[Event]) -> bool {
+    let mut events = events;
+    for event in wanted {
+        if events.next() != Some(*event) {
+            return false;
+        }
+    }
+    events.next().is_none()
+}
+
+#[test]
+fn rotate_gives_the_numbers_from_0(rt: HostRuntime) {
+    let events = Events::new(Schedule::Rotate, 3, None);
+    assert!(rt; are(events, &[Event::Turn(0), Event::Turn(1), Event::Turn(2)]));
+}
+
+// The members of the congruence were worked out apart, in whole numbers.
+#[test]
+fn seed_0_begins_with_167951807(rt: HostRuntime) {
+    let events = Events::new(Schedule::Seed(0), 3, None);
+    let wanted = [
+        Event::Turn(167_951_807),
+        Event::Turn(218_396_424),
+        Event::Turn(1_299_921_937),
+    ];
+    assert!(rt; are(events, wanted.as_slice()));
+}
+
+#[test]
+fn choices_end_a_run_before_its_turns(rt: HostRuntime) -> Result<(), Fail> {
+    let mut list = List::new(rt.alloc());
+    list.extend_from_slice(&[7, 0])?;
+    assert!(rt;
+        are(
+            Events::new(Schedule::Choices(list), 5, None),
+            &[Event::Turn(7), Event::Turn(0)]
+        )
+    );
+    let mut more = List::new(rt.alloc());
+    more.extend_from_slice(&[7, 0])?;
+    assert!(rt;
+        are(
+            Events::new(Schedule::Choices(more), 1, None),
+            &[Event::Turn(7)]
+        )
+    );
+    Ok(())
+}
+
+#[test]
+fn a_collection_stands_behind_each_second_turn(rt: HostRuntime) {
+    let wanted = [
+        Event::Turn(0),
+        Event::Turn(1),
+        Event::Collect,
+        Event::Turn(2),
+        Event::Turn(3),
+        Event::Collect,
+        Event::Turn(4),
+    ];
+    assert!(rt; are(Events::new(Schedule::Rotate, 5, Some(2)), wanted.as_slice()));
+}
+
+#[test]
+fn a_collection_may_stand_behind_each_turn(rt: HostRuntime) {
+    let wanted = [
+        Event::Turn(0),
+        Event::Collect,
+        Event::Turn(1),
+        Event::Collect,
+    ];
+    assert!(rt; are(Events::new(Schedule::Rotate, 2, Some(1)), wanted.as_slice()));
+}

@@ -1,6 +1,0 @@
-use Rattle.golf_trials.proofs.Made.{IsInMaking-node}
-use Rattle.golf_trials.proofs.making.GraphMaker.node.Goals as goal
-
-pub invariant_of-result : goal.invariant_of-result
-invariant_of-result c = rw (c.in_ok-push.ensures.ok, c.in_ok-push-2.ensures.ok, c.in_ok-push-3.ensures.ok)
-    (IsInMaking-node c.self.inside.count c.self.inside.parts _ c.in_ok-children.children _ c.self.invariant c.len-2.ensures c.in_ok-children.ensures.below)

@@ -1,6 +1,0 @@
-use Rattle.std.proofs.Common.{◌≡◌}
-use Rattle.golf_write_statements.specs.Clauses.{opened}
-use Rattle.golf_write_statements.proofs.clauses.begin_blocks.Given as goal
-
-abbrev pub invariant-loop : goal.invariant-loop
-invariant-loop l = l.marks ≡ opened l.counter l.fn.marks

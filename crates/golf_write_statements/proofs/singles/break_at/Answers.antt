@@ -1,9 +1,0 @@
-use Rattle.std.proofs.Common.{ap, ◌∙◌}
-use Rattle.golf_layout.specs.Piece.{Piece}
-use Rattle.golf_write_statements.proofs.Seams.{quiet, written}
-use Rattle.golf_write_statements.proofs.singles.break_at.Goals as goal
-
-pub returns : goal.returns
-returns c =
-    let w = c.args.writer.now in
-    ap (λ ms. written w.facts (record w.draft { marks = ms })) c.in_ok-exit.ensures ∙ quiet w (Piece.Exit c.args.line c.args.targets.breaks) w.facts
