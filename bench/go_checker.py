@@ -98,7 +98,7 @@ def texts():
     found = []
     for name in sorted(glob.glob(f'{TOP}/crates/golf_tests_check/src/*.rt')):
         with open(name, encoding='utf-8') as file:
-            calls = re.findall(r'(expect\w*)\(\s*&rt,\s*rt\.alloc\(\),\s*r(#+)"(.*?)"\2', file.read(), re.S)
+            calls = re.findall(r'(expect\w*)\(\s*&rt,\s*r(#+)"(.*?)"\2', file.read(), re.S)
         for call, _, rows in calls:
             bodies = [row.partition('\n')[2] for row in rows.split('\n--- ')[1:]]
             found += ['package main\nfunc main() {\n%s\n}\n' % it if call.endswith('main') else it for it in bodies]

@@ -1,4 +1,4 @@
-//! Sources and sinks in memory: what they give and take, and where they fail.
+//! Sources and sinks in memory: what they give and take, and if they fail.
 
 use golf_base::{
     List, MemorySink, MemorySource, ReadError, Sink, Source, WriteFault, read_file, write_all,

@@ -1,13 +1,11 @@
 //! Expressions. Expected verdicts are from the Go specification, "Expressions", and the rules of the language.
 
 use crate::verdicts::expect;
-use std::test::Fail;
 
 #[test]
-fn names_are_known_values(rt: HostRuntime) -> Result<(), Fail> {
+fn names_are_known_values(rt: HostRuntime) {
     expect(
         &rt,
-        rt.alloc(),
         r#"
 --- 3 3
 package main
@@ -74,14 +72,12 @@ t := &T{}
 _ = t.m
 }"#,
     );
-    Ok(())
 }
 
 #[test]
-fn operands_have_their_types(rt: HostRuntime) -> Result<(), Fail> {
+fn operands_have_their_types(rt: HostRuntime) {
     expect(
         &rt,
-        rt.alloc(),
         r#"
 --- 3 8
 package main
@@ -187,14 +183,12 @@ func main() {
 _ = make([]int, true)
 }"#,
     );
-    Ok(())
 }
 
 #[test]
-fn literals_name_fields_once(rt: HostRuntime) -> Result<(), Fail> {
+fn literals_name_fields_once(rt: HostRuntime) {
     expect(
         &rt,
-        rt.alloc(),
         r#"
 --- 0 0
 package main
@@ -305,14 +299,12 @@ _ = make([]int, 3)
 _ = make(int, 3)
 }"#,
     );
-    Ok(())
 }
 
 #[test]
-fn calls_have_their_arguments(rt: HostRuntime) -> Result<(), Fail> {
+fn calls_have_their_arguments(rt: HostRuntime) {
     expect(
         &rt,
-        rt.alloc(),
         r#"
 --- 0 0
 package main
@@ -436,14 +428,12 @@ func main() {
 var w sync
 }"#,
     );
-    Ok(())
 }
 
 #[test]
-fn types_of_package_sync_have_their_methods(rt: HostRuntime) -> Result<(), Fail> {
+fn types_of_package_sync_have_their_methods(rt: HostRuntime) {
     expect(
         &rt,
-        rt.alloc(),
         r#"
 --- 0 0
 package main
@@ -533,14 +523,12 @@ m := &sync.Mutex{}
 _ = m.L
 }"#,
     );
-    Ok(())
 }
 
 #[test]
-fn finalisers_take_a_pointer_to_a_struct(rt: HostRuntime) -> Result<(), Fail> {
+fn finalisers_take_a_pointer_to_a_struct(rt: HostRuntime) {
     expect(
         &rt,
-        rt.alloc(),
         r#"
 --- 0 0
 package main
@@ -621,5 +609,4 @@ func main() {
 x := runtime.SetFinalizer(1, f)
 }"#,
     );
-    Ok(())
 }

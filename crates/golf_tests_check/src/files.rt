@@ -1,14 +1,13 @@
 //! Imports, declarations, `main`, globals. Expected verdicts are from the Go specification, "Declarations and scope", "Import
 //! declarations", "Program execution", and the rules of the language.
 
-use crate::verdicts::{expect, type_words};
+use crate::verdicts::{expect, expect_types};
 use std::test::Fail;
 
 #[test]
-fn imports_are_known_and_there_once(rt: HostRuntime) -> Result<(), Fail> {
+fn imports_are_known_and_there_once(rt: HostRuntime) {
     expect(
         &rt,
-        rt.alloc(),
         r#"
 --- 0 0
 package main
@@ -39,14 +38,12 @@ package main
 import "os"
 var x = y"#,
     );
-    Ok(())
 }
 
 #[test]
-fn names_of_a_file_are_declared_once(rt: HostRuntime) -> Result<(), Fail> {
+fn names_of_a_file_are_declared_once(rt: HostRuntime) {
     expect(
         &rt,
-        rt.alloc(),
         r#"
 --- 3 2
 package main
@@ -88,14 +85,12 @@ func main() {}
 type T struct {}
 func (t *T) main() {}"#,
     );
-    Ok(())
 }
 
 #[test]
-fn members_differ_and_methods_have_structs(rt: HostRuntime) -> Result<(), Fail> {
+fn members_differ_and_methods_have_structs(rt: HostRuntime) {
     expect(
         &rt,
-        rt.alloc(),
         r#"
 --- 2 5
 package main
@@ -139,14 +134,12 @@ package main
 type T struct { a1,a2,a3,a4,a5,a6,a7,a8,a9,b1,b2,b3,b4,b5,b6,b7,b8,b9,c1,c2,c3,c4,c5,c6,c7,c8,c9,d1,d2,d3,d4,d5,d6,d7,d8,d9,e1,e2,e3,e4,e5,e6,e7,e8,e9,f1,f2,f3,f4,f5,f6,f7,f8,f9,g1,g2,g3,g4,g5,g6,g7,g8,g9,h1,h2 int }
 func main() {}"#,
     );
-    Ok(())
 }
 
 #[test]
-fn written_types_are_known(rt: HostRuntime) -> Result<(), Fail> {
+fn written_types_are_known(rt: HostRuntime) {
     expect(
         &rt,
-        rt.alloc(),
         r#"
 --- 0 0
 package main
@@ -189,14 +182,12 @@ var T int
 var x *T
 func main() {}"#,
     );
-    Ok(())
 }
 
 #[test]
-fn main_is_a_function_without_parameters_and_result(rt: HostRuntime) -> Result<(), Fail> {
+fn main_is_a_function_without_parameters_and_result(rt: HostRuntime) {
     expect(
         &rt,
-        rt.alloc(),
         r#"
 --- 1 6
 package main
@@ -219,14 +210,12 @@ package main
 func f() { x }
 "#,
     );
-    Ok(())
 }
 
 #[test]
-fn initialisers_call_receive_and_read_nothing_below(rt: HostRuntime) -> Result<(), Fail> {
+fn initialisers_call_receive_and_read_nothing_below(rt: HostRuntime) {
     expect(
         &rt,
-        rt.alloc(),
         r#"
 --- 0 0
 package main
@@ -285,14 +274,12 @@ package main
 var x int = true
 func main() {}"#,
     );
-    Ok(())
 }
 
 #[test]
-fn bodies_use_globals_below_by_their_forms(rt: HostRuntime) -> Result<(), Fail> {
+fn bodies_use_globals_below_by_their_forms(rt: HostRuntime) {
     expect(
         &rt,
-        rt.alloc(),
         r#"
 --- 3 9
 package main
@@ -392,14 +379,12 @@ var s string = x
 var x = s[0]
 var s = []int{1}"#,
     );
-    Ok(())
 }
 
 #[test]
-fn integers_have_64_bits(rt: HostRuntime) -> Result<(), Fail> {
+fn integers_have_64_bits(rt: HostRuntime) {
     expect(
         &rt,
-        rt.alloc(),
         r#"
 --- 0 0
 package main
@@ -419,14 +404,12 @@ func main() {
 x := -9223372036854775808
 _ = x }"#,
     );
-    Ok(())
 }
 
 #[test]
-fn functions_with_a_result_end_in_a_terminating_statement(rt: HostRuntime) -> Result<(), Fail> {
+fn functions_with_a_result_end_in_a_terminating_statement(rt: HostRuntime) {
     expect(
         &rt,
-        rt.alloc(),
         r#"
 --- 2 14
 package main
@@ -487,38 +470,53 @@ x
 }
 func main() {}"#,
     );
-    Ok(())
 }
 
 #[test]
 fn each_expression_has_its_type_in_print_order(rt: HostRuntime) -> Result<(), Fail> {
-    let text =
-        "package main\nfunc f(a int) bool { return a == 1 }\nfunc main() {\ngo f(-1)\nf(2)\nvar s []string = nil\n_ = s[0]\nc := make(chan bool)\nv, ok := <-c\n_ = (v == ok)\n}";
+    let text = r"package main
+func f(a int) bool { return a == 1 }
+func main() {
+go f(-1)
+f(2)
+var s []string = nil
+_ = s[0]
+c := make(chan bool)
+v, ok := <-c
+_ = (v == ok)
+}";
     // `a == 1`, `a`, `1`; `f`, `-1`, `1`; `f(2)`, `f`, `2`; `nil`; `_`, `s[0]`, `s`, `0`; `make`; `c`; `_`, the
     // parentheses, `v == ok`, `v`, `ok`.
-    let expected = [
-        "bool", "int", "int", "none", "int", "int", "bool", "none", "int", "none", "none",
-        "string", "layered", "int", "layered", "layered", "none", "bool", "bool", "bool", "bool",
-    ];
-    let words = type_words(&rt, rt.alloc(), text)?;
-    assert_eq!(rt; words.as_slice(), expected.as_slice());
-    Ok(())
+    let expected = "\
+        bool int int none int int bool none int none none string layered int layered layered none \
+        bool bool bool bool";
+    expect_types(&rt, text, expected)
 }
 
 #[test]
 fn calls_literals_and_clauses_have_types_of_their_parts(rt: HostRuntime) -> Result<(), Fail> {
-    let text =
-        "package main\nimport \"fmt\"\ntype T struct { a int }\nfunc (t *T) m(n int) int { return t.a + n }\nfunc main() {\nt := &T{a: 1}\ns := []bool{true}\nfmt.Println(t.m(len(s)), \"x\")\ndefer t.m(2)\nc := make(chan int, 3)\nselect {\ncase c <- (4):\ncase v := <-c: v++\n}\nfor i, b := range s { t.a = i; _ = !b }\n}";
+    let text = r#"package main
+import "fmt"
+type T struct { a int }
+func (t *T) m(n int) int { return t.a + n }
+func main() {
+t := &T{a: 1}
+s := []bool{true}
+fmt.Println(t.m(len(s)), "x")
+defer t.m(2)
+c := make(chan int, 3)
+select {
+case c <- (4):
+case v := <-c: v++
+}
+for i, b := range s { t.a = i; _ = !b }
+}"#;
     // `t.a + n`, `t.a`, `t`, `n`; the literal of a struct, `1`; that of a slice, `true`; `fmt.Println(..)`, `fmt.Println`,
     // `fmt`, `t.m(..)`, `t.m`, `t`, `len(s)`, `len`, `s`, `"x"`; `t.m`, `t`, `2`; `make`, `3`; `c`, `(4)`, `4`; `c`; `v`;
     // `s`; `t.a`, `t`, `i`; `_`, `!b`, `b`.
-    let expected = [
-        "int", "int", "other", "int", "other", "int", "layered", "bool", "none", "none", "none",
-        "int", "none", "other", "int", "none", "layered", "string", "none", "other", "int",
-        "layered", "int", "layered", "int", "int", "layered", "int", "layered", "int", "other",
-        "int", "none", "bool", "bool",
-    ];
-    let words = type_words(&rt, rt.alloc(), text)?;
-    assert_eq!(rt; words.as_slice(), expected.as_slice());
-    Ok(())
+    let expected = "\
+        int int other int other int layered bool none none none int none other int none layered \
+        string none other int layered int layered int int layered int layered int other int none \
+        bool bool";
+    expect_types(&rt, text, expected)
 }

@@ -2,13 +2,11 @@
 //! "Blocks".
 
 use crate::verdicts::{expect, expect_in_main};
-use std::test::Fail;
 
 #[test]
-fn names_of_a_file_are_shadowed_in_functions(rt: HostRuntime) -> Result<(), Fail> {
+fn names_of_a_file_are_shadowed_in_functions(rt: HostRuntime) {
     expect(
         &rt,
-        rt.alloc(),
         r#"
 --- 4 11 // A local, a parameter, a receiver hides a function, a global, a constant, a struct.
 package main
@@ -91,16 +89,14 @@ type T struct { a int }
 func main() {
 T(nil) }"#,
     );
-    Ok(())
 }
 
 #[test]
-fn names_of_a_block_end_with_it(rt: HostRuntime) -> Result<(), Fail> {
+fn names_of_a_block_end_with_it(rt: HostRuntime) {
     expect_in_main(
         &rt,
-        rt.alloc(),
         r#"
---- 0 0 // A block, in itself and behind it.
+--- 0 0 // A block, in itself and after it.
 x := 1
 {
 x := "a"
@@ -218,7 +214,7 @@ default:
 v := 1
 }
 _ = v
---- 3 3 // A name is known behind its declaration alone.
+--- 3 3 // A name is known after its declaration alone.
 x := x
 --- 3 3
 var x int = x
@@ -238,6 +234,5 @@ x := 1
 x, y := <-c
 _ = y
 }"#,
-    )?;
-    Ok(())
+    );
 }

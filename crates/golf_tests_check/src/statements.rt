@@ -1,13 +1,11 @@
 //! Statements. Expected verdicts are from the Go specification, "Statements", "Blocks", and the rules of the language.
 
 use crate::verdicts::expect;
-use std::test::Fail;
 
 #[test]
-fn locals_are_declared_once_in_a_scope(rt: HostRuntime) -> Result<(), Fail> {
+fn locals_are_declared_once_in_a_scope(rt: HostRuntime) {
     expect(
         &rt,
-        rt.alloc(),
         r#"
 --- 4 2
 package main
@@ -85,14 +83,12 @@ func main() {
 var x int = y
 var x int }"#,
     );
-    Ok(())
 }
 
 #[test]
-fn each_kind_of_scope_shadows_and_ends(rt: HostRuntime) -> Result<(), Fail> {
+fn each_kind_of_scope_shadows_and_ends(rt: HostRuntime) {
     expect(
         &rt,
-        rt.alloc(),
         r#"
 --- 0 0
 package main
@@ -178,14 +174,12 @@ if a := 1; a == 1 {
 _ = a + b }
 }"#,
     );
-    Ok(())
 }
 
 #[test]
-fn values_are_assigned_to_places(rt: HostRuntime) -> Result<(), Fail> {
+fn values_are_assigned_to_places(rt: HostRuntime) {
     expect(
         &rt,
-        rt.alloc(),
         r#"
 --- 0 0
 package main
@@ -278,14 +272,12 @@ var s []chan int
 var t []<-chan int = s
 }"#,
     );
-    Ok(())
 }
 
 #[test]
-fn two_names_receive_a_value_and_a_truth_value(rt: HostRuntime) -> Result<(), Fail> {
+fn two_names_receive_a_value_and_a_truth_value(rt: HostRuntime) {
     expect(
         &rt,
-        rt.alloc(),
         r#"
 --- 0 0
 package main
@@ -359,14 +351,12 @@ ok := 1
 _, ok = <-c
 }"#,
     );
-    Ok(())
 }
 
 #[test]
-fn calls_and_receives_stand_as_statements(rt: HostRuntime) -> Result<(), Fail> {
+fn calls_and_receives_stand_as_statements(rt: HostRuntime) {
     expect(
         &rt,
-        rt.alloc(),
         r#"
 --- 0 0
 package main
@@ -417,14 +407,12 @@ var c chan int
 -<-c
 }"#,
     );
-    Ok(())
 }
 
 #[test]
-fn go_and_defer_begin_calls(rt: HostRuntime) -> Result<(), Fail> {
+fn go_and_defer_begin_calls(rt: HostRuntime) {
     expect(
         &rt,
-        rt.alloc(),
         r#"
 --- 0 0
 package main
@@ -475,14 +463,12 @@ func main() {
 go f(true)
 }"#,
     );
-    Ok(())
 }
 
 #[test]
-fn returns_give_the_result(rt: HostRuntime) -> Result<(), Fail> {
+fn returns_give_the_result(rt: HostRuntime) {
     expect(
         &rt,
-        rt.alloc(),
         r#"
 --- 3 9
 package main
@@ -515,14 +501,12 @@ return nil
 }
 func main() {}"#,
     );
-    Ok(())
 }
 
 #[test]
-fn break_and_continue_stand_in_what_they_leave(rt: HostRuntime) -> Result<(), Fail> {
+fn break_and_continue_stand_in_what_they_leave(rt: HostRuntime) {
     expect(
         &rt,
-        rt.alloc(),
         r#"
 --- 0 0
 package main
@@ -554,14 +538,12 @@ for { }
 continue
 }"#,
     );
-    Ok(())
 }
 
 #[test]
-fn conditions_come_before_bodies(rt: HostRuntime) -> Result<(), Fail> {
+fn conditions_come_before_bodies(rt: HostRuntime) {
     expect(
         &rt,
-        rt.alloc(),
         r#"
 --- 3 8
 package main
@@ -598,14 +580,12 @@ if x := y; z {
 }
 }"#,
     );
-    Ok(())
 }
 
 #[test]
-fn ranges_go_over_slices_and_channels(rt: HostRuntime) -> Result<(), Fail> {
+fn ranges_go_over_slices_and_channels(rt: HostRuntime) {
     expect(
         &rt,
-        rt.alloc(),
         r#"
 --- 0 0
 package main
@@ -666,14 +646,12 @@ for len := range x {
 }
 }"#,
     );
-    Ok(())
 }
 
 #[test]
-fn sends_and_clauses_have_their_lines(rt: HostRuntime) -> Result<(), Fail> {
+fn sends_and_clauses_have_their_lines(rt: HostRuntime) {
     expect(
         &rt,
-        rt.alloc(),
         r#"
 --- 4 16
 package main
@@ -767,5 +745,4 @@ case <-y:
 }
 }"#,
     );
-    Ok(())
 }

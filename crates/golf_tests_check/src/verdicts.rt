@@ -1,10 +1,10 @@
 //! The verdict on a text.
 
-use golf_base::{List, Memory};
 use golf_check::{Checked, check};
 use golf_check_types::{Base, GoType, TypeFault};
 use std::alloc::Global;
 use std::process::Abort;
+use std::test::Fail;
 
 // What the checker answers to a text that is a file of the language.
 fn checked(rt: &impl Abort, alloc: Global, source: &str) -> Result<Checked, TypeFault> {
@@ -18,7 +18,7 @@ fn checked(rt: &impl Abort, alloc: Global, source: &str) -> Result<Checked, Type
     }
 }
 
-// The line and the rule that a file breaks first, or zeros where it is typed.
+// The line and the rule that a file breaks first, or zeros if it is typed.
 fn verdict(rt: &impl Abort, alloc: Global, source: &str) -> (u32, u32) {
     match checked(rt, alloc, source) {
         Ok(_) => (0, 0),
@@ -38,7 +38,7 @@ fn number(rt: &impl Abort, word: Option<&str>) -> u32 {
     }
 }
 
-// The line and the rule of a head; what stands behind them is a remark.
+// The line and the rule of a head; what stands after them is a remark.
 fn line_and_rule(rt: &impl Abort, head: &str) -> (u32, u32) {
     let mut words = head.split_whitespace();
     let line = number(rt, words.next());
@@ -46,33 +46,44 @@ fn line_and_rule(rt: &impl Abort, head: &str) -> (u32, u32) {
     (line, rule)
 }
 
-/// Each text breaks the rule of its head on that line first, or none where both are 0. A head is `\n--- LINE RULE`, and the
-/// text stands on the lines behind it, up to the next head or the end.
-pub(crate) fn expect(rt: &impl Abort, alloc: Global, rows: &str) {
+/// Each text breaks the rule of its head on that line first, or none if both are 0. A head is `\n--- LINE RULE`, and the
+/// text stands on the lines after it, up to the next head or the end.
+pub(crate) fn expect<R: AllocGlobal + Abort>(rt: &R, rows: &str) {
     for row in rows.split("\n--- ") {
         match row.split_once('\n') {
             None => assert!(rt; row.is_empty(), "a head without a text: {row}"),
             Some((head, source)) => {
                 let expected = line_and_rule(rt, head);
-                assert_eq!(rt; verdict(rt, alloc, source), expected, "in {source}");
+                assert_eq!(rt; verdict(rt, rt.alloc(), source), expected, "in {source}");
             }
         }
     }
 }
 
+// The file of which this is the body of `main`.
+fn file_of(rt: &impl Abort, alloc: Global, body: &str) -> String {
+    match format!(in alloc; "package main\nfunc main() {{\n{body}\n}}") {
+        Ok(text) => text,
+        Err(_) => panic!(rt; "memory is wanting"),
+    }
+}
+
 /// The same of bodies of `main`, of which the first line is 3.
-pub(crate) fn expect_in_main(rt: &impl Abort, alloc: Global, rows: &str) -> Result<(), Memory> {
+pub(crate) fn expect_in_main<R: AllocGlobal + Abort>(rt: &R, rows: &str) {
     for row in rows.split("\n--- ") {
         match row.split_once('\n') {
             None => assert!(rt; row.is_empty(), "a head without a text: {row}"),
             Some((head, body)) => {
                 let expected = line_and_rule(rt, head);
-                let text = format!(in alloc; "package main\nfunc main() {{\n{body}\n}}")?;
-                assert_eq!(rt; verdict(rt, alloc, text.as_str()), expected, "in {body}");
+                let text = file_of(rt, rt.alloc(), body);
+                assert_eq!(rt;
+                    verdict(rt, rt.alloc(), text.as_str()),
+                    expected,
+                    "in {body}"
+                );
             }
         }
     }
-    Ok(())
 }
 
 fn word(t: &Option<GoType>) -> &'static str {
@@ -90,20 +101,30 @@ fn word(t: &Option<GoType>) -> &'static str {
     }
 }
 
-/// A word for each type of a typed file, in their order.
-pub(crate) fn type_words(
-    rt: &impl Abort,
-    alloc: Global,
-    source: &str,
-) -> Result<List<&'static str>, Memory> {
-    let mut words = List::new(alloc);
-    match checked(rt, alloc, source) {
-        Err(_) => panic!(rt; "it is not typed: {source}"),
-        Ok(checked) => {
-            for t in checked.types(alloc)?.as_slice() {
-                words.push(word(t))?;
-            }
+// A word for each type of a typed file, in their order, with one space between.
+fn type_words(checked: &Checked, alloc: Global) -> Result<String, Fail> {
+    let mut words = String::new(alloc);
+    for t in checked.types(alloc)?.as_slice() {
+        if !words.is_empty() {
+            words.push_str(" ")?;
         }
+        words.push_str(word(t))?;
     }
     Ok(words)
+}
+
+/// The expressions of a typed file have types of these words, in their order.
+pub(crate) fn expect_types<R: AllocGlobal + Abort>(
+    rt: &R,
+    source: &str,
+    words: &str,
+) -> Result<(), Fail> {
+    match checked(rt, rt.alloc(), source) {
+        Err(_) => panic!(rt; "it is not typed: {source}"),
+        Ok(checked) => {
+            let found = type_words(&checked, rt.alloc())?;
+            assert_eq!(rt; found.as_str(), words);
+        }
+    }
+    Ok(())
 }

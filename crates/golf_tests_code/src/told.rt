@@ -46,20 +46,16 @@ fn code_of(rt: &impl Abort, alloc: Global, source: &str) -> Code {
     }
 }
 
-/// The functions of a text: on which line each is declared, its parameters, slots and depth, and
-/// its instructions with their lines.
-pub(crate) fn functions(
+/// The functions of a text are told so: on which line each is declared, its parameters, slots and
+/// depth, and its instructions with their lines.
+pub(crate) fn expect(
     rt: &impl Abort,
     alloc: Global,
     source: &str,
-) -> Result<String, AllocError> {
+    expected: &str,
+) -> Result<(), Fail> {
     let code = code_of(rt, alloc, source);
-    told(alloc, &code)
-}
-
-/// The functions of a text are told so.
-pub(crate) fn expect(rt: &impl Abort, alloc: Global, source: &str, told: &str) -> Result<(), Fail> {
-    let found = functions(rt, alloc, source)?;
-    assert_eq!(rt; found.as_str(), told);
+    let found = told(alloc, &code)?;
+    assert_eq!(rt; found.as_str(), expected);
     Ok(())
 }

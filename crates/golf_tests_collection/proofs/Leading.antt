@@ -1,4 +1,6 @@
 -- Collections lead on from states that moves lead to, and who is gone.
+-- For: `collect_once` and `are_gone`, src/collecting.rt; `Leads`, golf_model/specs/Futures.antt
+-- By: cases of the outcome, and of which goroutine it is; no induction
 use Rattle.std.proofs.Common.{◌≡◌, ℕ, ◌+◌, ◌<◌, ◌≤◌, Bool, true, false, List, [], ◌∷◌, take, get_or, length, Option, Some, None, Result, Ok, Err, inl, inr, sym, ap, subst, ◌∙◌}
 use Rattle.std.specs.Prelude.{is_some, OnOk, OnErr}
 use Rattle.std.specs.Option.{option_map}

@@ -6,7 +6,7 @@ ghost use Rattle.golf_reclaim.specs.Noting.{AreGone};
 
 use golf_base::{Memory, OpenGate};
 use golf_data::{Code, Report};
-use golf_reclaim::{Ledger, CollectOptions, collect, sets_finalisers};
+use golf_reclaim::{CollectOptions, Ledger, collect, sets_finalisers};
 use golf_state::State;
 use std::alloc::Global;
 use std::thread::Threads;
@@ -26,7 +26,7 @@ fn are_gone(state: &State, book: &Ledger) -> bool
     true
 }
 
-/// A collection of a state that the code led to, which stays one; where the book does not belong to
+/// A collection of a state that the code led to, which stays one; if the book does not belong to
 /// it, the answer is `Memory`.
 pub fn collect_once<R: Threads + Sync>(
     rt: &R,

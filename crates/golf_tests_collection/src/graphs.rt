@@ -23,10 +23,12 @@ fn a_stuck_goroutine_is_a_sleeper(rt: HostRuntime) -> Result<(), Fail> {
 #[test]
 fn what_a_removed_goroutine_refers_to_is_no_source(rt: HostRuntime) -> Result<(), Fail> {
     let state = stuck_state(rt.alloc())?;
-    let all = retained_graph(rt.alloc(), &state, &[])?;
+    let live = live_graph(rt.alloc(), &state)?;
+    let all = retained_graph(rt.alloc(), &state, live, &[])?;
     assert_eq!(rt; all.sleepers(), 0);
     assert_eq!(rt; all.roots(), [0].as_slice());
-    let others = retained_graph(rt.alloc(), &state, &[GoroutineId(2)])?;
+    let live = live_graph(rt.alloc(), &state)?;
+    let others = retained_graph(rt.alloc(), &state, live, &[GoroutineId(2)])?;
     assert_eq!(rt; others.nodes(), 1);
     assert!(rt; others.roots().is_empty());
     Ok(())

@@ -64,7 +64,7 @@ pub fn state_of(alloc: Global, code: &Code) -> Result<State, Memory>
     Ok(state)
 }
 
-// A turn, where the program goes on. It answers whether it did.
+// A turn, if the program goes on. It answers whether it did.
 fn take_turn(alloc: Global, code: &Code, state: &mut State, number: u64) -> Result<bool, Memory>
     requires { Leads code.now state.old }
     ensures { Leads code.now state.new }

@@ -1,79 +1,39 @@
 //! Small codes.
 
-use crate::programs::program;
-use golf_base::Memory;
-use golf_data::{Code, Instr, Value};
-use std::alloc::Global;
+/// The instructions of `main`, and those of function 1.
+#[derive(Clone, Copy)]
+pub struct Texts(pub &'static str, pub &'static str);
 
 /// A goroutine sends 5 on an unbuffered channel, and `main` prints what it receives.
-pub fn one_value(alloc: Global) -> Result<Code, Memory> {
-    let main = vec![in alloc;
-        Instr::Int(0),
-        Instr::NewChan(Value::Int(0)),
-        Instr::Store(0),
-        Instr::Load(0),
-        Instr::Go(1, 1),
-        Instr::Load(0),
-        Instr::Receive,
-        Instr::Print(1),
-        Instr::Return,
-    ]?;
-    let sender = vec![in alloc; Instr::Load(0), Instr::Int(5), Instr::Send, Instr::Return]?;
-    program(alloc, main, sender)
-}
+pub const ONE_VALUE: Texts = Texts(
+    "Int(0); NewChan(Int(0)); Store(0); Load(0); Go(1, 1); Load(0); Receive; Print(1); Return",
+    "Load(0); Int(5); Send; Return",
+);
 
 /// A goroutine sends 3 and 5 on a channel of capacity 1, and `main` prints the two that it
 /// receives.
-pub fn two_values(alloc: Global) -> Result<Code, Memory> {
-    let main = vec![in alloc;
-        Instr::Int(1),
-        Instr::NewChan(Value::Int(0)),
-        Instr::Store(0),
-        Instr::Load(0),
-        Instr::Go(1, 1),
-        Instr::Load(0),
-        Instr::Receive,
-        Instr::Load(0),
-        Instr::Receive,
-        Instr::Print(2),
-    ]?;
-    let sender = vec![in alloc;
-        Instr::Load(0),
-        Instr::Int(3),
-        Instr::Send,
-        Instr::Load(0),
-        Instr::Int(5),
-        Instr::Send,
-    ]?;
-    program(alloc, main, sender)
-}
+pub const TWO_VALUES: Texts = Texts(
+    "Int(1); NewChan(Int(0)); Store(0); Load(0); Go(1, 1); Load(0); Receive; Load(0); Receive; Print(2)",
+    "Load(0); Int(3); Send; Load(0); Int(5); Send",
+);
 
 /// `main` receives from a channel that no goroutine sends on.
-pub fn no_sender(alloc: Global) -> Result<Code, Memory> {
-    let main = vec![in alloc;
-        Instr::Int(0),
-        Instr::NewChan(Value::Int(0)),
-        Instr::Receive,
-    ]?;
-    program(alloc, main, Vec::new(alloc))
-}
+pub const NO_SENDER: Texts = Texts("Int(0); NewChan(Int(0)); Receive", "");
 
 /// `main` calls a function that prints its argument, and returns.
-pub fn one_call(alloc: Global) -> Result<Code, Memory> {
-    let main = vec![in alloc; Instr::Int(7), Instr::Call(1, 1), Instr::Return]?;
-    let other = vec![in alloc; Instr::Load(0), Instr::Print(1), Instr::Return]?;
-    program(alloc, main, other)
-}
+pub const ONE_CALL: Texts = Texts("Int(7); Call(1, 1); Return", "Load(0); Print(1); Return");
 
 /// `main` calls a function that makes a channel of a negative size at line 2.
-pub fn one_panic(alloc: Global) -> Result<Code, Memory> {
-    let main = vec![in alloc; Instr::Int(7), Instr::Call(1, 1), Instr::Return]?;
-    let other = vec![in alloc; Instr::Int(-1), Instr::NewChan(Value::Int(0))]?;
-    program(alloc, main, other)
-}
+pub const ONE_PANIC: Texts = Texts("Int(7); Call(1, 1); Return", "Int(-1); NewChan(Int(0))");
 
 /// `main` collects at line 2, and returns.
-pub fn one_collection(alloc: Global) -> Result<Code, Memory> {
-    let main = vec![in alloc; Instr::Bool(true), Instr::Collect, Instr::Return]?;
-    program(alloc, main, Vec::new(alloc))
-}
+pub const ONE_COLLECTION: Texts = Texts("Bool(true); Collect; Return", "");
+
+/// `main` calls a function that panics at line 2.
+pub const PANIC_IN_CALL: Texts = Texts("Int(1); Call(1, 1); Return", "Text(1); Panic; Return");
+
+/// `main` defers a call of a function that does nothing, and returns.
+pub const DEFERRED_CALL: Texts = Texts("Int(5); Defer(1, 1); Return", "Return");
+
+/// `main` calls a function that does nothing, and returns.
+pub const PLAIN_CALL: Texts = Texts("Int(5); Call(1, 1); Return", "Return");

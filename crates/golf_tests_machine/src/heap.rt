@@ -28,7 +28,7 @@ fn is_locked(object: Option<&Object>) -> bool {
     matches!(object, Some(Object::Mutex(true)))
 }
 
-// Whether an object is replaced where it is there, and else nothing is made.
+// Whether an object is replaced if it is there, and else nothing is made.
 fn is_replaced(alloc: Global) -> Result<bool, Memory> {
     let mut heap = Heap::new(alloc);
     let first = heap.make(Object::Mutex(false))?;

@@ -1,398 +1,152 @@
 //! Each instruction, through turns. What is expected comes from the Go specification and the
 //! documentation of the packages.
 
-use crate::programs::{ends, program};
-use golf_base::{GoroutineId, List};
-use golf_data::{CaseKind, Ending, Instr, PanicKind, SelectCase, Value};
+use crate::programs::ends;
+use crate::runs::panicked;
+use golf_data::{Ending, PanicKind};
 use std::test::Fail;
-
-fn panicked(kind: PanicKind, line: u32) -> Option<Ending> {
-    Some(Ending::Panicked {
-        kind,
-        goroutine: GoroutineId(1),
-        line,
-    })
-}
 
 #[test]
 fn numbers_wrap_and_divide_toward_zero(rt: HostRuntime) -> Result<(), Fail> {
-    let main = vec![in rt.alloc();
-        Instr::Int(7),
-        Instr::Int(-2),
-        Instr::Div,
-        Instr::Int(-7),
-        Instr::Int(2),
-        Instr::Rem,
-        Instr::Int(i64::MIN),
-        Instr::Neg,
-        Instr::Int(3),
-        Instr::Int(4),
-        Instr::Mul,
-        Instr::Int(5),
-        Instr::Int(8),
-        Instr::Sub,
-        Instr::Int(i64::MAX),
-        Instr::Int(1),
-        Instr::Add,
-        Instr::Print(6),
-        Instr::Int(1),
-        Instr::Int(0),
-        Instr::Div,
-    ]?;
-    let code = program(rt.alloc(), main, Vec::new(rt.alloc()))?;
+    let main = "
+        Int(7); Int(-2); Div; Int(-7); Int(2); Rem; Int(-9223372036854775808); Neg; Int(3); Int(4); Mul;
+        Int(5); Int(8); Sub; Int(9223372036854775807); Int(1); Add; Print(6); Int(1); Int(0); Div";
     ends(
         &rt,
-        &code,
-        b"-3 -1 -9223372036854775808 12 -3 -9223372036854775808\n",
+        main,
+        "",
+        "-3 -1 -9223372036854775808 12 -3 -9223372036854775808\n",
         panicked(PanicKind::DivideByZero, 21),
     )
 }
 
 #[test]
 fn values_are_compared(rt: HostRuntime) -> Result<(), Fail> {
-    let main = vec![in rt.alloc();
-        Instr::Bool(true),
-        Instr::Not,
-        Instr::Int(1),
-        Instr::Int(2),
-        Instr::Less,
-        Instr::Int(2),
-        Instr::Int(2),
-        Instr::AtMost,
-        Instr::Unit,
-        Instr::Unit,
-        Instr::Eq,
-        Instr::Nil,
-        Instr::NewMutex,
-        Instr::Eq,
-        Instr::Text(1),
-        Instr::Text(2),
-        Instr::Eq,
-        Instr::Print(6),
-        Instr::Return,
-    ]?;
-    let code = program(rt.alloc(), main, Vec::new(rt.alloc()))?;
+    let main = "
+        Bool(true); Not; Int(1); Int(2); Less; Int(2); Int(2); AtMost; Unit; Unit; Eq; Nil; NewMutex; Eq;
+        Text(1); Text(2); Eq; Print(6); Return";
     ends(
         &rt,
-        &code,
-        b"false true true true false false\n",
-        Some(Ending::Returned),
+        main,
+        "",
+        "false true true true false false\n",
+        Ending::Returned,
     )
 }
 
 #[test]
 fn variables_and_jumps(rt: HostRuntime) -> Result<(), Fail> {
-    let main = vec![in rt.alloc();
-        Instr::Int(5),
-        Instr::StoreGlobal(0),
-        Instr::LoadGlobal(0),
-        Instr::Dup,
-        Instr::Add,
-        Instr::Store(0),
-        Instr::Load(0),
-        Instr::Int(1),
-        Instr::Dup2,
-        Instr::Drop,
-        Instr::Print(3),
-        Instr::Load(0),
-        Instr::Int(8),
-        Instr::AtMost,
-        Instr::JumpIfNot(16),
-        Instr::Return,
-        Instr::Int(8),
-        Instr::Store(0),
-        Instr::Jump(11),
-    ]?;
-    let code = program(rt.alloc(), main, Vec::new(rt.alloc()))?;
-    ends(&rt, &code, b"10 1 10\n", Some(Ending::Returned))
+    let main = "
+        Int(5); StoreGlobal(0); LoadGlobal(0); Dup; Add; Store(0); Load(0); Int(1); Dup2; Drop; Print(3);
+        Load(0); Int(8); AtMost; JumpIfNot(16); Return; Int(8); Store(0); Jump(11)";
+    ends(&rt, main, "", "10 1 10\n", Ending::Returned)
 }
 
 #[test]
 fn structs_and_slices(rt: HostRuntime) -> Result<(), Fail> {
-    let main = vec![in rt.alloc();
-        Instr::NewStruct(0),
-        Instr::Store(0),
-        Instr::Load(0),
-        Instr::Int(4),
-        Instr::SetField(0),
-        Instr::Int(3),
-        Instr::NewSlice(Value::Int(0)),
-        Instr::Store(1),
-        Instr::Load(1),
-        Instr::Int(1),
-        Instr::Int(9),
-        Instr::SetIndex,
-        Instr::Load(0),
-        Instr::Field(0),
-        Instr::Load(1),
-        Instr::Int(1),
-        Instr::Index,
-        Instr::Load(1),
-        Instr::Len,
-        Instr::Print(3),
-        Instr::Load(1),
-        Instr::Int(3),
-        Instr::Index,
-    ]?;
-    let code = program(rt.alloc(), main, Vec::new(rt.alloc()))?;
+    let main = "
+        NewStruct(0); Store(0); Load(0); Int(4); SetField(0); Int(3); NewSlice(Int(0)); Store(1); Load(1);
+        Int(1); Int(9); SetIndex; Load(0); Field(0); Load(1); Int(1); Index; Load(1); Len; Print(3);
+        Load(1); Int(3); Index";
     ends(
         &rt,
-        &code,
-        b"4 9 3\n",
+        main,
+        "",
+        "4 9 3\n",
         panicked(PanicKind::Index { at: 3, length: 3 }, 23),
     )
 }
 
 #[test]
 fn a_closed_channel_gives_its_buffer_and_then_zero(rt: HostRuntime) -> Result<(), Fail> {
-    let main = vec![in rt.alloc();
-        Instr::Int(1),
-        Instr::NewChan(Value::Int(0)),
-        Instr::Store(0),
-        Instr::Load(0),
-        Instr::Int(6),
-        Instr::Send,
-        Instr::Load(0),
-        Instr::Close,
-        Instr::Load(0),
-        Instr::ReceiveOk,
-        Instr::Print(2),
-        Instr::Load(0),
-        Instr::ReceiveOk,
-        Instr::Print(2),
-        Instr::Load(0),
-        Instr::Close,
-    ]?;
-    let code = program(rt.alloc(), main, Vec::new(rt.alloc()))?;
+    let main = "
+        Int(1); NewChan(Int(0)); Store(0); Load(0); Int(6); Send; Load(0); Close; Load(0); ReceiveOk;
+        Print(2); Load(0); ReceiveOk; Print(2); Load(0); Close";
     ends(
         &rt,
-        &code,
-        b"6 true\n0 false\n",
+        main,
+        "",
+        "6 true\n0 false\n",
         panicked(PanicKind::CloseClosed, 16),
     )
 }
 
 #[test]
 fn a_blocked_select_gets_what_is_sent(rt: HostRuntime) -> Result<(), Fail> {
-    let mut cases = List::new(rt.alloc());
-    cases.push(SelectCase {
-        kind: CaseKind::Take,
-        target: 6,
-    })?;
-    cases.push(SelectCase {
-        kind: CaseKind::TakeOk,
-        target: 8,
-    })?;
-    let main = vec![in rt.alloc();
-        Instr::Int(0),
-        Instr::NewChan(Value::Int(0)),
-        Instr::Store(0),
-        Instr::Nil,
-        Instr::Load(0),
-        Instr::Jump(12),
-        Instr::Print(1),
-        Instr::Return,
-        Instr::Print(2),
-        Instr::Return,
-        Instr::Unit,
-        Instr::Unit,
-        Instr::Load(0),
-        Instr::Go(1, 1),
-        Instr::Select(cases, None),
-    ]?;
-    let sender = vec![in rt.alloc(); Instr::Load(0), Instr::Int(8), Instr::Send, Instr::Return]?;
-    let code = program(rt.alloc(), main, sender)?;
-    ends(&rt, &code, b"8 true\n", Some(Ending::Returned))
+    let main = "
+        Int(0); NewChan(Int(0)); Store(0); Nil; Load(0); Jump(12); Print(1); Return; Print(2); Return; Unit;
+        Unit; Load(0); Go(1, 1); Select(Take 6, TakeOk 8)";
+    let other = "Load(0); Int(8); Send; Return";
+    ends(&rt, main, other, "8 true\n", Ending::Returned)
 }
 
 #[test]
 fn a_select_without_a_ready_case_takes_its_default(rt: HostRuntime) -> Result<(), Fail> {
-    let mut cases = List::new(rt.alloc());
-    cases.push(SelectCase {
-        kind: CaseKind::Send,
-        target: 3,
-    })?;
-    let main = vec![in rt.alloc();
-        Instr::Nil,
-        Instr::Int(1),
-        Instr::Select(cases, Some(5)),
-        Instr::Int(1),
-        Instr::Print(1),
-        Instr::Int(2),
-        Instr::Print(1),
-        Instr::Return,
-    ]?;
-    let code = program(rt.alloc(), main, Vec::new(rt.alloc()))?;
-    ends(&rt, &code, b"2\n", Some(Ending::Returned))
+    let main = "Nil; Int(1); Select(Send 3, default 5); Int(1); Print(1); Int(2); Print(1); Return";
+    ends(&rt, main, "", "2\n", Ending::Returned)
 }
 
 #[test]
 fn a_mutex_is_handed_to_its_waiter(rt: HostRuntime) -> Result<(), Fail> {
-    let main = vec![in rt.alloc();
-        Instr::NewMutex,
-        Instr::Store(0),
-        Instr::Load(0),
-        Instr::Lock,
-        Instr::NewGroup,
-        Instr::Store(1),
-        Instr::Load(1),
-        Instr::Int(1),
-        Instr::GroupAdd,
-        Instr::Load(1),
-        Instr::StoreGlobal(0),
-        Instr::Load(0),
-        Instr::Go(1, 1),
-        Instr::Int(1),
-        Instr::Print(1),
-        Instr::Load(0),
-        Instr::Unlock,
-        Instr::Load(1),
-        Instr::GroupWait,
-        Instr::Int(3),
-        Instr::Print(1),
-        Instr::Load(0),
-        Instr::Unlock,
-    ]?;
-    let other = vec![in rt.alloc();
-        Instr::Load(0),
-        Instr::Lock,
-        Instr::Int(2),
-        Instr::Print(1),
-        Instr::Load(0),
-        Instr::Unlock,
-        Instr::LoadGlobal(0),
-        Instr::Int(-1),
-        Instr::GroupAdd,
-        Instr::Return,
-    ]?;
-    let code = program(rt.alloc(), main, other)?;
+    let main = "
+        NewMutex; Store(0); Load(0); Lock; NewGroup; Store(1); Load(1); Int(1); GroupAdd; Load(1);
+        StoreGlobal(0); Load(0); Go(1, 1); Int(1); Print(1); Load(0); Unlock; Load(1); GroupWait; Int(3);
+        Print(1); Load(0); Unlock";
+    let other = "
+        Load(0); Lock; Int(2); Print(1); Load(0); Unlock; LoadGlobal(0); Int(-1); GroupAdd; Return";
     ends(
         &rt,
-        &code,
-        b"1\n2\n3\n",
+        main,
+        other,
+        "1\n2\n3\n",
         panicked(PanicKind::UnlockUnlocked, 23),
     )
 }
 
 #[test]
 fn a_writer_waits_for_a_reader(rt: HostRuntime) -> Result<(), Fail> {
-    let main = vec![in rt.alloc();
-        Instr::NewRw,
-        Instr::Store(0),
-        Instr::Load(0),
-        Instr::ReadLock,
-        Instr::Load(0),
-        Instr::Go(1, 1),
-        Instr::Int(0),
-        Instr::Drop,
-        Instr::Int(0),
-        Instr::Drop,
-        Instr::Int(1),
-        Instr::Print(1),
-        Instr::Load(0),
-        Instr::ReadUnlock,
-        Instr::Load(0),
-        Instr::ReadLock,
-        Instr::Int(3),
-        Instr::Print(1),
-        Instr::Load(0),
-        Instr::RwUnlock,
-    ]?;
-    let other = vec![in rt.alloc();
-        Instr::Load(0),
-        Instr::RwLock,
-        Instr::Int(2),
-        Instr::Print(1),
-        Instr::Load(0),
-        Instr::RwUnlock,
-        Instr::Return,
-    ]?;
-    let code = program(rt.alloc(), main, other)?;
+    let main = "
+        NewRw; Store(0); Load(0); ReadLock; Load(0); Go(1, 1); Int(0); Drop; Int(0); Drop; Int(1); Print(1);
+        Load(0); ReadUnlock; Load(0); ReadLock; Int(3); Print(1); Load(0); RwUnlock";
+    let other = "Load(0); RwLock; Int(2); Print(1); Load(0); RwUnlock; Return";
     ends(
         &rt,
-        &code,
-        b"1\n2\n3\n",
+        main,
+        other,
+        "1\n2\n3\n",
         panicked(PanicKind::UnlockUnlockedRw, 20),
     )
 }
 
 #[test]
 fn a_condition_passes_its_waiter_on(rt: HostRuntime) -> Result<(), Fail> {
-    let main = vec![in rt.alloc();
-        Instr::NewMutex,
-        Instr::NewCond,
-        Instr::Store(0),
-        Instr::Load(0),
-        Instr::CondMutex,
-        Instr::Lock,
-        Instr::Load(0),
-        Instr::Go(1, 1),
-        Instr::Load(0),
-        Instr::CondWait,
-        Instr::Int(2),
-        Instr::Print(1),
-        Instr::Load(0),
-        Instr::CondBroadcast,
-        Instr::Return,
-    ]?;
-    let other = vec![in rt.alloc();
-        Instr::Load(0),
-        Instr::CondMutex,
-        Instr::Lock,
-        Instr::Load(0),
-        Instr::CondSignal,
-        Instr::Int(1),
-        Instr::Print(1),
-        Instr::Load(0),
-        Instr::CondMutex,
-        Instr::Unlock,
-        Instr::Return,
-    ]?;
-    let code = program(rt.alloc(), main, other)?;
-    ends(&rt, &code, b"1\n2\n", Some(Ending::Returned))
+    let main = "
+        NewMutex; NewCond; Store(0); Load(0); CondMutex; Lock; Load(0); Go(1, 1); Load(0); CondWait; Int(2);
+        Print(1); Load(0); CondBroadcast; Return";
+    let other = "
+        Load(0); CondMutex; Lock; Load(0); CondSignal; Int(1); Print(1); Load(0); CondMutex; Unlock; Return";
+    ends(&rt, main, other, "1\n2\n", Ending::Returned)
 }
 
 #[test]
 fn deferred_calls_run_before_a_value_is_returned(rt: HostRuntime) -> Result<(), Fail> {
-    let main = vec![in rt.alloc();
-        Instr::Int(7),
-        Instr::Call(1, 1),
-        Instr::Print(1),
-        Instr::Text(1),
-        Instr::Panic,
-    ]?;
-    let other = vec![in rt.alloc();
-        Instr::Load(0),
-        Instr::Int(7),
-        Instr::Eq,
-        Instr::JumpIfNot(8),
-        Instr::Int(5),
-        Instr::Defer(1, 1),
-        Instr::Int(6),
-        Instr::ReturnValue,
-        Instr::Load(0),
-        Instr::Print(1),
-        Instr::Return,
-    ]?;
-    let code = program(rt.alloc(), main, other)?;
-    ends(&rt, &code, b"5\n6\n", panicked(PanicKind::Custom(1), 5))
+    let main = "Int(7); Call(1, 1); Print(1); Text(1); Panic";
+    let other = "
+        Load(0); Int(7); Eq; JumpIfNot(8); Int(5); Defer(1, 1); Int(6); ReturnValue; Load(0); Print(1);
+        Return";
+    ends(
+        &rt,
+        main,
+        other,
+        "5\n6\n",
+        panicked(PanicKind::Custom(1), 5),
+    )
 }
 
 #[test]
 fn a_second_finaliser_is_fatal(rt: HostRuntime) -> Result<(), Fail> {
-    let main = vec![in rt.alloc();
-        Instr::NewStruct(0),
-        Instr::Store(0),
-        Instr::Load(0),
-        Instr::SetFinalizer(1),
-        Instr::Load(0),
-        Instr::ClearFinalizer,
-        Instr::Load(0),
-        Instr::SetFinalizer(1),
-        Instr::Collect,
-        Instr::Load(0),
-        Instr::SetFinalizer(1),
-    ]?;
-    let code = program(rt.alloc(), main, Vec::new(rt.alloc()))?;
-    ends(&rt, &code, b"", panicked(PanicKind::FinalizerSet, 11))
+    let main = "
+        NewStruct(0); Store(0); Load(0); SetFinalizer(1); Load(0); ClearFinalizer; Load(0); SetFinalizer(1);
+        Collect; Load(0); SetFinalizer(1)";
+    ends(&rt, main, "", "", panicked(PanicKind::FinalizerSet, 11))
 }

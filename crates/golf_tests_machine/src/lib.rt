@@ -13,6 +13,8 @@ mod instructions;
 #[cfg(test)]
 mod programs;
 #[cfg(test)]
+mod reading;
+#[cfg(test)]
 mod refusals;
 #[cfg(test)]
 mod runs;

@@ -1,8 +1,9 @@
 //! Codes of two functions with a global, a struct type and texts, and what their runs come to.
 
+use crate::reading::instrs;
 use crate::stepping::step;
 use golf_base::{List, Memory};
-use golf_data::{Code, Ending, Instr, Value};
+use golf_data::{Code, Ending, Function, Value};
 use golf_machine::start;
 use golf_state::State;
 use golf_tests_support::{code, function, lines};
@@ -24,18 +25,26 @@ fn texts(alloc: Global) -> Result<List<List<u8>>, Memory> {
     Ok(texts)
 }
 
-/// The code of `main` and of a function 1 with an argument; there is a global, which is an integer,
-/// and a struct type with an integer and a pointer.
-pub fn program(alloc: Global, main: Vec<Instr>, other: Vec<Instr>) -> Result<Code, Memory> {
+// A function with so many arguments and these instructions.
+fn function_of(alloc: Global, params: u32, text: &str) -> Result<Function, Fail> {
+    let body = lines(alloc, instrs(alloc, text)?)?;
+    Ok(function(alloc, params, body)?)
+}
+
+// `main` and function 1, which has an argument.
+fn functions(alloc: Global, main: &str, other: &str) -> Result<List<Function>, Fail> {
     let mut functions = List::new(alloc);
-    functions.push(function(alloc, 0, lines(alloc, main)?)?)?;
-    functions.push(function(alloc, 1, lines(alloc, other)?)?)?;
-    let mut program = code(
-        alloc,
-        functions,
-        &[Value::Int(0)],
-        &[Value::Int(0), Value::Nil],
-    )?;
+    functions.push(function_of(alloc, 0, main)?)?;
+    functions.push(function_of(alloc, 1, other)?)?;
+    Ok(functions)
+}
+
+/// The code of `main` and of a function 1 with an argument, of which these are the instructions; there
+/// is a global, which is an integer, and a struct type with an integer and a pointer.
+pub fn program(alloc: Global, main: &str, other: &str) -> Result<Code, Fail> {
+    let fields = [Value::Int(0), Value::Nil];
+    let functions = functions(alloc, main, other)?;
+    let mut program = code(alloc, functions, &[Value::Int(0)], fields.as_slice())?;
     program.texts = texts(alloc)?;
     Ok(program)
 }
@@ -48,24 +57,24 @@ fn go_on(alloc: Global, code: &Code, state: &mut State) -> Result<(), Memory> {
     Ok(())
 }
 
-// What a run of a code prints, and how it ends.
-fn outcome(alloc: Global, code: &Code) -> Result<(List<u8>, Option<Ending>), Memory> {
+// The state in which a run of a code ends.
+fn run(alloc: Global, code: &Code) -> Result<State, Memory> {
     let mut state = start(alloc, code)?;
     go_on(alloc, code, &mut state)?;
-    let mut text = List::new(alloc);
-    text.extend_from_slice(state.output())?;
-    Ok((text, state.ending()))
+    Ok(state)
 }
 
-/// A run of a code prints this, and ends so.
+/// A run of the code with these instructions prints this, and ends so.
 pub fn ends<R: AllocGlobal + Abort>(
     rt: &R,
-    code: &Code,
-    text: &[u8],
-    ending: Option<Ending>,
+    main: &str,
+    other: &str,
+    text: &str,
+    ending: Ending,
 ) -> Result<(), Fail> {
-    let (printed, how) = outcome(rt.alloc(), code)?;
-    assert_eq!(rt; printed.as_slice(), text);
-    assert_eq!(rt; how, ending);
+    let code = program(rt.alloc(), main, other)?;
+    let state = run(rt.alloc(), &code)?;
+    assert_eq!(rt; state.output(), text.as_bytes());
+    assert_eq!(rt; state.ending(), Some(ending));
     Ok(())
 }

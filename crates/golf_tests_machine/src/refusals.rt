@@ -5,8 +5,8 @@
 
 use crate::programs::program;
 use crate::stepping::{HowBlocked, MAIN, blocked, holds, stands, step};
-use golf_base::{List, Memory, ObjectId};
-use golf_data::{CaseKind, Code, Ending, Instr, SelectCase, Side, Value};
+use golf_base::{Memory, ObjectId};
+use golf_data::{Code, Ending, Side};
 use golf_machine::start;
 use golf_state::State;
 use std::alloc::Global;
@@ -40,7 +40,7 @@ fn see(state: &State) -> Seen {
     }
 }
 
-// Takes a turn, and takes it again where memory was refused. It answers whether the state was as before
+// Takes a turn, and takes it again if memory was refused. It answers whether the state was as before
 // then.
 fn persist(alloc: Global, code: &Code, state: &mut State) -> Result<bool, Memory> {
     let before = see(state);
@@ -54,7 +54,7 @@ fn persist(alloc: Global, code: &Code, state: &mut State) -> Result<bool, Memory
     }
 }
 
-// So many turns of the first goroutine that can run; whether the state was as before where memory was
+// So many turns of the first goroutine that can run; whether the state was as before if memory was
 // refused.
 fn persist_all(alloc: Global, code: &Code, state: &mut State, count: u32) -> Result<bool, Memory> {
     let mut same = true;
@@ -64,36 +64,12 @@ fn persist_all(alloc: Global, code: &Code, state: &mut State, count: u32) -> Res
     Ok(same)
 }
 
-// The cases of a `select` that receives and sends.
-fn both_cases(alloc: Global) -> Result<List<SelectCase>, Memory> {
-    let mut cases = List::new(alloc);
-    cases.push(SelectCase {
-        kind: CaseKind::Take,
-        target: 10,
-    })?;
-    cases.push(SelectCase {
-        kind: CaseKind::Send,
-        target: 10,
-    })?;
-    Ok(cases)
-}
-
 // Whether a `select` that blocks is as it should be, or changes nothing.
-fn select_persists(alloc: Global) -> Result<bool, Memory> {
-    let main = vec![in alloc;
-        Instr::Int(0),
-        Instr::NewChan(Value::Int(0)),
-        Instr::Store(0),
-        Instr::Int(0),
-        Instr::NewChan(Value::Int(0)),
-        Instr::Store(1),
-        Instr::Load(0),
-        Instr::Load(1),
-        Instr::Int(5),
-        Instr::Select(both_cases(alloc)?, None),
-        Instr::Return,
-    ]?;
-    let code = program(alloc, main, Vec::new(alloc))?;
+fn select_persists(alloc: Global) -> Result<bool, Fail> {
+    let main = "
+        Int(0); NewChan(Int(0)); Store(0); Int(0); NewChan(Int(0)); Store(1); Load(0); Load(1); Int(5);
+        Select(Take 10, Send 10); Return";
+    let code = program(alloc, main, "")?;
     let mut state = start(alloc, &code)?;
     let same = persist_all(alloc, &code, &mut state, 10)?;
     let seen = see(&state);
@@ -111,19 +87,10 @@ fn a_select_that_blocks_is_refused_memory(rt: HostRuntime) -> Result<(), Fail> {
 }
 
 // Whether calls, plain, deferred and as goroutines, are as they should be, or change nothing.
-fn calls_persist(alloc: Global) -> Result<bool, Memory> {
-    let main = vec![in alloc;
-        Instr::Int(7),
-        Instr::Call(1, 1),
-        Instr::Print(1),
-        Instr::Int(8),
-        Instr::Defer(1, 1),
-        Instr::Int(9),
-        Instr::Go(1, 1),
-        Instr::Return,
-    ]?;
-    let other = vec![in alloc; Instr::Load(0), Instr::ReturnValue]?;
-    let code = program(alloc, main, other)?;
+fn calls_persist(alloc: Global) -> Result<bool, Fail> {
+    let main = "
+        Int(7); Call(1, 1); Print(1); Int(8); Defer(1, 1); Int(9); Go(1, 1); Return";
+    let code = program(alloc, main, "Load(0); ReturnValue")?;
     let mut state = start(alloc, &code)?;
     let same = persist_all(alloc, &code, &mut state, 16)?;
     Ok(same && state.output() == b"7\n".as_slice() && state.ending() == Some(Ending::Returned))

@@ -1,49 +1,110 @@
 //! Runs of codes, and what they come to.
 
-use crate::stepping::{after, step};
-use golf_base::{GoroutineId, List, Memory, ObjectId};
-use golf_data::{Code, Ending, Goroutine, Mode, Side, Value, WaitKind};
+use crate::codes::Texts;
+use crate::programs::program;
+use crate::stepping::{MAIN, OTHER, after, step};
+use golf_base::{GoroutineId, ObjectId};
+use golf_data::{Ending, Goroutine, Mode, PanicKind, Side, Value, WaitKind};
 use golf_machine::Turned;
 use golf_state::State;
 use std::alloc::Global;
+use std::process::Abort;
+use std::test::Fail;
 
 /// How many turns the first goroutine that can run takes, then the second, and the first again.
 #[derive(Clone, Copy, Debug, PartialEq, Eq)]
 pub struct Turns(pub u32, pub u32, pub u32);
 
-// The state after these turns.
-fn run(alloc: Global, code: &Code, turns: Turns) -> Result<State, Memory> {
-    after(alloc, code, &[(0, turns.0), (1, turns.1), (0, turns.2)])
+// The state of a code after these turns.
+fn run(alloc: Global, texts: Texts, turns: Turns) -> Result<State, Fail> {
+    let code = program(alloc, texts.0, texts.1)?;
+    let turns = [(0, turns.0), (1, turns.1), (0, turns.2)];
+    Ok(after(alloc, &code, turns.as_slice())?)
 }
 
-/// What the last of so many turns comes to.
-pub fn turned(alloc: Global, code: &Code, count: u32) -> Result<Option<Turned>, Memory> {
-    let mut state = run(alloc, code, Turns(count.saturating_sub(1), 0, 0))?;
-    step(alloc, code, &mut state, 0)
+// What the last of so many turns comes to.
+fn turned(alloc: Global, texts: Texts, count: u32) -> Result<Option<Turned>, Fail> {
+    let code = program(alloc, texts.0, texts.1)?;
+    let mut state = after(alloc, &code, &[(0, count.saturating_sub(1))])?;
+    Ok(step(alloc, &code, &mut state, 0)?)
 }
 
-/// How many goroutines can run, and the first one of them.
-pub fn running(
-    alloc: Global,
-    code: &Code,
+/// The last of so many turns comes to this.
+pub fn comes_to<R: AllocGlobal + Abort>(
+    rt: &R,
+    texts: Texts,
+    count: u32,
+    wanted: Turned,
+) -> Result<(), Fail> {
+    let found = turned(rt.alloc(), texts, count)?;
+    assert!(rt; found == Some(wanted), "the turn {count}");
+    Ok(())
+}
+
+/// After each of these turns so many goroutines can run, and this is the first one of them.
+pub fn can_run<R: AllocGlobal + Abort>(
+    rt: &R,
+    texts: Texts,
+    rows: &[(Turns, usize, GoroutineId)],
+) -> Result<(), Fail> {
+    for (turns, count, first) in rows {
+        let state = run(rt.alloc(), texts, *turns)?;
+        let running = state.runnable();
+        assert!(rt;
+            running.len() == *count && running.first() == Some(first),
+            "{turns:?}"
+        );
+    }
+    Ok(())
+}
+
+/// After these turns this is printed.
+pub fn prints<R: AllocGlobal + Abort>(
+    rt: &R,
+    texts: Texts,
     turns: Turns,
-) -> Result<(usize, Option<GoroutineId>), Memory> {
-    let state = run(alloc, code, turns)?;
-    let running = state.runnable();
-    Ok((running.len(), running.first().copied()))
+    text: &str,
+) -> Result<(), Fail> {
+    let state = run(rt.alloc(), texts, turns)?;
+    assert!(rt; state.output() == text.as_bytes());
+    Ok(())
 }
 
-/// What is printed.
-pub fn printed(alloc: Global, code: &Code, turns: Turns) -> Result<List<u8>, Memory> {
-    let state = run(alloc, code, turns)?;
-    let mut text = List::new(alloc);
-    text.extend_from_slice(state.output())?;
-    Ok(text)
+/// After so many turns the program has ended so.
+pub fn ends_after<R: AllocGlobal + Abort>(
+    rt: &R,
+    texts: Texts,
+    count: u32,
+    ending: Ending,
+) -> Result<(), Fail> {
+    let state = run(rt.alloc(), texts, Turns(count, 0, 0))?;
+    assert!(rt; state.ending() == Some(ending));
+    Ok(())
 }
 
-/// How the program has ended.
-pub fn ending(alloc: Global, code: &Code, turns: Turns) -> Result<Option<Ending>, Memory> {
-    Ok(run(alloc, code, turns)?.ending())
+/// A panic or fatal error of `main` at a line.
+pub fn panicked(kind: PanicKind, line: u32) -> Ending {
+    Ending::Panicked {
+        kind,
+        goroutine: MAIN,
+        line,
+    }
+}
+
+/// After each of so many turns `main` has so many frames, and the program has not ended.
+pub fn has_frames<R: AllocGlobal + Abort>(
+    rt: &R,
+    texts: Texts,
+    rows: &[(u32, usize)],
+) -> Result<(), Fail> {
+    for (count, depth) in rows {
+        let state = run(rt.alloc(), texts, Turns(*count, 0, 0))?;
+        assert!(rt;
+            state.depth(MAIN) == *depth && state.ending() == None,
+            "{count} turns"
+        );
+    }
+    Ok(())
 }
 
 // How a goroutine is blocked, and its lines.
@@ -57,11 +118,11 @@ fn blocked(goroutine: &Goroutine) -> Option<(WaitKind, u32, u32)> {
 /// How goroutine 2 is blocked, at which line, and where it was started.
 pub fn blocking(
     alloc: Global,
-    code: &Code,
+    texts: Texts,
     turns: Turns,
-) -> Result<Option<(WaitKind, u32, u32)>, Memory> {
-    let state = run(alloc, code, turns)?;
-    match state.goroutine(GoroutineId(2)) {
+) -> Result<Option<(WaitKind, u32, u32)>, Fail> {
+    let state = run(alloc, texts, turns)?;
+    match state.goroutine(OTHER) {
         Some(goroutine) => Ok(blocked(goroutine)),
         None => Ok(None),
     }
@@ -70,10 +131,10 @@ pub fn blocking(
 /// The first goroutine that waits to send on the first object, and its value.
 pub fn first_sender(
     alloc: Global,
-    code: &Code,
+    texts: Texts,
     turns: Turns,
-) -> Result<Option<(GoroutineId, Value)>, Memory> {
-    let state = run(alloc, code, turns)?;
+) -> Result<Option<(GoroutineId, Value)>, Fail> {
+    let state = run(alloc, texts, turns)?;
     match state.first_waiter(ObjectId(1), Side::Send) {
         Some(waiting) => Ok(Some((waiting.goroutine, waiting.wait.value))),
         None => Ok(None),

@@ -19,7 +19,7 @@ fn frame(alloc: Global, deferred: List<Deferred>) -> Result<Frame, Memory> {
     })
 }
 
-// How many frames there are while the deferred call of a returning frame runs, and behind it.
+// How many frames there are while the deferred call of a returning frame runs, and after it.
 fn deferred_call(alloc: Global) -> Result<(usize, usize), Memory> {
     let mut deferred = List::new(alloc);
     deferred.push(Deferred {

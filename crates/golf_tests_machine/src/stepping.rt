@@ -1,7 +1,7 @@
 //! Turns of goroutines by their places, and what a state shows after them.
 
 use golf_base::{GoroutineId, Memory};
-use golf_data::{Code, Ending, Mode, PanicKind, WaitKind};
+use golf_data::{Code, Mode, WaitKind};
 use golf_machine::{Turned, start, turn};
 use golf_state::State;
 use golf_tests_support::can_run;
@@ -18,7 +18,7 @@ pub const MAIN: GoroutineId = GoroutineId(1);
 /// The goroutine that `main` starts.
 pub const OTHER: GoroutineId = GoroutineId(2);
 
-/// One turn of the goroutine at this place among those that can run, where the program goes on and the
+/// One turn of the goroutine at this place among those that can run, if the program goes on and the
 /// machine can step its code.
 pub fn step(
     alloc: Global,
@@ -59,7 +59,7 @@ pub fn after(alloc: Global, code: &Code, turns: &[(u64, u32)]) -> Result<State, 
 #[derive(Clone, Copy, Debug, PartialEq, Eq)]
 pub struct HowBlocked(pub WaitKind, pub u32, pub u64);
 
-// How a goroutine in this mode is blocked, where it is.
+// How a goroutine in this mode is blocked, if it is.
 fn blocked_by(mode: &Mode) -> Option<HowBlocked> {
     match mode {
         Mode::Running => None,
@@ -72,7 +72,7 @@ fn blocked_by(mode: &Mode) -> Option<HowBlocked> {
     }
 }
 
-/// How a goroutine is blocked, where it is there and blocked.
+/// How a goroutine is blocked, if it is there and blocked.
 pub fn blocked(state: &State, g: GoroutineId) -> Option<HowBlocked> {
     let goroutine = state.goroutine(g)?;
     blocked_by(&goroutine.mode)
@@ -82,16 +82,6 @@ pub fn blocked(state: &State, g: GoroutineId) -> Option<HowBlocked> {
 pub fn stands(state: &State, g: GoroutineId) -> Option<(u32, usize)> {
     let frame = state.frame(g)?;
     Some((frame.at, frame.operands.len()))
-}
-
-/// Whether the program ended by a panic or fatal error of a goroutine at a line.
-pub fn panicked(state: &State, kind: PanicKind, goroutine: GoroutineId, line: u32) -> bool {
-    state.ending()
-        == Some(Ending::Panicked {
-            kind,
-            goroutine,
-            line,
-        })
 }
 
 /// What is claimed holds.

@@ -3,21 +3,15 @@
 use crate::programs::program;
 use crate::stepping::{MAIN, OTHER, after, blocked, holds, stands, take};
 use golf_base::{List, Memory};
-use golf_data::{CaseKind, Code, Instr, Object, SelectCase, Side, Value, Wait, WaitKind};
+use golf_data::{Code, Object, Side, Value, Wait, WaitKind};
 use golf_machine::start;
 use golf_state::State;
 use std::alloc::Global;
 use std::test::Fail;
 
 // Whether a `select` on a number, with a default clause, stays where it is.
-fn select_on_a_number(alloc: Global) -> Result<bool, Memory> {
-    let mut cases = List::new(alloc);
-    cases.push(SelectCase {
-        kind: CaseKind::Take,
-        target: 2,
-    })?;
-    let main = vec![in alloc; Instr::Int(1), Instr::Select(cases, Some(2)), Instr::Return]?;
-    let code = program(alloc, main, Vec::new(alloc))?;
+fn select_on_a_number(alloc: Global) -> Result<bool, Fail> {
+    let code = program(alloc, "Int(1); Select(Take 2, default 2); Return", "")?;
     let state = after(alloc, &code, &[(0, 5)])?;
     Ok(stands(&state, MAIN) == Some((1, 1)) && state.ending() == None)
 }
@@ -46,9 +40,8 @@ fn waiting_without_mutex(alloc: Global, code: &Code) -> Result<State, Memory> {
 }
 
 // Whether a signal to that condition stays where it is, and its waiter too.
-fn signal_without_mutex(alloc: Global) -> Result<bool, Memory> {
-    let main = vec![in alloc; Instr::LoadGlobal(0), Instr::CondSignal, Instr::Return]?;
-    let code = program(alloc, main, Vec::new(alloc))?;
+fn signal_without_mutex(alloc: Global) -> Result<bool, Fail> {
+    let code = program(alloc, "LoadGlobal(0); CondSignal; Return", "")?;
     let mut state = waiting_without_mutex(alloc, &code)?;
     take(alloc, &code, &mut state, 0, 5)?;
     Ok(stands(&state, MAIN) == Some((1, 1)) && blocked(&state, OTHER).is_some())

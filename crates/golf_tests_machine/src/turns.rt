@@ -1,92 +1,56 @@
 //! Goroutines that send, receive, block, are woken, call, return and end.
 
-use crate::codes::{no_sender, one_call, one_collection, one_panic, one_value, two_values};
-use crate::runs::{Turns, blocking, ending, first_sender, printed, running, turned};
-use golf_base::GoroutineId;
+use crate::codes::{NO_SENDER, ONE_CALL, ONE_COLLECTION, ONE_PANIC, ONE_VALUE, TWO_VALUES};
+use crate::runs::{Turns, blocking, can_run, comes_to, ends_after, first_sender, panicked, prints};
+use crate::stepping::{MAIN, OTHER};
 use golf_data::{Ending, PanicKind, Value, WaitKind};
 use golf_machine::Turned;
 use std::test::Fail;
 
 #[test]
 fn a_send_wakes_the_receiver(rt: HostRuntime) -> Result<(), Fail> {
-    let code = one_value(rt.alloc())?;
-    let blocked = running(rt.alloc(), &code, Turns(7, 0, 0))?;
-    assert_eq!(rt; blocked, (1, Some(GoroutineId(2))));
-    let woken = running(rt.alloc(), &code, Turns(10, 0, 0))?;
-    assert_eq!(rt; woken, (2, Some(GoroutineId(1))));
-    Ok(())
+    let rows = [(Turns(7, 0, 0), 1, OTHER), (Turns(10, 0, 0), 2, MAIN)];
+    can_run(&rt, ONE_VALUE, rows.as_slice())
 }
 
 #[test]
 fn a_receive_wakes_the_sender(rt: HostRuntime) -> Result<(), Fail> {
-    let code = one_value(rt.alloc())?;
-    let blocked = running(rt.alloc(), &code, Turns(5, 3, 0))?;
-    assert_eq!(rt; blocked, (1, Some(GoroutineId(1))));
-    let woken = running(rt.alloc(), &code, Turns(5, 3, 2))?;
-    assert_eq!(rt; woken, (2, Some(GoroutineId(1))));
-    Ok(())
+    let rows = [(Turns(5, 3, 0), 1, MAIN), (Turns(5, 3, 2), 2, MAIN)];
+    can_run(&rt, ONE_VALUE, rows.as_slice())
 }
 
 #[test]
 fn a_blocked_sender_waits_with_its_value(rt: HostRuntime) -> Result<(), Fail> {
-    let code = one_value(rt.alloc())?;
-    let how = blocking(rt.alloc(), &code, Turns(5, 3, 0))?;
-    assert_eq!(rt; how, Some((WaitKind::Send, 3, 5)));
-    let sender = first_sender(rt.alloc(), &code, Turns(5, 3, 0))?;
-    assert_eq!(rt; sender, Some((GoroutineId(2), Value::Int(5))));
+    let how = blocking(rt.alloc(), ONE_VALUE, Turns(5, 3, 0))?;
+    assert!(rt; how == Some((WaitKind::Send, 3, 5)));
+    let sender = first_sender(rt.alloc(), ONE_VALUE, Turns(5, 3, 0))?;
+    assert!(rt; sender == Some((OTHER, Value::Int(5))));
     Ok(())
 }
 
 #[test]
 fn a_buffer_gives_its_values_in_order(rt: HostRuntime) -> Result<(), Fail> {
-    let code = two_values(rt.alloc())?;
-    let text = printed(rt.alloc(), &code, Turns(5, 6, 5))?;
-    assert_eq!(rt; text.as_slice(), b"3 5\n".as_slice());
-    Ok(())
+    prints(&rt, TWO_VALUES, Turns(5, 6, 5), "3 5\n")
 }
 
 #[test]
 fn a_receive_without_a_sender_ends_asleep(rt: HostRuntime) -> Result<(), Fail> {
-    let code = no_sender(rt.alloc())?;
-    let how = ending(rt.alloc(), &code, Turns(3, 0, 0))?;
-    assert_eq!(rt; how, Some(Ending::Asleep));
-    Ok(())
+    ends_after(&rt, NO_SENDER, 3, Ending::Asleep)
 }
 
 #[test]
 fn a_call_returns_to_its_caller(rt: HostRuntime) -> Result<(), Fail> {
-    let code = one_call(rt.alloc())?;
-    let text = printed(rt.alloc(), &code, Turns(4, 0, 0))?;
-    assert_eq!(rt; text.as_slice(), b"7\n".as_slice());
-    let how = ending(rt.alloc(), &code, Turns(6, 0, 0))?;
-    assert_eq!(rt; how, Some(Ending::Returned));
-    Ok(())
+    prints(&rt, ONE_CALL, Turns(4, 0, 0), "7\n")?;
+    ends_after(&rt, ONE_CALL, 6, Ending::Returned)
 }
 
 #[test]
 fn a_panic_in_a_call_ends_the_program(rt: HostRuntime) -> Result<(), Fail> {
-    let code = one_panic(rt.alloc())?;
-    let how = ending(rt.alloc(), &code, Turns(6, 0, 0))?;
-    let kind = PanicKind::ChanSize;
-    let goroutine = GoroutineId(1);
-    let line = 2;
-    assert_eq!(rt;
-        how,
-        Some(Ending::Panicked {
-            kind,
-            goroutine,
-            line
-        })
-    );
-    Ok(())
+    ends_after(&rt, ONE_PANIC, 6, panicked(PanicKind::ChanSize, 2))
 }
 
 #[test]
 fn a_collection_is_asked_for(rt: HostRuntime) -> Result<(), Fail> {
-    let code = one_collection(rt.alloc())?;
-    let collection = turned(rt.alloc(), &code, 2)?;
-    assert_eq!(rt; collection, Some(Turned::WantsCollection));
-    let end = turned(rt.alloc(), &code, 3)?;
-    assert_eq!(rt; end, Some(Turned::Ended(Ending::Returned)));
-    Ok(())
+    comes_to(&rt, ONE_COLLECTION, 2, Turned::WantsCollection)?;
+    comes_to(&rt, ONE_COLLECTION, 3, Turned::Ended(Ending::Returned))
 }

@@ -1,127 +1,52 @@
-//! Graphs that are written down by hand, some of them the live graphs of small programs.
+//! Graphs that are written down by hand, some of them the live graphs of small programs, and how they are marked.
 
-use golf_model::Graph;
+use golf_base::{Gate, List};
+use golf_mark::Markers;
+use golf_model::{Graph, Marked};
 use golf_tests_support::{GraphFault, GraphMaker};
 use std::alloc::Global;
+use std::test::Fail;
+use std::thread::Threads;
 
 /// A graph without places.
-pub(crate) fn nothing(alloc: Global) -> Result<Graph, GraphFault> {
-    GraphMaker::new(alloc, 0).finish()
-}
+pub(crate) const NOTHING: &str = "";
 
 /// Two nodes, both roots.
-pub(crate) fn two_roots(alloc: Global) -> Result<Graph, GraphFault> {
-    GraphMaker::new(alloc, 2)
-        .node(alloc, &[])?
-        .node(alloc, &[])?
-        .root(0)?
-        .root(1)?
-        .finish()
-}
+pub(crate) const TWO_ROOTS: &str = "node; node; root 0; root 1";
 
 /// A root with four children.
-pub(crate) fn one_root_of_four(alloc: Global) -> Result<Graph, GraphFault> {
-    GraphMaker::new(alloc, 5)
-        .node(alloc, &[1, 2, 3, 4])?
-        .node(alloc, &[])?
-        .node(alloc, &[])?
-        .node(alloc, &[])?
-        .node(alloc, &[])?
-        .root(0)?
-        .finish()
-}
+pub(crate) const ONE_ROOT_OF_FOUR: &str = "node 1 2 3 4; node; node; node; node; root 0";
 
 /// The root 0 refers to node 1. Sleeper 0 waits on node 1 and refers to node 2, which refers to node
 /// 3. Sleeper 1 waits on node 3 and refers to node 4. Nothing leads to node 5, on which sleeper 2
 /// waits.
-pub(crate) fn two_rounds(alloc: Global) -> Result<Graph, GraphFault> {
-    GraphMaker::new(alloc, 6)
-        .node(alloc, &[1])?
-        .node(alloc, &[])?
-        .node(alloc, &[3])?
-        .node(alloc, &[])?
-        .node(alloc, &[])?
-        .node(alloc, &[4])?
-        .root(0)?
-        .sleeper(alloc, &[1], &[2])?
-        .sleeper(alloc, &[3], &[4])?
-        .sleeper(alloc, &[5], &[5])?
-        .finish()
-}
+pub(crate) const TWO_ROUNDS: &str = "
+    node 1; node; node 3; node; node; node 4; root 0; sleeper 1 > 2; sleeper 3 > 4; sleeper 5 > 5";
 
 /// The roots are 3 and 1; node 3 refers to node 0. Sleeper 0 waits on nodes 2 and 0, of which node 2
 /// is marked by nothing. Sleeper 1 waits on nothing.
-pub(crate) fn select_with_one_live_channel(alloc: Global) -> Result<Graph, GraphFault> {
-    GraphMaker::new(alloc, 4)
-        .node(alloc, &[])?
-        .node(alloc, &[])?
-        .node(alloc, &[])?
-        .node(alloc, &[0])?
-        .root(3)?
-        .root(1)?
-        .sleeper(alloc, &[2, 0], &[2, 0])?
-        .sleeper(alloc, &[], &[])?
-        .finish()
-}
+pub(crate) const SELECT_WITH_ONE_LIVE_CHANNEL: &str =
+    "node; node; node; node 0; root 3; root 1; sleeper 2 0 > 2 0; sleeper >";
 
 /// A goroutine waits on a channel that only it refers to.
-pub(crate) fn classic_leak(alloc: Global) -> Result<Graph, GraphFault> {
-    GraphMaker::new(alloc, 1)
-        .node(alloc, &[])?
-        .sleeper(alloc, &[0], &[0])?
-        .finish()
-}
+pub(crate) const CLASSIC_LEAK: &str = "node; sleeper 0 > 0";
 
 /// The main goroutine holds the channel on which another one waits.
-pub(crate) fn channel_still_held(alloc: Global) -> Result<Graph, GraphFault> {
-    GraphMaker::new(alloc, 1)
-        .node(alloc, &[])?
-        .root(0)?
-        .sleeper(alloc, &[0], &[0])?
-        .finish()
-}
+pub(crate) const CHANNEL_STILL_HELD: &str = "node; root 0; sleeper 0 > 0";
 
 /// Two goroutines wait on a channel each and refer to both, and nothing else does.
-pub(crate) fn cycle(alloc: Global) -> Result<Graph, GraphFault> {
-    GraphMaker::new(alloc, 2)
-        .node(alloc, &[])?
-        .node(alloc, &[])?
-        .sleeper(alloc, &[0], &[0, 1])?
-        .sleeper(alloc, &[1], &[1, 0])?
-        .finish()
-}
+pub(crate) const CYCLE: &str = "node; node; sleeper 0 > 0 1; sleeper 1 > 1 0";
 
 /// A `select` without cases and a send on nil: sleepers that wait on nothing, and no node.
-pub(crate) fn waits_on_nothing(alloc: Global) -> Result<Graph, GraphFault> {
-    GraphMaker::new(alloc, 0)
-        .sleeper(alloc, &[], &[])?
-        .sleeper(alloc, &[], &[])?
-        .finish()
-}
+pub(crate) const WAITS_ON_NOTHING: &str = "sleeper >; sleeper >";
 
 /// A goroutine that holds a global mutex waits on a channel that only it refers to; another one waits
 /// for the mutex.
-pub(crate) fn held_mutex(alloc: Global) -> Result<Graph, GraphFault> {
-    GraphMaker::new(alloc, 2)
-        .node(alloc, &[])?
-        .node(alloc, &[])?
-        .root(0)?
-        .sleeper(alloc, &[1], &[0, 1])?
-        .sleeper(alloc, &[0], &[0])?
-        .finish()
-}
+pub(crate) const HELD_MUTEX: &str = "node; node; root 0; sleeper 1 > 0 1; sleeper 0 > 0";
 
 /// A goroutine waits by a `select` on a global channel and on one that only it refers to, and would
 /// send a struct that only it refers to.
-pub(crate) fn select_on_its_own_channel(alloc: Global) -> Result<Graph, GraphFault> {
-    GraphMaker::new(alloc, 3)
-        .node(alloc, &[])?
-        .node(alloc, &[])?
-        .node(alloc, &[])?
-        .root(0)?
-        .sleeper(alloc, &[0, 2], &[0, 1, 2])?
-        .finish()
-}
+pub(crate) const SELECT_ON_ITS_OWN_CHANNEL: &str = "node; node; node; root 0; sleeper 0 2 > 0 1 2";
 
 /// A list of 50 nodes, each with a channel; 50 channels more; and on each channel a sleeper that
 /// refers to it.
@@ -138,4 +63,85 @@ pub(crate) fn list_of_channels(alloc: Global) -> Result<Graph, GraphFault> {
         maker = maker.sleeper(alloc, &[channel], &[channel])?;
     }
     maker.root(0)?.finish()
+}
+
+// The numbers of a text, with spaces between.
+fn numbers_of(alloc: Global, text: &str) -> Result<List<u32>, Fail> {
+    let mut numbers = List::new(alloc);
+    for word in text.split_whitespace() {
+        match word.parse::<u32>() {
+            Ok(number) => numbers.push(number)?,
+            Err(_) => return Err(Fail::new("no number")),
+        }
+    }
+    Ok(numbers)
+}
+
+// The next node, with children of these numbers.
+fn with_node(alloc: Global, maker: GraphMaker, children: &str) -> Result<GraphMaker, Fail> {
+    let children = numbers_of(alloc, children)?;
+    Ok(maker.node(alloc, children.as_slice())?)
+}
+
+// One more root.
+fn with_root(maker: GraphMaker, node: &str) -> Result<GraphMaker, Fail> {
+    match node.parse::<u32>() {
+        Ok(node) => Ok(maker.root(node)?),
+        Err(_) => Err(Fail::new("no root")),
+    }
+}
+
+// The next sleeper, with what it waits on and what it refers to.
+fn with_sleeper(alloc: Global, maker: GraphMaker, rest: &str) -> Result<GraphMaker, Fail> {
+    let (waits, references) = rest.split_once('>').unwrap_or((rest, ""));
+    let waits = numbers_of(alloc, waits)?;
+    let references = numbers_of(alloc, references)?;
+    Ok(maker.sleeper(alloc, waits.as_slice(), references.as_slice())?)
+}
+
+// With one part of a text.
+fn with_part(alloc: Global, maker: GraphMaker, part: &str) -> Result<GraphMaker, Fail> {
+    let (kind, rest) = part.split_once(' ').unwrap_or((part, ""));
+    match kind {
+        "" => Ok(maker),
+        "node" => with_node(alloc, maker, rest),
+        "root" => with_root(maker, rest),
+        "sleeper" => with_sleeper(alloc, maker, rest),
+        _ => Err(Fail::new("no part of a graph")),
+    }
+}
+
+// How many nodes a text has.
+fn node_count(text: &str) -> u32 {
+    let mut count = 0u32;
+    for part in text.split(';') {
+        if part.trim().starts_with("node") {
+            count = count.saturating_add(1);
+        }
+    }
+    count
+}
+
+/// The graph of a text. Its parts have a semicolon between: `node 1 2` is the next node, with children
+/// 1 and 2, `root 0` is a root, and `sleeper 0 > 1 2` waits on node 0 and refers to 1 and 2.
+pub(crate) fn graph_of(alloc: Global, text: &str) -> Result<Graph, Fail> {
+    let mut maker = GraphMaker::new(alloc, node_count(text));
+    for part in text.split(';') {
+        maker = with_part(alloc, maker, part.trim())?;
+    }
+    Ok(maker.finish()?)
+}
+
+/// What so many markers, 1 to 16, that pass this gate mark in a graph.
+pub(crate) fn marked_by<R: Threads + Sync, G: Gate + Sync>(
+    rt: &R,
+    alloc: Global,
+    graph: &Graph,
+    count: u32,
+    gate: &G,
+) -> Result<Marked, Fail> {
+    if count == 0 || count > 16 {
+        return Err(Fail::new("no such count of markers"));
+    }
+    Ok(Markers::new(alloc, graph, count)?.mark(rt, graph, gate))
 }

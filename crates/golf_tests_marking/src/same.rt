@@ -1,13 +1,14 @@
 use crate::examples::{
-    channel_still_held, classic_leak, cycle, held_mutex, list_of_channels, nothing,
-    one_root_of_four, select_on_its_own_channel, select_with_one_live_channel, two_roots,
-    two_rounds, waits_on_nothing,
+    CHANNEL_STILL_HELD, CLASSIC_LEAK, CYCLE, HELD_MUTEX, NOTHING, ONE_ROOT_OF_FOUR,
+    SELECT_ON_ITS_OWN_CHANNEL, SELECT_WITH_ONE_LIVE_CHANNEL, TWO_ROOTS, TWO_ROUNDS,
+    WAITS_ON_NOTHING, graph_of, list_of_channels, marked_by,
 };
 use golf_base::OpenGate;
-use golf_mark::{Markers, mark_alone};
+use golf_mark::mark_alone;
 use golf_model::{Graph, Marked};
-use golf_tests_support::{GraphFault, Numbers, random_graph};
+use golf_tests_support::{Numbers, random_graph};
 use std::alloc::Global;
+use std::process::Abort;
 use std::test::Fail;
 use std::thread::Threads;
 
@@ -20,59 +21,58 @@ fn is_same(one: &Marked, other: &Marked) -> bool {
         && one.awake.as_slice() == other.awake.as_slice()
 }
 
+// Whether so many markers mark this.
+fn is_marked_by<R: Threads + Sync>(
+    rt: &R,
+    alloc: Global,
+    graph: &Graph,
+    count: u32,
+    alone: &Marked,
+) -> Result<bool, Fail> {
+    let marked = marked_by(rt, alloc, graph, count, &OpenGate)?;
+    Ok(is_same(alone, &marked))
+}
+
 // Whether 2, 3 and 16 markers mark what one marks.
 fn agree<R: Threads + Sync>(rt: &R, alloc: Global, graph: &Graph) -> Result<bool, Fail> {
     let alone = mark_alone(alloc, graph, &OpenGate)?;
-    let two = Markers::new(alloc, graph, 2)?.mark(rt, graph, &OpenGate);
-    let three = Markers::new(alloc, graph, 3)?.mark(rt, graph, &OpenGate);
-    let sixteen = Markers::new(alloc, graph, 16)?.mark(rt, graph, &OpenGate);
-    Ok(is_same(&alone, &two) && is_same(&alone, &three) && is_same(&alone, &sixteen))
+    let mut same = true;
+    for count in [2, 3, 16] {
+        same &= is_marked_by(rt, alloc, graph, count, &alone)?;
+    }
+    Ok(same)
 }
 
-// The same at a graph, where it could be made.
-fn agree_at<R: Threads + Sync>(
-    rt: &R,
-    alloc: Global,
-    made: Result<Graph, GraphFault>,
-) -> Result<bool, Fail> {
-    let graph = made?;
-    agree(rt, alloc, &graph)
-}
-
-// The same at some graphs that are written down.
-fn agree_on_graphs<R: Threads + Sync>(rt: &R, alloc: Global) -> Result<bool, Fail> {
-    Ok(
-        agree_at(rt, alloc, nothing(alloc))?
-            && agree_at(rt, alloc, waits_on_nothing(alloc))?
-            && agree_at(rt, alloc, two_roots(alloc))?
-            && agree_at(rt, alloc, one_root_of_four(alloc))?
-            && agree_at(rt, alloc, list_of_channels(alloc))?,
-    )
-}
-
-// The same at the live graphs of small programs.
-fn agree_on_programs<R: Threads + Sync>(rt: &R, alloc: Global) -> Result<bool, Fail> {
-    Ok(
-        agree_at(rt, alloc, classic_leak(alloc))?
-            && agree_at(rt, alloc, channel_still_held(alloc))?
-            && agree_at(rt, alloc, cycle(alloc))?
-            && agree_at(rt, alloc, two_rounds(alloc))?
-            && agree_at(rt, alloc, select_with_one_live_channel(alloc))?
-            && agree_at(rt, alloc, held_mutex(alloc))?
-            && agree_at(rt, alloc, select_on_its_own_channel(alloc))?,
-    )
+// They do so in each graph of these texts.
+fn agree_on<R: Abort + Threads + Sync>(rt: &R, alloc: Global, texts: &[&str]) -> Result<(), Fail> {
+    for text in texts {
+        let graph = graph_of(alloc, *text)?;
+        assert!(rt; agree(rt, alloc, &graph)?, "{text}");
+    }
+    Ok(())
 }
 
 #[test]
 fn any_count_of_markers_marks_the_same_in_small_graphs(rt: HostRuntime) -> Result<(), Fail> {
-    assert!(rt; agree_on_graphs(&rt, rt.alloc())?);
+    let texts = [NOTHING, WAITS_ON_NOTHING, TWO_ROOTS, ONE_ROOT_OF_FOUR];
+    agree_on(&rt, rt.alloc(), texts.as_slice())?;
+    let graph = list_of_channels(rt.alloc())?;
+    assert!(rt; agree(&rt, rt.alloc(), &graph)?);
     Ok(())
 }
 
 #[test]
 fn any_count_of_markers_marks_the_same_in_small_programs(rt: HostRuntime) -> Result<(), Fail> {
-    assert!(rt; agree_on_programs(&rt, rt.alloc())?);
-    Ok(())
+    let texts = [
+        CLASSIC_LEAK,
+        CHANNEL_STILL_HELD,
+        CYCLE,
+        TWO_ROUNDS,
+        SELECT_WITH_ONE_LIVE_CHANNEL,
+        HELD_MUTEX,
+        SELECT_ON_ITS_OWN_CHANNEL,
+    ];
+    agree_on(&rt, rt.alloc(), texts.as_slice())
 }
 
 // How many of so many graphs that look random are marked in the same way by any count of markers.

@@ -7,7 +7,7 @@ ghost use Rattle.golf_check.specs.Heads.{scope_of};
 use crate::sources::{METHOD, WORKER_POOL, checked, code_of};
 use golf_base::Memory;
 use golf_check::Checked;
-use golf_data::{Code, Instr, CodeLine};
+use golf_data::{Code, CodeLine, Instr};
 use golf_meaning::{check_all, check_body, function_count};
 use std::alloc::Global;
 use std::process::Abort;

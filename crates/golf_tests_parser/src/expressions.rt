@@ -2,14 +2,15 @@
 //! "Statements". A semicolon follows each text.
 
 use crate::words::tokens_of;
+use golf_base::Memory;
+use golf_lex_tokens::Token;
 use golf_syntax_expressions::{Place, expression_at, operand_at, simple_at, type_at};
 use golf_syntax_trees::{BinaryOperator, Expr, SimpleKind, TypeExpr, UnaryOperator};
 use std::alloc::Global;
-use std::process::Abort;
 use std::test::Fail;
 
 // What an expression is, without its parts.
-fn head(e: &Expr) -> &str {
+fn head(e: &Expr) -> &'static str {
     match e {
         Expr::Name(_) => "name",
         Expr::Parens(_) => "parentheses",
@@ -25,31 +26,23 @@ fn head(e: &Expr) -> &str {
     }
 }
 
-// The heads of the operands of a binary operator.
-fn heads(e: &Expr) -> (&str, &str) {
+// The heads of an expression and of the operands of a binary operator.
+fn heads(e: &Expr) -> (&'static str, &'static str, &'static str) {
     match e {
-        Expr::Binary(_, left, right) => (head(left.get()), head(right.get())),
-        _ => ("none", "none"),
+        Expr::Binary(_, left, right) => (head(e), head(left.get()), head(right.get())),
+        _ => (head(e), "none", "none"),
     }
 }
 
-// The head of the expression that all these words are, and the heads of its operands.
-fn expect_heads(
-    rt: &impl Abort,
+// The heads of the expression that is read first, and how many tokens are left.
+fn expression(
     alloc: Global,
-    text: &str,
-    expected: (&str, &str, &str),
-) -> Result<(), Fail> {
-    let list = tokens_of(rt, alloc, text);
-    match expression_at(alloc, Place::Elsewhere, list.as_slice())? {
-        None => panic!(rt; "{text} is no expression"),
-        Some((e, rest)) => {
-            assert_eq!(rt; rest.len(), 1);
-            assert_eq!(rt; head(e.get()), expected.0);
-            assert_eq!(rt; heads(e.get()), (expected.1, expected.2));
-        }
+    tokens: &[Token],
+) -> Result<Option<((&'static str, &'static str, &'static str), usize)>, Memory> {
+    match expression_at(alloc, Place::Elsewhere, tokens)? {
+        None => Ok(None),
+        Some((e, rest)) => Ok(Some((heads(e.get()), rest.len()))),
     }
-    Ok(())
 }
 
 #[test]
@@ -70,33 +63,48 @@ fn operators_group_as_they_bind(rt: HostRuntime) -> Result<(), Fail> {
         ),
     ];
     for (text, expected) in rows {
-        expect_heads(&rt, rt.alloc(), text, expected)?;
+        let list = tokens_of(&rt, rt.alloc(), text);
+        let found = expression(rt.alloc(), list.as_slice())?;
+        assert!(rt; found == Some((expected, 1)), "{text}");
     }
     Ok(())
+}
+
+// Whether an expression is read at a place.
+fn is_read(alloc: Global, place: Place, tokens: &[Token]) -> Result<bool, Memory> {
+    Ok(expression_at(alloc, place, tokens)?.is_some())
 }
 
 #[test]
 fn in_a_header_an_ampersand_stands_in_brackets_alone(rt: HostRuntime) -> Result<(), Fail> {
-    let alloc = rt.alloc();
-    let bare = tokens_of(&rt, alloc, "& T { }");
-    assert!(rt; expression_at(alloc, Place::Header, bare.as_slice())?.is_none());
-    assert!(rt; expression_at(alloc, Place::Elsewhere, bare.as_slice())?.is_some());
-    let inside = tokens_of(&rt, alloc, "( & T { } )");
-    assert!(rt; expression_at(alloc, Place::Header, inside.as_slice())?.is_some());
+    let rows = [
+        ("& T { }", Place::Header, false),
+        ("& T { }", Place::Elsewhere, true),
+        ("( & T { } )", Place::Header, true),
+    ];
+    for (text, place, expected) in rows {
+        let list = tokens_of(&rt, rt.alloc(), text);
+        assert!(rt;
+            is_read(rt.alloc(), place, list.as_slice())? == expected,
+            "{text}"
+        );
+    }
     Ok(())
+}
+
+// The head of the operand that is read first, and how many tokens are left.
+fn operand(alloc: Global, tokens: &[Token]) -> Result<Option<(&'static str, usize)>, Memory> {
+    match operand_at(alloc, tokens)? {
+        None => Ok(None),
+        Some((e, rest)) => Ok(Some((head(e.get()), rest.len()))),
+    }
 }
 
 #[test]
 fn an_operand_ends_before_a_binary_operator(rt: HostRuntime) -> Result<(), Fail> {
-    let alloc = rt.alloc();
-    let list = tokens_of(&rt, alloc, "<- a . b + c");
-    match operand_at(alloc, list.as_slice())? {
-        None => panic!(rt; "no operand"),
-        Some((e, rest)) => {
-            assert_eq!(rt; head(e.get()), "receive");
-            assert_eq!(rt; rest.len(), 3);
-        }
-    }
+    let list = tokens_of(&rt, rt.alloc(), "<- a . b + c");
+    let found = operand(rt.alloc(), list.as_slice())?;
+    assert!(rt; found == Some(("receive", 3)));
     Ok(())
 }
 
@@ -108,38 +116,52 @@ fn is_chan_to_send_chans(found: &TypeExpr) -> bool {
     }
 }
 
+// Whether the type that is read first is `chan<- chan T`, and how many tokens are left.
+fn chan_to_send_chans(alloc: Global, tokens: &[Token]) -> Result<Option<(bool, usize)>, Memory> {
+    match type_at(alloc, tokens)? {
+        None => Ok(None),
+        Some((found, rest)) => Ok(Some((is_chan_to_send_chans(found.get()), rest.len()))),
+    }
+}
+
 #[test]
 fn an_arrow_belongs_to_the_leftmost_chan(rt: HostRuntime) -> Result<(), Fail> {
-    let alloc = rt.alloc();
-    let list = tokens_of(&rt, alloc, "chan <- chan int");
-    match type_at(alloc, list.as_slice())? {
-        None => panic!(rt; "no type"),
-        Some((found, rest)) => {
-            assert!(rt; is_chan_to_send_chans(found.get()));
-            assert_eq!(rt; rest.len(), 1);
+    let list = tokens_of(&rt, rt.alloc(), "chan <- chan int");
+    let found = chan_to_send_chans(rt.alloc(), list.as_slice())?;
+    assert!(rt; found == Some((true, 1)));
+    Ok(())
+}
+
+fn kind_name(kind: &SimpleKind) -> &'static str {
+    match kind {
+        SimpleKind::DefineReceived(_, _, _) => "define received",
+        SimpleKind::Send(_, _) => "send",
+        _ => "other",
+    }
+}
+
+// The kind and the line of the simple statement that is read first, and how many tokens are left.
+fn simple(alloc: Global, tokens: &[Token]) -> Result<Option<(&'static str, u32, usize)>, Memory> {
+    match simple_at(alloc, Place::Elsewhere, tokens)? {
+        None => Ok(None),
+        Some((simple, rest)) => {
+            let found = simple.get();
+            Ok(Some((kind_name(found.kind.get()), found.line, rest.len())))
         }
     }
-    Ok(())
 }
 
 #[test]
 fn a_simple_statement_is_told_by_its_punctuation(rt: HostRuntime) -> Result<(), Fail> {
-    let alloc = rt.alloc();
-    let pair = tokens_of(&rt, alloc, "v , ok := <- c");
-    match simple_at(alloc, Place::Elsewhere, pair.as_slice())? {
-        Some((simple, rest)) => {
-            assert!(rt; matches!(simple.get().kind.get(), SimpleKind::DefineReceived(_, _, _)));
-            assert_eq!(rt; simple.get().line, 1);
-            assert_eq!(rt; rest.len(), 1);
-        }
-        None => panic!(rt; "no statement"),
+    let rows = [
+        ("v , ok := <- c", Some(("define received", 1, 1))),
+        ("<- c <- v", Some(("send", 1, 1))),
+        ("v , ok := c", None),
+    ];
+    for (text, expected) in rows {
+        let list = tokens_of(&rt, rt.alloc(), text);
+        let found = simple(rt.alloc(), list.as_slice())?;
+        assert!(rt; found == expected, "{text}");
     }
-    let send = tokens_of(&rt, alloc, "<- c <- v");
-    match simple_at(alloc, Place::Elsewhere, send.as_slice())? {
-        Some((simple, _)) => assert!(rt; matches!(simple.get().kind.get(), SimpleKind::Send(_, _))),
-        None => panic!(rt; "no statement"),
-    }
-    let wrong = tokens_of(&rt, alloc, "v , ok := c");
-    assert!(rt; simple_at(alloc, Place::Elsewhere, wrong.as_slice())?.is_none());
     Ok(())
 }

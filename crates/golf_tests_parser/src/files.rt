@@ -2,14 +2,15 @@
 //! rules of the language.
 
 use crate::words::tokens_of;
-use golf_syntax_trees::File;
 use golf_lex::{LexFault, tokens};
+use golf_lex_tokens::Token;
 use golf_syntax::{SyntaxFault, parse};
+use golf_syntax_trees::File;
 use std::alloc::Global;
 use std::process::Abort;
 use std::test::Fail;
 
-// The line of the fault, or 0 where there is none.
+// The line of the fault, or 0 if there is none.
 fn line_of(rt: &impl Abort, answer: &Result<File, SyntaxFault>) -> u32 {
     match answer {
         Ok(_) => 0,
@@ -18,9 +19,14 @@ fn line_of(rt: &impl Abort, answer: &Result<File, SyntaxFault>) -> u32 {
     }
 }
 
+// The line of the fault of these tokens, or 0.
+fn line_at(rt: &impl Abort, alloc: Global, tokens: &[Token]) -> u32 {
+    line_of(rt, &parse(alloc, tokens))
+}
+
 fn fault_line(rt: &impl Abort, alloc: Global, source: &str) -> u32 {
     let list = tokens_of(rt, alloc, source);
-    line_of(rt, &parse(alloc, list.as_slice()))
+    line_at(rt, alloc, list.as_slice())
 }
 
 #[test]
@@ -34,12 +40,12 @@ fn the_package_comes_first(rt: HostRuntime) -> Result<(), Fail> {
         ("package main\npackage main", 2),
     ];
     for (source, line) in rows {
-        assert_eq!(rt; fault_line(&rt, rt.alloc(), source), line);
+        assert!(rt; fault_line(&rt, rt.alloc(), source) == line, "{source}");
     }
     Ok(())
 }
 
-// Rows of a declaration behind the package, and the line of the fault, or 0.
+// Rows of a declaration after the package, and the line of the fault, or 0.
 const ROWS: [(&str, u32); 48] = [
     ("import \"fmt\"", 0),
     ("import (\n\t\"fmt\"\n\t\"sync\"\n)", 0),
@@ -110,11 +116,8 @@ const ROWS: [(&str, u32); 48] = [
 fn declarations_are_read_or_have_the_line_of_the_fault(rt: HostRuntime) -> Result<(), Fail> {
     for (text, line) in ROWS {
         let source = format!(in rt.alloc(); "package main\n{text}")?;
-        assert_eq!(rt;
-            fault_line(&rt, rt.alloc(), source.as_str()),
-            line,
-            "{text}"
-        );
+        let found = fault_line(&rt, rt.alloc(), source.as_str());
+        assert!(rt; found == line, "{text}: {found}");
     }
     Ok(())
 }
@@ -136,76 +139,68 @@ fn nested(alloc: Global, depth: u32) -> Result<String, Fail> {
 
 #[test]
 fn parentheses_cost_a_thousand_at_most(rt: HostRuntime) -> Result<(), Fail> {
-    let most = nested(rt.alloc(), 992)?;
-    assert_eq!(rt; fault_line(&rt, rt.alloc(), most.as_str()), 0);
-    let more = nested(rt.alloc(), 993)?;
-    assert_eq!(rt; fault_line(&rt, rt.alloc(), more.as_str()), 3);
+    for (depth, line) in [(992, 0), (993, 3)] {
+        let source = nested(rt.alloc(), depth)?;
+        assert!(rt;
+            fault_line(&rt, rt.alloc(), source.as_str()) == line,
+            "{depth}"
+        );
+    }
     Ok(())
 }
 
 // A file as gofmt writes it.
-const FILE: [&str; 50] = [
-    "package main",
-    "",
-    "import (",
-    "\t\"fmt\"",
-    "\t\"sync\"",
-    ")",
-    "",
-    "const limit = -3",
-    "",
-    "type Node struct {",
-    "\tc    chan int",
-    "\tnext *Node",
-    "}",
-    "",
-    "var root *Node",
-    "",
-    "func (n *Node) add(value int) {",
-    "\tdefer n.lock.Unlock()",
-    "\tn.c <- value",
-    "}",
-    "",
-    "func serve(c, quit chan int, group *sync.WaitGroup) int {",
-    "\ttotal := 0",
-    "\tfor {",
-    "\t\tselect {",
-    "\t\tcase value, ok := <-c:",
-    "\t\t\tif !ok {",
-    "\t\t\t\treturn total",
-    "\t\t\t}",
-    "\t\t\ttotal += value",
-    "\t\tcase <-quit:",
-    "\t\t\tbreak",
-    "\t\tdefault:",
-    "\t\t\tfmt.Println(\"none\", total)",
-    "\t\t}",
-    "\t}",
-    "}",
-    "",
-    "func main() {",
-    "\tc := make(chan int, 2)",
-    "\troot = &Node{c: c, next: root}",
-    "\tfor i, value := range []int{1, 2, 3} {",
-    "\t\tgo root.add(i*value + 1)",
-    "\t}",
-    "\tif n := serve(c, nil, new(sync.WaitGroup)); n > limit && root != nil {",
-    "\t\tfmt.Println(n)",
-    "\t} else {",
-    "\t\tn++",
-    "\t}",
-    "}",
-];
-
-// The text of that file.
-fn file(alloc: Global) -> Result<String, Fail> {
-    let mut source = String::new(alloc);
-    for text in FILE {
-        source.push_str(text)?;
-        source.push_str("\n")?;
-    }
-    Ok(source)
-}
+const FILE: &str = "\
+    package main\n\
+    \n\
+    import (\n\
+    \t\"fmt\"\n\
+    \t\"sync\"\n\
+    )\n\
+    \n\
+    const limit = -3\n\
+    \n\
+    type Node struct {\n\
+    \tc    chan int\n\
+    \tnext *Node\n\
+    }\n\
+    \n\
+    var root *Node\n\
+    \n\
+    func (n *Node) add(value int) {\n\
+    \tdefer n.lock.Unlock()\n\
+    \tn.c <- value\n\
+    }\n\
+    \n\
+    func serve(c, quit chan int, group *sync.WaitGroup) int {\n\
+    \ttotal := 0\n\
+    \tfor {\n\
+    \t\tselect {\n\
+    \t\tcase value, ok := <-c:\n\
+    \t\t\tif !ok {\n\
+    \t\t\t\treturn total\n\
+    \t\t\t}\n\
+    \t\t\ttotal += value\n\
+    \t\tcase <-quit:\n\
+    \t\t\tbreak\n\
+    \t\tdefault:\n\
+    \t\t\tfmt.Println(\"none\", total)\n\
+    \t\t}\n\
+    \t}\n\
+    }\n\
+    \n\
+    func main() {\n\
+    \tc := make(chan int, 2)\n\
+    \troot = &Node{c: c, next: root}\n\
+    \tfor i, value := range []int{1, 2, 3} {\n\
+    \t\tgo root.add(i*value + 1)\n\
+    \t}\n\
+    \tif n := serve(c, nil, new(sync.WaitGroup)); n > limit && root != nil {\n\
+    \t\tfmt.Println(n)\n\
+    \t} else {\n\
+    \t\tn++\n\
+    \t}\n\
+    }\n";
 
 // The lines on which the file's package, imports and declarations begin.
 const STARTS: [u32; 8] = [1, 3, 8, 10, 15, 17, 22, 39];
@@ -221,33 +216,34 @@ fn start_of(line: u32) -> u32 {
     last
 }
 
-#[test]
-fn each_prefix_of_a_file_is_read_or_has_the_line_of_its_last_declaration(
-    rt: HostRuntime,
-) -> Result<(), Fail> {
-    let source = file(rt.alloc())?;
-    let list = tokens_of(&rt, rt.alloc(), source.as_str());
-    assert_eq!(rt; line_of(&rt, &parse(rt.alloc(), &[])), 1);
+// How many fronts of a file's tokens are read; the others have the line of their last declaration.
+fn fronts_that_are_read(rt: &impl Abort, alloc: Global, tokens: &[Token]) -> u32 {
     let mut read = 0u32;
-    for (i, last) in list.as_slice().iter().enumerate() {
-        let (prefix, _) = list.as_slice().split_at(i + 1);
-        let line = line_of(&rt, &parse(rt.alloc(), prefix));
+    for (i, last) in tokens.iter().enumerate() {
+        let (front, _) = tokens.split_at(i + 1);
+        let line = line_at(rt, alloc, front);
         if line == 0 {
             read = read.wrapping_add(1);
         } else {
-            assert_eq!(rt; line, start_of(last.line));
+            assert!(rt; line == start_of(last.line), "the token {i}: {line}");
         }
     }
-    assert_eq!(rt; read, 8);
-    Ok(())
+    read
 }
 
-// Whether a front of the file lexes and parses, or is at fault where it ends or where its last declaration begins.
+#[test]
+fn each_prefix_of_a_file_is_read_or_has_the_line_of_its_last_declaration(rt: HostRuntime) {
+    let list = tokens_of(&rt, rt.alloc(), FILE);
+    assert!(rt; line_at(&rt, rt.alloc(), &[]) == 1);
+    assert!(rt; fronts_that_are_read(&rt, rt.alloc(), list.as_slice()) == 8);
+}
+
+// Whether a prefix of the file lexes and parses, or is at fault where it ends or where its last declaration begins.
 fn is_front(rt: &impl Abort, alloc: Global, front: &[u8]) -> bool {
     assert!(rt; front.len() < 100_000);
     match tokens(alloc, front) {
         Ok(list) => {
-            let line = line_of(rt, &parse(alloc, list.as_slice()));
+            let line = line_at(rt, alloc, list.as_slice());
             match list.as_slice().last() {
                 None => line == 1,
                 Some(last) => line == 0 || line == start_of(last.line),
@@ -259,13 +255,10 @@ fn is_front(rt: &impl Abort, alloc: Global, front: &[u8]) -> bool {
 }
 
 #[test]
-fn each_front_of_the_bytes_of_a_file_is_read_or_at_fault_where_it_ends(
-    rt: HostRuntime,
-) -> Result<(), Fail> {
-    let source = file(rt.alloc())?;
-    for (length, _) in source.as_bytes().iter().enumerate() {
-        let (front, _) = source.as_bytes().split_at(length);
+fn each_front_of_the_bytes_of_a_file_is_read_or_at_fault_where_it_ends(rt: HostRuntime) {
+    let bytes = FILE.as_bytes();
+    for (length, _) in bytes.iter().enumerate() {
+        let (front, _) = bytes.split_at(length);
         assert!(rt; is_front(&rt, rt.alloc(), front), "{length}");
     }
-    Ok(())
 }

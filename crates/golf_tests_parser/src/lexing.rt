@@ -16,7 +16,9 @@ fn write_kind(alloc: Global, out: &mut String, kind: &TokenKind) -> Result<(), F
             out.push_str("'")?;
         }
         TokenKind::Keyword(keyword) => out.push_str(&format!(in alloc; "{keyword:?}")?)?,
-        TokenKind::Punctuation(punctuation) => out.push_str(&format!(in alloc; "{punctuation:?}")?)?,
+        TokenKind::Punctuation(punctuation) => out.push_str(&format!(in alloc;
+            "{punctuation:?}"
+        )?)?,
     }
     Ok(())
 }
@@ -49,33 +51,53 @@ fn lexed(rt: &impl Abort, alloc: Global, source: &[u8]) -> List<Token> {
     }
 }
 
-fn expect_kinds(rt: &impl Abort, alloc: Global, source: &[u8], expected: &str) -> Result<(), Fail> {
+// These bytes have tokens of these kinds.
+fn has_kinds(rt: &impl Abort, alloc: Global, source: &[u8], expected: &str) -> Result<(), Fail> {
     let list = lexed(rt, alloc, source);
     let shown = kinds(alloc, list.as_slice())?;
     assert_eq!(rt; shown.as_str(), expected);
     Ok(())
 }
 
-fn expect_lines(
-    rt: &impl Abort,
-    alloc: Global,
-    source: &[u8],
-    expected: &[u32],
-) -> Result<(), Fail> {
-    let list = lexed(rt, alloc, source);
-    let mut lines = Vec::new(alloc);
-    for token in list.as_slice() {
-        lines.push(token.line)?;
+// Each of these texts has tokens of these kinds.
+fn have_kinds(rt: &impl Abort, alloc: Global, rows: &[(&str, &str)]) -> Result<(), Fail> {
+    for (source, expected) in rows {
+        has_kinds(rt, alloc, source.as_bytes(), *expected)?;
     }
-    assert_eq!(rt; lines.as_slice(), expected);
     Ok(())
 }
 
-fn expect_fault(rt: &impl Abort, alloc: Global, source: &[u8], line: u32, byte: u32) {
-    assert!(rt; source.len() < 100_000);
-    match tokens(alloc, source) {
-        Ok(_) => panic!(rt; "it lexes, where byte {byte} is at fault"),
-        Err(fault) => assert_eq!(rt; fault, LexFault::At { line, byte }),
+// The lines of tokens, with one space between.
+fn lines(alloc: Global, list: &[Token]) -> Result<String, Fail> {
+    let mut out = String::new(alloc);
+    for token in list {
+        if !out.is_empty() {
+            out.push_str(" ")?;
+        }
+        out.push_str(&format!(in alloc; "{}", token.line)?)?;
+    }
+    Ok(out)
+}
+
+// Each of these texts has tokens on these lines.
+fn have_lines(rt: &impl Abort, alloc: Global, rows: &[(&str, &str)]) -> Result<(), Fail> {
+    for (source, expected) in rows {
+        let list = lexed(rt, alloc, source.as_bytes());
+        let shown = lines(alloc, list.as_slice())?;
+        assert_eq!(rt; shown.as_str(), *expected, "{source}");
+    }
+    Ok(())
+}
+
+// Each of these texts is at fault on this line, at this byte.
+fn are_at_fault(rt: &impl Abort, alloc: Global, rows: &[(&str, u32, u32)]) {
+    for (source, line, byte) in rows {
+        assert!(rt; source.len() < 100_000);
+        let (line, byte) = (*line, *byte);
+        match tokens(alloc, source.as_bytes()) {
+            Ok(_) => panic!(rt; "it lexes: {source}"),
+            Err(fault) => assert_eq!(rt; fault, LexFault::At { line, byte }, "{source}"),
+        }
     }
 }
 
@@ -83,220 +105,163 @@ fn expect_fault(rt: &impl Abort, alloc: Global, source: &[u8], line: u32, byte: 
 fn each_punctuation_mark_is_read(rt: HostRuntime) -> Result<(), Fail> {
     let rows = [
         (
-            b"+ - * / % == != < <= > >= && ||".as_slice(),
+            "+ - * / % == != < <= > >= && ||",
             "Plus Minus Star Slash Percent Equal NotEqual Less AtMost Greater AtLeast And Or",
         ),
         (
-            b"! <- & ( [ { ] , ; : . =".as_slice(),
+            "! <- & ( [ { ] , ; : . =",
             "Not Arrow Ampersand OpenParen OpenBracket OpenBrace CloseBracket Comma Semicolon Colon Dot Assign",
         ),
         (
-            b":= += -= *= /= %= ++ -- } )".as_slice(),
+            ":= += -= *= /= %= ++ -- } )",
             "Define PlusAssign MinusAssign StarAssign SlashAssign PercentAssign Increment Decrement CloseBrace CloseParen Semicolon",
         ),
     ];
-    for (source, expected) in rows {
-        expect_kinds(&rt, rt.alloc(), source, expected)?;
-    }
-    Ok(())
+    have_kinds(&rt, rt.alloc(), rows.as_slice())
 }
 
 #[test]
 fn the_longest_punctuation_mark_is_read(rt: HostRuntime) -> Result<(), Fail> {
     let rows = [
-        (b"a+++b".as_slice(), "a Increment Plus b Semicolon"),
-        (b"a<-b".as_slice(), "a Arrow b Semicolon"),
-        (b"a< -b<=<".as_slice(), "a Less Minus b AtMost Less"),
+        ("a+++b", "a Increment Plus b Semicolon"),
+        ("a<-b", "a Arrow b Semicolon"),
+        ("a< -b<=<", "a Less Minus b AtMost Less"),
         (
-            b"&&& |||| === !== :== /=/".as_slice(),
+            "&&& |||| === !== :== /=/",
             "And Ampersand Or Or Equal Assign NotEqual Assign Define Assign SlashAssign Slash",
         ),
-        (
-            b"---= .. <--".as_slice(),
-            "Decrement MinusAssign Dot Dot Arrow Minus",
-        ),
+        ("---= .. <--", "Decrement MinusAssign Dot Dot Arrow Minus"),
     ];
-    for (source, expected) in rows {
-        expect_kinds(&rt, rt.alloc(), source, expected)?;
-    }
-    Ok(())
+    have_kinds(&rt, rt.alloc(), rows.as_slice())
 }
 
 #[test]
 fn keywords_are_told_from_names(rt: HostRuntime) -> Result<(), Fail> {
     let rows = [
         (
-            b"case chan const default defer else for func go if import package".as_slice(),
+            "case chan const default defer else for func go if import package",
             "Case Chan Const Default Defer Else For Func Go If Import Package",
         ),
         (
-            b"range select struct type var fallthrough goto interface map switch".as_slice(),
+            "range select struct type var fallthrough goto interface map switch",
             "Range Select Struct Type Var Fallthrough Goto Interface Map Switch",
         ),
+        ("break continue return", "Break Continue Return Semicolon"),
         (
-            b"break continue return".as_slice(),
-            "Break Continue Return Semicolon",
-        ),
-        (
-            b"breaks go_ Go _ x1 A_9z make int".as_slice(),
+            "breaks go_ Go _ x1 A_9z make int",
             "breaks go_ Go _ x1 A_9z make int Semicolon",
         ),
     ];
-    for (source, expected) in rows {
-        expect_kinds(&rt, rt.alloc(), source, expected)?;
-    }
-    Ok(())
+    have_kinds(&rt, rt.alloc(), rows.as_slice())
 }
 
 #[test]
 fn literals_are_read(rt: HostRuntime) -> Result<(), Fail> {
     let rows = [
         (
-            b"0 7 120 99999999999999999999".as_slice(),
+            "0 7 120 99999999999999999999",
             "0 7 120 99999999999999999999 Semicolon",
         ),
-        (b"-1+0".as_slice(), "Minus 1 Plus 0 Semicolon"),
-        (
-            b"\"\" \"a b\" \"//\" \"/*\"".as_slice(),
-            "'' 'a b' '//' '/*' Semicolon",
-        ),
-        (
-            b"\"x\\n\\t\\\\\\\"y\t\"".as_slice(),
-            "'x\n\t\\\"y\t' Semicolon",
-        ),
-        (b"\"\xc3\xa9\x80\"".as_slice(), "'???' Semicolon"),
+        ("-1+0", "Minus 1 Plus 0 Semicolon"),
+        ("\"\" \"a b\" \"//\" \"/*\"", "'' 'a b' '//' '/*' Semicolon"),
+        ("\"x\\n\\t\\\\\\\"y\t\"", "'x\n\t\\\"y\t' Semicolon"),
     ];
-    for (source, expected) in rows {
-        expect_kinds(&rt, rt.alloc(), source, expected)?;
-    }
-    Ok(())
+    have_kinds(&rt, rt.alloc(), rows.as_slice())?;
+    has_kinds(&rt, rt.alloc(), b"\"\xc3\xa9\x80\"", "'???' Semicolon")
 }
 
 #[test]
 fn newlines_stand_for_semicolons(rt: HostRuntime) -> Result<(), Fail> {
     let rows = [
-        // Behind the tokens that may end a statement.
+        // After the tokens that may end a statement.
+        ("x\n1\n\"s\"\n", "x Semicolon 1 Semicolon 's' Semicolon"),
         (
-            b"x\n1\n\"s\"\n".as_slice(),
-            "x Semicolon 1 Semicolon 's' Semicolon",
-        ),
-        (
-            b"break\ncontinue\nreturn\n".as_slice(),
+            "break\ncontinue\nreturn\n",
             "Break Semicolon Continue Semicolon Return Semicolon",
         ),
         (
-            b"++\n--\n)\n]\n}\n".as_slice(),
+            "++\n--\n)\n]\n}\n",
             "Increment Semicolon Decrement CloseParen Semicolon CloseBracket CloseBrace Semicolon",
         ),
 
-        // Not behind others.
+        // Not after others.
         (
-            b"if\nfunc\nfallthrough\n+\n,\n(\n[\n{\n=\n;\n.\n<-\n".as_slice(),
+            "if\nfunc\nfallthrough\n+\n,\n(\n[\n{\n=\n;\n.\n<-\n",
             "If Func Fallthrough Plus Comma OpenParen OpenBracket OpenBrace Assign Semicolon Dot Arrow",
         ),
 
-        // At the end of the file, once in a row, and behind comments.
-        (b"x".as_slice(), "x Semicolon"),
-        (b"x\n\n \r\n\ty".as_slice(), "x Semicolon y Semicolon"),
-        (b"x // y\nz//".as_slice(), "x Semicolon z Semicolon"),
-        (
-            b"x /* a */ y /*\n*/ z /* */".as_slice(),
-            "x y Semicolon z Semicolon",
-        ),
-        (b"x /**/ /***/ /* / * **/".as_slice(), "x Semicolon"),
-        (b"".as_slice(), ""),
-        (b"\n// alone".as_slice(), ""),
+        // At the end of the file, once in a row, and after comments.
+        ("x", "x Semicolon"),
+        ("x\n\n \r\n\ty", "x Semicolon y Semicolon"),
+        ("x // y\nz//", "x Semicolon z Semicolon"),
+        ("x /* a */ y /*\n*/ z /* */", "x y Semicolon z Semicolon"),
+        ("x /**/ /***/ /* / * **/", "x Semicolon"),
+        ("", ""),
+        ("\n// alone", ""),
     ];
-    for (source, expected) in rows {
-        expect_kinds(&rt, rt.alloc(), source, expected)?;
-    }
-    Ok(())
+    have_kinds(&rt, rt.alloc(), rows.as_slice())
 }
 
 #[test]
 fn separators_before_closing_brackets_are_left_out(rt: HostRuntime) -> Result<(), Fail> {
     let rows = [
-        (b"f(a,)".as_slice(), "f OpenParen a CloseParen Semicolon"),
-        (b"f(,)".as_slice(), "f OpenParen CloseParen Semicolon"),
-        (b"f(a,\n)".as_slice(), "f OpenParen a CloseParen Semicolon"),
-        (b"{x\n}".as_slice(), "OpenBrace x CloseBrace Semicolon"),
-        (b"{;}".as_slice(), "OpenBrace CloseBrace Semicolon"),
+        ("f(a,)", "f OpenParen a CloseParen Semicolon"),
+        ("f(,)", "f OpenParen CloseParen Semicolon"),
+        ("f(a,\n)", "f OpenParen a CloseParen Semicolon"),
+        ("{x\n}", "OpenBrace x CloseBrace Semicolon"),
+        ("{;}", "OpenBrace CloseBrace Semicolon"),
 
         // In one pass: of two in a row one stays.
-        (b"x;;}".as_slice(), "x Semicolon CloseBrace Semicolon"),
-        (b"x,;)".as_slice(), "x Comma CloseParen Semicolon"),
-        (
-            b"{x}\n}".as_slice(),
-            "OpenBrace x CloseBrace CloseBrace Semicolon",
-        ),
+        ("x;;}", "x Semicolon CloseBrace Semicolon"),
+        ("x,;)", "x Comma CloseParen Semicolon"),
+        ("{x}\n}", "OpenBrace x CloseBrace CloseBrace Semicolon"),
 
         // Not before `]`, and no other token.
+        ("[a,]", "OpenBracket a Comma CloseBracket Semicolon"),
+        ("[a\n]", "OpenBracket a Semicolon CloseBracket Semicolon"),
         (
-            b"[a,]".as_slice(),
-            "OpenBracket a Comma CloseBracket Semicolon",
-        ),
-        (
-            b"[a\n]".as_slice(),
-            "OpenBracket a Semicolon CloseBracket Semicolon",
-        ),
-        (
-            b"(a.:) ,;".as_slice(),
+            "(a.:) ,;",
             "OpenParen a Dot Colon CloseParen Comma Semicolon",
         ),
     ];
-    for (source, expected) in rows {
-        expect_kinds(&rt, rt.alloc(), source, expected)?;
-    }
-    Ok(())
+    have_kinds(&rt, rt.alloc(), rows.as_slice())
 }
 
 #[test]
 fn tokens_have_the_line_on_which_they_begin(rt: HostRuntime) -> Result<(), Fail> {
     let rows = [
-        (b"a\nb\n\nc".as_slice(), &[1, 1, 2, 2, 4, 4].as_slice()),
-        (
-            b"a /*\n\n*/ b + // x\n c".as_slice(),
-            &[1, 1, 3, 3, 4, 4].as_slice(),
-        ),
-        (b"\n\n(\n\"s\",\n)\n".as_slice(), &[3, 4, 5, 5].as_slice()),
+        ("a\nb\n\nc", "1 1 2 2 4 4"),
+        ("a /*\n\n*/ b + // x\n c", "1 1 3 3 4 4"),
+        ("\n\n(\n\"s\",\n)\n", "3 4 5 5"),
     ];
-    for (source, expected) in rows {
-        expect_lines(&rt, rt.alloc(), source, expected)?;
-    }
-    Ok(())
+    have_lines(&rt, rt.alloc(), rows.as_slice())
 }
 
 #[test]
 fn the_fault_is_the_first_byte_that_nothing_can_follow(rt: HostRuntime) {
     let rows = [
-        (
-            b"package main\nfunc main() {\n\tx := \"ab".as_slice(),
-            3,
-            36,
-        ),
-        (b"\"ab\nc\"".as_slice(), 1, 3),
-        (b"\"a\\q\"".as_slice(), 1, 3),
-        (b"\"a\\".as_slice(), 1, 3),
-        (b"x = 01".as_slice(), 1, 5),
-        (b"12a".as_slice(), 1, 2),
-        (b"0x1".as_slice(), 1, 1),
-        (b"1_0".as_slice(), 1, 1),
-        (b"a | b".as_slice(), 1, 3),
-        (b"a |".as_slice(), 1, 3),
-        (b"a\n\0".as_slice(), 2, 2),
-        (b"// a\0\n".as_slice(), 1, 4),
-        (b"/* a\0 */".as_slice(), 1, 4),
-        (b"\"\0\"".as_slice(), 1, 1),
-        (b"/* a\n *".as_slice(), 2, 7),
-        (b"/*/".as_slice(), 1, 3),
-        (b"\n\n \xc3\xa9".as_slice(), 3, 3),
-        (b"a#".as_slice(), 1, 1),
-        (b"`a`".as_slice(), 1, 0),
-        (b"'a'".as_slice(), 1, 0),
-        (b"a ^ b".as_slice(), 1, 2),
-        (b"\x7f".as_slice(), 1, 0),
+        ("package main\nfunc main() {\n\tx := \"ab", 3, 36),
+        ("\"ab\nc\"", 1, 3),
+        ("\"a\\q\"", 1, 3),
+        ("\"a\\", 1, 3),
+        ("x = 01", 1, 5),
+        ("12a", 1, 2),
+        ("0x1", 1, 1),
+        ("1_0", 1, 1),
+        ("a | b", 1, 3),
+        ("a |", 1, 3),
+        ("a\n\0", 2, 2),
+        ("// a\0\n", 1, 4),
+        ("/* a\0 */", 1, 4),
+        ("\"\0\"", 1, 1),
+        ("/* a\n *", 2, 7),
+        ("/*/", 1, 3),
+        ("\n\n é", 3, 3),
+        ("a#", 1, 1),
+        ("`a`", 1, 0),
+        ("'a'", 1, 0),
+        ("a ^ b", 1, 2),
+        ("\x7f", 1, 0),
     ];
-    for (source, line, byte) in rows {
-        expect_fault(&rt, rt.alloc(), source, line, byte);
-    }
+    are_at_fault(&rt, rt.alloc(), rows.as_slice());
 }

@@ -1,8 +1,8 @@
-//! Where a file is cut into segments, and which token costs too much.
+//! If a file is cut into segments, and which token costs too much.
 
 use golf_base::List;
-use golf_syntax_segments::{first_too_complex, front_segment};
 use golf_lex_tokens::{Punctuation, Token, TokenKind};
+use golf_syntax_segments::{first_too_complex, front_segment};
 use std::alloc::Global;
 use std::test::Fail;
 
@@ -21,7 +21,7 @@ fn tokens(alloc: Global, punctuations: &[Punctuation]) -> Result<List<Token>, Fa
 }
 
 #[test]
-fn a_segment_ends_behind_a_semicolon_outside_brackets(rt: HostRuntime) -> Result<(), Fail> {
+fn a_segment_ends_after_a_semicolon_outside_brackets(rt: HostRuntime) -> Result<(), Fail> {
     let punctuations = [
         Punctuation::CloseParen,
         Punctuation::OpenBrace,

@@ -1,13 +1,18 @@
 //! Statements and blocks. Expected values are from the Go specification, "Statements" and "Variable declarations".
 
 use crate::words::tokens_of;
-use golf_syntax_trees::{Header, Stmt, VarContent};
+use golf_base::Memory;
+use golf_lex_tokens::Token;
 use golf_syntax_statements::{block_at, header_at, stmt_at, var_at};
+use golf_syntax_trees::{Header, Stmt, VarContent};
 use std::alloc::Global;
 use std::process::Abort;
 use std::test::Fail;
 
-fn content_name(content: &VarContent) -> &str {
+// What is told where nothing is read.
+const NONE: (&str, usize) = ("none", 0);
+
+fn content_name(content: &VarContent) -> &'static str {
     match content {
         VarContent::Zero(_) => "zero",
         VarContent::Typed(_, _) => "typed",
@@ -15,7 +20,7 @@ fn content_name(content: &VarContent) -> &str {
     }
 }
 
-fn header_name(header: &Header) -> &str {
+fn header_name(header: &Header) -> &'static str {
     match header {
         Header::Forever => "forever",
         Header::While(_) => "while",
@@ -25,7 +30,7 @@ fn header_name(header: &Header) -> &str {
     }
 }
 
-fn statement_name(statement: &Stmt) -> &str {
+fn statement_name(statement: &Stmt) -> &'static str {
     match statement {
         Stmt::Var(_) => "var",
         Stmt::Simple(_) => "simple",
@@ -42,20 +47,69 @@ fn statement_name(statement: &Stmt) -> &str {
     }
 }
 
-fn expect_statement(
-    rt: &impl Abort,
-    alloc: Global,
-    text: &str,
-    expected: &str,
-    left: usize,
-) -> Result<(), Fail> {
-    let list = tokens_of(rt, alloc, text);
-    match stmt_at(alloc, list.as_slice())? {
-        None => assert_eq!(rt; "none", expected),
-        Some((statement, rest)) => {
-            assert_eq!(rt; statement_name(statement.get()), expected);
-            assert_eq!(rt; rest.len(), left);
-        }
+// The name of the variable that is read first, and how many tokens are left.
+fn variable(alloc: Global, tokens: &[Token]) -> Result<(&'static str, usize), Memory> {
+    match var_at(alloc, 1, tokens)? {
+        None => Ok(NONE),
+        Some((var, rest)) => Ok((content_name(var.get().content.get()), rest.len())),
+    }
+}
+
+// The name of the header that is read first, and how many tokens are left.
+fn header(alloc: Global, tokens: &[Token]) -> Result<(&'static str, usize), Memory> {
+    match header_at(alloc, tokens)? {
+        None => Ok(NONE),
+        Some((header, rest)) => Ok((header_name(header.get()), rest.len())),
+    }
+}
+
+// The name of the statement that is read first, and how many tokens are left.
+fn statement(alloc: Global, tokens: &[Token]) -> Result<(&'static str, usize), Memory> {
+    match stmt_at(alloc, tokens)? {
+        None => Ok(NONE),
+        Some((statement, rest)) => Ok((statement_name(statement.get()), rest.len())),
+    }
+}
+
+// How many statements the block that is read first has, and how many tokens are left.
+fn block(alloc: Global, tokens: &[Token]) -> Result<Option<(usize, usize)>, Memory> {
+    match block_at(alloc, tokens)? {
+        None => Ok(None),
+        Some((statements, rest)) => Ok(Some((statements.get().len(), rest.len()))),
+    }
+}
+
+// How many tokens are left after what has this name, a semicolon or a brace, or none.
+fn left(name: &str) -> usize {
+    if name == "none" { 0 } else { 1 }
+}
+
+// Each of these texts begins with a statement of this name.
+fn are_statements(rt: &impl Abort, alloc: Global, rows: &[(&str, &str)]) -> Result<(), Fail> {
+    for (text, name) in rows {
+        let list = tokens_of(rt, alloc, *text);
+        let found = statement(alloc, list.as_slice())?;
+        assert!(rt; found == (*name, left(*name)), "{text}");
+    }
+    Ok(())
+}
+
+// Each of these texts begins with a header of this name.
+fn are_headers(rt: &impl Abort, alloc: Global, rows: &[(&str, &str)]) -> Result<(), Fail> {
+    for (text, name) in rows {
+        let list = tokens_of(rt, alloc, *text);
+        let found = header(alloc, list.as_slice())?;
+        assert!(rt; found == (*name, left(*name)), "{text}");
+    }
+    Ok(())
+}
+
+// Each of these texts begins with a variable of this name.
+fn are_variables(rt: &impl Abort, alloc: Global, rows: &[(&str, &str)]) -> Result<(), Fail> {
+    for (text, name) in rows {
+        let list = tokens_of(rt, alloc, *text);
+        let found = variable(alloc, list.as_slice())?;
+        assert!(rt; found == (*name, left(*name)), "{text}");
     }
     Ok(())
 }
@@ -68,17 +122,7 @@ fn a_variable_has_a_type_or_a_value_or_both(rt: HostRuntime) -> Result<(), Fail>
         ("x = y ;", "untyped"),
         ("x ;", "none"),
     ];
-    for (text, expected) in rows {
-        let list = tokens_of(&rt, rt.alloc(), text);
-        match var_at(rt.alloc(), 1, list.as_slice())? {
-            None => assert_eq!(rt; "none", expected),
-            Some((var, rest)) => {
-                assert_eq!(rt; content_name(var.get().content.get()), expected);
-                assert_eq!(rt; rest.len(), 1);
-            }
-        }
-    }
-    Ok(())
+    are_variables(&rt, rt.alloc(), rows.as_slice())
 }
 
 #[test]
@@ -94,32 +138,19 @@ fn a_header_is_told_by_its_semicolons_and_its_range(rt: HostRuntime) -> Result<(
         ("; ; i := x {", "none"),
         ("i := x {", "none"),
     ];
-    for (text, expected) in rows {
-        let list = tokens_of(&rt, rt.alloc(), text);
-        match header_at(rt.alloc(), list.as_slice())? {
-            None => assert_eq!(rt; "none", expected),
-            Some((header, rest)) => {
-                assert_eq!(rt; header_name(header.get()), expected);
-                assert_eq!(rt; rest.len(), 1);
-            }
-        }
-    }
-    Ok(())
+    are_headers(&rt, rt.alloc(), rows.as_slice())
 }
 
 #[test]
 fn a_clause_of_a_select_sends_or_receives(rt: HostRuntime) -> Result<(), Fail> {
     let rows = [
-        "select { case c <- x : } ;",
-        "select { case <- c : } ;",
-        "select { case x := <- c : } ;",
-        "select { case x = <- c : } ;",
-        "select { case x , ok := <- c : } ;",
+        ("select { case c <- x : } ;", "select"),
+        ("select { case <- c : } ;", "select"),
+        ("select { case x := <- c : } ;", "select"),
+        ("select { case x = <- c : } ;", "select"),
+        ("select { case x , ok := <- c : } ;", "select"),
     ];
-    for text in rows {
-        expect_statement(&rt, rt.alloc(), text, "select", 1)?;
-    }
-    Ok(())
+    are_statements(&rt, rt.alloc(), rows.as_slice())
 }
 
 #[test]
@@ -135,39 +166,28 @@ fn a_statement_is_told_by_its_first_word(rt: HostRuntime) -> Result<(), Fail> {
         ("for v := range c { break } ;", "for"),
         ("select { case <- c : x ++ ; default : } ;", "select"),
     ];
-    for (text, expected) in rows {
-        expect_statement(&rt, rt.alloc(), text, expected, 1)?;
-    }
-    Ok(())
+    are_statements(&rt, rt.alloc(), rows.as_slice())
 }
 
 #[test]
 fn what_is_no_statement_is_not_read(rt: HostRuntime) -> Result<(), Fail> {
     let rows = [
-        "go f ;",
-        "if x { } else x ++ ;",
-        "select { default : ; default : } ;",
-        "select { default : default : } ;",
-        "select { case x := y : } ;",
-        "select { case x ++ : } ;",
-        "{ x ++ y ++ } ;",
-        "for x { ;",
+        ("go f ;", "none"),
+        ("if x { } else x ++ ;", "none"),
+        ("select { default : ; default : } ;", "none"),
+        ("select { default : default : } ;", "none"),
+        ("select { case x := y : } ;", "none"),
+        ("select { case x ++ : } ;", "none"),
+        ("{ x ++ y ++ } ;", "none"),
+        ("for x { ;", "none"),
     ];
-    for text in rows {
-        expect_statement(&rt, rt.alloc(), text, "none", 0)?;
-    }
-    Ok(())
+    are_statements(&rt, rt.alloc(), rows.as_slice())
 }
 
 #[test]
 fn a_block_has_its_statements(rt: HostRuntime) -> Result<(), Fail> {
     let list = tokens_of(&rt, rt.alloc(), "{ x ++ ; { y ++ } ; return } ;");
-    match block_at(rt.alloc(), list.as_slice())? {
-        None => assert_eq!(rt; "none", "a block"),
-        Some((statements, rest)) => {
-            assert_eq!(rt; statements.get().len(), 3);
-            assert_eq!(rt; rest.len(), 1);
-        }
-    }
+    let found = block(rt.alloc(), list.as_slice())?;
+    assert!(rt; found == Some((3, 1)));
     Ok(())
 }

@@ -5,6 +5,7 @@ use golf_command::golf;
 use golf_run_texts::Status;
 use std::alloc::Global;
 use std::process::Abort;
+use std::str;
 use std::sync::Wait;
 use std::test::Fail;
 use std::thread::Threads;
@@ -20,136 +21,166 @@ pub struct Outcome {
     pub err: MemorySink,
 }
 
-/// How many bytes the source and the sinks take a call, and which calls of theirs fail, by their
-/// numbers from 1.
+/// How many bytes the source and the sinks take a call, and which call of each of them fails, by its
+/// number from 1; 0 is none.
 #[derive(Clone, Copy)]
-pub struct Ends<'a> {
-    pub most: u32,
-    pub source: &'a [u32],
-    pub out: &'a [u32],
-    pub err: &'a [u32],
+pub struct Ends {
+    most: u32,
+    source: u32,
+    out: u32,
+    err: u32,
 }
 
-// Ends that take four bytes a call and do not fail.
-fn quiet() -> Ends<'static> {
-    Ends {
-        most: 4,
-        source: &[],
-        out: &[],
-        err: &[],
+impl Ends {
+    /// Ends that do not fail.
+    pub fn of(most: u32) -> Ends {
+        Ends {
+            most,
+            source: 0,
+            out: 0,
+            err: 0,
+        }
+    }
+
+    /// The same ends, but that this call of the source fails.
+    pub fn without_source(self, call: u32) -> Ends {
+        Ends {
+            most: self.most,
+            source: call,
+            out: self.out,
+            err: self.err,
+        }
+    }
+
+    /// The same ends, but that these calls of the two sinks fail.
+    pub fn without_sinks(self, out: u32, err: u32) -> Ends {
+        Ends {
+            most: self.most,
+            source: self.source,
+            out,
+            err,
+        }
     }
 }
 
-// A list of these numbers.
-fn numbers(alloc: Global, items: &[u32]) -> Result<List<u32>, Fail> {
+// The list of this one number, or of none if it is 0.
+fn list_of(alloc: Global, call: u32) -> Result<List<u32>, Fail> {
     let mut list = List::new(alloc);
-    list.extend_from_slice(items)?;
+    if call != 0 {
+        list.push(call)?;
+    }
     Ok(list)
 }
 
-// Words that the program owns.
-fn owned(alloc: Global, words: &[&str]) -> Result<Vec<String>, Fail> {
-    let mut owned = Vec::new(alloc);
-    for word in words {
-        owned.push(String::from_str(alloc, *word)?)?;
+// The words of a line, which one space parts.
+fn words_of(alloc: Global, line: &str) -> Result<Vec<String>, Fail> {
+    let mut words = Vec::new(alloc);
+    for word in line.split_whitespace() {
+        words.push(String::from_str(alloc, word)?)?;
     }
-    Ok(owned)
+    Ok(words)
 }
 
-/// The program by these words over a file in memory, with these ends, whose markers pass the gate.
+/// The program by the words of this line over a file in memory, with these ends, whose markers pass
+/// the gate.
 pub fn call<R: AllocGlobal + Threads + Wait + Sync, G: Gate + Sync>(
     rt: &R,
-    words: &[&str],
+    line: &str,
     file: &[u8],
-    ends: Ends<'_>,
+    ends: Ends,
     gate: &G,
 ) -> Result<Outcome, Fail> {
     let alloc = rt.alloc();
     let most = ends.most.max(1);
     let mut bytes = List::new(alloc);
     bytes.extend_from_slice(file)?;
-    let mut source = MemorySource::new(bytes, most, numbers(alloc, ends.source)?);
-    let mut out = MemorySink::new(alloc, ROOM, most, numbers(alloc, ends.out)?)?;
-    let mut err = MemorySink::new(alloc, ROOM, most, numbers(alloc, ends.err)?)?;
-    let given = owned(alloc, words)?;
-    let status = golf(rt, &given, &mut source, &mut out, &mut err, gate);
+    let mut source = MemorySource::new(bytes, most, list_of(alloc, ends.source)?);
+    let mut out = MemorySink::new(alloc, ROOM, most, list_of(alloc, ends.out)?)?;
+    let mut err = MemorySink::new(alloc, ROOM, most, list_of(alloc, ends.err)?)?;
+    let words = words_of(alloc, line)?;
+    let status = golf(rt, &words, &mut source, &mut out, &mut err, gate);
     Ok(Outcome { status, out, err })
 }
 
-/// The program by these words over this file, with ends that take four bytes a call and do not fail.
+/// The program by the words of this line over this file, with ends that take four bytes a call and do
+/// not fail.
 pub fn run_with<R: AllocGlobal + Threads + Wait + Sync, G: Gate + Sync>(
     rt: &R,
-    words: &[&str],
+    line: &str,
     file: &[u8],
     gate: &G,
 ) -> Result<Outcome, Fail> {
-    call(rt, words, file, quiet(), gate)
+    call(rt, line, file, Ends::of(4), gate)
 }
 
-/// A run of this file.
-pub fn run<R: AllocGlobal + Threads + Wait + Sync>(rt: &R, file: &[u8]) -> Result<Outcome, Fail> {
-    run_with(rt, &["run"], file, &OpenGate)
-}
-
-/// The program by these words over this file, with these ends, ends so and writes these texts.
+/// The program by the words of this line over this file, with these ends, ends so and writes these texts.
 pub fn expect_ends<R: AllocGlobal + Abort + Threads + Wait + Sync>(
     rt: &R,
-    words: &[&str],
+    line: &str,
     file: &[u8],
-    ends: Ends<'_>,
+    ends: Ends,
     status: Status,
     out: &[u8],
     err: &[u8],
 ) -> Result<(), Fail> {
-    let got = call(rt, words, file, ends, &OpenGate)?;
-    assert!(rt; got.status == status);
-    assert_eq!(rt; got.out.written(), out);
-    assert_eq!(rt; got.err.written(), err);
+    let got = call(rt, line, file, ends, &OpenGate)?;
+    let text = str::from_utf8(file).unwrap_or("bytes");
+    assert!(rt; got.status == status, "by {line} over {text}");
+    assert_eq!(rt; got.out.written(), out, "by {line} over {text}");
+    assert_eq!(rt; got.err.written(), err, "by {line} over {text}");
     Ok(())
 }
 
-/// The program by these words over this file ends so, and writes these texts.
+/// The program by the words of this line over this file ends so, and writes these texts.
 pub fn expect_with<R: AllocGlobal + Abort + Threads + Wait + Sync>(
     rt: &R,
-    words: &[&str],
-    file: &[u8],
+    line: &str,
+    file: &str,
     status: Status,
-    out: &[u8],
-    err: &[u8],
+    out: &str,
+    err: &str,
 ) -> Result<(), Fail> {
-    expect_ends(rt, words, file, quiet(), status, out, err)
+    expect_ends(
+        rt,
+        line,
+        file.as_bytes(),
+        Ends::of(4),
+        status,
+        out.as_bytes(),
+        err.as_bytes(),
+    )
 }
 
 /// A run of this file ends so, and writes this output and these errors.
 pub fn expect<R: AllocGlobal + Abort + Threads + Wait + Sync>(
     rt: &R,
-    file: &[u8],
+    file: &str,
     status: Status,
-    out: &[u8],
-    err: &[u8],
+    out: &str,
+    err: &str,
 ) -> Result<(), Fail> {
-    expect_with(rt, &["run"], file, status, out, err)
+    expect_with(rt, "run", file, status, out, err)
 }
 
 /// A run of this file ends so and writes this output, with recovery and without; the first errors
 /// are those without, the others those with it.
 pub fn expect_both<R: AllocGlobal + Abort + Threads + Wait + Sync>(
     rt: &R,
-    file: &[u8],
+    file: &str,
     status: Status,
-    out: &[u8],
-    err: &[u8],
-    recovered: &[u8],
+    out: &str,
+    err: &str,
+    recovered: &str,
 ) -> Result<(), Fail> {
-    expect_with(rt, &["run"], file, status, out, err)?;
-    expect_with(rt, &["run", "--recover"], file, status, out, recovered)
+    expect_with(rt, "run", file, status, out, err)?;
+    expect_with(rt, "run --recover", file, status, out, recovered)
 }
 
 /// A run of this file is refused with this line.
 pub fn refuses<R: AllocGlobal + Abort + Threads + Wait + Sync>(
     rt: &R,
-    file: &[u8],
-    line: &[u8],
+    file: &str,
+    line: &str,
 ) -> Result<(), Fail> {
-    expect(rt, file, Status::Refused, b"", line)
+    expect(rt, file, Status::Refused, "", line)
 }

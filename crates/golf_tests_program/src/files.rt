@@ -6,70 +6,365 @@ use std::test::Fail;
 
 #[test]
 fn a_pool_that_nobody_closes(rt: HostRuntime) -> Result<(), Fail> {
-    let file =
-        b"// Workers take jobs from a channel that nobody closes. Once the pool is no longer used, each of them waits for\n// one more job for ever.\n//\n//\tsum 385\n//\tcollection 1: marked 0, reported 2, kept 2, reclaimed 0, objects 2\n//\tgoroutine 2: chan receive at line 17, started at line 28\n//\tgoroutine 3: chan receive at line 17, started at line 28\npackage main\n\nimport (\n\t\"fmt\"\n\t\"runtime\"\n)\n\n// squares sends the square of each job.\nfunc squares(jobs chan int, results chan int) {\n\tfor n := range jobs {\n\t\tresults <- n * n\n\t}\n}\n\n// sum adds up the squares from 1 to count. It forgets to close jobs.\nfunc sum(count int) int {\n\tjobs := make(chan int)\n\tresults := make(chan int)\n\n\tfor w := 0; w < 2; w++ {\n\t\tgo squares(jobs, results)\n\t}\n\n\ts := 0\n\tfor n := 1; n <= count; n++ {\n\t\tjobs <- n\n\t\ts += <-results\n\t}\n\treturn s\n}\n\nfunc main() {\n\tfmt.Println(\"sum\", sum(10))\n\tfor i := 0; i < 50; i++ {\n\t}\n\truntime.GC()\n}\n";
-    let out = b"sum 385\n";
-    let err =
-        b"collection 1: marked 0, reported 2, kept 2, reclaimed 0, objects 2\ngoroutine 2: chan receive at line 17, started at line 28\ngoroutine 3: chan receive at line 17, started at line 28\n";
-    expect(&rt, file, Status::Found, out, err)
+    // examples/worker_pool.go
+    let file = "\
+        // Workers take jobs from a channel that nobody closes. Once the pool is no longer used, each of them waits for\n\
+        // one more job for ever.\n\
+        //\n\
+        //\tsum 385\n\
+        //\tcollection 1: marked 0, reported 2, kept 2, reclaimed 0, objects 2\n\
+        //\tgoroutine 2: chan receive at line 17, started at line 28\n\
+        //\tgoroutine 3: chan receive at line 17, started at line 28\n\
+        package main\n\
+        \n\
+        import (\n\
+        \t\"fmt\"\n\
+        \t\"runtime\"\n\
+        )\n\
+        \n\
+        // squares sends the square of each job.\n\
+        func squares(jobs chan int, results chan int) {\n\
+        \tfor n := range jobs {\n\
+        \t\tresults <- n * n\n\
+        \t}\n\
+        }\n\
+        \n\
+        // sum adds up the squares from 1 to count. It forgets to close jobs.\n\
+        func sum(count int) int {\n\
+        \tjobs := make(chan int)\n\
+        \tresults := make(chan int)\n\
+        \n\
+        \tfor w := 0; w < 2; w++ {\n\
+        \t\tgo squares(jobs, results)\n\
+        \t}\n\
+        \n\
+        \ts := 0\n\
+        \tfor n := 1; n <= count; n++ {\n\
+        \t\tjobs <- n\n\
+        \t\ts += <-results\n\
+        \t}\n\
+        \treturn s\n\
+        }\n\
+        \n\
+        func main() {\n\
+        \tfmt.Println(\"sum\", sum(10))\n\
+        \tfor i := 0; i < 50; i++ {\n\
+        \t}\n\
+        \truntime.GC()\n\
+        }\n";
+    let err = r"collection 1: marked 0, reported 2, kept 2, reclaimed 0, objects 2
+goroutine 2: chan receive at line 17, started at line 28
+goroutine 3: chan receive at line 17, started at line 28
+";
+    expect(&rt, file, Status::Found, "sum 385\n", err)
 }
 
 #[test]
 fn a_pipeline_whose_reader_leaves(rt: HostRuntime) -> Result<(), Fail> {
-    let file =
-        b"// A pipeline of three stages whose last reader takes one value and leaves. Each stage before it waits to hand\n// on a value that nobody takes.\n//\n//\tfirst 2\n//\tcollection 1: marked 0, reported 2, kept 2, reclaimed 0, objects 2\n//\tgoroutine 2: chan send at line 17, started at line 30\n//\tgoroutine 3: chan send at line 23, started at line 31\npackage main\n\nimport (\n\t\"fmt\"\n\t\"runtime\"\n)\n\nfunc numbers(out chan<- int) {\n\tfor n := 1; ; n++ {\n\t\tout <- n\n\t}\n}\n\nfunc doubled(in <-chan int, out chan<- int) {\n\tfor n := range in {\n\t\tout <- 2 * n\n\t}\n}\n\nfunc first() int {\n\traw := make(chan int)\n\ttwice := make(chan int)\n\tgo numbers(raw)\n\tgo doubled(raw, twice)\n\treturn <-twice\n}\n\nfunc main() {\n\tfmt.Println(\"first\", first())\n\tfor i := 0; i < 50; i++ {\n\t}\n\truntime.GC()\n}\n";
-    let out = b"first 2\n";
-    let err =
-        b"collection 1: marked 0, reported 2, kept 2, reclaimed 0, objects 2\ngoroutine 2: chan send at line 17, started at line 30\ngoroutine 3: chan send at line 23, started at line 31\n";
-    expect(&rt, file, Status::Found, out, err)
+    // examples/pipeline.go
+    let file = "\
+        // A pipeline of three stages whose last reader takes one value and leaves. Each stage before it waits to hand\n\
+        // on a value that nobody takes.\n\
+        //\n\
+        //\tfirst 2\n\
+        //\tcollection 1: marked 0, reported 2, kept 2, reclaimed 0, objects 2\n\
+        //\tgoroutine 2: chan send at line 17, started at line 30\n\
+        //\tgoroutine 3: chan send at line 23, started at line 31\n\
+        package main\n\
+        \n\
+        import (\n\
+        \t\"fmt\"\n\
+        \t\"runtime\"\n\
+        )\n\
+        \n\
+        func numbers(out chan<- int) {\n\
+        \tfor n := 1; ; n++ {\n\
+        \t\tout <- n\n\
+        \t}\n\
+        }\n\
+        \n\
+        func doubled(in <-chan int, out chan<- int) {\n\
+        \tfor n := range in {\n\
+        \t\tout <- 2 * n\n\
+        \t}\n\
+        }\n\
+        \n\
+        func first() int {\n\
+        \traw := make(chan int)\n\
+        \ttwice := make(chan int)\n\
+        \tgo numbers(raw)\n\
+        \tgo doubled(raw, twice)\n\
+        \treturn <-twice\n\
+        }\n\
+        \n\
+        func main() {\n\
+        \tfmt.Println(\"first\", first())\n\
+        \tfor i := 0; i < 50; i++ {\n\
+        \t}\n\
+        \truntime.GC()\n\
+        }\n";
+    let err = r"collection 1: marked 0, reported 2, kept 2, reclaimed 0, objects 2
+goroutine 2: chan send at line 17, started at line 30
+goroutine 3: chan send at line 23, started at line 31
+";
+    expect(&rt, file, Status::Found, "first 2\n", err)
 }
 
 #[test]
 fn a_mutex_that_is_held_for_ever(rt: HostRuntime) -> Result<(), Fail> {
-    let file =
-        b"// A goroutine locks a mutex and waits for a message that never comes. Whoever wants the mutex waits with it.\n//\n//\tcollection 1: marked 0, reported 2, kept 2, reclaimed 0, objects 3\n//\tgoroutine 2: chan receive at line 21, started at line 32\n//\tgoroutine 3: sync.Mutex.Lock at line 25, started at line 35\npackage main\n\nimport (\n\t\"runtime\"\n\t\"sync\"\n)\n\ntype account struct {\n\tmu      *sync.Mutex\n\tbalance int\n}\n\nfunc (a *account) settle(news chan int) {\n\ta.mu.Lock()\n\tdefer a.mu.Unlock()\n\ta.balance += <-news\n}\n\nfunc (a *account) deposit(amount int) {\n\ta.mu.Lock()\n\ta.balance += amount\n\ta.mu.Unlock()\n}\n\nfunc open() {\n\ta := &account{mu: &sync.Mutex{}}\n\tgo a.settle(make(chan int))\n\tfor i := 0; i < 20; i++ {\n\t}\n\tgo a.deposit(5)\n}\n\nfunc main() {\n\topen()\n\tfor i := 0; i < 50; i++ {\n\t}\n\truntime.GC()\n}\n";
-    let out = b"";
-    let err =
-        b"collection 1: marked 0, reported 2, kept 2, reclaimed 0, objects 3\ngoroutine 2: chan receive at line 21, started at line 32\ngoroutine 3: sync.Mutex.Lock at line 25, started at line 35\n";
-    expect(&rt, file, Status::Found, out, err)
+    // examples/mutex.go
+    let file = "\
+        // A goroutine locks a mutex and waits for a message that never comes. Whoever wants the mutex waits with it.\n\
+        //\n\
+        //\tcollection 1: marked 0, reported 2, kept 2, reclaimed 0, objects 3\n\
+        //\tgoroutine 2: chan receive at line 21, started at line 32\n\
+        //\tgoroutine 3: sync.Mutex.Lock at line 25, started at line 35\n\
+        package main\n\
+        \n\
+        import (\n\
+        \t\"runtime\"\n\
+        \t\"sync\"\n\
+        )\n\
+        \n\
+        type account struct {\n\
+        \tmu      *sync.Mutex\n\
+        \tbalance int\n\
+        }\n\
+        \n\
+        func (a *account) settle(news chan int) {\n\
+        \ta.mu.Lock()\n\
+        \tdefer a.mu.Unlock()\n\
+        \ta.balance += <-news\n\
+        }\n\
+        \n\
+        func (a *account) deposit(amount int) {\n\
+        \ta.mu.Lock()\n\
+        \ta.balance += amount\n\
+        \ta.mu.Unlock()\n\
+        }\n\
+        \n\
+        func open() {\n\
+        \ta := &account{mu: &sync.Mutex{}}\n\
+        \tgo a.settle(make(chan int))\n\
+        \tfor i := 0; i < 20; i++ {\n\
+        \t}\n\
+        \tgo a.deposit(5)\n\
+        }\n\
+        \n\
+        func main() {\n\
+        \topen()\n\
+        \tfor i := 0; i < 50; i++ {\n\
+        \t}\n\
+        \truntime.GC()\n\
+        }\n";
+    let err = r"collection 1: marked 0, reported 2, kept 2, reclaimed 0, objects 3
+goroutine 2: chan receive at line 21, started at line 32
+goroutine 3: sync.Mutex.Lock at line 25, started at line 35
+";
+    expect(&rt, file, Status::Found, "", err)
 }
 
 #[test]
 fn a_select_on_dead_channels(rt: HostRuntime) -> Result<(), Fail> {
-    let file =
-        b"// A goroutine waits for a result or for a signal to stop, and nobody holds either channel any more. Another one\n// waits on a channel that main still closes: it is not reported.\n//\n//\tstopped\n//\tcollection 1: marked 2, reported 1, kept 1, reclaimed 0, objects 4\n//\tgoroutine 3: select at line 15, started at line 26\npackage main\n\nimport (\n\t\"fmt\"\n\t\"runtime\"\n)\n\nfunc watch(result chan string, stop chan struct{}) {\n\tselect {\n\tcase text := <-result:\n\t\tfmt.Println(text)\n\tcase <-stop:\n\t\tfmt.Println(\"stopped\")\n\t}\n}\n\nfunc main() {\n\tstop := make(chan struct{})\n\tgo watch(make(chan string), stop)\n\tgo watch(make(chan string), make(chan struct{}))\n\tfor i := 0; i < 50; i++ {\n\t}\n\truntime.GC()\n\tclose(stop)\n\tfor i := 0; i < 50; i++ {\n\t}\n}\n";
-    let out = b"stopped\n";
-    let err =
-        b"collection 1: marked 2, reported 1, kept 1, reclaimed 0, objects 4\ngoroutine 3: select at line 15, started at line 26\n";
-    expect(&rt, file, Status::Found, out, err)
+    // examples/select.go
+    let file = "\
+        // A goroutine waits for a result or for a signal to stop, and nobody holds either channel any more. Another one\n\
+        // waits on a channel that main still closes: it is not reported.\n\
+        //\n\
+        //\tstopped\n\
+        //\tcollection 1: marked 2, reported 1, kept 1, reclaimed 0, objects 4\n\
+        //\tgoroutine 3: select at line 15, started at line 26\n\
+        package main\n\
+        \n\
+        import (\n\
+        \t\"fmt\"\n\
+        \t\"runtime\"\n\
+        )\n\
+        \n\
+        func watch(result chan string, stop chan struct{}) {\n\
+        \tselect {\n\
+        \tcase text := <-result:\n\
+        \t\tfmt.Println(text)\n\
+        \tcase <-stop:\n\
+        \t\tfmt.Println(\"stopped\")\n\
+        \t}\n\
+        }\n\
+        \n\
+        func main() {\n\
+        \tstop := make(chan struct{})\n\
+        \tgo watch(make(chan string), stop)\n\
+        \tgo watch(make(chan string), make(chan struct{}))\n\
+        \tfor i := 0; i < 50; i++ {\n\
+        \t}\n\
+        \truntime.GC()\n\
+        \tclose(stop)\n\
+        \tfor i := 0; i < 50; i++ {\n\
+        \t}\n\
+        }\n";
+    let err = r"collection 1: marked 2, reported 1, kept 1, reclaimed 0, objects 4
+goroutine 3: select at line 15, started at line 26
+";
+    expect(&rt, file, Status::Found, "stopped\n", err)
 }
 
 #[test]
 fn a_condition_that_nobody_signals(rt: HostRuntime) -> Result<(), Fail> {
-    let file =
-        b"// A consumer waits until an item is there, and the producer adds one without a signal.\n//\n//\tcollection 1: marked 0, reported 1, kept 1, reclaimed 0, objects 3\n//\tgoroutine 2: sync.Cond.Wait at line 26, started at line 40\npackage main\n\nimport (\n\t\"runtime\"\n\t\"sync\"\n)\n\ntype queue struct {\n\tmu    *sync.Mutex\n\tready *sync.Cond\n\titems int\n}\n\nfunc newQueue() *queue {\n\tmu := &sync.Mutex{}\n\treturn &queue{mu: mu, ready: sync.NewCond(mu)}\n}\n\nfunc (q *queue) take() {\n\tq.mu.Lock()\n\tfor q.items == 0 {\n\t\tq.ready.Wait()\n\t}\n\tq.items--\n\tq.mu.Unlock()\n}\n\nfunc (q *queue) put() {\n\tq.mu.Lock()\n\tq.items++\n\tq.mu.Unlock()\n}\n\nfunc main() {\n\tq := newQueue()\n\tgo q.take()\n\tfor i := 0; i < 50; i++ {\n\t}\n\tq.put()\n\tq = nil\n\truntime.GC()\n}\n";
-    let out = b"";
-    let err =
-        b"collection 1: marked 0, reported 1, kept 1, reclaimed 0, objects 3\ngoroutine 2: sync.Cond.Wait at line 26, started at line 40\n";
-    expect(&rt, file, Status::Found, out, err)
+    // examples/condition.go
+    let file = "\
+        // A consumer waits until an item is there, and the producer adds one without a signal.\n\
+        //\n\
+        //\tcollection 1: marked 0, reported 1, kept 1, reclaimed 0, objects 3\n\
+        //\tgoroutine 2: sync.Cond.Wait at line 26, started at line 40\n\
+        package main\n\
+        \n\
+        import (\n\
+        \t\"runtime\"\n\
+        \t\"sync\"\n\
+        )\n\
+        \n\
+        type queue struct {\n\
+        \tmu    *sync.Mutex\n\
+        \tready *sync.Cond\n\
+        \titems int\n\
+        }\n\
+        \n\
+        func newQueue() *queue {\n\
+        \tmu := &sync.Mutex{}\n\
+        \treturn &queue{mu: mu, ready: sync.NewCond(mu)}\n\
+        }\n\
+        \n\
+        func (q *queue) take() {\n\
+        \tq.mu.Lock()\n\
+        \tfor q.items == 0 {\n\
+        \t\tq.ready.Wait()\n\
+        \t}\n\
+        \tq.items--\n\
+        \tq.mu.Unlock()\n\
+        }\n\
+        \n\
+        func (q *queue) put() {\n\
+        \tq.mu.Lock()\n\
+        \tq.items++\n\
+        \tq.mu.Unlock()\n\
+        }\n\
+        \n\
+        func main() {\n\
+        \tq := newQueue()\n\
+        \tgo q.take()\n\
+        \tfor i := 0; i < 50; i++ {\n\
+        \t}\n\
+        \tq.put()\n\
+        \tq = nil\n\
+        \truntime.GC()\n\
+        }\n";
+    let err = r"collection 1: marked 0, reported 1, kept 1, reclaimed 0, objects 3
+goroutine 2: sync.Cond.Wait at line 26, started at line 40
+";
+    expect(&rt, file, Status::Found, "", err)
 }
 
 #[test]
 fn a_finaliser_that_wakes_a_goroutine(rt: HostRuntime) -> Result<(), Fail> {
-    let file =
-        b"// A finaliser wakes a goroutine: nothing comes to the box any more at the first collection, and its finaliser sends\n// on the channel that the goroutine waits on. So the goroutine is live, and nobody is reported.\n//\n//\tgot 9\n//\tcollection 1: marked 1, reported 0, kept 0, reclaimed 0, objects 2\n//\tcollection 2: marked 0, reported 0, kept 0, reclaimed 0, objects 0\npackage main\n\nimport (\n\t\"fmt\"\n\t\"runtime\"\n)\n\ntype box struct {\n\tc chan int\n}\n\n// last is the finaliser of a box.\nfunc last(b *box) {\n\tb.c <- 9\n}\n\nfunc wait(c chan int) {\n\tv := <-c\n\tfmt.Println(\"got\", v)\n}\n\nfunc start() {\n\tb := &box{c: make(chan int)}\n\truntime.SetFinalizer(b, last)\n\tgo wait(b.c)\n}\n\nfunc main() {\n\tstart()\n\tfor i := 0; i < 50; i++ {\n\t}\n\truntime.GC()\n\tfor i := 0; i < 50; i++ {\n\t}\n\truntime.GC()\n}\n";
-    let out = b"got 9\n";
-    let err =
-        b"collection 1: marked 1, reported 0, kept 0, reclaimed 0, objects 2\ncollection 2: marked 0, reported 0, kept 0, reclaimed 0, objects 0\n";
-    expect_both(&rt, file, Status::Clean, out, err, err)
+    // examples/finaliser.go
+    let file = "\
+        // A finaliser wakes a goroutine: nothing comes to the box any more at the first collection, and its finaliser sends\n\
+        // on the channel that the goroutine waits on. So the goroutine is live, and nobody is reported.\n\
+        //\n\
+        //\tgot 9\n\
+        //\tcollection 1: marked 1, reported 0, kept 0, reclaimed 0, objects 2\n\
+        //\tcollection 2: marked 0, reported 0, kept 0, reclaimed 0, objects 0\n\
+        package main\n\
+        \n\
+        import (\n\
+        \t\"fmt\"\n\
+        \t\"runtime\"\n\
+        )\n\
+        \n\
+        type box struct {\n\
+        \tc chan int\n\
+        }\n\
+        \n\
+        // last is the finaliser of a box.\n\
+        func last(b *box) {\n\
+        \tb.c <- 9\n\
+        }\n\
+        \n\
+        func wait(c chan int) {\n\
+        \tv := <-c\n\
+        \tfmt.Println(\"got\", v)\n\
+        }\n\
+        \n\
+        func start() {\n\
+        \tb := &box{c: make(chan int)}\n\
+        \truntime.SetFinalizer(b, last)\n\
+        \tgo wait(b.c)\n\
+        }\n\
+        \n\
+        func main() {\n\
+        \tstart()\n\
+        \tfor i := 0; i < 50; i++ {\n\
+        \t}\n\
+        \truntime.GC()\n\
+        \tfor i := 0; i < 50; i++ {\n\
+        \t}\n\
+        \truntime.GC()\n\
+        }\n";
+    let err = r"collection 1: marked 1, reported 0, kept 0, reclaimed 0, objects 2
+collection 2: marked 0, reported 0, kept 0, reclaimed 0, objects 0
+";
+    expect_both(&rt, file, Status::Clean, "got 9\n", err, err)
 }
 
 #[test]
 fn a_finaliser_that_is_set_later_keeps_who_holds_its_object(rt: HostRuntime) -> Result<(), Fail> {
-    let file =
-        b"// A goroutine that waits for ever holds an object that gets a finaliser later. With --recover it is kept all the same:\n// if it were taken back, the finaliser would be called, and without --recover it is not.\n//\n//\tend\n//\tcollection 1: marked 1, reported 1, kept 1, reclaimed 0, objects 2\n//\tgoroutine 2: chan receive at line 28, started at line 33\n//\tcollection 2: marked 0, reported 0, kept 1, reclaimed 0, objects 2\npackage main\n\nimport (\n\t\"fmt\"\n\t\"runtime\"\n)\n\ntype resource struct {\n\tn int\n}\n\nvar keep = &resource{n: 5}\n\n// done is the finaliser of a resource.\nfunc done(r *resource) {\n\tfmt.Println(\"done\", r.n)\n}\n\n// hold waits for ever, since nobody else knows its channel.\nfunc hold(r *resource, c chan int) {\n\t<-c\n\tfmt.Println(r.n)\n}\n\nfunc main() {\n\tgo hold(keep, make(chan int))\n\tfor i := 0; i < 50; i++ {\n\t}\n\truntime.GC()\n\truntime.SetFinalizer(keep, done)\n\tkeep = nil\n\truntime.GC()\n\tfor i := 0; i < 50; i++ {\n\t}\n\tfmt.Println(\"end\")\n}\n";
-    let out = b"end\n";
-    let err =
-        b"collection 1: marked 1, reported 1, kept 1, reclaimed 0, objects 2\ngoroutine 2: chan receive at line 28, started at line 33\ncollection 2: marked 0, reported 0, kept 1, reclaimed 0, objects 2\n";
-    expect_both(&rt, file, Status::Found, out, err, err)
+    // examples/late_finaliser.go
+    let file = "\
+        // A goroutine that waits for ever holds an object that gets a finaliser later. With --recover it is kept all the same:\n\
+        // if it were taken back, the finaliser would be called, and without --recover it is not.\n\
+        //\n\
+        //\tend\n\
+        //\tcollection 1: marked 1, reported 1, kept 1, reclaimed 0, objects 2\n\
+        //\tgoroutine 2: chan receive at line 28, started at line 33\n\
+        //\tcollection 2: marked 0, reported 0, kept 1, reclaimed 0, objects 2\n\
+        package main\n\
+        \n\
+        import (\n\
+        \t\"fmt\"\n\
+        \t\"runtime\"\n\
+        )\n\
+        \n\
+        type resource struct {\n\
+        \tn int\n\
+        }\n\
+        \n\
+        var keep = &resource{n: 5}\n\
+        \n\
+        // done is the finaliser of a resource.\n\
+        func done(r *resource) {\n\
+        \tfmt.Println(\"done\", r.n)\n\
+        }\n\
+        \n\
+        // hold waits for ever, since nobody else knows its channel.\n\
+        func hold(r *resource, c chan int) {\n\
+        \t<-c\n\
+        \tfmt.Println(r.n)\n\
+        }\n\
+        \n\
+        func main() {\n\
+        \tgo hold(keep, make(chan int))\n\
+        \tfor i := 0; i < 50; i++ {\n\
+        \t}\n\
+        \truntime.GC()\n\
+        \truntime.SetFinalizer(keep, done)\n\
+        \tkeep = nil\n\
+        \truntime.GC()\n\
+        \tfor i := 0; i < 50; i++ {\n\
+        \t}\n\
+        \tfmt.Println(\"end\")\n\
+        }\n";
+    let err = r"collection 1: marked 1, reported 1, kept 1, reclaimed 0, objects 2
+goroutine 2: chan receive at line 28, started at line 33
+collection 2: marked 0, reported 0, kept 1, reclaimed 0, objects 2
+";
+    expect_both(&rt, file, Status::Found, "end\n", err, err)
 }

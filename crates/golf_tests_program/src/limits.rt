@@ -1,10 +1,13 @@
 //! Files at the limits of the program and past them. Files are made as the tests run.
 
-use crate::calls::{Ends, expect, expect_ends, refuses};
+use crate::calls::{Ends, expect, expect_ends};
 use golf_base::List;
 use golf_run_texts::Status;
 use std::alloc::Global;
+use std::process::Abort;
+use std::sync::Wait;
 use std::test::Fail;
+use std::thread::Threads;
 
 // So many parentheses around a number, on line 3.
 fn nested(alloc: Global, count: usize) -> Result<List<u8>, Fail> {
@@ -28,54 +31,112 @@ fn struct_of(alloc: Global, count: u32) -> Result<List<u8>, Fail> {
     Ok(file)
 }
 
+// A run of this file, of which the ends take so many bytes a call, ends so and writes these texts.
+fn expect_bytes<R: AllocGlobal + Abort + Threads + Wait + Sync>(
+    rt: &R,
+    most: u32,
+    file: &[u8],
+    status: Status,
+    out: &str,
+    err: &str,
+) -> Result<(), Fail> {
+    let (out, err) = (out.as_bytes(), err.as_bytes());
+    expect_ends(rt, "run", file, Ends::of(most), status, out, err)
+}
+
+// Files at a limit, which end well.
+const CLEAN: [&str; 2] = [
+    r"package main
+func main() {
+a := make([]int, 65536)
+}
+",
+    r"package main
+func f(n int) {
+if n > 0 {
+f(n - 1)
+}
+}
+func main() {
+f(9997)
+}
+",
+];
+
+// Files past a limit, and what they end with.
+const CRASHED: [(&str, &str); 3] = [
+    (
+        r"package main
+func main() {
+a := make([]int, 65537)
+}
+",
+        "panic: runtime error: makeslice: len out of range (goroutine 1, line 3)\n",
+    ),
+    (
+        r"package main
+func main() {
+c := make(chan int, 65537)
+}
+",
+        "panic: makechan: size out of range (goroutine 1, line 3)\n",
+    ),
+    (
+        r"package main
+func f(n int) {
+if n > 0 {
+f(n - 1)
+}
+}
+func main() {
+f(9998)
+}
+",
+        "fatal error: stack overflow (goroutine 1, line 4)\n",
+    ),
+];
+
+// Parentheses at the limit and past it, and a struct past its limit.
+fn limits_of_made_files<R: AllocGlobal + Abort + Threads + Wait + Sync>(
+    rt: &R,
+) -> Result<(), Fail> {
+    let alloc = rt.alloc();
+    let (refused, nested_992) = (Status::Refused, nested(alloc, 992)?);
+    expect_bytes(rt, 4, nested_992.as_slice(), Status::Clean, "", "")?;
+    let (nested_993, line) = (nested(alloc, 993)?, "refused: line 3: syntax\n");
+    expect_bytes(rt, 4, nested_993.as_slice(), refused, "", line)?;
+    let (fields_65, line) = (struct_of(alloc, 65)?, "refused: line 2: rule 5\n");
+    expect_bytes(rt, 4, fields_65.as_slice(), refused, "", line)
+}
+
 #[test]
 fn limits(rt: HostRuntime) -> Result<(), Fail> {
-    let alloc = rt.alloc();
-    let nested_992 = nested(alloc, 992)?;
-    let nested_993 = nested(alloc, 993)?;
-    let fields_65 = struct_of(alloc, 65)?;
-    let clean: [&[u8]; 3] = [
-        nested_992.as_slice(),
-        b"package main\nfunc main() {\na := make([]int, 65536)\n}\n",
-        b"package main\nfunc f(n int) {\nif n > 0 {\nf(n - 1)\n}\n}\nfunc main() {\nf(9997)\n}\n",
-    ];
-    for file in clean {
-        expect(&rt, file, Status::Clean, b"", b"")?;
+    for file in CLEAN {
+        expect(&rt, file, Status::Clean, "", "")?;
     }
-    refuses(&rt, nested_993.as_slice(), b"refused: line 3: syntax\n")?;
-    refuses(&rt, fields_65.as_slice(), b"refused: line 2: rule 5\n")?;
-    let crashed: [(&[u8], &[u8]); 3] = [
-        (
-            b"package main\nfunc main() {\na := make([]int, 65537)\n}\n",
-            b"panic: runtime error: makeslice: len out of range (goroutine 1, line 3)\n",
-        ),
-        (
-            b"package main\nfunc main() {\nc := make(chan int, 65537)\n}\n",
-            b"panic: makechan: size out of range (goroutine 1, line 3)\n",
-        ),
-        (
-            b"package main\nfunc f(n int) {\nif n > 0 {\nf(n - 1)\n}\n}\nfunc main() {\nf(9998)\n}\n",
-            b"fatal error: stack overflow (goroutine 1, line 4)\n",
-        ),
-    ];
-    for (file, errors) in crashed {
-        expect(&rt, file, Status::Crashed, b"", errors)?;
+    for (file, errors) in CRASHED {
+        expect(&rt, file, Status::Crashed, "", errors)?;
     }
-    Ok(())
+    limits_of_made_files(&rt)
 }
 
 #[test]
 fn a_struct_may_have_64_fields(rt: HostRuntime) -> Result<(), Fail> {
     let file = struct_of(rt.alloc(), 64)?;
-    expect(&rt, file.as_slice(), Status::Clean, b"", b"")
+    expect_bytes(&rt, 4, file.as_slice(), Status::Clean, "", "")
 }
 
 // A file that prints, and ends in a comment, of so many bytes.
 fn file_of(alloc: Global, length: usize) -> Result<List<u8>, Fail> {
     let mut file = List::new(alloc);
-    file.extend_from_slice(
-        b"package main\nimport \"fmt\"\nfunc main() {\n\tfmt.Println(1)\n}\n//",
-    )?;
+    let program = "\
+        package main\n\
+        import \"fmt\"\n\
+        func main() {\n\
+        \tfmt.Println(1)\n\
+        }\n\
+        //";
+    file.extend_from_slice(program.as_bytes())?;
     let rest = length.saturating_sub(file.len());
     file.extend_with(rest, b'a')?;
     Ok(file)
@@ -85,48 +146,27 @@ fn file_of(alloc: Global, length: usize) -> Result<List<u8>, Fail> {
 fn a_file_of_1048576_bytes_runs_and_one_of_a_byte_more_does_not(
     rt: HostRuntime,
 ) -> Result<(), Fail> {
-    let pages = Ends {
-        most: 4096,
-        source: &[],
-        out: &[],
-        err: &[],
-    };
     let most = file_of(rt.alloc(), 1_048_576)?;
-    expect_ends(
-        &rt,
-        &["run"],
-        most.as_slice(),
-        pages,
-        Status::Clean,
-        b"1\n",
-        b"",
-    )?;
+    expect_bytes(&rt, 4096, most.as_slice(), Status::Clean, "1\n", "")?;
     let more = file_of(rt.alloc(), 1_048_577)?;
-    expect_ends(
-        &rt,
-        &["run"],
-        more.as_slice(),
-        pages,
-        Status::Refused,
-        b"",
-        b"refused: more than 1048576 bytes\n",
-    )
+    let line = "refused: more than 1048576 bytes\n";
+    expect_bytes(&rt, 4096, more.as_slice(), Status::Refused, "", line)
 }
 
 // What ten thousand goroutines that wait in one `select` each are reported as.
-fn reports_of_selects(alloc: Global) -> Result<List<u8>, Fail> {
-    let mut errors = List::new(alloc);
-    errors.extend_from_slice(
-        b"collection 1: marked 0, reported 10000, kept 10000, reclaimed 0, objects 20000\n",
+fn reports_of_selects(alloc: Global) -> Result<String, Fail> {
+    let mut errors = String::new(alloc);
+    errors.push_str(
+        "collection 1: marked 0, reported 10000, kept 10000, reclaimed 0, objects 20000\n",
     )?;
     for goroutine in 2..10_002u32 {
         let line = format!(in alloc;
             "goroutine {goroutine}: select at line 4, started at line 11\n"
         )?;
-        errors.extend_from_slice(line.as_bytes())?;
+        errors.push_str(line.as_str())?;
     }
-    errors.extend_from_slice(
-        b"collection 2: marked 0, reported 0, kept 10000, reclaimed 0, objects 20000\n",
+    errors.push_str(
+        "collection 2: marked 0, reported 0, kept 10000, reclaimed 0, objects 20000\n",
     )?;
     Ok(errors)
 }
@@ -135,39 +175,66 @@ fn reports_of_selects(alloc: Global) -> Result<List<u8>, Fail> {
 fn ten_thousand_that_wait_in_a_select_are_reported_once_in_rising_number(
     rt: HostRuntime,
 ) -> Result<(), Fail> {
-    let file =
-        b"package main\nimport \"runtime\"\nfunc wait(c, d chan int) {\n\tselect {\n\tcase <-c:\n\tcase d <- 1:\n\t}\n}\nfunc start() {\n\tfor i := 0; i < 10000; i++ {\n\t\tgo wait(make(chan int), make(chan int))\n\t}\n}\nfunc main() {\n\tstart()\n\tfor i := 0; i < 50; i++ {\n\t}\n\truntime.GC()\n\truntime.GC()\n}\n";
+    let file = "\
+        package main\n\
+        import \"runtime\"\n\
+        func wait(c, d chan int) {\n\
+        \tselect {\n\
+        \tcase <-c:\n\
+        \tcase d <- 1:\n\
+        \t}\n\
+        }\n\
+        func start() {\n\
+        \tfor i := 0; i < 10000; i++ {\n\
+        \t\tgo wait(make(chan int), make(chan int))\n\
+        \t}\n\
+        }\n\
+        func main() {\n\
+        \tstart()\n\
+        \tfor i := 0; i < 50; i++ {\n\
+        \t}\n\
+        \truntime.GC()\n\
+        \truntime.GC()\n\
+        }\n";
     let errors = reports_of_selects(rt.alloc())?;
-    let pages = Ends {
-        most: 4096,
-        source: &[],
-        out: &[],
-        err: &[],
-    };
-    expect_ends(
-        &rt,
-        &["run"],
-        file,
-        pages,
-        Status::Found,
-        b"",
-        errors.as_slice(),
-    )
+    let file = file.as_bytes();
+    expect_bytes(&rt, 4096, file, Status::Found, "", errors.as_str())
 }
 
 // A recursion of so many frames besides that of `main`, each of which defers a call; the innermost one panics on line 16. The
 // frame that calls `main` is one more.
 fn deferring(alloc: Global, frames: u32) -> Result<String, Fail> {
     Ok(format!(in alloc;
-        "package main\nimport \"fmt\"\nvar count int\nfunc up() {{\n\tcount++\n}}\nfunc show() {{\n\tfmt.Println(count)\n}}\nfunc f(n int) {{\n\tdefer up()\n\tif n > 1 {{\n\t\tf(n - 1)\n\t\treturn\n\t}}\n\tpanic(\"lost\")\n}}\nfunc main() {{\n\tdefer show()\n\tf({frames})\n}}\n"
+        "\
+        package main\n\
+        import \"fmt\"\n\
+        var count int\n\
+        func up() {{\n\
+        \tcount++\n\
+        }}\n\
+        func show() {{\n\
+        \tfmt.Println(count)\n\
+        }}\n\
+        func f(n int) {{\n\
+        \tdefer up()\n\
+        \tif n > 1 {{\n\
+        \t\tf(n - 1)\n\
+        \t\treturn\n\
+        \t}}\n\
+        \tpanic(\"lost\")\n\
+        }}\n\
+        func main() {{\n\
+        \tdefer show()\n\
+        \tf({frames})\n\
+        }}\n"
     )?)
 }
 
 #[test]
 fn a_panic_in_9999_frames_runs_the_deferred_call_of_each(rt: HostRuntime) -> Result<(), Fail> {
     let file = deferring(rt.alloc(), 9997)?;
-    let errors = b"panic: lost (goroutine 1, line 16)\n";
-    expect(&rt, file.as_bytes(), Status::Crashed, b"9997\n", errors)
+    let errors = "panic: lost (goroutine 1, line 16)\n";
+    expect(&rt, file.as_str(), Status::Crashed, "9997\n", errors)
 }
 
 #[test]
@@ -175,6 +242,6 @@ fn with_one_frame_more_the_first_deferred_call_overflows_at_the_line_of_the_pani
     rt: HostRuntime,
 ) -> Result<(), Fail> {
     let file = deferring(rt.alloc(), 9998)?;
-    let errors = b"fatal error: stack overflow (goroutine 1, line 16)\n";
-    expect(&rt, file.as_bytes(), Status::Crashed, b"", errors)
+    let errors = "fatal error: stack overflow (goroutine 1, line 16)\n";
+    expect(&rt, file.as_str(), Status::Crashed, "", errors)
 }

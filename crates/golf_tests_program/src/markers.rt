@@ -11,25 +11,30 @@ use std::test::Fail;
 use std::thread::Threads;
 
 // The one global is a slice of four channels.
-const GLOBALS_IN_A_SLICE: &[u8] =
-    b"package main\nimport \"runtime\"\nvar s = []chan int{make(chan int), make(chan int), make(chan int), make(chan int)}\nfunc main() {\n\truntime.GC()\n}\n";
+const GLOBALS_IN_A_SLICE: &str = "\
+    package main\n\
+    import \"runtime\"\n\
+    var s = []chan int{make(chan int), make(chan int), make(chan int), make(chan int)}\n\
+    func main() {\n\
+    \truntime.GC()\n\
+    }\n";
 
 // Whether a run of this file is clean and writes these errors.
 fn is_clean<R: AllocGlobal + Threads + Wait + Sync, G: Gate + Sync>(
     rt: &R,
-    file: &[u8],
-    errors: &[u8],
+    file: &str,
+    errors: &str,
     gate: &G,
 ) -> Result<bool, Fail> {
-    let Outcome { status, err, .. } = run_with(rt, &["run", "--markers", "2"], file, gate)?;
-    Ok(status == Status::Clean && err.written() == errors)
+    let Outcome { status, err, .. } = run_with(rt, "run --markers 2", file.as_bytes(), gate)?;
+    Ok(status == Status::Clean && err.written() == errors.as_bytes())
 }
 
 #[test]
 fn the_program_marks_with_two_markers_at_once(rt: HostRuntime) -> Result<(), Fail> {
     let gate = MeetingGate::new();
-    let line = b"collection 1: marked 2, reported 0, kept 0, reclaimed 0, objects 2\n";
-    let clean = is_clean(&rt, TWO_ROUNDS, line.as_slice(), &gate)?;
+    let line = "collection 1: marked 2, reported 0, kept 0, reclaimed 0, objects 2\n";
+    let clean = is_clean(&rt, TWO_ROUNDS, line, &gate)?;
     assert!(rt; clean && gate.both_seen());
     Ok(())
 }
@@ -37,17 +42,16 @@ fn the_program_marks_with_two_markers_at_once(rt: HostRuntime) -> Result<(), Fai
 #[test]
 fn the_markers_of_the_program_share_their_work(rt: HostRuntime) -> Result<(), Fail> {
     let gate = StealingGate::new();
-    let line = b"collection 1: marked 5, reported 0, kept 0, reclaimed 0, objects 5\n";
-    let clean = is_clean(&rt, GLOBALS_IN_A_SLICE, line.as_slice(), &gate)?;
+    let line = "collection 1: marked 5, reported 0, kept 0, reclaimed 0, objects 5\n";
+    let clean = is_clean(&rt, GLOBALS_IN_A_SLICE, line, &gate)?;
     assert!(rt; clean && gate.both_seen());
     Ok(())
 }
 
 #[test]
 fn marker_counts_agree(rt: HostRuntime) -> Result<(), Fail> {
-    for count in ["1", "2", "16"] {
-        let words = ["run", "--markers", count];
-        expect_with(&rt, &words, CYCLE, Status::Found, b"", CYCLE_ERRORS)?;
+    for line in ["run --markers 1", "run --markers 2", "run --markers 16"] {
+        expect_with(&rt, line, CYCLE, Status::Found, "", CYCLE_ERRORS)?;
     }
     Ok(())
 }

@@ -8,109 +8,345 @@ use std::test::Fail;
 
 #[test]
 fn a_closed_select_receives_by_its_first_case(rt: HostRuntime) -> Result<(), Fail> {
-    let file =
-        b"package main\n\nimport \"fmt\"\n\nfunc closes(c chan int) {\n\tfor i := 0; i < 50; i++ {\n\t}\n\tclose(c)\n}\n\nfunc main() {\n\tc := make(chan int)\n\tgo closes(c)\n\tselect {\n\tcase v := <-c:\n\t\tfmt.Println(\"received\", v)\n\tcase c <- 1:\n\t\tfmt.Println(\"sent\")\n\t}\n}\n";
-    let out = b"received 0\n";
-    let err = b"";
-    expect(&rt, file, Status::Clean, out, err)
+    let file = "\
+        package main\n\
+        \n\
+        import \"fmt\"\n\
+        \n\
+        func closes(c chan int) {\n\
+        \tfor i := 0; i < 50; i++ {\n\
+        \t}\n\
+        \tclose(c)\n\
+        }\n\
+        \n\
+        func main() {\n\
+        \tc := make(chan int)\n\
+        \tgo closes(c)\n\
+        \tselect {\n\
+        \tcase v := <-c:\n\
+        \t\tfmt.Println(\"received\", v)\n\
+        \tcase c <- 1:\n\
+        \t\tfmt.Println(\"sent\")\n\
+        \t}\n\
+        }\n";
+    expect(&rt, file, Status::Clean, "received 0\n", "")
 }
 
 #[test]
 fn a_closed_select_panics_by_its_first_case(rt: HostRuntime) -> Result<(), Fail> {
-    let file =
-        b"package main\n\nfunc closes(c chan int) {\n\tfor i := 0; i < 50; i++ {\n\t}\n\tclose(c)\n}\n\nfunc main() {\n\tc := make(chan int)\n\tgo closes(c)\n\tselect {\n\tcase c <- 1:\n\tcase <-c:\n\t}\n}\n";
-    let out = b"";
-    let err = b"panic: send on closed channel (goroutine 1, line 12)\n";
-    expect(&rt, file, Status::Crashed, out, err)
+    let file = "\
+        package main\n\
+        \n\
+        func closes(c chan int) {\n\
+        \tfor i := 0; i < 50; i++ {\n\
+        \t}\n\
+        \tclose(c)\n\
+        }\n\
+        \n\
+        func main() {\n\
+        \tc := make(chan int)\n\
+        \tgo closes(c)\n\
+        \tselect {\n\
+        \tcase c <- 1:\n\
+        \tcase <-c:\n\
+        \t}\n\
+        }\n";
+    expect(
+        &rt,
+        file,
+        Status::Crashed,
+        "",
+        "panic: send on closed channel (goroutine 1, line 12)\n",
+    )
 }
 
 #[test]
-fn who_is_passed_on_to_a_mutex_stands_behind_its_waiters(rt: HostRuntime) -> Result<(), Fail> {
-    let file =
-        b"package main\n\nimport (\n\t\"fmt\"\n\t\"sync\"\n)\n\nvar mu = &sync.Mutex{}\nvar cond = sync.NewCond(mu)\n\nfunc first() {\n\tmu.Lock()\n\tcond.Wait()\n\tfmt.Println(\"waited on the condition\")\n\tmu.Unlock()\n}\n\nfunc second() {\n\tmu.Lock()\n\tfmt.Println(\"waited for the mutex\")\n\tmu.Unlock()\n}\n\nfunc pause() {\n\tfor i := 0; i < 50; i++ {\n\t}\n}\n\nfunc main() {\n\tgo first()\n\tpause()\n\tmu.Lock()\n\tgo second()\n\tpause()\n\tcond.Signal()\n\tmu.Unlock()\n\tpause()\n}\n";
-    let out = b"waited for the mutex\nwaited on the condition\n";
-    let err = b"";
-    expect(&rt, file, Status::Clean, out, err)
+fn who_is_passed_on_to_a_mutex_stands_after_its_waiters(rt: HostRuntime) -> Result<(), Fail> {
+    let file = "\
+        package main\n\
+        \n\
+        import (\n\
+        \t\"fmt\"\n\
+        \t\"sync\"\n\
+        )\n\
+        \n\
+        var mu = &sync.Mutex{}\n\
+        var cond = sync.NewCond(mu)\n\
+        \n\
+        func first() {\n\
+        \tmu.Lock()\n\
+        \tcond.Wait()\n\
+        \tfmt.Println(\"waited on the condition\")\n\
+        \tmu.Unlock()\n\
+        }\n\
+        \n\
+        func second() {\n\
+        \tmu.Lock()\n\
+        \tfmt.Println(\"waited for the mutex\")\n\
+        \tmu.Unlock()\n\
+        }\n\
+        \n\
+        func pause() {\n\
+        \tfor i := 0; i < 50; i++ {\n\
+        \t}\n\
+        }\n\
+        \n\
+        func main() {\n\
+        \tgo first()\n\
+        \tpause()\n\
+        \tmu.Lock()\n\
+        \tgo second()\n\
+        \tpause()\n\
+        \tcond.Signal()\n\
+        \tmu.Unlock()\n\
+        \tpause()\n\
+        }\n";
+    expect(
+        &rt,
+        file,
+        Status::Clean,
+        "waited for the mutex\nwaited on the condition\n",
+        "",
+    )
 }
 
 #[test]
 fn deferred_calls_run_last_first_and_after_a_return(rt: HostRuntime) -> Result<(), Fail> {
-    let file =
-        b"package main\n\nimport \"fmt\"\n\nfunc say(text string) {\n\tfmt.Println(text)\n}\n\nfunc f() int {\n\tdefer say(\"first\")\n\tdefer say(\"second\")\n\tsay(\"body\")\n\treturn 7\n}\n\nfunc main() {\n\tfmt.Println(f())\n}\n";
-    let out = b"body\nsecond\nfirst\n7\n";
-    let err = b"";
-    expect(&rt, file, Status::Clean, out, err)
+    let file = "\
+        package main\n\
+        \n\
+        import \"fmt\"\n\
+        \n\
+        func say(text string) {\n\
+        \tfmt.Println(text)\n\
+        }\n\
+        \n\
+        func f() int {\n\
+        \tdefer say(\"first\")\n\
+        \tdefer say(\"second\")\n\
+        \tsay(\"body\")\n\
+        \treturn 7\n\
+        }\n\
+        \n\
+        func main() {\n\
+        \tfmt.Println(f())\n\
+        }\n";
+    expect(&rt, file, Status::Clean, "body\nsecond\nfirst\n7\n", "")
 }
 
 #[test]
 fn a_panic_unwinds_each_frame(rt: HostRuntime) -> Result<(), Fail> {
-    let file =
-        b"package main\n\nimport \"fmt\"\n\nfunc say(text string) {\n\tfmt.Println(text)\n}\n\nfunc inner() {\n\tdefer say(\"inner\")\n\tpanic(\"lost\")\n}\n\nfunc outer() {\n\tdefer say(\"outer\")\n\tinner()\n\tsay(\"never\")\n}\n\nfunc main() {\n\touter()\n}\n";
-    let out = b"inner\nouter\n";
-    let err = b"panic: lost (goroutine 1, line 11)\n";
-    expect(&rt, file, Status::Crashed, out, err)
+    let file = "\
+        package main\n\
+        \n\
+        import \"fmt\"\n\
+        \n\
+        func say(text string) {\n\
+        \tfmt.Println(text)\n\
+        }\n\
+        \n\
+        func inner() {\n\
+        \tdefer say(\"inner\")\n\
+        \tpanic(\"lost\")\n\
+        }\n\
+        \n\
+        func outer() {\n\
+        \tdefer say(\"outer\")\n\
+        \tinner()\n\
+        \tsay(\"never\")\n\
+        }\n\
+        \n\
+        func main() {\n\
+        \touter()\n\
+        }\n";
+    expect(
+        &rt,
+        file,
+        Status::Crashed,
+        "inner\nouter\n",
+        "panic: lost (goroutine 1, line 11)\n",
+    )
 }
 
 #[test]
 fn a_finaliser_runs_as_goroutine_0_and_may_panic(rt: HostRuntime) -> Result<(), Fail> {
-    let file =
-        b"package main\n\nimport \"runtime\"\n\ntype T struct {\n\tn int\n}\n\nfunc late(t *T) {\n\tpanic(\"late\")\n}\n\nfunc drop() {\n\tt := &T{n: 1}\n\truntime.SetFinalizer(t, late)\n}\n\nfunc main() {\n\tdrop()\n\truntime.GC()\n\tfor i := 0; i < 50; i++ {\n\t}\n}\n";
-    let out = b"";
-    let err =
-        b"collection 1: marked 0, reported 0, kept 0, reclaimed 0, objects 1\npanic: late (goroutine 0, line 10)\n";
-    expect(&rt, file, Status::Crashed, out, err)
+    let file = "\
+        package main\n\
+        \n\
+        import \"runtime\"\n\
+        \n\
+        type T struct {\n\
+        \tn int\n\
+        }\n\
+        \n\
+        func late(t *T) {\n\
+        \tpanic(\"late\")\n\
+        }\n\
+        \n\
+        func drop() {\n\
+        \tt := &T{n: 1}\n\
+        \truntime.SetFinalizer(t, late)\n\
+        }\n\
+        \n\
+        func main() {\n\
+        \tdrop()\n\
+        \truntime.GC()\n\
+        \tfor i := 0; i < 50; i++ {\n\
+        \t}\n\
+        }\n";
+    let err = r"collection 1: marked 0, reported 0, kept 0, reclaimed 0, objects 1
+panic: late (goroutine 0, line 10)
+";
+    expect(&rt, file, Status::Crashed, "", err)
 }
 
 #[test]
 fn main_may_be_blocked_for_ever(rt: HostRuntime) -> Result<(), Fail> {
-    let file =
-        b"package main\n\nimport \"runtime\"\n\nfunc spin() {\n\tfor i := 0; i < 50; i++ {\n\t}\n\truntime.GC()\n\tfor {\n\t}\n}\n\nfunc main() {\n\tgo spin()\n\t<-make(chan int)\n}\n";
-    let out = b"";
-    let err =
-        b"collection 1: marked 0, reported 1, kept 1, reclaimed 0, objects 1\ngoroutine 1: chan receive at line 15, started at line 13\nstopped after 1000000 turns\n";
-    expect(&rt, file, Status::Spent, out, err)
+    let file = "\
+        package main\n\
+        \n\
+        import \"runtime\"\n\
+        \n\
+        func spin() {\n\
+        \tfor i := 0; i < 50; i++ {\n\
+        \t}\n\
+        \truntime.GC()\n\
+        \tfor {\n\
+        \t}\n\
+        }\n\
+        \n\
+        func main() {\n\
+        \tgo spin()\n\
+        \t<-make(chan int)\n\
+        }\n";
+    let err = r"collection 1: marked 0, reported 1, kept 1, reclaimed 0, objects 1
+goroutine 1: chan receive at line 15, started at line 13
+stopped after 1000000 turns
+";
+    expect(&rt, file, Status::Spent, "", err)
 }
 
 #[test]
 fn a_send_case_on_a_closed_channel_panics(rt: HostRuntime) -> Result<(), Fail> {
-    let file =
-        b"package main\n\nfunc main() {\n\tc := make(chan int)\n\tclose(c)\n\tselect {\n\tcase c <- 1:\n\tdefault:\n\t}\n}\n";
-    let out = b"";
-    let err = b"panic: send on closed channel (goroutine 1, line 6)\n";
-    expect(&rt, file, Status::Crashed, out, err)
+    let file = "\
+        package main\n\
+        \n\
+        func main() {\n\
+        \tc := make(chan int)\n\
+        \tclose(c)\n\
+        \tselect {\n\
+        \tcase c <- 1:\n\
+        \tdefault:\n\
+        \t}\n\
+        }\n";
+    expect(
+        &rt,
+        file,
+        Status::Crashed,
+        "",
+        "panic: send on closed channel (goroutine 1, line 6)\n",
+    )
 }
 
 #[test]
 fn deferred_calls_overflow_at_the_line_of_the_return(rt: HostRuntime) -> Result<(), Fail> {
-    let file = b"package main\n\nfunc f() {\n\tdefer f()\n\treturn\n}\n\nfunc main() {\n\tf()\n}\n";
-    let out = b"";
-    let err = b"fatal error: stack overflow (goroutine 1, line 5)\n";
-    expect(&rt, file, Status::Crashed, out, err)
+    let file = "\
+        package main\n\
+        \n\
+        func f() {\n\
+        \tdefer f()\n\
+        \treturn\n\
+        }\n\
+        \n\
+        func main() {\n\
+        \tf()\n\
+        }\n";
+    expect(
+        &rt,
+        file,
+        Status::Crashed,
+        "",
+        "fatal error: stack overflow (goroutine 1, line 5)\n",
+    )
 }
 
 #[test]
 fn blank_names_of_a_range_have_no_code(rt: HostRuntime) -> Result<(), Fail> {
-    let file =
-        b"package main\n\nimport \"fmt\"\n\nfunc main() {\n\ts := []int{4, 5}\n\tfor _, v := range s {\n\t\tfmt.Println(v)\n\t}\n\tfor i, _ := range s {\n\t\tfmt.Println(i)\n\t}\n\tfor range s {\n\t\tfmt.Println(\"both\")\n\t}\n}\n";
-    let out = b"4\n5\n0\n1\nboth\nboth\n";
-    let err = b"";
-    expect(&rt, file, Status::Clean, out, err)
+    let file = "\
+        package main\n\
+        \n\
+        import \"fmt\"\n\
+        \n\
+        func main() {\n\
+        \ts := []int{4, 5}\n\
+        \tfor _, v := range s {\n\
+        \t\tfmt.Println(v)\n\
+        \t}\n\
+        \tfor i, _ := range s {\n\
+        \t\tfmt.Println(i)\n\
+        \t}\n\
+        \tfor range s {\n\
+        \t\tfmt.Println(\"both\")\n\
+        \t}\n\
+        }\n";
+    expect(&rt, file, Status::Clean, "4\n5\n0\n1\nboth\nboth\n", "")
 }
 
 #[test]
 fn continue_goes_to_the_post_statement(rt: HostRuntime) -> Result<(), Fail> {
-    let file =
-        b"package main\n\nimport \"fmt\"\n\nfunc main() {\n\tfor i := 0; i < 4; i++ {\n\t\tif i%2 == 0 {\n\t\t\tcontinue\n\t\t}\n\t\tfmt.Println(i)\n\t}\n\tn := 0\n\tfor ; n < 3; {\n\t\tn++\n\t\tif n == 2 {\n\t\t\tcontinue\n\t\t}\n\t\tfmt.Println(\"n\", n)\n\t}\n}\n";
-    let out = b"1\n3\nn 1\nn 3\n";
-    let err = b"";
-    expect(&rt, file, Status::Clean, out, err)
+    let file = "\
+        package main\n\
+        \n\
+        import \"fmt\"\n\
+        \n\
+        func main() {\n\
+        \tfor i := 0; i < 4; i++ {\n\
+        \t\tif i%2 == 0 {\n\
+        \t\t\tcontinue\n\
+        \t\t}\n\
+        \t\tfmt.Println(i)\n\
+        \t}\n\
+        \tn := 0\n\
+        \tfor ; n < 3; {\n\
+        \t\tn++\n\
+        \t\tif n == 2 {\n\
+        \t\t\tcontinue\n\
+        \t\t}\n\
+        \t\tfmt.Println(\"n\", n)\n\
+        \t}\n\
+        }\n";
+    expect(&rt, file, Status::Clean, "1\n3\nn 1\nn 3\n", "")
 }
 
 #[test]
 fn a_deferred_done_lets_a_group_go(rt: HostRuntime) -> Result<(), Fail> {
-    let file =
-        b"package main\n\nimport (\n\t\"fmt\"\n\t\"sync\"\n)\n\nfunc work(wg *sync.WaitGroup, results chan int, n int) {\n\tdefer wg.Done()\n\tresults <- n\n}\n\nfunc main() {\n\twg := &sync.WaitGroup{}\n\tresults := make(chan int, 3)\n\tfor n := 1; n <= 3; n++ {\n\t\twg.Add(1)\n\t\tgo work(wg, results, n*n)\n\t}\n\twg.Wait()\n\tclose(results)\n\tsum := 0\n\tfor v := range results {\n\t\tsum += v\n\t}\n\tfmt.Println(sum)\n}\n";
-    let out = b"14\n";
-    let err = b"";
-    expect(&rt, file, Status::Clean, out, err)
+    let file = "\
+        package main\n\
+        \n\
+        import (\n\
+        \t\"fmt\"\n\
+        \t\"sync\"\n\
+        )\n\
+        \n\
+        func work(wg *sync.WaitGroup, results chan int, n int) {\n\
+        \tdefer wg.Done()\n\
+        \tresults <- n\n\
+        }\n\
+        \n\
+        func main() {\n\
+        \twg := &sync.WaitGroup{}\n\
+        \tresults := make(chan int, 3)\n\
+        \tfor n := 1; n <= 3; n++ {\n\
+        \t\twg.Add(1)\n\
+        \t\tgo work(wg, results, n*n)\n\
+        \t}\n\
+        \twg.Wait()\n\
+        \tclose(results)\n\
+        \tsum := 0\n\
+        \tfor v := range results {\n\
+        \t\tsum += v\n\
+        \t}\n\
+        \tfmt.Println(sum)\n\
+        }\n";
+    expect(&rt, file, Status::Clean, "14\n", "")
 }

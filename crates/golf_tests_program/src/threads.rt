@@ -10,26 +10,24 @@ use std::alloc::Global;
 use std::str;
 use std::test::Fail;
 
-const ENDLESS: &[u8] = b"package main\nfunc main() {\n\tfor {\n\t}\n}\n";
+const ENDLESS: &str = "\
+    package main\n\
+    func main() {\n\
+    \tfor {\n\
+    \t}\n\
+    }\n";
 
 #[test]
 fn one_thread_on_an_empty_main_takes_three_turns(rt: HostRuntime) -> Result<(), Fail> {
-    let words = ["run", "--threads", "1"];
-    expect_with(
-        &rt,
-        &words,
-        EMPTY_MAIN,
-        Status::Clean,
-        b"",
-        b"history: 0,1,2\n",
-    )
+    let err = "history: 0,1,2\n";
+    expect_with(&rt, "run --threads 1", EMPTY_MAIN, Status::Clean, "", err)
 }
 
 #[test]
 fn one_thread_chooses_the_second_case_of_a_select(rt: HostRuntime) -> Result<(), Fail> {
-    let words = ["run", "--threads=001", "--"];
-    let err = b"history: 0,1,2,3,4,5,6,7,8,9,10,11,12,13,14,15,16\n";
-    expect_with(&rt, &words, CHOICE, Status::Clean, b"second 1\n", err)
+    let line = "run --threads=001 --";
+    let err = "history: 0,1,2,3,4,5,6,7,8,9,10,11,12,13,14,15,16\n";
+    expect_with(&rt, line, CHOICE, Status::Clean, "second 1\n", err)
 }
 
 // The errors before the line of the history, and that line's numbers.
@@ -43,22 +41,21 @@ fn split_history(errors: &[u8]) -> Result<(&str, &str), Fail> {
     }
 }
 
-// The word that asks for these numbers as choices.
-fn choices(alloc: Global, numbers: &str) -> Result<String, Fail> {
-    Ok(format!(in alloc; "choices:{numbers}")?)
+// The line that asks for a run by these numbers as choices.
+fn again(alloc: Global, numbers: &str) -> Result<String, Fail> {
+    Ok(format!(in alloc; "run --schedule choices:{numbers}")?)
 }
 
 #[test]
 fn a_history_of_four_threads_can_be_run_again(rt: HostRuntime) -> Result<(), Fail> {
-    let words = ["run", "--threads", "4"];
-    let first = run_with(&rt, &words, POOL, &OpenGate)?;
+    let first = run_with(&rt, "run --threads 4", POOL.as_bytes(), &OpenGate)?;
     let (errors, numbers) = split_history(first.err.written())?;
-    let schedule = choices(rt.alloc(), numbers)?;
-    let again = ["run", "--schedule", schedule.as_str()];
-    expect_with(
+    let line = again(rt.alloc(), numbers)?;
+    expect_ends(
         &rt,
-        &again,
-        POOL,
+        line.as_str(),
+        POOL.as_bytes(),
+        Ends::of(4),
         first.status,
         first.out.written(),
         errors.as_bytes(),
@@ -68,9 +65,8 @@ fn a_history_of_four_threads_can_be_run_again(rt: HostRuntime) -> Result<(), Fai
 #[test]
 fn threads_of_the_program_step_at_the_same_time(rt: HostRuntime) -> Result<(), Fail> {
     let gate = MeetingGate::new();
-    let Outcome { out, .. } = run_with(&rt, &["run", "--threads", "2"], LEAK, &gate)?;
-    assert!(rt; gate.both_seen());
-    assert_eq!(rt; out.written(), b"1\n".as_slice());
+    let Outcome { out, .. } = run_with(&rt, "run --threads 2", LEAK.as_bytes(), &gate)?;
+    assert!(rt; gate.both_seen() && out.written() == "1\n".as_bytes());
     Ok(())
 }
 
@@ -86,31 +82,37 @@ fn endless_errors(alloc: Global) -> Result<String, Fail> {
 
 #[test]
 fn threads_stop_after_a_hundred_thousand_turns(rt: HostRuntime) -> Result<(), Fail> {
-    let words = ["run", "--threads", "2"];
     let err = endless_errors(rt.alloc())?;
-    expect_with(&rt, &words, ENDLESS, Status::Spent, b"", err.as_bytes())
+    expect_with(
+        &rt,
+        "run --threads 2",
+        ENDLESS,
+        Status::Spent,
+        "",
+        err.as_str(),
+    )
 }
 
 #[test]
 fn a_file_that_threads_do_not_run_is_refused(rt: HostRuntime) -> Result<(), Fail> {
-    let words = ["run", "--threads", "2"];
-    let err = b"refused: line 1: rule 6\n";
-    expect_with(&rt, &words, b"package main", Status::Refused, b"", err)
+    let (line, file) = ("run --threads 2", "package main");
+    expect_with(
+        &rt,
+        line,
+        file,
+        Status::Refused,
+        "",
+        "refused: line 1: rule 6\n",
+    )
 }
 
 #[test]
 fn a_source_that_fails_before_threads_run_is_a_read_fault(rt: HostRuntime) -> Result<(), Fail> {
-    let ends = Ends {
-        most: 64,
-        source: &[1],
-        out: &[],
-        err: &[],
-    };
     expect_ends(
         &rt,
-        &["run", "--threads", "2"],
-        POOL,
-        ends,
+        "run --threads 2",
+        POOL.as_bytes(),
+        Ends::of(64).without_source(1),
         Status::ReadFault,
         b"",
         READ_FAULT,
@@ -120,26 +122,20 @@ fn a_source_that_fails_before_threads_run_is_a_read_fault(rt: HostRuntime) -> Re
 // The output is `1` and a newline, which two calls write.
 #[test]
 fn nothing_is_written_after_a_failed_write_of_threads(rt: HostRuntime) -> Result<(), Fail> {
-    let calls: [(u32, u32, &[u8], &[u8]); 3] = [
-        (1, 0, b"", b""),
-        (2, 0, b"1", b""),
-        (0, 12, b"1\n", b"collection "),
+    let calls = [
+        (1, 0, "", ""),
+        (2, 0, "1", ""),
+        (0, 12, "1\n", "collection "),
     ];
     for (out_call, err_call, out, err) in calls {
-        let ends = Ends {
-            most: 1,
-            source: &[],
-            out: &[out_call],
-            err: &[err_call],
-        };
         expect_ends(
             &rt,
-            &["run", "--threads", "1"],
-            LEAK,
-            ends,
+            "run --threads 1",
+            LEAK.as_bytes(),
+            Ends::of(1).without_sinks(out_call, err_call),
             Status::WriteFault,
-            out,
-            err,
+            out.as_bytes(),
+            err.as_bytes(),
         )?;
     }
     Ok(())

@@ -5,217 +5,579 @@ use golf_run_texts::Status;
 use std::test::Fail;
 
 /// A pool of workers, and a reply that nobody takes.
-pub const POOL: &[u8] =
-    b"package main\n\nimport (\n\t\"fmt\"\n\t\"runtime\"\n\t\"sync\"\n)\n\ntype Total struct {\n\tmu  *sync.Mutex\n\tsum int\n}\n\nfunc (t *Total) add(n int) {\n\tt.mu.Lock()\n\tdefer t.mu.Unlock()\n\tt.sum += n\n}\n\nfunc work(jobs <-chan int, t *Total, wg *sync.WaitGroup) {\n\tdefer wg.Done()\n\tfor n := range jobs {\n\t\tt.add(n)\n\t}\n}\n\nfunc ask(n int) chan int {\n\treply := make(chan int)\n\tgo answer(n, reply)\n\treturn reply\n}\n\nfunc answer(n int, reply chan<- int) {\n\treply <- n + 1\n}\n\nfunc main() {\n\tt := &Total{mu: &sync.Mutex{}}\n\twg := &sync.WaitGroup{}\n\tjobs := make(chan int, 4)\n\tfor i := 0; i < 3; i++ {\n\t\twg.Add(1)\n\t\tgo work(jobs, t, wg)\n\t}\n\task(1)\n\tfor i := 1; i <= 10; i++ {\n\t\tjobs <- i\n\t}\n\tclose(jobs)\n\twg.Wait()\n\tfor i := 0; i < 50; i++ {\n\t}\n\truntime.GC()\n\tfmt.Println(\"sum\", t.sum)\n}\n";
+pub const POOL: &str = "\
+    package main\n\
+    \n\
+    import (\n\
+    \t\"fmt\"\n\
+    \t\"runtime\"\n\
+    \t\"sync\"\n\
+    )\n\
+    \n\
+    type Total struct {\n\
+    \tmu  *sync.Mutex\n\
+    \tsum int\n\
+    }\n\
+    \n\
+    func (t *Total) add(n int) {\n\
+    \tt.mu.Lock()\n\
+    \tdefer t.mu.Unlock()\n\
+    \tt.sum += n\n\
+    }\n\
+    \n\
+    func work(jobs <-chan int, t *Total, wg *sync.WaitGroup) {\n\
+    \tdefer wg.Done()\n\
+    \tfor n := range jobs {\n\
+    \t\tt.add(n)\n\
+    \t}\n\
+    }\n\
+    \n\
+    func ask(n int) chan int {\n\
+    \treply := make(chan int)\n\
+    \tgo answer(n, reply)\n\
+    \treturn reply\n\
+    }\n\
+    \n\
+    func answer(n int, reply chan<- int) {\n\
+    \treply <- n + 1\n\
+    }\n\
+    \n\
+    func main() {\n\
+    \tt := &Total{mu: &sync.Mutex{}}\n\
+    \twg := &sync.WaitGroup{}\n\
+    \tjobs := make(chan int, 4)\n\
+    \tfor i := 0; i < 3; i++ {\n\
+    \t\twg.Add(1)\n\
+    \t\tgo work(jobs, t, wg)\n\
+    \t}\n\
+    \task(1)\n\
+    \tfor i := 1; i <= 10; i++ {\n\
+    \t\tjobs <- i\n\
+    \t}\n\
+    \tclose(jobs)\n\
+    \twg.Wait()\n\
+    \tfor i := 0; i < 50; i++ {\n\
+    \t}\n\
+    \truntime.GC()\n\
+    \tfmt.Println(\"sum\", t.sum)\n\
+    }\n";
 
-pub const POOL_ERRORS: &[u8] =
-    b"collection 1: marked 2, reported 1, kept 1, reclaimed 0, objects 3\ngoroutine 5: chan send at line 34, started at line 29\n";
+pub const POOL_ERRORS: &str = r"collection 1: marked 2, reported 1, kept 1, reclaimed 0, objects 3
+goroutine 5: chan send at line 34, started at line 29
+";
 
-pub const POOL_RECOVERED: &[u8] =
-    b"collection 1: marked 2, reported 1, kept 0, reclaimed 1, objects 2\ngoroutine 5: chan send at line 34, started at line 29\n";
+pub const POOL_RECOVERED: &str =
+    r"collection 1: marked 2, reported 1, kept 0, reclaimed 1, objects 2
+goroutine 5: chan send at line 34, started at line 29
+";
 
-pub const POOL_OUT: &[u8] = b"sum 55\n";
+pub const POOL_OUT: &str = "sum 55\n";
 
 /// A `select` with two cases that are both ready.
-pub const CHOICE: &[u8] =
-    b"package main\nimport \"fmt\"\nfunc main() {\n\tc := make(chan int, 1)\n\tc <- 1\n\tselect {\n\tcase v := <-c:\n\t\tfmt.Println(\"first\", v)\n\tcase v := <-c:\n\t\tfmt.Println(\"second\", v)\n\t}\n}\n";
+pub const CHOICE: &str = "\
+    package main\n\
+    import \"fmt\"\n\
+    func main() {\n\
+    \tc := make(chan int, 1)\n\
+    \tc <- 1\n\
+    \tselect {\n\
+    \tcase v := <-c:\n\
+    \t\tfmt.Println(\"first\", v)\n\
+    \tcase v := <-c:\n\
+    \t\tfmt.Println(\"second\", v)\n\
+    \t}\n\
+    }\n";
 
 /// Two goroutines wait for each other, and two collections.
-pub const CYCLE: &[u8] =
-    b"package main\nimport \"runtime\"\nfunc wait(x, y chan int) {\n\t<-x\n\ty <- 1\n}\nfunc start() {\n\tx := make(chan int)\n\ty := make(chan int)\n\tgo wait(x, y)\n\tgo wait(y, x)\n}\nfunc main() {\n\tstart()\n\tfor i := 0; i < 50; i++ {\n\t}\n\truntime.GC()\n\truntime.GC()\n}\n";
+pub const CYCLE: &str = "\
+    package main\n\
+    import \"runtime\"\n\
+    func wait(x, y chan int) {\n\
+    \t<-x\n\
+    \ty <- 1\n\
+    }\n\
+    func start() {\n\
+    \tx := make(chan int)\n\
+    \ty := make(chan int)\n\
+    \tgo wait(x, y)\n\
+    \tgo wait(y, x)\n\
+    }\n\
+    func main() {\n\
+    \tstart()\n\
+    \tfor i := 0; i < 50; i++ {\n\
+    \t}\n\
+    \truntime.GC()\n\
+    \truntime.GC()\n\
+    }\n";
 
-pub const CYCLE_ERRORS: &[u8] =
-    b"collection 1: marked 0, reported 2, kept 2, reclaimed 0, objects 2\ngoroutine 2: chan receive at line 4, started at line 10\ngoroutine 3: chan receive at line 4, started at line 11\ncollection 2: marked 0, reported 0, kept 2, reclaimed 0, objects 2\n";
+pub const CYCLE_ERRORS: &str = r"collection 1: marked 0, reported 2, kept 2, reclaimed 0, objects 2
+goroutine 2: chan receive at line 4, started at line 10
+goroutine 3: chan receive at line 4, started at line 11
+collection 2: marked 0, reported 0, kept 2, reclaimed 0, objects 2
+";
 
 #[test]
 fn buffers_default_close_range(rt: HostRuntime) -> Result<(), Fail> {
-    let file =
-        b"package main\nimport \"fmt\"\nfunc main() {\n\tc := make(chan int, 2)\n\tc <- 1\n\tc <- 2\n\tselect {\n\tcase c <- 3:\n\t\tfmt.Println(\"sent\")\n\tdefault:\n\t\tfmt.Println(\"full\", len(c))\n\t}\n\tclose(c)\n\tfor v := range c {\n\t\tfmt.Println(v)\n\t}\n\tv, ok := <-c\n\tfmt.Println(v, ok)\n}\n";
-    let out = b"full 2\n1\n2\n0 false\n";
-    let err = b"";
-    expect(&rt, file, Status::Clean, out, err)
+    let file = "\
+        package main\n\
+        import \"fmt\"\n\
+        func main() {\n\
+        \tc := make(chan int, 2)\n\
+        \tc <- 1\n\
+        \tc <- 2\n\
+        \tselect {\n\
+        \tcase c <- 3:\n\
+        \t\tfmt.Println(\"sent\")\n\
+        \tdefault:\n\
+        \t\tfmt.Println(\"full\", len(c))\n\
+        \t}\n\
+        \tclose(c)\n\
+        \tfor v := range c {\n\
+        \t\tfmt.Println(v)\n\
+        \t}\n\
+        \tv, ok := <-c\n\
+        \tfmt.Println(v, ok)\n\
+        }\n";
+    expect(&rt, file, Status::Clean, "full 2\n1\n2\n0 false\n", "")
 }
 
 #[test]
 fn channel_whose_variable_is_read_no_more(rt: HostRuntime) -> Result<(), Fail> {
-    let file =
-        b"package main\nimport \"runtime\"\nfunc recv(c chan int) {\n\t<-c\n}\nfunc main() {\n\tc := make(chan int)\n\tgo recv(c)\n\tfor i := 0; i < 50; i++ {\n\t}\n\truntime.GC()\n}\n";
-    let out = b"";
-    let err =
-        b"collection 1: marked 0, reported 1, kept 1, reclaimed 0, objects 1\ngoroutine 2: chan receive at line 4, started at line 8\n";
-    expect(&rt, file, Status::Found, out, err)
+    let file = "\
+        package main\n\
+        import \"runtime\"\n\
+        func recv(c chan int) {\n\
+        \t<-c\n\
+        }\n\
+        func main() {\n\
+        \tc := make(chan int)\n\
+        \tgo recv(c)\n\
+        \tfor i := 0; i < 50; i++ {\n\
+        \t}\n\
+        \truntime.GC()\n\
+        }\n";
+    let err = r"collection 1: marked 0, reported 1, kept 1, reclaimed 0, objects 1
+goroutine 2: chan receive at line 4, started at line 8
+";
+    expect(&rt, file, Status::Found, "", err)
 }
 
 #[test]
 fn choice_of_a_select_case(rt: HostRuntime) -> Result<(), Fail> {
-    let out = b"second 1\n";
-    let err = b"";
-    expect(&rt, CHOICE, Status::Clean, out, err)
+    expect(&rt, CHOICE, Status::Clean, "second 1\n", "")
 }
 
 #[test]
 fn classic_leak(rt: HostRuntime) -> Result<(), Fail> {
-    let file =
-        b"package main\nimport \"runtime\"\nfunc recv(c chan int) {\n\t<-c\n}\nfunc leak() {\n\tc := make(chan int)\n\tgo recv(c)\n}\nfunc main() {\n\tleak()\n\tfor i := 0; i < 50; i++ {\n\t}\n\truntime.GC()\n}\n";
-    let out = b"";
-    let err =
-        b"collection 1: marked 0, reported 1, kept 1, reclaimed 0, objects 1\ngoroutine 2: chan receive at line 4, started at line 8\n";
-    let recovered =
-        b"collection 1: marked 0, reported 1, kept 0, reclaimed 1, objects 0\ngoroutine 2: chan receive at line 4, started at line 8\n";
-    expect_both(&rt, file, Status::Found, out, err, recovered)
+    let file = "\
+        package main\n\
+        import \"runtime\"\n\
+        func recv(c chan int) {\n\
+        \t<-c\n\
+        }\n\
+        func leak() {\n\
+        \tc := make(chan int)\n\
+        \tgo recv(c)\n\
+        }\n\
+        func main() {\n\
+        \tleak()\n\
+        \tfor i := 0; i < 50; i++ {\n\
+        \t}\n\
+        \truntime.GC()\n\
+        }\n";
+    let err = r"collection 1: marked 0, reported 1, kept 1, reclaimed 0, objects 1
+goroutine 2: chan receive at line 4, started at line 8
+";
+    let recovered = r"collection 1: marked 0, reported 1, kept 0, reclaimed 1, objects 0
+goroutine 2: chan receive at line 4, started at line 8
+";
+    expect_both(&rt, file, Status::Found, "", err, recovered)
 }
 
 #[test]
 fn cycle_collected_twice(rt: HostRuntime) -> Result<(), Fail> {
-    let out = b"";
-    let recovered =
-        b"collection 1: marked 0, reported 2, kept 0, reclaimed 2, objects 0\ngoroutine 2: chan receive at line 4, started at line 10\ngoroutine 3: chan receive at line 4, started at line 11\ncollection 2: marked 0, reported 0, kept 0, reclaimed 0, objects 0\n";
-    expect_both(&rt, CYCLE, Status::Found, out, CYCLE_ERRORS, recovered)
+    let recovered = r"collection 1: marked 0, reported 2, kept 0, reclaimed 2, objects 0
+goroutine 2: chan receive at line 4, started at line 10
+goroutine 3: chan receive at line 4, started at line 11
+collection 2: marked 0, reported 0, kept 0, reclaimed 0, objects 0
+";
+    expect_both(&rt, CYCLE, Status::Found, "", CYCLE_ERRORS, recovered)
 }
 
 #[test]
 fn dead_holder_of_a_finalised_object(rt: HostRuntime) -> Result<(), Fail> {
-    let file =
-        b"package main\nimport (\n\t\"fmt\"\n\t\"runtime\"\n)\ntype Res struct {\n\tn int\n}\nfunc done(r *Res) {\n\tfmt.Println(\"done\", r.n)\n}\nfunc hold(r *Res, c chan int) {\n\t<-c\n\tfmt.Println(r.n)\n}\nfunc start() {\n\tr := &Res{n: 7}\n\truntime.SetFinalizer(r, done)\n\tgo hold(r, make(chan int))\n}\nfunc main() {\n\tstart()\n\tfor i := 0; i < 50; i++ {\n\t}\n\truntime.GC()\n\tfor i := 0; i < 50; i++ {\n\t}\n}\n";
-    let out = b"";
-    let err =
-        b"collection 1: marked 0, reported 1, kept 1, reclaimed 0, objects 2\ngoroutine 2: chan receive at line 13, started at line 19\n";
-    expect_both(&rt, file, Status::Found, out, err, err)
+    let file = "\
+        package main\n\
+        import (\n\
+        \t\"fmt\"\n\
+        \t\"runtime\"\n\
+        )\n\
+        type Res struct {\n\
+        \tn int\n\
+        }\n\
+        func done(r *Res) {\n\
+        \tfmt.Println(\"done\", r.n)\n\
+        }\n\
+        func hold(r *Res, c chan int) {\n\
+        \t<-c\n\
+        \tfmt.Println(r.n)\n\
+        }\n\
+        func start() {\n\
+        \tr := &Res{n: 7}\n\
+        \truntime.SetFinalizer(r, done)\n\
+        \tgo hold(r, make(chan int))\n\
+        }\n\
+        func main() {\n\
+        \tstart()\n\
+        \tfor i := 0; i < 50; i++ {\n\
+        \t}\n\
+        \truntime.GC()\n\
+        \tfor i := 0; i < 50; i++ {\n\
+        \t}\n\
+        }\n";
+    let err = r"collection 1: marked 0, reported 1, kept 1, reclaimed 0, objects 2
+goroutine 2: chan receive at line 13, started at line 19
+";
+    expect_both(&rt, file, Status::Found, "", err, err)
 }
 
 #[test]
 fn dead_holder_of_a_global_mutex(rt: HostRuntime) -> Result<(), Fail> {
-    let file =
-        b"package main\nimport (\n\t\"runtime\"\n\t\"sync\"\n)\nvar mu = &sync.Mutex{}\nfunc hold(c chan int) {\n\tmu.Lock()\n\t<-c\n}\nfunc next() {\n\tmu.Lock()\n}\nfunc main() {\n\tgo hold(make(chan int))\n\tfor i := 0; i < 50; i++ {\n\t}\n\tgo next()\n\tfor i := 0; i < 50; i++ {\n\t}\n\truntime.GC()\n}\n";
-    let out = b"";
-    let err =
-        b"collection 1: marked 1, reported 1, kept 1, reclaimed 0, objects 2\ngoroutine 2: chan receive at line 9, started at line 15\n";
-    let recovered =
-        b"collection 1: marked 1, reported 1, kept 0, reclaimed 1, objects 1\ngoroutine 2: chan receive at line 9, started at line 15\n";
-    expect_both(&rt, file, Status::Found, out, err, recovered)
+    let file = "\
+        package main\n\
+        import (\n\
+        \t\"runtime\"\n\
+        \t\"sync\"\n\
+        )\n\
+        var mu = &sync.Mutex{}\n\
+        func hold(c chan int) {\n\
+        \tmu.Lock()\n\
+        \t<-c\n\
+        }\n\
+        func next() {\n\
+        \tmu.Lock()\n\
+        }\n\
+        func main() {\n\
+        \tgo hold(make(chan int))\n\
+        \tfor i := 0; i < 50; i++ {\n\
+        \t}\n\
+        \tgo next()\n\
+        \tfor i := 0; i < 50; i++ {\n\
+        \t}\n\
+        \truntime.GC()\n\
+        }\n";
+    let err = r"collection 1: marked 1, reported 1, kept 1, reclaimed 0, objects 2
+goroutine 2: chan receive at line 9, started at line 15
+";
+    let recovered = r"collection 1: marked 1, reported 1, kept 0, reclaimed 1, objects 1
+goroutine 2: chan receive at line 9, started at line 15
+";
+    expect_both(&rt, file, Status::Found, "", err, recovered)
 }
 
 #[test]
 fn empty_waits(rt: HostRuntime) -> Result<(), Fail> {
-    let file =
-        b"package main\nimport \"runtime\"\nfunc never() {\n\tselect {}\n}\nfunc none(c chan int) {\n\tc <- 1\n}\nfunc main() {\n\tgo never()\n\tgo none(nil)\n\tfor i := 0; i < 50; i++ {\n\t}\n\truntime.GC()\n}\n";
-    let out = b"";
-    let err =
-        b"collection 1: marked 0, reported 2, kept 2, reclaimed 0, objects 0\ngoroutine 2: select (no cases) at line 4, started at line 10\ngoroutine 3: chan send (nil chan) at line 7, started at line 11\n";
-    expect(&rt, file, Status::Found, out, err)
+    let file = "\
+        package main\n\
+        import \"runtime\"\n\
+        func never() {\n\
+        \tselect {}\n\
+        }\n\
+        func none(c chan int) {\n\
+        \tc <- 1\n\
+        }\n\
+        func main() {\n\
+        \tgo never()\n\
+        \tgo none(nil)\n\
+        \tfor i := 0; i < 50; i++ {\n\
+        \t}\n\
+        \truntime.GC()\n\
+        }\n";
+    let err = r"collection 1: marked 0, reported 2, kept 2, reclaimed 0, objects 0
+goroutine 2: select (no cases) at line 4, started at line 10
+goroutine 3: chan send (nil chan) at line 7, started at line 11
+";
+    expect(&rt, file, Status::Found, "", err)
 }
 
 #[test]
 fn lost_condition(rt: HostRuntime) -> Result<(), Fail> {
-    let file =
-        b"package main\nimport (\n\t\"fmt\"\n\t\"runtime\"\n\t\"sync\"\n)\nvar mu = &sync.Mutex{}\nvar cond = sync.NewCond(mu)\nvar ready = 0\nfunc consumer() {\n\tmu.Lock()\n\tfor ready == 0 {\n\t\tcond.Wait()\n\t}\n\tcond.L.Unlock()\n\tfmt.Println(\"ready\", ready)\n}\nfunc lost() {\n\tm := &sync.Mutex{}\n\tc := sync.NewCond(m)\n\tm.Lock()\n\tc.Wait()\n}\nfunc main() {\n\tgo consumer()\n\tgo lost()\n\tfor i := 0; i < 50; i++ {\n\t}\n\truntime.GC()\n\tmu.Lock()\n\tready = 3\n\tcond.Signal()\n\tmu.Unlock()\n\tfor i := 0; i < 50; i++ {\n\t}\n}\n";
-    let out = b"ready 3\n";
-    let err =
-        b"collection 1: marked 2, reported 1, kept 1, reclaimed 0, objects 4\ngoroutine 3: sync.Cond.Wait at line 22, started at line 26\n";
-    let recovered =
-        b"collection 1: marked 2, reported 1, kept 0, reclaimed 1, objects 2\ngoroutine 3: sync.Cond.Wait at line 22, started at line 26\n";
-    expect_both(&rt, file, Status::Found, out, err, recovered)
+    let file = "\
+        package main\n\
+        import (\n\
+        \t\"fmt\"\n\
+        \t\"runtime\"\n\
+        \t\"sync\"\n\
+        )\n\
+        var mu = &sync.Mutex{}\n\
+        var cond = sync.NewCond(mu)\n\
+        var ready = 0\n\
+        func consumer() {\n\
+        \tmu.Lock()\n\
+        \tfor ready == 0 {\n\
+        \t\tcond.Wait()\n\
+        \t}\n\
+        \tcond.L.Unlock()\n\
+        \tfmt.Println(\"ready\", ready)\n\
+        }\n\
+        func lost() {\n\
+        \tm := &sync.Mutex{}\n\
+        \tc := sync.NewCond(m)\n\
+        \tm.Lock()\n\
+        \tc.Wait()\n\
+        }\n\
+        func main() {\n\
+        \tgo consumer()\n\
+        \tgo lost()\n\
+        \tfor i := 0; i < 50; i++ {\n\
+        \t}\n\
+        \truntime.GC()\n\
+        \tmu.Lock()\n\
+        \tready = 3\n\
+        \tcond.Signal()\n\
+        \tmu.Unlock()\n\
+        \tfor i := 0; i < 50; i++ {\n\
+        \t}\n\
+        }\n";
+    let err = r"collection 1: marked 2, reported 1, kept 1, reclaimed 0, objects 4
+goroutine 3: sync.Cond.Wait at line 22, started at line 26
+";
+    let recovered = r"collection 1: marked 2, reported 1, kept 0, reclaimed 1, objects 2
+goroutine 3: sync.Cond.Wait at line 22, started at line 26
+";
+    expect_both(&rt, file, Status::Found, "ready 3\n", err, recovered)
 }
 
 #[test]
 fn methods_slices_and_an_index_out_of_range(rt: HostRuntime) -> Result<(), Fail> {
-    let file =
-        b"package main\nimport \"fmt\"\ntype P struct {\n\tn int\n}\nfunc (p *P) up(d int) int {\n\tp.n += d\n\treturn p.n\n}\nfunc main() {\n\ta := make([]int, 3)\n\tp := &P{n: 4}\n\tfor i := range a {\n\t\ta[i] = p.up(i)\n\t}\n\tfmt.Println(a[0], a[1], a[2], len(a))\n\ta[3] = 1\n}\n";
-    let out = b"4 5 7 3\n";
-    let err =
-        b"panic: runtime error: index out of range [3] with length 3 (goroutine 1, line 17)\n";
-    expect(&rt, file, Status::Crashed, out, err)
+    let file = "\
+        package main\n\
+        import \"fmt\"\n\
+        type P struct {\n\
+        \tn int\n\
+        }\n\
+        func (p *P) up(d int) int {\n\
+        \tp.n += d\n\
+        \treturn p.n\n\
+        }\n\
+        func main() {\n\
+        \ta := make([]int, 3)\n\
+        \tp := &P{n: 4}\n\
+        \tfor i := range a {\n\
+        \t\ta[i] = p.up(i)\n\
+        \t}\n\
+        \tfmt.Println(a[0], a[1], a[2], len(a))\n\
+        \ta[3] = 1\n\
+        }\n";
+    let err = "panic: runtime error: index out of range [3] with length 3 (goroutine 1, line 17)\n";
+    expect(&rt, file, Status::Crashed, "4 5 7 3\n", err)
 }
 
 #[test]
 fn one_done_too_few(rt: HostRuntime) -> Result<(), Fail> {
-    let file =
-        b"package main\nimport (\n\t\"runtime\"\n\t\"sync\"\n)\nfunc waiter() {\n\twg := &sync.WaitGroup{}\n\twg.Add(2)\n\twg.Done()\n\twg.Wait()\n}\nfunc main() {\n\tgo waiter()\n\tfor i := 0; i < 50; i++ {\n\t}\n\truntime.GC()\n}\n";
-    let out = b"";
-    let err =
-        b"collection 1: marked 0, reported 1, kept 1, reclaimed 0, objects 1\ngoroutine 2: sync.WaitGroup.Wait at line 10, started at line 13\n";
-    expect(&rt, file, Status::Found, out, err)
+    let file = "\
+        package main\n\
+        import (\n\
+        \t\"runtime\"\n\
+        \t\"sync\"\n\
+        )\n\
+        func waiter() {\n\
+        \twg := &sync.WaitGroup{}\n\
+        \twg.Add(2)\n\
+        \twg.Done()\n\
+        \twg.Wait()\n\
+        }\n\
+        func main() {\n\
+        \tgo waiter()\n\
+        \tfor i := 0; i < 50; i++ {\n\
+        \t}\n\
+        \truntime.GC()\n\
+        }\n";
+    let err = r"collection 1: marked 0, reported 1, kept 1, reclaimed 0, objects 1
+goroutine 2: sync.WaitGroup.Wait at line 10, started at line 13
+";
+    expect(&rt, file, Status::Found, "", err)
 }
 
 #[test]
 fn a_send_on_a_closed_channel_panics(rt: HostRuntime) -> Result<(), Fail> {
-    let file = b"package main\nfunc main() {\n\tc := make(chan int)\n\tclose(c)\n\tc <- 1\n}\n";
-    let out = b"";
-    let err = b"panic: send on closed channel (goroutine 1, line 5)\n";
-    expect(&rt, file, Status::Crashed, out, err)
+    let file = "\
+        package main\n\
+        func main() {\n\
+        \tc := make(chan int)\n\
+        \tclose(c)\n\
+        \tc <- 1\n\
+        }\n";
+    expect(
+        &rt,
+        file,
+        Status::Crashed,
+        "",
+        "panic: send on closed channel (goroutine 1, line 5)\n",
+    )
 }
 
 #[test]
 fn a_close_wakes_a_sender_that_panics(rt: HostRuntime) -> Result<(), Fail> {
-    let file =
-        b"package main\nfunc send(c chan int) {\n\tc <- 1\n}\nfunc main() {\n\tc := make(chan int)\n\tgo send(c)\n\tfor i := 0; i < 50; i++ {\n\t}\n\tclose(c)\n\tfor i := 0; i < 50; i++ {\n\t}\n}\n";
-    let out = b"";
-    let err = b"panic: send on closed channel (goroutine 2, line 3)\n";
-    expect(&rt, file, Status::Crashed, out, err)
+    let file = "\
+        package main\n\
+        func send(c chan int) {\n\
+        \tc <- 1\n\
+        }\n\
+        func main() {\n\
+        \tc := make(chan int)\n\
+        \tgo send(c)\n\
+        \tfor i := 0; i < 50; i++ {\n\
+        \t}\n\
+        \tclose(c)\n\
+        \tfor i := 0; i < 50; i++ {\n\
+        \t}\n\
+        }\n";
+    expect(
+        &rt,
+        file,
+        Status::Crashed,
+        "",
+        "panic: send on closed channel (goroutine 2, line 3)\n",
+    )
 }
 
 #[test]
 fn a_panic_runs_deferred_calls(rt: HostRuntime) -> Result<(), Fail> {
-    let file =
-        b"package main\nimport \"fmt\"\nfunc bye() {\n\tfmt.Println(\"bye\")\n}\nfunc main() {\n\tdefer bye()\n\tx := 0\n\tfmt.Println(1 / x)\n}\n";
-    let out = b"bye\n";
-    let err = b"panic: runtime error: integer divide by zero (goroutine 1, line 9)\n";
-    expect(&rt, file, Status::Crashed, out, err)
+    let file = "\
+        package main\n\
+        import \"fmt\"\n\
+        func bye() {\n\
+        \tfmt.Println(\"bye\")\n\
+        }\n\
+        func main() {\n\
+        \tdefer bye()\n\
+        \tx := 0\n\
+        \tfmt.Println(1 / x)\n\
+        }\n";
+    let err = "panic: runtime error: integer divide by zero (goroutine 1, line 9)\n";
+    expect(&rt, file, Status::Crashed, "bye\n", err)
 }
 
 #[test]
 fn a_negative_group_counter_panics(rt: HostRuntime) -> Result<(), Fail> {
-    let file =
-        b"package main\nimport \"sync\"\nfunc main() {\n\twg := &sync.WaitGroup{}\n\twg.Done()\n}\n";
-    let out = b"";
-    let err = b"panic: sync: negative WaitGroup counter (goroutine 1, line 5)\n";
-    expect(&rt, file, Status::Crashed, out, err)
+    let file = "\
+        package main\n\
+        import \"sync\"\n\
+        func main() {\n\
+        \twg := &sync.WaitGroup{}\n\
+        \twg.Done()\n\
+        }\n";
+    let err = "panic: sync: negative WaitGroup counter (goroutine 1, line 5)\n";
+    expect(&rt, file, Status::Crashed, "", err)
 }
 
 #[test]
-fn reader_behind_a_lost_writer(rt: HostRuntime) -> Result<(), Fail> {
-    let file =
-        b"package main\nimport (\n\t\"fmt\"\n\t\"runtime\"\n\t\"sync\"\n)\nfunc reader(rw *sync.RWMutex) {\n\trw.RLock()\n\trw.RUnlock()\n}\nfunc start() {\n\trw := &sync.RWMutex{}\n\trw.Lock()\n\tgo reader(rw)\n}\nfunc main() {\n\tstart()\n\tfor i := 0; i < 50; i++ {\n\t}\n\truntime.GC()\n\tfmt.Println(\"on\")\n}\n";
-    let out = b"on\n";
-    let err =
-        b"collection 1: marked 0, reported 1, kept 1, reclaimed 0, objects 1\ngoroutine 2: sync.RWMutex.RLock at line 8, started at line 14\n";
-    expect(&rt, file, Status::Found, out, err)
+fn reader_after_a_lost_writer(rt: HostRuntime) -> Result<(), Fail> {
+    let file = "\
+        package main\n\
+        import (\n\
+        \t\"fmt\"\n\
+        \t\"runtime\"\n\
+        \t\"sync\"\n\
+        )\n\
+        func reader(rw *sync.RWMutex) {\n\
+        \trw.RLock()\n\
+        \trw.RUnlock()\n\
+        }\n\
+        func start() {\n\
+        \trw := &sync.RWMutex{}\n\
+        \trw.Lock()\n\
+        \tgo reader(rw)\n\
+        }\n\
+        func main() {\n\
+        \tstart()\n\
+        \tfor i := 0; i < 50; i++ {\n\
+        \t}\n\
+        \truntime.GC()\n\
+        \tfmt.Println(\"on\")\n\
+        }\n";
+    let err = r"collection 1: marked 0, reported 1, kept 1, reclaimed 0, objects 1
+goroutine 2: sync.RWMutex.RLock at line 8, started at line 14
+";
+    expect(&rt, file, Status::Found, "on\n", err)
 }
 
 #[test]
 fn runlock_of_an_unlocked_rwmutex(rt: HostRuntime) -> Result<(), Fail> {
-    let file =
-        b"package main\nimport \"sync\"\nfunc main() {\n\trw := new(sync.RWMutex)\n\trw.RUnlock()\n}\n";
-    let out = b"";
-    let err = b"fatal error: sync: RUnlock of unlocked RWMutex (goroutine 1, line 5)\n";
-    expect(&rt, file, Status::Crashed, out, err)
+    let file = "\
+        package main\n\
+        import \"sync\"\n\
+        func main() {\n\
+        \trw := new(sync.RWMutex)\n\
+        \trw.RUnlock()\n\
+        }\n";
+    let err = "fatal error: sync: RUnlock of unlocked RWMutex (goroutine 1, line 5)\n";
+    expect(&rt, file, Status::Crashed, "", err)
 }
 
 #[test]
 fn select_with_one_live_channel(rt: HostRuntime) -> Result<(), Fail> {
-    let file =
-        b"package main\nimport \"runtime\"\nvar g = make(chan int)\nfunc pick(c chan int) {\n\tselect {\n\tcase <-g:\n\tcase v := <-c:\n\t\tg <- v\n\t}\n}\nfunc main() {\n\tgo pick(make(chan int))\n\tfor i := 0; i < 50; i++ {\n\t}\n\truntime.GC()\n}\n";
-    let out = b"";
-    let err = b"collection 1: marked 2, reported 0, kept 0, reclaimed 0, objects 2\n";
-    expect(&rt, file, Status::Clean, out, err)
+    let file = "\
+        package main\n\
+        import \"runtime\"\n\
+        var g = make(chan int)\n\
+        func pick(c chan int) {\n\
+        \tselect {\n\
+        \tcase <-g:\n\
+        \tcase v := <-c:\n\
+        \t\tg <- v\n\
+        \t}\n\
+        }\n\
+        func main() {\n\
+        \tgo pick(make(chan int))\n\
+        \tfor i := 0; i < 50; i++ {\n\
+        \t}\n\
+        \truntime.GC()\n\
+        }\n";
+    let err = "collection 1: marked 2, reported 0, kept 0, reclaimed 0, objects 2\n";
+    expect(&rt, file, Status::Clean, "", err)
 }
 
 #[test]
 fn two_rounds_of_root_growth(rt: HostRuntime) -> Result<(), Fail> {
-    let file =
-        b"package main\nimport \"runtime\"\nvar c1 = make(chan int)\nfunc two(c2 chan int) {\n\t<-c1\n\tc2 <- 1\n}\nfunc three(c2 chan int) {\n\t<-c2\n}\nfunc start() {\n\tc2 := make(chan int)\n\tgo two(c2)\n\tgo three(c2)\n}\nfunc main() {\n\tstart()\n\tfor i := 0; i < 50; i++ {\n\t}\n\truntime.GC()\n}\n";
-    let out = b"";
-    let err = b"collection 1: marked 2, reported 0, kept 0, reclaimed 0, objects 2\n";
-    expect(&rt, file, Status::Clean, out, err)
+    let file = "\
+        package main\n\
+        import \"runtime\"\n\
+        var c1 = make(chan int)\n\
+        func two(c2 chan int) {\n\
+        \t<-c1\n\
+        \tc2 <- 1\n\
+        }\n\
+        func three(c2 chan int) {\n\
+        \t<-c2\n\
+        }\n\
+        func start() {\n\
+        \tc2 := make(chan int)\n\
+        \tgo two(c2)\n\
+        \tgo three(c2)\n\
+        }\n\
+        func main() {\n\
+        \tstart()\n\
+        \tfor i := 0; i < 50; i++ {\n\
+        \t}\n\
+        \truntime.GC()\n\
+        }\n";
+    let err = "collection 1: marked 2, reported 0, kept 0, reclaimed 0, objects 2\n";
+    expect(&rt, file, Status::Clean, "", err)
 }
 
 #[test]
 fn unlock_of_an_unlocked_mutex(rt: HostRuntime) -> Result<(), Fail> {
-    let file =
-        b"package main\nimport \"sync\"\nfunc main() {\n\tmu := new(sync.Mutex)\n\tmu.Unlock()\n}\n";
-    let out = b"";
-    let err = b"fatal error: sync: unlock of unlocked mutex (goroutine 1, line 5)\n";
-    expect(&rt, file, Status::Crashed, out, err)
+    let file = "\
+        package main\n\
+        import \"sync\"\n\
+        func main() {\n\
+        \tmu := new(sync.Mutex)\n\
+        \tmu.Unlock()\n\
+        }\n";
+    let err = "fatal error: sync: unlock of unlocked mutex (goroutine 1, line 5)\n";
+    expect(&rt, file, Status::Crashed, "", err)
 }
 
 #[test]

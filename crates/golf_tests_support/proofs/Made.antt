@@ -1,4 +1,6 @@
 -- A graph under construction gains a node.
+-- For: `node`, src/making.rt; `IsInMaking`, specs/Making.antt
+-- By: induction over the list of objects of the graph
 use Rattle.std.proofs.Common.{◌≡◌, ℕ, ◌+◌, ◌<◌, ◌≤◌, List, [], ◌∷◌, ◌++◌, length, Bool, subst, sym, arith}
 use Rattle.std.proofs.lemmas.List.{length_push}
 use Rattle.golf_theory.specs.Membership.{Every}

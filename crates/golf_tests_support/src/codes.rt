@@ -5,7 +5,7 @@ ghost use Rattle.golf_data.specs.Places.{HasPlaces};
 ghost use Rattle.golf_tests_support.specs.Ready.{IsReady};
 
 use golf_base::{List, Memory};
-use golf_data::{Code, Function, Instr, CodeLine, Value};
+use golf_data::{Code, CodeLine, Function, Instr, Value};
 use golf_live::live;
 use std::alloc::Global;
 

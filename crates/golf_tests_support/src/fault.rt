@@ -8,7 +8,7 @@ use std::io;
 /// Why a measurement came to nothing.
 #[derive(Debug, Drop)]
 pub enum BenchFault {
-    /// Memory was wanting.
+    /// Out of memory.
     Memory,
     /// The graph that was to be measured cannot be made.
     Graph(GraphFault),

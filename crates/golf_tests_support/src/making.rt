@@ -11,7 +11,7 @@ use std::marker::Model;
 /// Why a graph cannot be made.
 #[derive(Debug, Drop)]
 pub enum GraphFault {
-    /// Memory was wanting.
+    /// Out of memory.
     Memory,
     /// A node of this number is named, and there is none.
     NoSuchNode(u32),
@@ -115,7 +115,7 @@ impl GraphMaker {
         Ok(GraphMaker { count, parts })
     }
 
-    /// The graph, where it has as many nodes as were announced.
+    /// The graph, if it has as many nodes as were announced.
     pub fn finish(self) -> Result<Graph, GraphFault>
         ensures { IfOk result (λ graph. graph ≡ self) }
     {

@@ -11,7 +11,7 @@ impl Numbers {
         Numbers { state: seed }
     }
 
-    /// The next number, below the bound, or 0 where the bound is 0.
+    /// The next number, below the bound, or 0 if the bound is 0.
     pub fn below(&mut self, bound: u32) -> u32 {
         self.state = self
             .state

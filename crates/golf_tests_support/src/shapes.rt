@@ -35,7 +35,7 @@ pub fn shaped(alloc: Global, shape: Shape, nodes: u32) -> Result<Graph, GraphFau
     }
 }
 
-// A root of the graph, where it has a node.
+// A root of the graph, if it has a node.
 fn rooted(maker: GraphMaker, nodes: u32, root: u32) -> Result<Graph, GraphFault> {
     if nodes == 0 {
         return maker.finish();
@@ -130,7 +130,7 @@ fn shuffled(alloc: Global, nodes: u32) -> Result<Graph, GraphFault> {
     }
 }
 
-// The next node, where there is one, and so many nodes that look random.
+// The next node, if there is one, and so many nodes that look random.
 fn threads(
     alloc: Global,
     next: Option<u32>,

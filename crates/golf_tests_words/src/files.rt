@@ -4,11 +4,76 @@ use golf_base::List;
 use golf_command_sample::{Summary, sample_file, summary_line};
 use std::test::Fail;
 
-const ONE: &str =
-    "package main\n\nimport \"runtime\"\n\ntype Node struct {\n\tc chan int\n\tnext *Node\n}\n\nvar root *Node\n\nfunc wait(c chan int) {\n\t<-c\n}\n\nfunc part1(n int) {\n\tc := make(chan int)\n\tgo wait(c)\n\tif n%2 == 0 {\n\t\troot = &Node{c: c, next: root}\n\t}\n}\n\nfunc main() {\n\tpart1(1)\n\tfor i := 0; i < 1; i++ {\n\t}\n\truntime.GC()\n}\n";
+const ONE: &str = "\
+    package main\n\
+    \n\
+    import \"runtime\"\n\
+    \n\
+    type Node struct {\n\
+    \tc chan int\n\
+    \tnext *Node\n\
+    }\n\
+    \n\
+    var root *Node\n\
+    \n\
+    func wait(c chan int) {\n\
+    \t<-c\n\
+    }\n\
+    \n\
+    func part1(n int) {\n\
+    \tc := make(chan int)\n\
+    \tgo wait(c)\n\
+    \tif n%2 == 0 {\n\
+    \t\troot = &Node{c: c, next: root}\n\
+    \t}\n\
+    }\n\
+    \n\
+    func main() {\n\
+    \tpart1(1)\n\
+    \tfor i := 0; i < 1; i++ {\n\
+    \t}\n\
+    \truntime.GC()\n\
+    }\n";
 
-const TWO: &str =
-    "package main\n\nimport \"runtime\"\n\ntype Node struct {\n\tc chan int\n\tnext *Node\n}\n\nvar root *Node\n\nfunc wait(c chan int) {\n\t<-c\n}\n\nfunc part1(n int) {\n\tc := make(chan int)\n\tgo wait(c)\n\tif n%2 == 0 {\n\t\troot = &Node{c: c, next: root}\n\t}\n}\n\nfunc part2(n int) {\n\tc := make(chan int)\n\tgo wait(c)\n\tif n%2 == 0 {\n\t\troot = &Node{c: c, next: root}\n\t}\n}\n\nfunc main() {\n\tpart1(1)\n\tpart2(2)\n\tfor i := 0; i < 2; i++ {\n\t}\n\truntime.GC()\n}\n";
+const TWO: &str = "\
+    package main\n\
+    \n\
+    import \"runtime\"\n\
+    \n\
+    type Node struct {\n\
+    \tc chan int\n\
+    \tnext *Node\n\
+    }\n\
+    \n\
+    var root *Node\n\
+    \n\
+    func wait(c chan int) {\n\
+    \t<-c\n\
+    }\n\
+    \n\
+    func part1(n int) {\n\
+    \tc := make(chan int)\n\
+    \tgo wait(c)\n\
+    \tif n%2 == 0 {\n\
+    \t\troot = &Node{c: c, next: root}\n\
+    \t}\n\
+    }\n\
+    \n\
+    func part2(n int) {\n\
+    \tc := make(chan int)\n\
+    \tgo wait(c)\n\
+    \tif n%2 == 0 {\n\
+    \t\troot = &Node{c: c, next: root}\n\
+    \t}\n\
+    }\n\
+    \n\
+    func main() {\n\
+    \tpart1(1)\n\
+    \tpart2(2)\n\
+    \tfor i := 0; i < 2; i++ {\n\
+    \t}\n\
+    \truntime.GC()\n\
+    }\n";
 
 fn newlines(text: &[u8]) -> usize {
     text.iter().filter(|byte| **byte == 10).count()

@@ -1,7 +1,7 @@
 //! Rows of words that stand for a line. Between two words of a row is one `|`.
 
-use golf_run_schedules::{RunOptions, Schedule};
 use golf_command_words::{CommandLine, parse};
+use golf_run_schedules::{RunOptions, Schedule};
 use std::alloc::Global;
 use std::process::Abort;
 use std::test::Fail;
@@ -47,7 +47,7 @@ fn run_alone_rotates_a_million_turns_with_one_marker(rt: HostRuntime) -> Result<
 }
 
 #[test]
-fn each_option_takes_its_value_from_the_next_word_or_behind_an_equals_sign(
+fn each_option_takes_its_value_from_the_next_word_or_after_an_equals_sign(
     rt: HostRuntime,
 ) -> Result<(), Fail> {
     let rows = [

@@ -6,7 +6,7 @@ use std::alloc::Global;
 use std::process::Abort;
 use std::test::Fail;
 
-// Each of these ends, behind this front, is a row that stands for no line.
+// Each of these ends, after this prefix, is a row that stands for no line.
 fn refuses(rt: &impl Abort, alloc: Global, front: &str, ends: &[&str]) -> Result<(), Fail> {
     for end in ends {
         let row = format!(in alloc; "{front}{end}")?;

@@ -55,7 +55,7 @@ fn choices_end_a_run_before_its_turns(rt: HostRuntime) -> Result<(), Fail> {
 }
 
 #[test]
-fn a_collection_stands_behind_each_second_turn(rt: HostRuntime) {
+fn a_collection_stands_after_each_second_turn(rt: HostRuntime) {
     let wanted = [
         Event::Turn(0),
         Event::Turn(1),
@@ -69,7 +69,7 @@ fn a_collection_stands_behind_each_second_turn(rt: HostRuntime) {
 }
 
 #[test]
-fn a_collection_may_stand_behind_each_turn(rt: HostRuntime) {
+fn a_collection_may_stand_after_each_turn(rt: HostRuntime) {
     let wanted = [
         Event::Turn(0),
         Event::Collect,

@@ -26,8 +26,19 @@ const WAITS: [WaitKind; 11] = [
     WaitKind::Condition,
 ];
 
-const REPORT: &[u8] =
-    b"collection 7: marked 1, reported 11, kept 12, reclaimed 13, objects 14\ngoroutine 2: chan receive at line 3, started at line 4\ngoroutine 2: chan receive (nil chan) at line 3, started at line 4\ngoroutine 2: chan send at line 3, started at line 4\ngoroutine 2: chan send (nil chan) at line 3, started at line 4\ngoroutine 2: select at line 3, started at line 4\ngoroutine 2: select (no cases) at line 3, started at line 4\ngoroutine 2: sync.Mutex.Lock at line 3, started at line 4\ngoroutine 2: sync.WaitGroup.Wait at line 3, started at line 4\ngoroutine 2: sync.RWMutex.RLock at line 3, started at line 4\ngoroutine 2: sync.RWMutex.Lock at line 3, started at line 4\ngoroutine 2: sync.Cond.Wait at line 3, started at line 4\n";
+const REPORT: &str = r"collection 7: marked 1, reported 11, kept 12, reclaimed 13, objects 14
+goroutine 2: chan receive at line 3, started at line 4
+goroutine 2: chan receive (nil chan) at line 3, started at line 4
+goroutine 2: chan send at line 3, started at line 4
+goroutine 2: chan send (nil chan) at line 3, started at line 4
+goroutine 2: select at line 3, started at line 4
+goroutine 2: select (no cases) at line 3, started at line 4
+goroutine 2: sync.Mutex.Lock at line 3, started at line 4
+goroutine 2: sync.WaitGroup.Wait at line 3, started at line 4
+goroutine 2: sync.RWMutex.RLock at line 3, started at line 4
+goroutine 2: sync.RWMutex.Lock at line 3, started at line 4
+goroutine 2: sync.Cond.Wait at line 3, started at line 4
+";
 
 // A report of a goroutine for each way of waiting.
 fn report_is_written_so(rt: &impl Abort, alloc: Global) -> Result<(), Fail> {
@@ -53,73 +64,73 @@ fn report_is_written_so(rt: &impl Abort, alloc: Global) -> Result<(), Fail> {
 }
 
 // Each panic and each fatal error of goroutine 3 on line 5.
-const FAULTS: [(PanicKind, &[u8]); 16] = [
-    (PanicKind::Custom(0), b"panic: lost (goroutine 3, line 5)\n"),
+const FAULTS: [(PanicKind, &str); 16] = [
+    (PanicKind::Custom(0), "panic: lost (goroutine 3, line 5)\n"),
     (
         PanicKind::NilPointer,
-        b"panic: runtime error: invalid memory address or nil pointer dereference (goroutine 3, line 5)\n",
+        "panic: runtime error: invalid memory address or nil pointer dereference (goroutine 3, line 5)\n",
     ),
     (
         PanicKind::Index { at: -1, length: 2 },
-        b"panic: runtime error: index out of range [-1] with length 2 (goroutine 3, line 5)\n",
+        "panic: runtime error: index out of range [-1] with length 2 (goroutine 3, line 5)\n",
     ),
     (
         PanicKind::DivideByZero,
-        b"panic: runtime error: integer divide by zero (goroutine 3, line 5)\n",
+        "panic: runtime error: integer divide by zero (goroutine 3, line 5)\n",
     ),
     (
         PanicKind::SliceSize,
-        b"panic: runtime error: makeslice: len out of range (goroutine 3, line 5)\n",
+        "panic: runtime error: makeslice: len out of range (goroutine 3, line 5)\n",
     ),
     (
         PanicKind::ChanSize,
-        b"panic: makechan: size out of range (goroutine 3, line 5)\n",
+        "panic: makechan: size out of range (goroutine 3, line 5)\n",
     ),
     (
         PanicKind::SendClosed,
-        b"panic: send on closed channel (goroutine 3, line 5)\n",
+        "panic: send on closed channel (goroutine 3, line 5)\n",
     ),
     (
         PanicKind::CloseClosed,
-        b"panic: close of closed channel (goroutine 3, line 5)\n",
+        "panic: close of closed channel (goroutine 3, line 5)\n",
     ),
     (
         PanicKind::CloseNil,
-        b"panic: close of nil channel (goroutine 3, line 5)\n",
+        "panic: close of nil channel (goroutine 3, line 5)\n",
     ),
     (
         PanicKind::NegativeGroup,
-        b"panic: sync: negative WaitGroup counter (goroutine 3, line 5)\n",
+        "panic: sync: negative WaitGroup counter (goroutine 3, line 5)\n",
     ),
     (
         PanicKind::UnlockUnlocked,
-        b"fatal error: sync: unlock of unlocked mutex (goroutine 3, line 5)\n",
+        "fatal error: sync: unlock of unlocked mutex (goroutine 3, line 5)\n",
     ),
     (
         PanicKind::UnlockUnlockedRw,
-        b"fatal error: sync: Unlock of unlocked RWMutex (goroutine 3, line 5)\n",
+        "fatal error: sync: Unlock of unlocked RWMutex (goroutine 3, line 5)\n",
     ),
     (
         PanicKind::RUnlockUnlocked,
-        b"fatal error: sync: RUnlock of unlocked RWMutex (goroutine 3, line 5)\n",
+        "fatal error: sync: RUnlock of unlocked RWMutex (goroutine 3, line 5)\n",
     ),
     (
         PanicKind::ReaderLimit,
-        b"fatal error: sync: too many readers (goroutine 3, line 5)\n",
+        "fatal error: sync: too many readers (goroutine 3, line 5)\n",
     ),
     (
         PanicKind::FinalizerSet,
-        b"fatal error: runtime.SetFinalizer: finalizer already set (goroutine 3, line 5)\n",
+        "fatal error: runtime.SetFinalizer: finalizer already set (goroutine 3, line 5)\n",
     ),
     (
         PanicKind::StackOverflow,
-        b"fatal error: stack overflow (goroutine 3, line 5)\n",
+        "fatal error: stack overflow (goroutine 3, line 5)\n",
     ),
 ];
 
 // A text is this one.
-fn is_written_so(rt: &impl Abort, text: &List<u8>, wanted: &[u8]) {
-    assert_eq!(rt; text.as_slice(), wanted);
+fn is_written_so(rt: &impl Abort, text: &List<u8>, wanted: &str) {
+    assert_eq!(rt; text.as_slice(), wanted.as_bytes());
 }
 
 fn faults_are_written_so(rt: &impl Abort, alloc: Global) -> Result<(), Fail> {
@@ -137,11 +148,11 @@ fn faults_are_written_so(rt: &impl Abort, alloc: Global) -> Result<(), Fail> {
 }
 
 fn ends_are_written_so(rt: &impl Abort, alloc: Global) -> Result<(), Fail> {
-    is_written_so(rt, &ending_line(alloc, &[], Ending::Returned)?, b"");
+    is_written_so(rt, &ending_line(alloc, &[], Ending::Returned)?, "");
     is_written_so(
         rt,
         &ending_line(alloc, &[], Ending::Asleep)?,
-        b"fatal error: all goroutines are asleep - deadlock!\n",
+        "fatal error: all goroutines are asleep - deadlock!\n",
     );
     Ok(())
 }
@@ -150,40 +161,40 @@ fn lines_with_numbers_are_written_so(rt: &impl Abort, alloc: Global) -> Result<(
     is_written_so(
         rt,
         &stopped_line(alloc, 1_000_000)?,
-        b"stopped after 1000000 turns\n",
+        "stopped after 1000000 turns\n",
     );
     is_written_so(
         rt,
         &lexical_line(alloc, 3, 36)?,
-        b"refused: line 3: byte 36\n",
+        "refused: line 3: byte 36\n",
     );
-    is_written_so(rt, &syntax_line(alloc, 2)?, b"refused: line 2: syntax\n");
-    is_written_so(rt, &rule_line(alloc, 3, 24)?, b"refused: line 3: rule 24\n");
-    is_written_so(
-        rt,
-        &meaning_line(alloc, 5)?,
-        b"meaning: 5 functions agree\n",
-    );
+    is_written_so(rt, &syntax_line(alloc, 2)?, "refused: line 2: syntax\n");
+    is_written_so(rt, &rule_line(alloc, 3, 24)?, "refused: line 3: rule 24\n");
+    is_written_so(rt, &meaning_line(alloc, 5)?, "meaning: 5 functions agree\n");
     is_written_so(
         rt,
         &certificate_line(alloc, 3, 14)?,
-        b"certificate 3: 14 places\n",
+        "certificate 3: 14 places\n",
     );
     Ok(())
 }
 
 fn fixed_lines_are_written_so(rt: &impl Abort) {
-    let rows: [(&[u8], &[u8]); 4] = [
+    let rows: [(&[u8], &str); 4] = [
         (
             USAGE.as_slice(),
-            b"usage: golf run [--schedule S] [--turns N] [--every N] [--markers N] [--recover] [--why]\n       golf run --threads N\n       golf generate N\n       golf meaning\n",
+            r"usage: golf run [--schedule S] [--turns N] [--every N] [--markers N] [--recover] [--why]
+       golf run --threads N
+       golf generate N
+       golf meaning
+",
         ),
-        (READ_FAULT.as_slice(), b"read fault\n"),
-        (TOO_LONG.as_slice(), b"refused: more than 1048576 bytes\n"),
-        (NO_MEMORY.as_slice(), b"out of memory\n"),
+        (READ_FAULT.as_slice(), "read fault\n"),
+        (TOO_LONG.as_slice(), "refused: more than 1048576 bytes\n"),
+        (NO_MEMORY.as_slice(), "out of memory\n"),
     ];
     for (text, wanted) in rows {
-        assert_eq!(rt; text, wanted);
+        assert_eq!(rt; text, wanted.as_bytes());
     }
     assert!(rt; LIMIT == 1_048_576);
 }
@@ -204,7 +215,7 @@ fn reasons_are_written_so(rt: &impl Abort, alloc: Global) -> Result<(), Fail> {
     is_written_so(
         rt,
         &reached_line(alloc, &reached)?,
-        b"goroutine 9: select at line 8, reached by object 1, goroutine 2, object 30\n",
+        "goroutine 9: select at line 8, reached by object 1, goroutine 2, object 30\n",
     );
     Ok(())
 }

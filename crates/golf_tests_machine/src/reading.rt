@@ -1,0 +1,194 @@
+//! Instructions of a text.
+
+use golf_base::{List, Memory};
+use golf_data::{CaseKind, Instr, SelectCase, Value};
+use std::alloc::Global;
+use std::test::Fail;
+
+// An instruction of values and variables by its name.
+fn of_values(name: &str) -> Option<Instr> {
+    let found = match name {
+        "Unit" => Instr::Unit,
+        "Nil" => Instr::Nil,
+        "Drop" => Instr::Drop,
+        "Dup" => Instr::Dup,
+        "Dup2" => Instr::Dup2,
+        "Neg" => Instr::Neg,
+        "Not" => Instr::Not,
+        "Add" => Instr::Add,
+        "Sub" => Instr::Sub,
+        "Mul" => Instr::Mul,
+        "Div" => Instr::Div,
+        "Rem" => Instr::Rem,
+        "Eq" => Instr::Eq,
+        "Less" => Instr::Less,
+        "AtMost" => Instr::AtMost,
+        _ => return None,
+    };
+    Some(found)
+}
+
+// An instruction of objects and calls by its name.
+fn of_objects(name: &str) -> Option<Instr> {
+    let found = match name {
+        "Index" => Instr::Index,
+        "SetIndex" => Instr::SetIndex,
+        "Len" => Instr::Len,
+        "Send" => Instr::Send,
+        "Receive" => Instr::Receive,
+        "ReceiveOk" => Instr::ReceiveOk,
+        "Close" => Instr::Close,
+        "Return" => Instr::Return,
+        "ReturnValue" => Instr::ReturnValue,
+        "Collect" => Instr::Collect,
+        "ClearFinalizer" => Instr::ClearFinalizer,
+        "Panic" => Instr::Panic,
+        _ => return None,
+    };
+    Some(found)
+}
+
+// An instruction of mutexes, groups and conditions by its name.
+fn of_locks(name: &str) -> Option<Instr> {
+    let found = match name {
+        "NewMutex" => Instr::NewMutex,
+        "NewGroup" => Instr::NewGroup,
+        "NewRw" => Instr::NewRw,
+        "NewCond" => Instr::NewCond,
+        "Lock" => Instr::Lock,
+        "Unlock" => Instr::Unlock,
+        "GroupAdd" => Instr::GroupAdd,
+        "GroupWait" => Instr::GroupWait,
+        "RwLock" => Instr::RwLock,
+        "RwUnlock" => Instr::RwUnlock,
+        "ReadLock" => Instr::ReadLock,
+        "ReadUnlock" => Instr::ReadUnlock,
+        "CondMutex" => Instr::CondMutex,
+        "CondWait" => Instr::CondWait,
+        "CondSignal" => Instr::CondSignal,
+        "CondBroadcast" => Instr::CondBroadcast,
+        _ => return None,
+    };
+    Some(found)
+}
+
+// An instruction with a number.
+fn with_number(name: &str, number: u32) -> Option<Instr> {
+    let found = match name {
+        "Text" => Instr::Text(number),
+        "Load" => Instr::Load(number),
+        "Store" => Instr::Store(number),
+        "LoadGlobal" => Instr::LoadGlobal(number),
+        "StoreGlobal" => Instr::StoreGlobal(number),
+        "Jump" => Instr::Jump(number),
+        "JumpIfNot" => Instr::JumpIfNot(number),
+        "NewStruct" => Instr::NewStruct(number),
+        "Field" => Instr::Field(number),
+        "SetField" => Instr::SetField(number),
+        "Print" => Instr::Print(number),
+        "SetFinalizer" => Instr::SetFinalizer(number),
+        _ => return None,
+    };
+    Some(found)
+}
+
+// An instruction with a function and its number of arguments.
+fn with_function(name: &str, function: u32, count: u32) -> Option<Instr> {
+    match name {
+        "Call" => Some(Instr::Call(function, count)),
+        "Go" => Some(Instr::Go(function, count)),
+        "Defer" => Some(Instr::Defer(function, count)),
+        _ => None,
+    }
+}
+
+fn kind_of(name: &str) -> Option<CaseKind> {
+    match name {
+        "Send" => Some(CaseKind::Send),
+        "Take" => Some(CaseKind::Take),
+        "TakeOk" => Some(CaseKind::TakeOk),
+        _ => None,
+    }
+}
+
+fn number(text: &str) -> Option<u32> {
+    text.parse::<u32>().ok()
+}
+
+// The kind and the target of a case.
+fn case(text: &str) -> Option<SelectCase> {
+    let (name, target) = text.split_once(' ')?;
+    Some(SelectCase {
+        kind: kind_of(name)?,
+        target: number(target)?,
+    })
+}
+
+// A `select` by its cases, each a kind and a target, of which the last may be `default`.
+fn select(alloc: Global, inside: &str) -> Result<Option<Instr>, Memory> {
+    let mut cases = List::new(alloc);
+    let mut default = None;
+    for text in inside.split(", ") {
+        match (case(text), text.strip_prefix("default ")) {
+            (Some(case), _) => cases.push(case)?,
+            (None, Some(target)) => default = number(target),
+            (None, None) => return Ok(None),
+        }
+    }
+    Ok(Some(Instr::Select(cases, default)))
+}
+
+// An instruction with numbers or an integer.
+fn with_numbers(name: &str, inside: &str) -> Option<Instr> {
+    match (name, inside.split_once(", ")) {
+        ("Int", _) => Some(Instr::Int(inside.parse::<i64>().ok()?)),
+        (_, Some((function, count))) => with_function(name, number(function)?, number(count)?),
+        (_, None) => with_number(name, number(inside)?),
+    }
+}
+
+// An instruction by its name and what stands in brackets after it.
+fn with(alloc: Global, name: &str, inside: &str) -> Result<Option<Instr>, Memory> {
+    match (name, inside) {
+        ("Select", _) => select(alloc, inside),
+        ("NewSlice", "Int(0)") => Ok(Some(Instr::NewSlice(Value::Int(0)))),
+        ("NewChan", "Int(0)") => Ok(Some(Instr::NewChan(Value::Int(0)))),
+        ("Bool", "true") => Ok(Some(Instr::Bool(true))),
+        _ => Ok(with_numbers(name, inside)),
+    }
+}
+
+// An instruction by its name alone.
+fn alone(name: &str) -> Option<Instr> {
+    if let Some(found) = of_values(name) {
+        return Some(found);
+    }
+    if let Some(found) = of_objects(name) {
+        return Some(found);
+    }
+    of_locks(name)
+}
+
+// The instruction that a word is, if any.
+fn instr(alloc: Global, word: &str) -> Result<Option<Instr>, Memory> {
+    match word.split_once('(') {
+        None => Ok(alone(word)),
+        Some((name, rest)) => with(alloc, name, rest.strip_suffix(')').unwrap_or("")),
+    }
+}
+
+/// The instructions of a text, written as `Debug` writes them with a semicolon between; the cases of a
+/// `select` are written as `Select(Take 6, Send 8, default 9)`.
+pub fn instrs(alloc: Global, text: &str) -> Result<Vec<Instr>, Fail> {
+    let mut found = Vec::new(alloc);
+    if text.is_empty() {
+        return Ok(found);
+    }
+    for word in text.split(';') {
+        match instr(alloc, word.trim())? {
+            Some(instr) => found.push(instr)?,
+            None => return Err(Fail::new("no instruction")),
+        }
+    }
+    Ok(found)
+}
