@@ -1,4 +1,6 @@
--- What a collection of a state needs.
+-- What a collection needs: if nobody was removed, the removed are gone; and there are as many flags as goroutines.
+-- For: `free`, `time_whole`, src/collections.rt
+-- By: equations of lists and their lengths; no induction
 use Rattle.std.proofs.Common.{◌≡◌, ℕ, Bool, List, [], length, map, sym, ap, subst, ◌∙◌}
 use Rattle.std.proofs.lemmas.List.{length-map}
 use Rattle.golf_theory.specs.Maps.{keys}
@@ -10,7 +12,7 @@ use Rattle.golf_model.specs.Reporting.{numbers}
 use Rattle.golf_theory.specs.Membership.{In}
 use Rattle.golf_reclaim.specs.Noting.{AreGone}
 
--- where nobody was removed, those who were are gone
+-- if nobody was removed, those who were are gone
 pub none-removed : (book : Book) (s : State) → book.reclaimed ≡ [] → AreGone book s
 none-removed book s none = λ g there gone. subst (λ gs. In g (numbers gs)) none gone
 

@@ -10,7 +10,7 @@ use golf_base::{GoroutineId, Memory, OpenGate};
 use golf_data::Report;
 use golf_mark::Markers;
 use golf_model::{Graph, Marked};
-use golf_reclaim::{Ledger, CollectOptions, collect, find_gone};
+use golf_reclaim::{CollectOptions, Ledger, collect, find_gone};
 use golf_snapshot::{live_graph, outside, retained_graph};
 use golf_state::State;
 use golf_tests_support::BenchFault;
@@ -78,7 +78,7 @@ pub(crate) fn time_parts<R: Clock + Threads + Sync>(
     let marked = begin.elapsed(rt)?.as_micros();
     let gone = find_gone(alloc, &live, &found, options)?;
     let kept = begin.elapsed(rt)?.as_micros();
-    let all = retained_graph(alloc, state, gone.as_slice())?;
+    let all = retained_graph(alloc, state, live, gone.as_slice())?;
     let left = mark(rt, alloc, &all, options.markers)?;
     let marked_again = begin.elapsed(rt)?.as_micros();
     free(alloc, state, gone.as_slice(), left.flags.as_slice())?;

@@ -63,7 +63,7 @@ fn pairs_code(alloc: Global, pairs: u32) -> Result<Code, Memory> {
     code(alloc, functions, &[Value::Nil], &[Value::Nil, Value::Nil])
 }
 
-// A turn, where the program goes on. It answers whether it did.
+// A turn, if the program goes on. It answers whether it did.
 fn take_turn(alloc: Global, code: &Code, state: &mut State, number: u64) -> Result<bool, Memory>
     requires { Leads code.now state.old }
     ensures { Leads code.now state.new }

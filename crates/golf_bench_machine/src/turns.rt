@@ -1,6 +1,6 @@
 //! A run of turns and the time that it takes.
 
-ghost use Rattle.std.specs.Prelude.{◌≡◌, ◌-◌, ◌^◌};
+ghost use Rattle.std.specs.Prelude.{◌-◌, ◌^◌};
 ghost use Rattle.golf_bench_machine.specs.Countdown.{counted_down};
 
 use crate::codes::{Kind, code_of};

@@ -1,4 +1,6 @@
--- What is reported, one goroutine after another.
+-- The entries that are reported, one goroutine after another.
+-- For: `entries`, src/reported.rt; `entries`, golf_model/specs/Reporting.antt
+-- By: induction over the list of goroutines
 use Rattle.std.proofs.Common.{◌≡◌, ℕ, ◌+◌, ◌<◌, List, [], ◌∷◌, ◌++◌, length, map, take, get_or, refl, sym, ap, ◌∙◌, append_assoc, append-nil}
 use Rattle.std.proofs.lemmas.List.{take_more, map-append}
 use Rattle.golf_theory.specs.Maps.{find}

@@ -1,4 +1,6 @@
 -- Lists of flags, one place after another, and flags that a test gives.
+-- For: `either` and `retained`, src/marking.rt; `unlisted`, src/ledger.rt
+-- By: induction over the list of flags, and over the list of entries
 use Rattle.std.proofs.Common.{◌≡◌, ℕ, zero, suc, ◌+◌, ◌<◌, ◌≤◌, Bool, true, false, ◌||◌, ◌&&◌, cond, List, [], ◌∷◌, ◌++◌, length, map, filter, take, get_or, Some, refl, sym, ap, ◌∙◌, arith, slice_get}
 use Rattle.std.proofs.lemmas.List.{take_all}
 use Rattle.std.proofs.lemmas.List.Sums.{sum_by-cons}
@@ -20,9 +22,6 @@ either-more xs ys i y d b old new l e is so made =
     ∙ sym (either-next xs ys i y d l e) ∙ ap (λ k. either (take k xs) (take k ys)) next
 
 -- ---- all places
-
-pub count-all : (flags : List Bool) (i n : ℕ) → length flags ≤ i → n ≡ count_set (take i flags) → n ≡ count_set flags
-count-all flags i n l e = e ∙ ap count_set (take_all i flags l)
 
 pub either-all : (xs ys : List Bool) (i : ℕ) (all : List Bool) → length xs ≤ i → length ys ≤ i → all ≡ either (take i xs) (take i ys) → all ≡ either xs ys
 either-all xs ys i all l m e = e ∙ ap (λ (z : List Bool). either z (take i ys)) (take_all i xs l) ∙ ap (either xs) (take_all i ys m)

@@ -1,4 +1,6 @@
 -- Who is removed: the sleepers that are neither awake nor kept.
+-- For: `find_dead`, src/marking.rt; `IsUnkept`, specs/Flags.antt
+-- By: cases of the goroutines that are blocked; no induction
 use Rattle.std.proofs.Common.{◌≡◌, ℕ, Bool, true, false, not, ◌||◌, ◌&&◌, List, map, filter, get_or, Some, refl, sym, ap, ◌∙◌, slice_get, ◌==◌}
 use Rattle.std.proofs.lemmas.Bool.{and_parts, and_from, not-true, not_from_false, both_ways, false_from_ne_true}
 use Rattle.std.proofs.lemmas.List.{length-map}

@@ -1,4 +1,6 @@
 -- The numbers of those who stay, as the book grows.
+-- For: `staying_after` and `Ledger::note`, src/ledger.rt; `HasStaying`, specs/Noting.antt
+-- By: cases of the lists in which a number stands; no induction
 use Rattle.std.proofs.Common.{◌≡◌, ℕ, Bool, true, false, not, cond, ◌&&◌, ◌||◌, List, [], ◌++◌, filter, Result, Ok, Err, refl, sym, ap, ◌∙◌}
 use Rattle.std.specs.Prelude.{IfOk, IsOk, is_ok}
 use Rattle.std.specs.List.Sorted.{IsNonDecreasing}
@@ -80,7 +82,7 @@ staying-among staying now then out new gone n first second alike others same =
     shared true a b = refl
     shared false a b = refl
 
--- where a list of goroutines has none who was removed, the numbers that stay tell who of them was reported
+-- if a list of goroutines has none who was removed, the numbers that stay tell who of them was reported
 pub unreported-alike : (reported reclaimed : List GoroutineId) (staying : List ℕ) (goroutines : List GoroutineId) → HasStaying reported reclaimed staying → AreApart (numbers goroutines) (numbers reclaimed)
     → filter (λ g. not (is_in g.0 staying)) goroutines ≡ filter (λ g. not (is_in g.0 (numbers reported))) goroutines
 unreported-alike reported reclaimed staying goroutines has apart =

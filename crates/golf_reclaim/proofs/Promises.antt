@@ -1,4 +1,6 @@
 -- What a collection promises, from what the state after it and its report are.
+-- For: `collect`, src/collection.rt; `LeavesExactly`, specs/Promises.antt
+-- By: putting the laws of the model together; no induction
 use Rattle.std.proofs.Common.{◌≡◌, ℕ, Bool, true, false, not, List, refl, sym, ap, subst, ◌∙◌}
 use Rattle.std.proofs.lemmas.Bool.{not-true, not_from_false, both_ways, false_from_ne_true}
 use Rattle.golf_theory.specs.Maps.{keys}

@@ -1,4 +1,6 @@
 -- The state after a collection, from what was found.
+-- For: `collect`, src/collection.rt; `real_collect`, golf_model/specs/Collecting.antt
+-- By: induction over the list of entries
 use Rattle.std.proofs.Common.{◌≡◌, ℕ, Bool, true, false, not, ◌&&◌, cond, List, [], ◌∷◌, map, filter, ◌⊎◌, inl, inr, refl, sym, ap, subst, ◌∙◌}
 use Rattle.std.proofs.lemmas.Bool.{or_parts, both_ways, cases_Bool, not-false}
 use Rattle.golf_theory.specs.Membership.{In, is_in}
@@ -92,7 +94,7 @@ module _ (s : State) (n : Numbered s) (recover sets : Bool) where
   fewer-reached o h = reach-complete s (sources s []) o
       (Reached-over (λ p. In p (sources s (removed s recover sets))) (RefersTo s) (λ p. In p (sources s [])) (RefersTo s) (λ p. p) fewer-sources (λ q p a. a) o (reach-sound s (sources s (removed s recover sets)) o h))
 
-  -- a finalised object is reached without them where it is reached
+  -- a finalised object is reached without them if it is reached
   finalised-alike : (o : ℕ) → In o (keys s.finalisers) → is_in o (reach s (sources s (removed s recover sets))) ≡ is_in o (reach s (sources s []))
   finalised-alike o f = is_in-same o (reach s (sources s (removed s recover sets))) (reach s (sources s [])) (fewer-reached o)
       (λ h. elim (from-reached o h) [

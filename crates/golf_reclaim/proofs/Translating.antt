@@ -1,4 +1,6 @@
 -- What the marked places of a state's graphs say of the state.
+-- For: `find_dead` and `find_retained`, src/marking.rt
+-- By: induction over the list of blocked goroutines; else the laws of the marked places
 use Rattle.std.proofs.Common.{◌≡◌, ℕ, ◌<◌, Bool, true, false, not, ◌||◌, ◌&&◌, ◌==◌, List, [], ◌∷◌, length, map, filter, get_or, Some, refl, sym, ap, ◌∙◌, subst, slice_get}
 use Rattle.std.proofs.lemmas.Bool.{eqb-true}
 use Rattle.std.proofs.lemmas.List.{length-map}

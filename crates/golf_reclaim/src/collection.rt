@@ -30,12 +30,12 @@ pub struct CollectOptions {
 }
 
 /// Finds what is live, reports the dead goroutines that no collection in the book reported, removes
-/// those that are not kept where it is asked to recover, queues the finalisers of objects that nothing
+/// those that are not kept if it is asked to recover, queues the finalisers of objects that nothing
 /// else reaches, and frees what is left without a reference (package runtime, `SetFinalizer`; profile).
 ///
 /// Each marker passes the gate before each of its turns at what is live; the second marking passes
 /// none. All memory is taken before anything is changed: a call that answers `Memory` leaves state and
-/// book unchanged. The answer is `Memory` too where objects and blocked goroutines together are too
+/// book unchanged. The answer is `Memory` too if objects and blocked goroutines together are too
 /// many for a `u32`.
 pub fn collect<R: Threads + Sync, G: Gate + Sync>(
     rt: &R,
@@ -62,8 +62,9 @@ pub fn collect<R: Threads + Sync, G: Gate + Sync>(
     ensures moves_on { OnOk result (MovesOnAfter options.sets_finalisers state.old state.new) }
 {
     let found = find_dead(rt, alloc, state, options, gate)?;
+    let live = found.live;
     let gone = found.gone.as_slice();
-    let rest = find_retained(rt, alloc, state, gone, options.markers)?;
+    let rest = find_retained(rt, alloc, state, live, gone, options.markers)?;
     let stays = outside(alloc, state.goroutines(), gone)?;
     let new = book.unreported(alloc, found.dead.as_slice())?;
     let reported = entries(alloc, state, new.as_slice())?;

@@ -8,7 +8,7 @@ ghost use Rattle.golf_model.specs.Collecting.{removed, retained};
 ghost use Rattle.golf_model.specs.Presence.{IsWhole};
 ghost use Rattle.golf_model.specs.Reporting.{numbers, retained_objects};
 ghost use Rattle.golf_heap.specs.Objects.{left_out};
-ghost use Rattle.golf_snapshot.specs.Parts.{retained_parts};
+ghost use Rattle.golf_snapshot.specs.Parts.{live_parts, retained_parts};
 ghost use Rattle.golf_mark.specs.Marking.{MarksLeast};
 ghost use Rattle.golf_theory.specs.Membership.{is_in};
 ghost use Rattle.golf_reclaim.specs.Flags.{count_set, either, IsUnkept};
@@ -26,6 +26,8 @@ use std::thread::Threads;
 /// What the marking of the live graph tells.
 #[derive(Drop)]
 pub(crate) struct Found {
+    /// The graph that was marked.
+    pub(crate) live: Graph,
     /// How many objects are live.
     pub(crate) objects: u32,
     /// The dead goroutines, in rising number.
@@ -72,17 +74,19 @@ pub(crate) fn find_dead<R: Threads + Sync, G: Gate + Sync>(
     requires whole { IsWhole state.now }
     requires some { 0 < options.markers }
     requires few { options.markers ≤ 16 }
+    ensures live { IfOk result (λ found. found.live ≡ live_parts state.now) }
     ensures objects { IfOk result (λ found. found.objects ≡ length (live_objects state.now)) }
     ensures dead { IfOk result (λ found. numbers found.dead ≡ dead state.now) }
     ensures gone { IfOk result (λ found. numbers found.gone ≡ removed state.now options.recover options.sets_finalisers) }
     ensures few { IfOk result (λ found. length found.dead < 2 ^ 32) }
 {
-    let graph = live_graph(alloc, state)?;
-    let marked = mark(rt, alloc, &graph, options.markers, gate)?;
-    let objects = count_set(&graph, marked.flags.as_slice());
-    let dead = unflagged(alloc, &graph, marked.awake.as_slice())?;
-    let gone = find_gone(alloc, &graph, &marked, options)?;
+    let live = live_graph(alloc, state)?;
+    let marked = mark(rt, alloc, &live, options.markers, gate)?;
+    let objects = count_set(&live, marked.flags.as_slice());
+    let dead = unflagged(alloc, &live, marked.awake.as_slice())?;
+    let gone = find_gone(alloc, &live, &marked, options)?;
     Ok(Found {
+        live,
         objects,
         dead,
         gone,
@@ -113,9 +117,11 @@ pub(crate) fn find_retained<R: Threads + Sync>(
     rt: &R,
     alloc: Global,
     state: &State,
+    live: Graph,
     gone: &[GoroutineId],
     markers: u32,
 ) -> Result<Rest, Memory>
+    requires live { live ≡ live_parts state.now }
     requires numbered { Numbered state.now }
     requires whole { IsWhole state.now }
     requires some { 0 < markers }
@@ -124,7 +130,7 @@ pub(crate) fn find_retained<R: Threads + Sync>(
     ensures keep { IfOk result (λ rest. rest.keep ≡ map (λ e. is_in e.0 (retained state.now (numbers gone.now))) state.now.objects) }
     ensures objects { IfOk result (λ rest. rest.objects ≡ length (retained_objects state.now (numbers gone.now))) }
 {
-    let graph = retained_graph(alloc, state, gone)?;
+    let graph = retained_graph(alloc, state, live, gone)?;
     let marked = mark(rt, alloc, &graph, markers, &OpenGate)?;
     let keep = retained(alloc, &graph, marked.flags.as_slice())?;
     let objects = count_set(&graph, keep.as_slice());

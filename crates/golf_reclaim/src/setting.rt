@@ -4,7 +4,7 @@ ghost use Rattle.std.specs.Prelude.{◌≡◌};
 ghost use Rattle.golf_theory.specs.Membership.{any_of};
 ghost use Rattle.golf_model.specs.Collecting.{is_setting as is_setting_instr, sets_finalisers as sets_by};
 
-use golf_data::{Code, Function, Instr, CodeLine};
+use golf_data::{Code, CodeLine, Function, Instr};
 
 fn is_setting(line: &CodeLine) -> bool
     ensures { result ≡ is_setting_instr line.now.instr }

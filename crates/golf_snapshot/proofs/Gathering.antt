@@ -1,4 +1,6 @@
 -- What is gathered from a list, one member after the other.
+-- For: `add_values` and `add_frames`, src/references.rt; `ranks`, golf_snapshot/specs/Parts.antt.
+-- By: induction over the list that is gone through.
 use Rattle.std.proofs.Common.{◌≡◌, ℕ, suc, zero, ◌+◌, ◌-◌, ◌<◌, ◌≤◌, List, [], ◌∷◌, ◌++◌, length, take, drop, reverse, get_or, Bool, not, map, filter, refl, sym, ap, ◌∙◌, append_assoc, append-nil, arith}
 use Rattle.std.proofs.lemmas.List.{reverse-append, map-append, drop_all}
 use Rattle.std.proofs.lemmas.List.Elements.{filter-append}

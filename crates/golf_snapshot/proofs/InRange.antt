@@ -1,4 +1,6 @@
 -- The parts of a graph name places that there are.
+-- For: `live_graph` and `retained_graph`, src/graph.rt.
+-- By: induction over the list of objects, and over the list of references.
 use Rattle.std.proofs.Common.{◌≡◌, ℕ, suc, ◌+◌, ◌<◌, Bool, List, [], ◌∷◌, length, map, sym, ap, ◌∙◌, subst, arith}
 use Rattle.std.proofs.lemmas.List.{length-map}
 use Rattle.std.proofs.lemmas.Option.{slice_get_within}
@@ -19,7 +21,7 @@ use Rattle.golf_model.specs.Futures.{Numbered}
 use Rattle.golf_model.specs.declared.graph.GraphParts.{GraphParts}
 use Rattle.golf_model.specs.declared.graph.Sleeper.{Sleeper}
 use Rattle.golf_heap.specs.Objects.{rank}
-use Rattle.golf_snapshot.specs.Parts.{ranks, number_of, row_of, live_roots, sleeping, sleeper_of, parts_of, live_parts, retained_parts}
+use Rattle.golf_snapshot.specs.Parts.{ranks, number_of, row_of, live_roots, sleeping, sleeper_of, parts_of, live_parts}
 use Rattle.golf_snapshot.proofs.LiveSound.{rank-entry, root-live, waited-refs}
 use Rattle.golf_snapshot.proofs.RetainedLaw.{source-present}
 use Rattle.golf_snapshot.proofs.Roots.{sleeping-entry}
@@ -84,7 +86,7 @@ module _ (s : State) (n : Numbered s) (w : IsWhole s) where
       (Every-from (λ (e : ℕ × GoroutineView). AreNodes (live_parts s) (ranks s.objects (goroutine_refs e.1))) (sleeping s)
       (λ e i. nodes-are (live_roots s) those (goroutine_refs e.1) (w.goroutines e.0 e.1 (sleeping-entry s e i).0))))
 
-  pub retained-in_range : (gone : List ℕ) (sleepers : List Sleeper) → length s.objects + length sleepers < 4294967296 → sleepers ≡ [] → IsInRange (retained_parts s gone)
-  retained-in_range gone sleepers few same =
-      in-range (sources s gone) [] (subst (λ (l : List Sleeper). length s.objects + length l < 4294967296) same few)
-      (Every-from (Present s) (sources s gone) (λ o m. source-present s n w gone o m)) tt tt
+  -- the nodes of the sources are nodes of the live graph
+  pub sources-in_range : (gone : List ℕ) → AreNodes (live_parts s) (ranks s.objects (sources s gone))
+  sources-in_range gone =
+      nodes-are (live_roots s) (map (sleeper_of s.objects) (sleeping s)) (sources s gone) (Every-from (Present s) (sources s gone) (λ o m. source-present s n w gone o m))

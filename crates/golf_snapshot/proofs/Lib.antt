@@ -1,5 +1,6 @@
 pub mod Ranking
 pub mod Stepping
+pub mod Staying
 pub mod Members
 pub mod Gathering
 pub mod Roots

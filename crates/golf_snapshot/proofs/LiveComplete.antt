@@ -1,4 +1,6 @@
 -- What is live is in the least closed set of the live graph.
+-- For: `Live`, golf_model/specs/Living.antt; the law `live_graph_law`, src/laws.rt.
+-- By: induction over how a node comes to be live: a root, or made live by a live one.
 use Rattle.std.proofs.Common.{◌≡◌, ℕ, ◌+◌, Bool, true, false, ◌||◌, List, length, Some, refl, sym, subst, ◌∙◌, slice_get, ◌==◌}
 use Rattle.golf_theory.specs.Membership.{In}
 use Rattle.golf_theory.specs.Maps.{Entry, keys}
@@ -37,7 +39,7 @@ both-ways : (b : Bool) → b ≡ true → b ≡ false → ⊥
 both-ways b t f = let e : true ≡ false = sym t ∙ f in cc
 
 module _ (s : State) (n : Numbered s) (w : IsWhole s) where
-  -- where it has a place, that is in the least closed set
+  -- if it has a place, that is in the least closed set
   abbrev pub Shown : Node → Type 0
   Shown (Node.AnObject o) = (x : Object) → Entry s.objects o x → Least (live_parts s) (rank o s.objects)
   Shown (Node.AGoroutine g) = (j : ℕ) (r : GoroutineView) → slice_get (sleeping s) j ≡ Some (g, r) → Least (live_parts s) (length s.objects + j)

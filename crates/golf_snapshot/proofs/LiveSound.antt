@@ -1,4 +1,6 @@
 -- What is in the least closed set of the live graph is live.
+-- For: `Least`, golf_model/specs/Graph.antt; `live_parts`, golf_snapshot/specs/Parts.antt.
+-- By: induction over how a place gets into the least closed set: a root, or justified by one in it.
 use Rattle.std.proofs.Common.{◌≡◌, ℕ, ◌+◌, true, false, ◌||◌, List, [], ◌∷◌, length, Option, Some, None, ◌⊎◌, inl, inr, refl, sym, ap, subst, ◌∙◌, arith, slice_get, ◌==◌}
 use Rattle.std.specs.Prelude.{option_map, unwrap_or}
 use Rattle.std.proofs.lemmas.List.{length-map}

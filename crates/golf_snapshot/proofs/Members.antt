@@ -1,4 +1,6 @@
 -- Numbers in order, and whether one is among them.
+-- For: `in_order` and `is_among`, src/among.rt.
+-- By: induction over the list of goroutines; the rest by the laws of sorting and of binary search.
 use Rattle.std.proofs.Common.{◌≡◌, ℕ, Bool, List, [], ◌∷◌, ◌++◌, get_or, Result, Ok, Err, inl, inr, refl, sym, ap, subst, ◌∙◌, arith, nat_cmp}
 use Rattle.std.specs.Prelude.{is_ok}
 use Rattle.std.specs.List.Sorted.{IsNonDecreasing, IsBinarySearchResult, IsPermutation}

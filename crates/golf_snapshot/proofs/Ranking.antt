@@ -1,4 +1,6 @@
 -- Places of entries in a map whose keys rise, and what stands at a place.
+-- For: `rank`, golf_heap/specs/Objects.antt; `Rises`, golf_theory/specs/Maps.antt.
+-- By: induction over the list of entries.
 use Rattle.std.proofs.Common.{◌≡◌, ℕ, zero, suc, ◌<◌, ◌≤◌, cond, List, [], ◌∷◌, map, Option, Some, None, ◌⊎◌, inl, inr, refl, sym, ap, ◌∙◌, arith, slice_get}
 use Rattle.std.specs.Prelude.{option_map, unwrap_or}
 use Rattle.std.proofs.lemmas.Bool.{lt-ltb, le-ltb}

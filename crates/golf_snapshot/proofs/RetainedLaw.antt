@@ -1,4 +1,6 @@
 -- The least closed set of the retained graph is what its sources reach.
+-- For: `retained_parts`, golf_snapshot/specs/Parts.antt; the law `retained_graph_law`, src/laws.rt.
+-- By: induction over how a place gets into the least closed set, and over how an object is reached.
 use Rattle.std.proofs.Common.{◌≡◌, ℕ, not, List, Some, inl, inr, sym, subst, ◌∙◌, slice_get}
 use Rattle.golf_theory.specs.Membership.{In, is_in}
 use Rattle.golf_theory.specs.Maps.{Entry}
@@ -66,7 +68,7 @@ module _ (s : State) (n : Numbered s) (w : IsWhole s) (gone : List ℕ) where
       (λ q i. ranked-reached (sources s gone) q (λ o m. (source-present o m, Reached-root (λ j. In j (sources s gone)) (RefersTo s) o m)) i)
       (λ q p r j. step-reached q p r j) k h
 
-  -- where it has a place, that is in the least closed set
+  -- if it has a place, that is in the least closed set
   abbrev pub Shows : ℕ → Type 0
   Shows o = (x : Object) → Entry s.objects o x → Closes (rank o s.objects)
 

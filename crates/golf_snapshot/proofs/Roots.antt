@@ -1,4 +1,6 @@
 -- The references of the goroutines that are live at once.
+-- For: `awake_refs` and `sleeping`, golf_snapshot/specs/Parts.antt.
+-- By: induction over the list of goroutines.
 use Rattle.std.proofs.Common.{◌≡◌, ℕ, Bool, true, false, not, List, [], ◌∷◌, Some, inl, inr, refl, sym, subst, slice_get}
 use Rattle.golf_theory.specs.Membership.{In}
 use Rattle.golf_theory.specs.Maps.{Entry}

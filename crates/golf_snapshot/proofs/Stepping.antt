@@ -1,4 +1,6 @@
 -- Lists and maps, one place or one number after another.
+-- For: `add_awake` and `sleepers`, src/goroutines.rt; `numbers` and `children`, src/nodes.rt.
+-- By: induction over the list of entries.
 use Rattle.std.proofs.Common.{◌≡◌, ℕ, zero, suc, ◌+◌, ◌<◌, ◌≤◌, true, false, ◌||◌, cond, List, [], ◌∷◌, ◌++◌, length, map, take, get_or, Option, Some, ◌==◌, refl, sym, ap, ◌∙◌, arith, slice_get, append_assoc, append-nil}
 use Rattle.std.specs.Prelude.{is_some, option_map}
 use Rattle.std.proofs.lemmas.List.{take_more, take_all, map-append, length-map}
@@ -56,6 +58,11 @@ listed-at es gs i d e l =
     read [] i d l = absurd (omega arith)
     read (g ∷ gs) zero d l = refl
     read (g ∷ gs) (suc i) d l = read gs i d (omega arith)
+
+-- who is listed at a place is there
+pub entry-listed : {X : Type 0} (es : List (ℕ × X)) (gs : List GoroutineId) (i : ℕ) (d : GoroutineId) → IsRising es → numbers gs ≡ keys es → i < length gs
+    → (x : X) × (slice_get es i ≡ Some ((get_or gs i d).0, x)) × (find (get_or gs i d).0 es ≡ Some x)
+entry-listed es gs i d r e l = let x = entry-of-key es i (get_or gs i d).0 (listed-at es gs i d e l) in (x.0, x.1, find-at es i (get_or gs i d).0 x.0 r x.1)
 
 -- G gathers from pieces of a map what it gathers from the whole
 module _ {X Y : Type 0} (G : List (ℕ × X) → List Y) (nil : G [] ≡ []) (append : (xs ys : List (ℕ × X)) → G (xs ++ ys) ≡ G xs ++ G ys) where

@@ -18,7 +18,7 @@ IsObject s k o = (x : Object) × (slice_get s.objects k ≡ Some (o, x))
 abbrev pub IsSleeper : State → ℕ → ℕ → Type 0
 IsSleeper s j g = (r : GoroutineView) × (slice_get (sleeping s) j ≡ Some (g, r))
 
--- a node is in the least closed set where its object is live, and a sleeper where its goroutine is
+-- a node is in the least closed set if its object is live, and a sleeper if its goroutine is
 pub record LivesAlike (s : State) : Type 0 where
   pub objects : (k o : ℕ) → IsObject s k o → Least (live_parts s) k ↔ Live s (Node.AnObject o)
   pub goroutines : (j g : ℕ) → IsSleeper s j g → Least (live_parts s) (length s.objects + j) ↔ Live s (Node.AGoroutine g)
@@ -27,6 +27,6 @@ pub record LivesAlike (s : State) : Type 0 where
 abbrev pub LiveGraph : Type 0
 LiveGraph = (s : State) → Numbered s → IsWhole s → LivesAlike s
 
--- a node is in the least closed set where its object is reached
+-- a node is in the least closed set if its object is reached
 abbrev pub RetainedGraph : Type 0
 RetainedGraph = (s : State) (gone : List ℕ) (k o : ℕ) → Numbered s → IsWhole s → IsObject s k o → Least (retained_parts s gone) k ↔ Reach s (sources s gone) o

@@ -74,7 +74,7 @@ pub(crate) fn add_finalised(state: &State, nodes: &mut List<u32>) -> Result<(), 
     Ok(())
 }
 
-// Adds the nodes that the object of this number refers to, where it has a finaliser.
+// Adds the nodes that the object of this number refers to, if it has a finaliser.
 fn add_if_finalised(state: &State, nodes: &mut List<u32>, id: ObjectId) -> Result<(), Memory>
     ensures { OnOk result (nodes.new
         ≡ nodes.old ++ ranks state.now.objects (refs_where (has_finaliser state.now) (entry_at id.0 (find id.0 state.now.objects)))) }
@@ -90,7 +90,7 @@ fn add_if_finalised(state: &State, nodes: &mut List<u32>, id: ObjectId) -> Resul
     }
 }
 
-// Adds the nodes that the object of this number refers to, where it is there.
+// Adds the nodes that the object of this number refers to, if it is there.
 fn add_object_at(heap: &Heap, nodes: &mut List<u32>, id: ObjectId) -> Result<(), Memory>
     ensures { OnOk result (nodes.new ≡ nodes.old ++ ranks heap.now.objects (refs_at (find id.0 heap.now.objects))) }
 {

@@ -11,7 +11,7 @@ use golf_base::{List, Memory};
 use golf_data::{Deferred, Frame, Goroutine, Leaving, Mode, Value, Wait};
 use golf_heap::Heap;
 
-/// Adds the node of a value's object, where it is a reference.
+/// Adds the node of a value's object, if it is a reference.
 pub(crate) fn add_value(heap: &Heap, nodes: &mut List<u32>, value: Value) -> Result<(), Memory>
     ensures { OnOk result (nodes.new ≡ nodes.old ++ ranks heap.now.objects (value_refs value)) }
 {
@@ -106,7 +106,7 @@ pub(crate) fn add_waited(heap: &Heap, nodes: &mut List<u32>, waits: &[Wait]) -> 
     Ok(())
 }
 
-/// What a goroutine waits on, in source order of the cases; nothing where it runs.
+/// What a goroutine waits on, in source order of the cases; nothing if it runs.
 pub(crate) fn waits_of(mode: &Mode) -> &[Wait]
     ensures { result.now ≡ waits_of mode.now }
 {

@@ -7,10 +7,10 @@ use Rattle.golf_snapshot.proofs.graph.live_graph.Goals as goal
 pub new-requires : goal.new-requires
 new-requires c =
     let s = c.args.state.now in
-    subst IsInRange (sym (parts-are s (live_roots s) c.in_ok-parts.parts c.in_ok-roots.roots c.in_ok-sleepers.sleepers _ c.in_ok-parts.ensures.parts c.in_ok-roots.ensures c.in_ok-sleepers.ensures))
-    (live-in_range s c.requires.numbered c.requires.whole c.in_ok-sleepers.sleepers c.in_ok-parts.ensures.few c.in_ok-sleepers.ensures)
+    subst IsInRange (sym (parts-are s (live_roots s) c.in_ok-parts.parts c.in_ok-roots.roots c.in_ok-roots.sleepers _ c.in_ok-parts.ensures.parts c.in_ok-roots.ensures.roots c.in_ok-roots.ensures.sleepers))
+    (live-in_range s c.requires.numbered c.requires.whole c.in_ok-roots.sleepers c.in_ok-parts.ensures.few c.in_ok-roots.ensures.sleepers)
 
 pub returns : goal.returns
 returns c =
     let s = c.args.state.now in
-    c.new.ensures ∙ parts-are s (live_roots s) c.in_ok-parts.parts c.in_ok-roots.roots c.in_ok-sleepers.sleepers _ c.in_ok-parts.ensures.parts c.in_ok-roots.ensures c.in_ok-sleepers.ensures
+    c.new.ensures ∙ parts-are s (live_roots s) c.in_ok-parts.parts c.in_ok-roots.roots c.in_ok-roots.sleepers _ c.in_ok-parts.ensures.parts c.in_ok-roots.ensures.roots c.in_ok-roots.ensures.sleepers

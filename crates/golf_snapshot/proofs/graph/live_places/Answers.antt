@@ -6,10 +6,10 @@ use Rattle.golf_model.specs.Values.{refs}
 use Rattle.golf_model.specs.Refs.{queue_refs, refs_where, has_finaliser}
 use Rattle.golf_snapshot.specs.Parts.{ranks, awake_refs}
 use Rattle.golf_snapshot.proofs.Gathering.{four-pieces}
-use Rattle.golf_snapshot.proofs.graph.live_roots.Goals as goal
+use Rattle.golf_snapshot.proofs.graph.live_places.Goals as goal
 
-pub returns : goal.returns
-returns c =
+pub returns-clause-roots : goal.returns-clause-roots
+returns-clause-roots c =
     let s = c.args.state.now in
     four-pieces s.objects c.new-roots.result c.add_values.new.nodes c.add_queue.new.nodes c.add_awake.new.nodes c.add_finalised.new.nodes (refs s.globals) (queue_refs s.queue) (awake_refs s.goroutines) (refs_where (has_finaliser s) s.objects)
     (c.in_ok-add_values.ensures
@@ -18,5 +18,5 @@ returns c =
     (c.in_ok-add_queue.ensures
     ∙ ap (λ (h : NumberedObjects). c.add_values.new.nodes ++ ranks h.objects (queue_refs c.queue.result.now)) c.heap-2.ensures
     ∙ ap (λ (qs : List Queued). c.add_values.new.nodes ++ ranks s.objects (queue_refs qs)) c.queue.ensures)
-    c.in_ok-add_awake.ensures c.in_ok-add_finalised.ensures
+    c.in_ok-sleepers.ensures.nodes c.in_ok-add_finalised.ensures
     ∙ ap (λ (old : List ℕ). old ++ ranks s.objects (refs s.globals ++ (queue_refs s.queue ++ (awake_refs s.goroutines ++ refs_where (has_finaliser s) s.objects)))) c.new-roots.ensures

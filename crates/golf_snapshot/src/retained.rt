@@ -1,0 +1,149 @@
+//! What is reached without some goroutines: the live graph with other roots.
+
+ghost use Rattle.std.specs.Prelude.{◌≡◌, ◌++◌, ◌<◌, ◌^◌, ◌↔◌, IfOk, IsTrue, OnOk, Some, map, not};
+ghost use Rattle.std.specs.List.Sorted.{IsNonDecreasing};
+ghost use Rattle.golf_theory.specs.Maps.{find};
+ghost use Rattle.golf_theory.specs.Membership.{is_in};
+ghost use Rattle.golf_model.specs.Futures.{Numbered};
+ghost use Rattle.golf_model.specs.Graph.{goroutine_at, sleeper_count, sleeper_references};
+ghost use Rattle.golf_model.specs.Presence.{IsWhole};
+ghost use Rattle.golf_model.specs.Reaching.{sources};
+ghost use Rattle.golf_model.specs.Refs.{goroutine_refs_where, refs_if};
+ghost use Rattle.golf_snapshot.specs.Parts.{ranks, live_parts, retained_parts};
+ghost use Rattle.golf_snapshot.specs.Stepping.{entry_at, finalised_rows};
+
+use crate::among::{in_order, is_among};
+use crate::goroutines::add_queue;
+use crate::references::{add_goroutine, add_values};
+use golf_base::{GoroutineId, List, Memory};
+use golf_model::Graph;
+use golf_state::State;
+use std::alloc::Global;
+
+/// The graph whose least closed set is what is reached without these goroutines: the live graph with
+/// other roots, and without its sleepers. Each goroutine is looked up in the list by a binary search.
+pub fn retained_graph(
+    alloc: Global,
+    state: &State,
+    live: Graph,
+    gone: &[GoroutineId],
+) -> Result<Graph, Memory>
+    requires live { live ≡ live_parts state.now }
+    requires numbered { Numbered state.now }
+    requires whole { IsWhole state.now }
+    ensures { IfOk result (λ graph. graph ≡ retained_parts state.now (map (λ g. g.0) gone.now)) }
+{
+    let roots = source_nodes(alloc, state, &live, gone)?;
+    Ok(live.without_sleepers(alloc, roots))
+}
+
+// The nodes of the objects that a collection goes from once these goroutines are removed.
+fn source_nodes(
+    alloc: Global,
+    state: &State,
+    live: &Graph,
+    gone: &[GoroutineId],
+) -> Result<List<u32>, Memory>
+    requires { live.now ≡ live_parts state.now }
+    ensures { IfOk result (λ roots. roots ≡ ranks state.now.objects (sources state.now (map (λ g. g.0) gone.now))) }
+{
+    let mut roots = List::new(alloc);
+    add_values(state.heap(), &mut roots, state.globals())?;
+    add_queue(state.heap(), &mut roots, state.queue())?;
+    let gone = in_order(alloc, gone)?;
+    add_others(state, live, &mut roots, gone.as_slice())?;
+    add_finalised_rows(live, &mut roots)?;
+    Ok(roots)
+}
+
+// ---- the goroutines that stay
+
+// Adds the nodes of the goroutines whose numbers are not among these, which rise. The live graph has
+// those of a sleeper.
+fn add_others(
+    state: &State,
+    live: &Graph,
+    nodes: &mut List<u32>,
+    gone: &[u32],
+) -> Result<(), Memory>
+    requires live { live.now ≡ live_parts state.now }
+    requires rises { IsNonDecreasing gone.now }
+    ensures { OnOk result (nodes.new
+        ≡ nodes.old ++ ranks state.now.objects (goroutine_refs_where (λ g. not (is_in g gone.now)) state.now.goroutines)) }
+{
+    let mut sleeper = 0;
+    for g in state.goroutines() {
+        if is_next(live, sleeper, *g) {
+            add_sleeper_unless_gone(live, sleeper, nodes, gone, *g)?;
+            sleeper += 1;
+        } else {
+            add_unless_gone(state, nodes, gone, *g)?;
+        }
+    }
+    Ok(())
+}
+
+// Whether a sleeper, the next one, is this goroutine.
+fn is_next(live: &Graph, sleeper: u32, g: GoroutineId) -> bool
+    ensures next { IsTrue result ↔ (goroutine_at live.now sleeper ≡ Some g) }
+    ensures few { sleeper_count live.now < 2 ^ 32 }
+{
+    if sleeper >= live.sleepers() {
+        return false;
+    }
+    live.goroutine_of(sleeper).0 == g.0
+}
+
+// Adds the nodes of a sleeper, if its number is not among these.
+fn add_sleeper_unless_gone(
+    live: &Graph,
+    sleeper: u32,
+    nodes: &mut List<u32>,
+    gone: &[u32],
+    g: GoroutineId,
+) -> Result<(), Memory>
+    requires within { sleeper < sleeper_count live.now }
+    requires rises { IsNonDecreasing gone.now }
+    ensures { OnOk result (nodes.new ≡ nodes.old ++ refs_if (not (is_in g.0 gone.now)) (sleeper_references live.now sleeper)) }
+{
+    if !is_among(g.0, gone) {
+        nodes.extend_from_slice(live.references(sleeper))?;
+    }
+    Ok(())
+}
+
+// Adds the nodes of the goroutine of this number, if it is not among these.
+fn add_unless_gone(
+    state: &State,
+    nodes: &mut List<u32>,
+    gone: &[u32],
+    g: GoroutineId,
+) -> Result<(), Memory>
+    requires { IsNonDecreasing gone.now }
+    ensures { OnOk result (nodes.new
+        ≡ nodes.old ++ ranks state.now.objects (goroutine_refs_where (λ h. not (is_in h gone.now)) (entry_at g.0 (find g.0 state.now.goroutines)))) }
+{
+    match state.goroutine(g) {
+        Some(goroutine) => {
+            if !is_among(g.0, gone) {
+                add_goroutine(state.heap(), nodes, goroutine)?;
+            }
+            Ok(())
+        }
+        None => Ok(()),
+    }
+}
+
+// ---- the objects with a finaliser
+
+// Adds the nodes that those with a finaliser refer to.
+fn add_finalised_rows(graph: &Graph, nodes: &mut List<u32>) -> Result<(), Memory>
+    ensures { OnOk result (nodes.new ≡ nodes.old ++ finalised_rows graph.now.finalised graph.now.children) }
+{
+    for node in 0..graph.nodes() {
+        if graph.finalised(node) {
+            nodes.extend_from_slice(graph.children(node))?;
+        }
+    }
+    Ok(())
+}
