@@ -1,13 +1,11 @@
 -- What is in the buffer of a channel.
-use Rattle.std.proofs.Common.{◌≡◌, List, [], ◌∷◌, Option, Some, refl, ap}
+-- For: `receive_buffered` and `receive_unbuffered`, src/receiving.rt
+-- By: cases of the object; no induction
+use Rattle.std.proofs.Common.{◌≡◌, List, [], ◌∷◌, Option, Some, refl}
 use Rattle.golf_data.specs.declared.value.Value.{Value}
 use Rattle.golf_data.specs.declared.value.Object.{Object}
 use Rattle.golf_data.specs.declared.value.Channel.{Channel}
 use Rattle.golf_chan.specs.Channels.{channel_of, HasFirst, IsEmptyWith}
-
-pub object-of : (m : Option Object) (c : Channel) → channel_of m ≡ Some c → m ≡ Some (Object.Chan c)
-object-of (Some (Object.Chan d)) c h = let same : d ≡ c = cc in ap (λ (e : Channel). Some (Object.Chan e)) same
-object-of _ c h = cc
 
 pub empty-channel : (zero : Option Value) (m : Option Object) → IsEmptyWith zero (channel_of m) → (c : Channel) × (m ≡ Some (Object.Chan c)) × (c.buffer ≡ [])
 empty-channel zero (Some (Object.Chan c)) h = (c, refl, h.0)

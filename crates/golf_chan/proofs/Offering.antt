@@ -1,4 +1,6 @@
 -- Cases that take their operands, from the last one to the first.
+-- For: `offers_of`, src/offers.rt; `offers_of`, golf_model/specs/Selecting.antt
+-- By: induction over i, the cases before the one in turn
 use Rattle.std.proofs.Common.{◌≡◌, ℕ, zero, suc, ◌+◌, ◌-◌, ◌<◌, ◌≤◌, List, [], ◌∷◌, ◌++◌, length, take, drop, get_or, Some, None, refl, sym, ap, ◌∙◌, arith}
 use Rattle.std.specs.Prelude.{reverse}
 use Rattle.std.proofs.lemmas.List.{drop_more, take_all, drop_all, append-nil, length-take-le}

@@ -1,4 +1,6 @@
 -- The goroutine in its turn goes on, and those that are blocked stay as they are.
+-- For: `send_on`, src/sending.rt; `receive_buffered` and `receive_unbuffered`, src/receiving.rt
+-- By: putting the laws of the state together; no induction
 use Rattle.std.proofs.Common.{◌≡◌, ℕ, List, ap, ◌∙◌}
 use Rattle.golf_data.specs.declared.value.Value.{Value}
 use Rattle.golf_model.specs.State.{State}

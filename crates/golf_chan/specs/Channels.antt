@@ -25,7 +25,7 @@ buffered v (Object.Group n) = Object.Group n
 buffered v (Object.Rw n) = Object.Rw n
 buffered v (Object.Cond x) = Object.Cond x
 
--- the values behind the first one, and these behind them; an empty list stays
+-- the values after the first one, and these after them; an empty list stays
 abbrev pub shifted : List Value → List Value → List Value
 shifted more [] = []
 shifted more (v ∷ vs) = vs ++ more
@@ -45,7 +45,7 @@ abbrev pub HasFirst : Value → Option Channel → Type 0
 HasFirst v None = ⊥
 HasFirst v (Some c) = (rest : List Value) × (c.buffer ≡ v ∷ rest)
 
--- a channel with an empty buffer, and what it gives where it is closed
+-- a channel with an empty buffer, and what it gives if it is closed
 abbrev pub IsEmptyWith : Option Value → Option Channel → Type 0
 IsEmptyWith zero None = ⊥
 IsEmptyWith zero (Some c) = (c.buffer ≡ []) × (zero ≡ cond c.closed (Some c.zero) None)

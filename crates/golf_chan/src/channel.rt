@@ -8,7 +8,7 @@ use golf_base::{List, Memory, ObjectId};
 use golf_data::{Channel, Object, Value};
 use golf_state::State;
 
-/// The channel of this number, where there is one.
+/// The channel of this number, if there is one.
 #[inline(always)]
 pub fn channel_at(state: &State, object: ObjectId) -> Option<&Channel>
     ensures { option_map (λ c. c.now) result ≡ channel_of (find object.0 state.now.objects) }
@@ -35,7 +35,7 @@ pub fn buffer(object: &mut Object, value: Value) -> Result<(), Memory>
     Ok(())
 }
 
-// The values behind the first one, and one more at the end.
+// The values after the first one, and one more at the end.
 fn shift(values: &mut List<Value>, value: Value)
     ensures { values.new ≡ shifted (value ∷ []) values.old }
 {
@@ -47,7 +47,7 @@ fn shift(values: &mut List<Value>, value: Value)
     }
 }
 
-/// Takes the first value off a channel's buffer, and adds one where there is one. It takes no
+/// Takes the first value off a channel's buffer, and adds one if there is one. It takes no
 /// memory.
 pub fn take_first(object: &mut Object, more: Option<Value>)
     ensures { object.new ≡ unbuffered (option_to_list more) object.old }

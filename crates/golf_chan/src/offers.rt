@@ -71,7 +71,7 @@ fn receiving_offer(case: SelectCase, operands: &[Value]) -> Option<Offer>
     })
 }
 
-// A case with the last operands, where there are enough.
+// A case with the last operands, if there are enough.
 fn offer_of(case: SelectCase, operands: &[Value]) -> Option<Offer>
     ensures { IsOfferOf case (reverse operands.now) result }
 {
@@ -82,7 +82,7 @@ fn offer_of(case: SelectCase, operands: &[Value]) -> Option<Offer>
     }
 }
 
-/// The cases with their operands, where there are enough.
+/// The cases with their operands, if there are enough.
 pub fn offers_of(
     alloc: Global,
     cases: &[SelectCase],
@@ -221,7 +221,7 @@ fn object_of(value: Value) -> Option<ObjectId>
 pub fn waits_of(alloc: Global, offers: &[Offer]) -> Result<List<Wait>, Memory>
     ensures { IfOk result (λ waits. waits ≡ offered_waits (plain_offers offers.now)) }
 {
-    let mut waits = List::new(alloc);
+    let mut waits = List::from_vec(Vec::with_capacity(alloc, offers.len())?);
     for offer in offers {
         if let Some(object) = object_of(offer.channel) {
             waits.push(wait_of(offer, object))?;

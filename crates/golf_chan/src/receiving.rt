@@ -54,7 +54,7 @@ fn receive_buffered(
     Ok(Outcome::Done)
 }
 
-// A receive from an empty channel: the first sender's value, else the zero value where it is
+// A receive from an empty channel: the first sender's value, else the zero value if it is
 // closed.
 #[inline(always)]
 fn receive_unbuffered(
@@ -113,7 +113,7 @@ fn zero_of_closed(channel: &Channel) -> Option<Value>
     }
 }
 
-/// A receive from a channel, behind which the goroutine goes on with what it gets.
+/// A receive from a channel, after which the goroutine goes on with what it gets.
 #[inline(always)]
 pub fn receive_on(
     alloc: Global,
@@ -137,8 +137,8 @@ pub fn receive_on(
 }
 
 /// The goroutine in its turn receives from the channel that is its last operand, and gets the value,
-/// and where that is asked for whether it was sent: the first buffered one, else that of the first
-/// sender, else the zero value where the channel is closed; else it blocks. On nil it blocks for
+/// and if that is asked for whether it was sent: the first buffered one, else that of the first
+/// sender, else the zero value if the channel is closed; else it blocks. On nil it blocks for
 /// ever.
 #[inline(always)]
 pub fn receive(

@@ -122,7 +122,7 @@ fn select_from(
 
 /// The goroutine in its turn does one of the cases, whose operands it has: of those that would not
 /// block, in source order, the one at the place `choice`, counted round. With none ready it goes on
-/// at the target of `default`, where there is one, else it blocks on the channels of all cases.
+/// at the target of `default`, if there is one, else it blocks on the channels of all cases.
 pub fn select(
     alloc: Global,
     state: &mut State,

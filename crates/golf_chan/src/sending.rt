@@ -14,7 +14,7 @@ use golf_state::{
 };
 use std::alloc::Global;
 
-/// A send of this value on a channel, behind which the goroutine goes on at a place without so many
+/// A send of this value on a channel, after which the goroutine goes on at a place without so many
 /// operands.
 #[inline(always)]
 pub fn send_on(
@@ -61,7 +61,7 @@ pub fn send_on(
 }
 
 /// The goroutine in its turn sends its last operand on the channel before it: to the first
-/// receiver, else into the buffer where there is room; else it blocks. On nil it blocks for ever,
+/// receiver, else into the buffer if there is room; else it blocks. On nil it blocks for ever,
 /// and on a closed channel it panics.
 #[inline(always)]
 pub fn send(alloc: Global, state: &mut State, acting: Acting) -> Result<Outcome, Memory>

@@ -17,7 +17,7 @@ loop-placed : placed loop 10 [] ≡
 unfolding loop
 loop-placed = refl
 
--- a && b, on top of another operand: the way behind the first jump has the operand of one way alone
+-- a && b, on top of another operand: the way after the first jump has the operand of one way alone
 both : Piece
 both = all (
     op 1 (Instr.Int (pos 5))
@@ -33,7 +33,7 @@ calls-depth : depth (false ∷ true ∷ []) (all (op 1 (Instr.Call 0 0) ∷ op 1
 unfolding depth
 calls-depth = refl
 
--- a choice among a receive with `ok` and `default`; what stands behind a jump is led to by no way
+-- a choice among a receive with `ok` and `default`; what stands after a jump is led to by no way
 choice : Piece
 choice = Piece.Block (all (
     Piece.Block (all (

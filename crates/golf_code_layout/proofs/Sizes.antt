@@ -1,4 +1,6 @@
 -- A piece has its size wherever it is placed.
+-- For: `placed_pieces_have_their_size`, src/lib.rt; `placed`, specs/Piece.antt
+-- By: induction over the tree of a piece
 use Rattle.std.proofs.Common.{◌+◌, ◌∷◌, refl, arith, length-append}
 use Rattle.golf_code_layout.specs.Piece.{Piece, size, placed}
 use Rattle.golf_code_layout.specs.Laws.{PlacedSize}

@@ -12,13 +12,13 @@ pub data Piece : Type 0 where
   Then : (p q : Piece) → Piece
   -- goes on at the target of this number
   Exit : (line k : ℕ) → Piece
-  -- the same where the operand is false
+  -- the same if the operand is false
   Unless : (line k : ℕ) → Piece
   -- a `select`: each case goes on at the target of its number, and so does `default`
   Choose : (line : ℕ) (cases : List SelectCase) (otherwise : Option ℕ) → Piece
-  -- in p, target 0 is the place behind p, and the others have numbers one higher
+  -- in p, target 0 is the place after p, and the others have numbers one higher
   Block : (p : Piece) → Piece
-  -- the same, where target 0 is the beginning of p
+  -- the same, if target 0 is the beginning of p
   Again : (p : Piece) → Piece
 
 -- how many instructions a piece has

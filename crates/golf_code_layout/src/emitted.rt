@@ -10,7 +10,7 @@ pub enum Emitted {
     Op(Instr, u32),
     /// Goes on at a target: its line, and which target.
     Exit(u32, u32),
-    /// The same where the operand is false.
+    /// The same if the operand is false.
     Unless(u32, u32),
     /// A `select` on this line: each case goes on at the target of its number, and so does `default`.
     Choose(u32, List<SelectCase>, Option<u32>),

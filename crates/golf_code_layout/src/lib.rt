@@ -9,10 +9,10 @@
 mod emitted;
 mod writing;
 
+ghost use Rattle.golf_code_layout.specs.Laws.{PlacedSize};
+
 pub use emitted::Emitted;
 pub use writing::{again, block, end, exit, op, unless};
-
-ghost use Rattle.golf_code_layout.specs.Laws.{PlacedSize};
 
 /// A piece has its size wherever it is placed.
 pub fn placed_pieces_have_their_size()

@@ -24,7 +24,7 @@ pub fn exit(emitted: &mut List<Emitted>, line: u32, target: u32) -> Result<(), M
     Ok(())
 }
 
-/// Goes on at a target where the operand is false.
+/// Goes on at a target if the operand is false.
 pub fn unless(emitted: &mut List<Emitted>, line: u32, target: u32) -> Result<(), Memory>
     ensures { Adds result (Piece.Unless line target) emitted.old emitted.new }
 {

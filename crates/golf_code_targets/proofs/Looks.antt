@@ -1,4 +1,6 @@
--- Looks from the front of a stack, and the targets of a choice.
+-- What is found and set at a place of a stack, counted from its top, and the targets of a choice.
+-- For: `Stack::set`, src/stack.rt; `reached` and `met`, golf_code_layout/specs/Depth.antt
+-- By: induction over the stack, and over the list of cases
 use Rattle.std.proofs.Common.{◌≡◌, ℕ, zero, suc, ◌+◌, ◌-◌, ◌<◌, List, [], ◌∷◌, ◌++◌, length, refl, ap, ◌∙◌, sym, arith}
 use Rattle.std.specs.Prelude.{max, Option, Some, None, slice_get, slice_set, unwrap_or, reverse}
 use Rattle.std.proofs.Math.Nat.{max-zero}
@@ -7,7 +9,8 @@ use Rattle.std.proofs.lemmas.List.{set-append_left, length-reverse, reverse-appe
 use Rattle.std.specs.Option.{option_map}
 use Rattle.golf_data.specs.declared.code.SelectCase.{SelectCase}
 use Rattle.golf_code_layout.specs.Piece.{target}
-use Rattle.golf_code_layout.specs.Depth.{height, met, reached, above, case_left, chosen, defaulted, cases_taken}
+use Rattle.golf_data.specs.Effects.{case_left, cases_taken}
+use Rattle.golf_code_layout.specs.Depth.{height, met, reached, above, chosen, defaulted}
 use Rattle.golf_code_targets.specs.declared.heights.Heights.{Heights}
 use Rattle.golf_code_targets.specs.Heights.{takes_in, choice_flow, case_chosen, cases_chosen, default_chosen}
 
@@ -47,7 +50,7 @@ set_reverse (x ∷ xs) k (suc j) v is =
 
 -- The cases, and then `default`.
 
-max_both : (m a b : ℕ) → max (max m a) b ≡ max m (max a b)
+pub max_both : (m a b : ℕ) → max (max m a) b ≡ max m (max a b)
 max_both m a b = omega arith
 
 abbrev chosen_as : Option ℕ → List SelectCase → Heights → Heights

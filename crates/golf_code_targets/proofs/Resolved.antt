@@ -1,4 +1,6 @@
--- The passes give the function of the piece.
+-- The passes over what was emitted give the function of the piece.
+-- For: `function`, src/functions.rt; `IsFunction`, specs/Functions.antt
+-- By: induction over the tree of a piece, and over the list of what was emitted
 use Rattle.std.proofs.Common.{◌≡◌, ℕ, ◌+◌, Bool, true, false, List, [], ◌∷◌, ◌++◌, length, refl, ap, ◌∙◌, sym, append_assoc, append-nil, length-append, slice_set, arith}
 use Rattle.std.specs.Prelude.{max, Option, Some, None, slice_get, unwrap_or}
 use Rattle.std.proofs.Math.Nat.{zero-max}
@@ -17,6 +19,7 @@ use Rattle.golf_code_targets.specs.declared.heights.Heights.{Heights}
 use Rattle.golf_code_targets.specs.Passes.{target_step, target_steps, targets_of, line_step, line_steps, lines_of, no_lines}
 use Rattle.golf_code_targets.specs.Heights.{height_step, height_steps, most_of}
 use Rattle.golf_code_targets.specs.Functions.{IsFunction}
+use Rattle.golf_code_targets.proofs.Looks.{max_both}
 
 -- A piece is added as a list.
 
@@ -106,7 +109,7 @@ finds (Piece.Again p) at waiting found =
 abbrev laying : List ℕ → ℕ → List CodeLine → Body
 laying around n lines = record { around = around; next = n; lines = lines }
 
--- behind these the targets of a piece are the next ones
+-- after these the targets of a piece are the next ones
 record Next (found : List ℕ) (n : ℕ) (ts : List ℕ) : Type 0 where
   pub before : List ℕ
   pub after : List ℕ
@@ -178,9 +181,6 @@ standing most here kinds targets = record { most = most; here = here; kinds = ki
 
 max_zero : (m : ℕ) → max m 0 ≡ m
 max_zero m = omega arith
-
-max_both : (m a b : ℕ) → max (max m a) b ≡ max m (max a b)
-max_both m a b = omega arith
 
 stands_at : (gives : List Bool) (p : Piece) (m : ℕ) (h : Option ℕ) (kinds : List Bool) (ts : List (Option ℕ)) → height_steps gives (flat p) (standing m h kinds ts) ≡ standing (max m (flow gives p h ts).most) (flow gives p h ts).behind kinds (flow gives p h ts).targets
 stands_at gives Piece.Empty m h kinds ts = ap (λ n. standing n h kinds ts) (sym (max_zero m))

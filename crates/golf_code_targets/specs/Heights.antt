@@ -2,7 +2,8 @@
 use Rattle.std.specs.Prelude.{ℕ, ◌-◌, Bool, true, false, max, List, [], ◌∷◌, Option, Some, None}
 use Rattle.std.specs.Option.{option_map}
 use Rattle.golf_data.specs.declared.code.SelectCase.{SelectCase}
-use Rattle.golf_code_layout.specs.Depth.{Flow, height, met, reached, innermost, outer, behind, above, case_left, cases_taken, chosen, defaulted}
+use Rattle.golf_data.specs.Effects.{case_left, cases_taken}
+use Rattle.golf_code_layout.specs.Depth.{Flow, height, met, reached, innermost, outer, behind, above, chosen, defaulted}
 use Rattle.golf_code_layout.specs.declared.emitted.Emitted.{Emitted}
 use Rattle.golf_code_layout.specs.declared.emitted.Emitted.TheVariants as emit
 use Rattle.golf_code_targets.specs.declared.heights.Heights.{Heights}
@@ -19,7 +20,7 @@ leads k h s = record s { targets = reached s.targets k h }
 abbrev pub takes_in : Heights → Flow → Heights
 takes_in s f = record s { most = max s.most f.most; here = f.behind; targets = f.targets }
 
--- where a block ends: what leads to its end, where that is its target
+-- where a block ends: what leads to its end, if that is its target
 abbrev pub end_height : List Bool → Option ℕ → List (Option ℕ) → Option ℕ
 end_height (true ∷ kinds) h targets = met h (innermost targets)
 end_height _ h targets = h

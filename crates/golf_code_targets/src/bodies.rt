@@ -8,8 +8,8 @@ ghost use Rattle.golf_code_targets.specs.Passes.{rest, with_line, entered, line_
 use crate::copies::copy_instr;
 use crate::stack::Stack;
 use golf_base::{List, Memory};
-use golf_data::{Instr, CodeLine, SelectCase};
 use golf_code_layout::Emitted;
+use golf_data::{CodeLine, Instr, SelectCase};
 use std::alloc::Global;
 
 /// The lines of a body, as far as a pass over parts has come.

@@ -8,8 +8,8 @@ use crate::bodies::lines_of;
 use crate::heights::most_of;
 use crate::targets::targets_of;
 use golf_base::{List, Memory};
-use golf_data::{Function, CodeLine};
 use golf_code_layout::Emitted;
+use golf_data::{CodeLine, Function};
 use golf_live::live;
 use std::alloc::Global;
 
@@ -20,11 +20,11 @@ fn body_of(alloc: Global, emitted: &[Emitted]) -> Result<List<CodeLine>, Memory>
     lines_of(alloc, found.as_slice(), emitted)
 }
 
-/// The function that these parts are the code of, where these functions give a value.
+/// The function that these parts are the code of, if these functions give a value.
 ///
 /// # Errors
 ///
-/// `Memory` also where the body has more instructions, or more operands stand at a place, than a `u32` can count. No body of a
+/// `Memory` also if the body has more instructions, or more operands stand at a place, than a `u32` can count. No body of a
 /// file that is read has so many instructions (`golf_code_places`).
 pub fn function(
     alloc: Global,

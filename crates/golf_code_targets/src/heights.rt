@@ -2,15 +2,15 @@
 
 ghost use Rattle.std.specs.Prelude.{◌≡◌, ◌-◌, ◌∷◌, ◌<◌, true, false, Some, None, max, IfOk, OnOk};
 ghost use Rattle.std.specs.Option.{option_map};
-ghost use Rattle.golf_code_layout.specs.Depth.{height as height_of, met as met_of, reached, behind as behind_of, through as through_of, above as above_of, case_left as left_by_case, case_taken as taken_by_case, cases_taken as taken_by_cases, innermost, outer};
+ghost use Rattle.golf_data.specs.Effects.{cases_taken as taken_by_cases};
+ghost use Rattle.golf_code_layout.specs.Depth.{height as height_of, met as met_of, reached, behind as behind_of, through as through_of, above as above_of, innermost, outer};
 ghost use Rattle.golf_code_targets.specs.Passes.{rest};
 ghost use Rattle.golf_code_targets.specs.Heights.{stands, leads, takes_in, choice_flow, case_chosen, cases_chosen, default_chosen, end_height, height_step, no_heights as none_yet, most_of as most_in};
 
-use crate::instructions::{goes_on, left, taken};
 use crate::stack::Stack;
 use golf_base::{List, Memory};
-use golf_data::{CaseKind, Instr, SelectCase};
 use golf_code_layout::Emitted;
+use golf_data::{Instr, SelectCase, case_left, case_taken, goes_on, left, taken};
 use std::alloc::Global;
 
 /// How many operands stand at places, as far as a pass over parts has come.
@@ -18,7 +18,7 @@ use std::alloc::Global;
 pub struct Heights {
     /// The most so far.
     pub most: u32,
-    /// How many stand here; None where no way leads here.
+    /// How many stand here; None if no way leads here.
     pub here: Option<u32>,
     /// Whether the target of each block around is its end.
     pub kinds: Stack<bool>,
@@ -37,7 +37,7 @@ fn no_heights(alloc: Global) -> Heights
     }
 }
 
-// How many operands stand behind an instruction that has so many before it.
+// How many operands stand after an instruction that has so many before it.
 fn through(gives: &[bool], instr: &Instr, before: u32) -> Result<Option<u32>, Memory>
     ensures { IfOk result (λ h. h ≡ through_of gives.now instr.now before) }
 {
@@ -134,26 +134,6 @@ fn unless(heights: &mut Heights, number: u32)
     reach(&mut heights.targets, number, after);
 }
 
-fn case_left(kind: CaseKind) -> u32
-    ensures { result ≡ left_by_case kind }
-{
-    match kind {
-        CaseKind::Send => 0,
-        CaseKind::Take => 1,
-        CaseKind::TakeOk => 2,
-    }
-}
-
-fn case_taken(kind: CaseKind) -> u32
-    ensures { result ≡ taken_by_case kind }
-{
-    match kind {
-        CaseKind::Send => 2,
-        CaseKind::Take => 1,
-        CaseKind::TakeOk => 1,
-    }
-}
-
 fn cases_taken(cases: &[SelectCase]) -> Result<u32, Memory>
     ensures { IfOk result (λ n. n ≡ taken_by_cases cases.now) }
 {
@@ -187,7 +167,7 @@ fn choose_cases(
     Ok(())
 }
 
-// The target of `default` is led to, where there is one; the next place is not.
+// The target of `default` is led to, if there is one; the next place is not.
 fn choose_default(heights: &mut Heights, below: Option<u32>, otherwise: Option<u32>)
     ensures { heights.new ≡ default_chosen below otherwise heights.old }
 {
@@ -269,7 +249,7 @@ fn step(gives: &[bool], heights: &mut Heights, part: &Emitted) -> Result<(), Mem
     }
 }
 
-/// The most operands that stand at a place of these parts, where these functions give a value.
+/// The most operands that stand at a place of these parts, if these functions give a value.
 pub fn most_of(alloc: Global, gives: &[bool], emitted: &[Emitted]) -> Result<u32, Memory>
     ensures { IfOk result (λ most. most ≡ most_in gives.now emitted.now) }
 {

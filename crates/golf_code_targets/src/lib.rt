@@ -7,7 +7,6 @@ mod bodies;
 mod copies;
 mod functions;
 mod heights;
-mod instructions;
 mod stack;
 mod targets;
 

@@ -41,7 +41,7 @@ impl<T> Stack<T> {
 }
 
 impl<T: Drop> Stack<T> {
-    /// Adds an item in front. On an `Err` nothing is said of the items.
+    /// Adds an item at the head. On an `Err` nothing is said of the items.
     pub fn push(&mut self, item: T) -> Result<(), Memory>
         ensures { OnOk result (self.new ≡ item ∷ self.old) }
     {

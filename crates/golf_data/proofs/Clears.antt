@@ -1,4 +1,6 @@
 -- What clearing does, place by place.
+-- For: `clear_bits`, `clear_values`, `clear_under`, src/slots.rt; `cleared_slots`, specs/Slots.antt
+-- By: induction over the list of values
 use Rattle.std.proofs.Common.{◌≡◌, ℕ, zero, suc, ◌+◌, ◌-◌, ◌^◌, ◌<◌, ◌≤◌, ◌==◌, nat_le, Bool, true, false, not, cond, ◌||◌, List, [], ◌∷◌, length, Some, inl, inr, refl, sym, ap, ◌∙◌, arith, slice_get, slice_set, pos}
 use Rattle.std.specs.Prelude.{bit_or}
 use Rattle.std.specs.Int.{w64, bit_at, bit_not}
@@ -68,15 +70,6 @@ until-clear test n vs f =
     one-more (stays_until n test) (stays_until (n + 1) test) 0 n vs
     (ap (λ b. b || test (0 + n)) (past (n + 1) (0 + n) (omega arith)) ∙ ap test z ∙ f)
     (λ i t. ap (λ b. b || test (0 + i)) (next n (0 + i) (λ e. t (omega (arith, e)))))
-
-pub until-keep : (test : ℕ → Bool) (n : ℕ) (vs : List Value) → test n ≡ true → cleared_slots (stays_until n test) vs ≡ cleared_slots (stays_until (n + 1) test) vs
-until-keep test n vs t = agree (stays_until n test) (stays_until (n + 1) test) 0 vs (λ i v e. ap (λ b. cond b v none) (same (0 + i)))
-  where
-    same : (i : ℕ) → stays_until n test i ≡ stays_until (n + 1) test i
-    same i = elim (cases_eq i n) [
-      | inl q ↦ or_left (nat_le n i) (test i) (begins n i (omega (arith, q))) ∙ sym (ap (λ b. b || test i) (past (n + 1) i (omega (arith, q))) ∙ ap test q ∙ t)
-      | inr d ↦ ap (λ b. b || test i) (next n i d)
-    ]
 
 set-length : (vs : List Value) (i : ℕ) (v : Value) → length (slice_set vs i v) ≡ length vs
 set-length [] i v = refl
@@ -197,7 +190,7 @@ more-zeros zeros dead vs h = λ i v l t e.
 pub all-zeros : (word : ℕ) (vs : List Value) → AreZeros word (cleared_slots (λ i. false) vs)
 all-zeros word vs = λ i v l t e. sym (at-cleared (λ j. false) 0 i vs v e).2
 
--- where nothing has died
+-- if nothing has died
 pub none-dead : (word : ℕ) (vs : List Value) → word ≡ 0 → cleared_slots (stays_but word) vs ≡ vs
 none-dead word vs e = all-stay (stays_but word) 0 vs (λ i l. or_right (nat_le 64 (0 + i)) (not (has_bit word (0 + i))) (ap not (ap (λ x. has_bit x (0 + i)) e ∙ ap (λ x. x == 1) (bit_at-zero (0 + i)))))
 

@@ -1,4 +1,6 @@
 -- What derived equality says.
+-- For: `is`, `have_same_choice`, `same_lines`, src/equality.rt
+-- By: cases of the two values that are compared; no induction
 use Rattle.std.proofs.Common.{◌≡◌, ℕ, Bool, true, false, ◌&&◌, suc, ◌+◌, ◌<◌, ◌≤◌, List, [], ◌∷◌, length, drop, get_or, drop-cons, refl, sym, ap, subst, ◌∙◌, nat_eq, arith, rules}
 use Rattle.std.specs.Prelude.{Option, Some, None}
 use Rattle.std.proofs.Math.ListN.{drop_of_length-le}
@@ -112,7 +114,7 @@ module _ (xs ys : List SelectCase) (x y : Option ℕ) where
   pub other-cases : (a : Bool) → a ≡ pointwise cases.eq-value.it xs ys → a ≡ false → Decides a (one ≡ other)
   other-cases a p f = (λ h. cc, λ h. p ∙ cases-decide.1 (ap cases_in h))
 
--- where names and payloads are the same
+-- if names and payloads are the same
 pub same-but-choice : (i j : Instr) (k l : Kind) (p q : Payload) (same_kind same_payload same_choice : Bool)
     → k ≡ kind_of i → l ≡ kind_of j → same_kind ≡ sameb name.the_type k l → same_kind ≡ true
     → p ≡ payload_of i → q ≡ payload_of j → same_payload ≡ payloads.eq-value.it p q → same_payload ≡ true

@@ -1,9 +1,11 @@
 -- Bits of masks.
-use Rattle.std.proofs.Common.{◌≡◌, ℕ, zero, suc, ◌-◌, ◌*◌, ◌/◌, ◌%◌, ◌^◌, ◌<◌, ◌≤◌, ◌==◌, true, false, ◌||◌, inl, inr, refl, sym, ap, ◌∙◌, arith}
+-- For: `ones_from`, `without`, `lowest`, src/slots.rt; `has_bit`, specs/Masks.antt
+-- By: arithmetic
+use Rattle.std.proofs.Common.{◌≡◌, ℕ, zero, suc, ◌-◌, ◌*◌, ◌%◌, ◌^◌, ◌<◌, ◌≤◌, ◌==◌, true, false, ◌||◌, inl, inr, refl, ap, ◌∙◌, arith}
 use Rattle.std.specs.Prelude.{bit_and, bit_or, max}
 use Rattle.std.specs.Int.{w64, bit_at, bit_not, trailing_zeros}
-use Rattle.std.proofs.lemmas.Bool.{eqb-true, cases_lt, false_from_ne_true}
-use Rattle.std.proofs.lemmas.Nat.Bits.{bit_at-lt, bit_at_or, shr_and_one, ones_shl, bit_at_mask_below, bit_at_clear_same, bit_at_clear_other, bit_at-trailing_zeros}
+use Rattle.std.proofs.lemmas.Bool.{cases_lt}
+use Rattle.std.proofs.lemmas.Nat.Bits.{bit_at-lt, bit_at_or, ones_shl, bit_at_mask_below, bit_at_clear_same, bit_at_clear_other, bit_at-trailing_zeros}
 use Rattle.golf_data.specs.Masks.{has_bit}
 
 one_of : (x y : ℕ) → x < 2 → y < 2 → (max x y == 1) ≡ ((x == 1) || (y == 1))
@@ -17,13 +19,6 @@ one_of (suc zero) (suc (suc y)) p q = absurd (omega (arith, q))
 
 pub has_bit-or : (a b i : ℕ) → has_bit (bit_or a b) i ≡ (has_bit a i || has_bit b i)
 has_bit-or a b i = ap (λ x. x == 1) (bit_at_or a b i) ∙ one_of (bit_at a i) (bit_at b i) (bit_at-lt a i) (bit_at-lt b i)
-
--- the test of a bit as the machine does it
-pub has_bit-from : (n i : ℕ) → bit_and (n / 2 ^ i) 1 ≡ 1 → has_bit n i ≡ true
-has_bit-from n i h = ap (λ x. x == 1) (sym (shr_and_one n i) ∙ h)
-
-pub has_bit-not : (n i : ℕ) → (bit_and (n / 2 ^ i) 1 ≡ 1 → ⊥) → has_bit n i ≡ false
-has_bit-not n i h = false_from_ne_true (has_bit n i) (λ t. h (shr_and_one n i ∙ eqb-true (bit_at n i) 1 t))
 
 -- words that are made of one place
 pub from-place : (n i : ℕ) → n < 64 → has_bit ((2 ^ 64 - 1) * 2 ^ n % 2 ^ 64) i ≡ true → n ≤ i

@@ -1,4 +1,6 @@
 -- Instructions with the same parts are the same.
+-- For: `is`, src/equality.rt; `kind_of`, `payload_of`, `choice_of`, specs/Parts.antt
+-- By: cases of the instruction; no induction
 use Rattle.std.proofs.Common.{◌≡◌, ℕ, Bool, false, List, refl, sym, ap, ◌∙◌, pos, ℤ}
 use Rattle.std.specs.Prelude.{Option, Some, None}
 use Rattle.golf_data.specs.declared.code.Instr.{Instr}

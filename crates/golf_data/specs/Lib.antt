@@ -1,3 +1,4 @@
+pub mod Effects
 pub mod Fatal
 pub mod Masks
 pub mod Parts

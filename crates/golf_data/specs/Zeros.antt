@@ -19,6 +19,6 @@ stays_but dead i = nat_le 64 i || not (has_bit dead i)
 abbrev pub stays_yet : ℕ → ℕ → ℕ → Bool
 stays_yet dead left i = stays_but dead i || has_bit left i
 
--- where those of the first n alone are looked at
+-- if those of the first n alone are looked at
 abbrev pub stays_until : ℕ → (ℕ → Bool) → ℕ → Bool
 stays_until n test i = nat_le n i || test i

@@ -53,7 +53,7 @@ pub enum Instr {
     AtMost,
     /// Goes on at the target.
     Jump(u32),
-    /// `b ->`; goes on at the target where b is false.
+    /// `b ->`; goes on at the target if b is false.
     JumpIfNot(u32),
     /// `-> ref`, a struct with the zero values of this row of the code's table
     NewStruct(u32),
@@ -87,7 +87,7 @@ pub enum Instr {
     ReceiveOk,
     /// `c ->`
     Close,
-    /// Takes the operands of all cases; the second is the target of `default`, where there is one.
+    /// Takes the operands of all cases; the second is the target of `default`, if there is one.
     Select(List<SelectCase>, Option<u32>),
     /// `m ->`
     Lock,
@@ -173,7 +173,7 @@ pub struct Function {
     /// The line at which the function is declared.
     pub line: u32,
     pub body: List<CodeLine>,
-    /// For each position of the body the mask of its first 64 slots: bit s is 1 where slot s can
+    /// For each position of the body the mask of its first 64 slots: bit s is 1 if slot s can
     /// still be read from there on.
     pub live: List<u64>,
 }

@@ -3,7 +3,7 @@
 ghost use Rattle.std.specs.Prelude.{◌≡◌, ◌↔◌, IsTrue};
 ghost use Rattle.golf_data.specs.Parts.{kind_of as kind_is, payload_of as payload_is, choice_of};
 
-use crate::code::{Instr, CodeLine};
+use crate::code::{CodeLine, Instr};
 use crate::value::Value;
 
 /// The names of instructions.

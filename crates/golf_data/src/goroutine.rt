@@ -33,7 +33,7 @@ pub struct Deferred {
 #[derive(Clone, Copy, Debug, PartialEq, Eq)]
 pub enum Leaving {
     No,
-    /// With the value that it returns, where it has one.
+    /// With the value that it returns, if it has one.
     Returning(Option<Value>),
     Unwinding(Fault),
 }

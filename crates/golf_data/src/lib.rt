@@ -2,13 +2,15 @@
 #![tactic(auto)]
 
 mod code;
+mod effects;
 mod equality;
 mod goroutine;
 mod report;
 mod slots;
 mod value;
 
-pub use code::{CaseKind, Code, Function, Instr, CodeLine, SelectCase};
+pub use code::{CaseKind, Code, CodeLine, Function, Instr, SelectCase};
+pub use effects::{case_left, case_taken, goes_on, left, taken};
 pub use equality::same_lines;
 pub use goroutine::{
     Deferred, Ending, Fault, Frame, Goroutine, Leaving, Mode, PanicKind, Queued, Side, Wait,

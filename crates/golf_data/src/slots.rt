@@ -91,11 +91,13 @@ fn clear_values(values: &mut List<Value>)
 }
 
 impl Slots {
-    /// The slots of a new frame: its arguments, and so many more, which hold 0.
+    /// The slots of a new frame: its arguments, and so many more, which hold 0; with room for no
+    /// more.
     pub fn of(alloc: Global, arguments: &[Value], rest: usize) -> Result<Slots, Memory>
         ensures { IfOk result (λ slots. slots ≡ arguments.now ++ replicate rest (Value.Int (pos 0))) }
     {
-        let mut values = List::new(alloc);
+        let room = arguments.len().saturating_add(rest);
+        let mut values = List::from_vec(Vec::with_capacity(alloc, room)?);
         values.extend_from_slice(arguments)?;
         values.extend_with(rest, Value::Int(0))?;
         Ok(Slots {

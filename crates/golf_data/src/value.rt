@@ -27,7 +27,7 @@ pub enum Object {
     Mutex(bool),
     /// The counter of a wait group.
     Group(i64),
-    /// A reader and writer mutex: -1 where a writer holds it, else how many readers do.
+    /// A reader and writer mutex: -1 if a writer holds it, else how many readers do.
     Rw(i64),
     /// A condition, with the mutex that it was made with, or nil.
     Cond(Value),

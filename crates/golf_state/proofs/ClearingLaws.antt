@@ -1,4 +1,6 @@
 -- The goroutine whose innermost frame is cleared.
+-- For: `tidied` (golf_state/specs/Clearing.antt) and `clear_frame` (src/clearing.rt), `clear_slots` (src/state.rt)
+-- By: cases of the goroutine's mode and of its frames; no induction
 use Rattle.std.proofs.Common.{◌≡◌, ℕ, true, List, [], ◌∷◌, Option, Some, None, refl, sym, ap, ◌∙◌}
 use Rattle.golf_theory.specs.Maps.{find, Rises}
 use Rattle.golf_data.specs.declared.value.Value.{Value}

@@ -1,4 +1,6 @@
 -- What a goroutine in its turn does, by the changes of the state.
+-- For: `does` (golf_state/specs/Doing.antt) and `proceed`, `block_at` (src/outcome.rt)
+-- By: induction over the list of changes, and over the entries of the map; otherwise computing
 use Rattle.std.proofs.Common.{◌≡◌, ℕ, suc, true, List, [], ◌∷◌, ◌++◌, Option, Some, refl, sym, ap, ◌∙◌, subst}
 use Rattle.std.specs.Prelude.{drop, IsSome, slice_get}
 use Rattle.golf_data.specs.declared.value.Value.{Value}
@@ -50,7 +52,7 @@ module _ (g after : ℕ) (s : State) (st : Stands g after s) where
   stands-is change fs line e =
       reframed-is fs ∙ ap (λ (gs : List FrameView). become g (record { frames = gs; mode = Mode.Running; started = st.started }) s) (e ∙ ap (on_top change) frames-is)
 
-  -- it goes on behind the instruction, with these values in place of so many operands
+  -- it goes on after the instruction, with these values in place of so many operands
   pub goes-is : (taken : ℕ) (vs : List Value) (fs : List FrameView) (line : ℕ) → fs ≡ on_top (went after taken vs) (frames_of g s) → reframed g fs s ≡ apply_all (goes (actor_of st line) (vs ++ drop taken st.frame.operands)) s
   goes-is taken vs fs line e =
       stands-is (went after taken vs) fs line e
@@ -60,7 +62,7 @@ module _ (g after : ℕ) (s : State) (st : Stands g after s) where
   pub panics-is : (kind : PanicKind) (fs : List FrameView) (line : ℕ) → fs ≡ on_top (unwinding (fault kind line)) (frames_of g s) → reframed g fs s ≡ apply_all (panics (actor_of st line) kind) s
   panics-is kind fs line e = stands-is (unwinding (fault kind line)) fs line e
 
-  -- it blocks behind the instruction, without so many operands
+  -- it blocks after the instruction, without so many operands
   pub blocks-is : (kind : WaitKind) (line : ℕ) (waits : List Wait) (taken : ℕ) → looked_up g (λ r. block g kind line waits (advanced after taken r)) s ≡ apply_all (blocks (actor_of st line) (next st.frame (drop taken st.frame.operands)) kind waits) s
   blocks-is kind line waits taken =
       ap (λ (o : Option GoroutineView). on_goroutine (λ r. block g kind line waits (advanced after taken r)) o s) st.found
@@ -95,7 +97,7 @@ module _ (g after : ℕ) (s : State) (st : Stands g after s) where
       ∙ ap (become g old) e
       ∙ ap (λ (es : List (ℕ × GoroutineView)). record s { goroutines = es }) (put-put g old v s.goroutines ∙ put-same g 0 old s.goroutines rises st.found)
 
--- the top operand is exchanged, where there is one
+-- the top operand is exchanged, if there is one
 pub exchanged-is : (after : ℕ) (v : Value) (f : FrameView) (os : List Value) → IsSome (slice_get os 0) → exchanged_in after v f os ≡ record f { at = after; operands = v ∷ drop 1 os }
 exchanged-is after v f [] h = cc
 exchanged-is after v f (w ∷ os) h = refl

@@ -1,4 +1,6 @@
--- Lines after a change of goroutines.
+-- Goroutines still stand in the queues that they wait in, after a change of goroutines.
+-- For: `AreEnqueued` (golf_state/specs/Enqueued.antt) and `block`, `wake` (src/state.rt)
+-- By: cases of the goroutine's mode; induction over the list of waits for one that blocks
 use Rattle.std.proofs.Common.{◌≡◌, ℕ, ◌+◌, ◌*◌, ◌<◌, ◌≤◌, Bool, true, false, cond, not, ◌&&◌, List, [], ◌∷◌, Option, Some, None, ◌==◌, ◌⊎◌, inl, inr, refl, sym, ap, ◌∙◌, subst, arith}
 use Rattle.std.specs.Prelude.{option_map}
 use Rattle.std.proofs.lemmas.Bool.{cases_eq, eqb-true, eq-eqb, true≢false}
@@ -45,7 +47,7 @@ early-more : (m n : ℕ) (k : Mode) → m ≤ n → IsEarly m k → IsEarly n k
 early-more m n Mode.Running l e = tt
 early-more m n (Mode.Blocked kind line waits ticket) l e = omega (arith, l, e)
 
--- where fewer have queues
+-- if fewer have queues
 fewer-enqueued : (listed still : Bool) (side : Side) → (still ≡ true → listed ≡ true) → has_queue still side ≡ true → has_queue listed side ≡ true
 fewer-enqueued listed still Side.Receive more q = refl
 fewer-enqueued listed still Side.Send more q = refl

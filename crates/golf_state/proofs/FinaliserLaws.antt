@@ -1,4 +1,6 @@
 -- Finalisers by the rank of their objects' numbers.
+-- For: `function_of`, `put_finaliser`, `take_finaliser` (src/finalisers.rt)
+-- By: induction over the list of entries
 use Rattle.std.proofs.Common.{◌≡◌, ℕ, suc, true, false, cond, not, List, [], ◌∷◌, Some, None, ◌==◌, nat_lt, refl, sym, ap, ◌∙◌, arith, slice_get}
 use Rattle.std.specs.Prelude.{insert as insert_item, remove}
 use Rattle.std.proofs.lemmas.Bool.{eq-eqb, ne_eqb, ltb-true, ltb-false}

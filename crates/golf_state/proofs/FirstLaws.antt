@@ -1,4 +1,6 @@
--- The first waiter, by the line of those who stood there.
+-- The first waiter, by the queue of those who stood there.
+-- For: `first_held` (golf_state/specs/Seen.antt) and `first_in_queue` (src/waiters.rt)
+-- By: induction over the entries of the queue
 use Rattle.std.proofs.Common.{◌≡◌, ℕ, suc, ◌≤◌, true, false, cond, List, [], ◌∷◌, Option, Some, None, ◌==◌, inl, inr, refl, sym, ap, ◌∙◌, subst, arith}
 use Rattle.std.proofs.lemmas.Bool.{eqb-true, eq-eqb}
 use Rattle.golf_data.specs.declared.goroutine.Side.{Side}
@@ -52,7 +54,7 @@ module _ (o : ℕ) (side : Side) (gs : List (ℕ × GoroutineView)) (rises : IsR
     ] refl i
   ] refl q
 
-  -- where nobody waits
+  -- if nobody waits
   none-held : first o side gs ≡ None → (hs : List (ℕ × ℕ)) → first_held o side gs hs ≡ None
   none-held n [] = refl
   none-held n (h ∷ hs) = elim (waiter_by o side gs h) as (λ m. waiter_by o side gs h ≡ m → or_later m (first_held o side gs hs) ≡ None) [

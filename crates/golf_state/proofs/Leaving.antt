@@ -1,4 +1,6 @@
 -- Goroutines that leave their queues, and those that a collection leaves there.
+-- For: `leave_queues` (src/waiters.rt) and `retain_goroutines` (src/state.rt)
+-- By: induction over the list of entries with their flags; otherwise cases of the goroutine's mode
 use Rattle.std.proofs.Common.{◌≡◌, ℕ, suc, ◌+◌, Bool, true, false, cond, List, [], ◌∷◌, Option, Some, None, inl, inr, refl, sym, subst}
 use Rattle.golf_base.specs.declared.ids.GoroutineId.{GoroutineId}
 use Rattle.golf_data.specs.declared.goroutine.Mode.{Mode}
@@ -31,7 +33,7 @@ Entry-kept {X} (b ∷ bs) (e ∷ es) k x h =
       | false ↦ λ i. inr (Entry-kept bs es k x i)
     ] h
 
--- those who are kept stand in the queue where the others are gone from it
+-- those who are kept stand in the queue if the others are gone from it
 pub enqueued-kept : (listed : Bool) (flags : List Bool) (es : List (ℕ × GoroutineView)) (old new : WaitQueues) (next : ℕ) → AreEnqueued listed es old next
     → Keeps (λ t h. is_in h (keys (kept flags es)) ≡ true) old new → ((n : ℕ) → AreBelow n old → AreBelow n new) → AreEnqueued listed (kept flags es) new next
 enqueued-kept listed flags es old new next a others below = record {

@@ -1,4 +1,6 @@
 -- The list of goroutines as a list of numbers.
+-- For: `numbers` (golf_state/specs/Inside.antt) and `put_in`, `leave_out` (src/rising.rt)
+-- By: induction over the list of goroutines, and over how many of them are taken or dropped
 use Rattle.std.proofs.Common.{◌≡◌, ℕ, zero, suc, ◌<◌, List, [], ◌∷◌, ◌++◌, length, take, drop, get_or, refl, sym, ap, ◌∙◌, arith}
 use Rattle.std.specs.Prelude.{insert, remove}
 use Rattle.std.proofs.lemmas.List.{map-append}
@@ -25,9 +27,6 @@ numbers-insert xs i g =
     map-append (λ (h : GoroutineId). h.0) (take i xs) (g ∷ drop i xs)
     ∙ ap (λ (ys : List ℕ). ys ++ g.0 ∷ numbers (drop i xs)) (numbers-take i xs)
     ∙ ap (λ (ys : List ℕ). take i (numbers xs) ++ g.0 ∷ ys) (numbers-drop i xs)
-
-pub numbers-push : (xs : List GoroutineId) (g : GoroutineId) → numbers (xs ++ g ∷ []) ≡ numbers xs ++ g.0 ∷ []
-numbers-push xs g = map-append (λ (h : GoroutineId). h.0) xs (g ∷ [])
 
 pub numbers-remove : (xs : List GoroutineId) (i : ℕ) → numbers (remove xs i) ≡ remove (numbers xs) i
 numbers-remove xs i =

@@ -1,4 +1,6 @@
 -- Outcomes of operations that make the same changes.
+-- For: `Comes` (golf_state/specs/Outcomes.antt) and `carry_out` (src/outcome.rt)
+-- By: cases of the outcome; no induction
 use Rattle.std.proofs.Common.{◌≡◌, ℕ, List, ap, sym, ◌∙◌}
 use Rattle.golf_model.specs.State.{State}
 use Rattle.golf_model.specs.Changes.{Change}

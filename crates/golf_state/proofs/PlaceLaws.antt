@@ -1,4 +1,6 @@
 -- What changes of places do to the map of goroutines, and to the list of those that run.
+-- For: `plain_entries`, `running_of` (golf_state/specs/Places.antt) and `goroutine_at` (src/places.rt)
+-- By: induction over the entries of the map for one that is put; otherwise the laws of maps and cases
 use Rattle.std.proofs.Common.{◌≡◌, ℕ, suc, ◌<◌, ◌≤◌, Bool, true, false, not, cond, ◌&&◌, ◌||◌, List, [], ◌∷◌, ◌++◌, length, get_or, Option, Some, None, ◌==◌, refl, sym, ap, ◌∙◌, subst, inl, inr, arith, slice_get, slice_set}
 use Rattle.std.specs.Prelude.{option_map}
 use Rattle.std.proofs.lemmas.Bool.{eqb-true, eq-eqb, ne_eqb}
@@ -43,7 +45,7 @@ module _ {X : Type 0} where
         | false ↦ λ t i. ap (λ (r : List (ℕ × X)). e ∷ r) (put-same k (suc e.0) v es r.1 i)
       ] refl h
 
--- ---- where a goroutine stands
+-- ---- if a goroutine stands
 
 -- the goroutine of this number stands at the place, and is seen as this one
 pub record Standing (gs : List Place) (g at : ℕ) (p : Place) (v : GoroutineView) : Type 0 where
@@ -191,7 +193,7 @@ above queue g r n =
 runs_above : (queue : List Queued) (k : ℕ) (es : List (ℕ × GoroutineView)) → Rises (suc k) es → keys_where (can_run queue) es ≡ running_of es
 runs_above queue k es r = keys_where-same (can_run queue) (λ g r. is_running r.mode) es (λ g x i. let a = Entry-above (suc k) es g x r i in above queue g x (λ e. omega (arith, a, e)))
 
--- where goroutine 0 has nothing to do, it runs by its mode alone, and is the first
+-- if goroutine 0 has nothing to do, it runs by its mode alone, and is the first
 pub runs-idle : (queue : List Queued) (es : List (ℕ × GoroutineView)) → Rises 0 es → (not (not_empty queue) && starts_idle es) ≡ true → behind_first (running_of es) ≡ keys_where (can_run queue) es
 runs-idle queue [] r i = refl
 runs-idle queue (e ∷ es) r i =

@@ -1,4 +1,6 @@
--- Readers that are served, counted along their line.
+-- Readers that are served, counted along their queue.
+-- For: `readers_next` (golf_model/specs/ReadersWriters.antt) and `readers_before`, `readers_next` (src/wake_all.rt)
+-- By: induction over the entries of the map of goroutines
 use Rattle.std.proofs.Common.{◌≡◌, ℕ, suc, ◌+◌, ◌<◌, ◌≤◌, Bool, true, false, cond, List, [], ◌∷◌, length, Option, Some, None, ◌==◌, nat_lt, ◌⊎◌, inl, inr, refl, sym, ap, ◌∙◌, subst, arith}
 use Rattle.std.specs.Prelude.{option_map, is_some}
 use Rattle.std.proofs.lemmas.Bool.{cases_lt, eqb-true, eq-eqb, ltb-true, lt-ltb}
@@ -25,12 +27,12 @@ abbrev as_one : Bool → ℕ
 as_one true = 1
 as_one false = 0
 
--- a reader counts where its ticket is below n
+-- a reader counts if its ticket is below n
 abbrev reads : ℕ → Bool → ℕ → ℕ
 reads n false ticket = 0
 reads n true ticket = as_one (nat_lt ticket n)
 
--- and where it has the ticket
+-- and if it has the ticket
 abbrev has : ℕ → Bool → ℕ → ℕ
 has t false ticket = 0
 has t true ticket = as_one (ticket == t)
@@ -133,7 +135,7 @@ holder-counted n o gs h rises last = readers-split n h.ticket h.goroutine.0 o 0 
     split : AreSplit n h.ticket h.goroutine.0 o gs
     split k r w i q l = last.1 k r w i q l
 
--- and where none is left, none is counted
+-- and if none is left, none is counted
 pub none-counted : (n o : ℕ) (gs : List (ℕ × GoroutineView)) → IsHolderBelow n o Side.Read gs None → readers_next (Some n) o gs ≡ 0
 none-counted n o [] last = refl
 none-counted n o (e ∷ gs) last =
@@ -172,7 +174,7 @@ counted-one n o gs h rises last q = holder-counted n o gs h rises last ∙ ap (�
 pub counted-none : (n o : ℕ) (gs : List (ℕ × GoroutineView)) (h : TicketHolder) → Rises 0 gs → IsHolderBelow n o Side.Read gs (Some h) → is_some (waiter_by o Side.Read gs (h.ticket, h.goroutine.0)) ≡ false → readers_next (Some n) o gs ≡ readers_next (Some h.ticket) o gs
 counted-none n o gs h rises last q = let a = holder-counted n o gs h rises last in let b = one-false (waiter_by o Side.Read gs (h.ticket, h.goroutine.0)) q in omega (arith, a, b)
 
--- all are counted where all have tickets below n
+-- all are counted if all have tickets below n
 pub all-counted : (n o : ℕ) (gs : List (ℕ × GoroutineView)) → AreWokenBelow n o Side.Read (Waking.ToReaders None) gs → readers_next (Some n) o gs ≡ readers_next None o gs
 all-counted n o [] below = refl
 all-counted n o (e ∷ gs) below =

@@ -1,4 +1,6 @@
--- Goroutines that can be woken without memory.
+-- Goroutines that can be woken without more memory.
+-- For: `AllReady` (golf_state/specs/Ready.antt) and `HasRoom` (golf_state/specs/Roominess.antt)
+-- By: induction over the list of places
 use Rattle.std.proofs.Common.{◌≡◌, ℕ, zero, suc, ◌-◌, ◌<◌, ◌≤◌, true, false, cond, List, [], ◌∷◌, ◌++◌, length, get_or, Some, refl, sym, ap, ◌∙◌, subst, arith, slice_get, slice_set}
 use Rattle.std.specs.Prelude.{remove}
 use Rattle.std.proofs.lemmas.List.{length-set}

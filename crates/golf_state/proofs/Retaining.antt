@@ -1,4 +1,6 @@
 -- Lists of which only the flagged items stay.
+-- For: `retain_goroutines`, `queue_finalisers` (src/state.rt) and `unflagged_finalisers` (src/collecting.rt)
+-- By: induction over the list of flags, with the list of items
 use Rattle.std.proofs.Common.{◌≡◌, ℕ, ◌+◌, ◌<◌, ◌≤◌, arith, Bool, true, false, cond, suc, List, [], ◌∷◌, ◌++◌, length, map, take, get_or, refl, sym, ap, ◌∙◌, append-nil}
 use Rattle.std.proofs.lemmas.List.{map-append}
 use Rattle.std.proofs.lemmas.Option.{slice_get-get_or}

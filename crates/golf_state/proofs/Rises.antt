@@ -1,4 +1,6 @@
 -- Goroutines in rising order of number.
+-- For: `RisesFrom` (golf_state/specs/Rising.antt) and `leading`, `put_in`, `leave_out` (src/rising.rt)
+-- By: induction over the list of goroutines or of their numbers
 use Rattle.std.proofs.Common.{◌≡◌, ℕ, zero, suc, ◌+◌, ◌<◌, ◌≤◌, Bool, true, false, cond, not, List, [], ◌∷◌, length, get_or, Some, nat_lt, refl, sym, ap, ◌∙◌, arith, slice_get}
 use Rattle.std.specs.Prelude.{insert, remove}
 use Rattle.std.specs.List.Sorted.{IsNonDecreasingBy}

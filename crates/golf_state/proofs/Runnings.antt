@@ -1,4 +1,6 @@
 -- Who still runs, and who is still blocked, once others have changed.
+-- For: `runs`, `is_blocked` (golf_state/specs/Looked.antt) and `proceed` (src/outcome.rt)
+-- By: cases of the goroutine's mode and of whose number it is; no induction
 use Rattle.std.proofs.Common.{◌≡◌, ℕ, true, false, List, Option, Some, None, ◌==◌, refl, sym, ap, ◌∙◌, subst, inl, inr}
 use Rattle.std.specs.Prelude.{IfSome}
 use Rattle.std.proofs.lemmas.Bool.{eqb-true, eqb-false, true≢false}

@@ -1,4 +1,6 @@
 -- A waiter that goes on while the goroutine in its turn does.
+-- For: `handed_over` (golf_state/specs/Handing.antt)
+-- By: induction over the entries of the map for two that are put; otherwise cases of whether there is a waiter
 use Rattle.std.proofs.Common.{◌≡◌, ℕ, true, false, cond, not, List, [], ◌∷◌, Option, Some, None, ◌==◌, refl, sym, ap, ◌∙◌}
 use Rattle.std.specs.Prelude.{option_map, IfSome}
 use Rattle.std.proofs.lemmas.Bool.{eqb-true, ne_eqb, true≢false}
@@ -79,7 +81,7 @@ module _ (s : State) (m : Option Waiter) (x : Waiting) (w : IsServed s m x) (t :
       ap (λ (y : Waiting). looked_up y.goroutine.0 (λ r. become y.goroutine.0 (wakened how r)) t) w.told
       ∙ ap (λ (o : Option GoroutineView). on_goroutine (λ r. become w.waiter.number (wakened how r)) o t) served-found
 
--- the first waiter, where there is one, is handed the mutex
+-- the first waiter, if there is one, is handed the mutex
 pub handed-ready : (s : State) (m : Option Waiter) (x : Option Waiting) → x ≡ option_map waiting_of m → IsBlockedIn s m → (t : State) → Beside s t → is_blocked_where x t ≡ true
 handed-ready s m None e i t b = refl
 handed-ready s m (Some x) e i t b = served-blocked s m x (served-from s m x e i) t b

@@ -1,4 +1,6 @@
 -- The innermost frame, and the last operands.
+-- For: `frame_views` (golf_model/specs/Views.antt) and `on_top` (golf_model/specs/Waking.antt)
+-- By: induction over the list for an item of its first part; otherwise computing with the last frame
 use Rattle.std.proofs.Common.{◌≡◌, ℕ, zero, suc, ◌+◌, ◌-◌, ◌<◌, ◌≤◌, Bool, true, false, not, List, [], ◌∷◌, ◌++◌, length, take, drop, map, Some, refl, sym, ap, ◌∙◌, inl, inr, arith, slice_get, slice_set}
 use Rattle.std.specs.Prelude.{reverse, IsTrue, ◌↔◌}
 use Rattle.std.proofs.lemmas.Bool.{cases_lt}
@@ -75,10 +77,6 @@ no_frames true (f ∷ fs) h = cc (h.0 refl)
 no_frames false (f ∷ fs) h =
     let n = length-reverse (map frame_view (f ∷ fs)) in
     sym (ap not (not_empty-cons (frame_views (f ∷ fs)) (omega arith)))
-
--- without a frame nothing changes on top
-pub no_top : (fs : List Frame) (change : FrameView → FrameView) → fs ≡ [] → frame_views fs ≡ on_top change (frame_views fs)
-no_top fs change e = ap frame_views e ∙ sym (ap (λ (gs : List Frame). on_top change (frame_views gs)) e)
 
 -- ---- operands
 

@@ -1,4 +1,6 @@
 -- The look for the first waiter.
+-- For: `first` (golf_model/specs/Waiting.antt) and `wait_for`, `first_waiter` (src/waiters.rt)
+-- By: cases of the next wait or place, for each turn of the loop; no induction
 use Rattle.std.proofs.Common.{◌≡◌, ℕ, ◌+◌, ◌<◌, ◌≤◌, true, false, cond, ◌&&◌, List, [], ◌∷◌, Option, Some, None, length, drop, get_or, ◌==◌, refl, sym, ap, ◌∙◌, arith, drop_of_length-le, inl}
 use Rattle.std.specs.Prelude.{option_map, nat_lt, IfSome}
 use Rattle.std.proofs.lemmas.List.{drop_more, length-map, get_or-map}

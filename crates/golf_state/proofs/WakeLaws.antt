@@ -1,4 +1,6 @@
 -- All who wait on an object are woken, one after the other.
+-- For: `HasWoken` (golf_state/specs/WokenAll.antt) and `wake_side`, `wake_all` (src/wake_all.rt)
+-- By: induction over the entries of the map of goroutines; otherwise cases of how they are woken
 use Rattle.std.proofs.Common.{◌≡◌, ℕ, suc, ◌<◌, ◌≤◌, Bool, true, false, cond, ◌&&◌, List, [], ◌∷◌, Option, Some, None, ◌==◌, inl, inr, refl, sym, ap, ◌∙◌, subst, arith}
 use Rattle.std.specs.Prelude.{option_map}
 use Rattle.std.proofs.lemmas.Bool.{cases_eq, cases_lt, eqb-true, eq-eqb}
@@ -88,9 +90,6 @@ one-woken o g how s r k rises f h =
       ];
     }
 
-pub woken-none_yet : (o : ℕ) (how : Waking) (s : State) → HasWoken o how s s
-woken-none_yet o how s = record { same = refl; nobody = λ side none. none }
-
 pub woken-more : (o : ℕ) (how : Waking) (s t u : State) → HasWoken o how s t → HasWoken o how t u → HasWoken o how s u
 woken-more o how s t u a b = record { same = b.same ∙ a.same; nobody = λ side none. b.nobody side (a.nobody side none) }
 
@@ -124,7 +123,7 @@ passed n o side how gs h rises last below none = λ g r w k i q z.
           absurd (cc)
     ]
 
--- and where it is, it has gone on
+-- and if it is, it has gone on
 pub woken-passed : (n o : ℕ) (side : Side) (how : Waking) (gs : List (ℕ × GoroutineView)) (h : TicketHolder) (r : GoroutineView) (k : Wakening) → IsRising gs → IsHolderBelow n o side gs (Some h) → AreWokenBelow n o side how gs → find h.goroutine.0 gs ≡ Some r
     → AreWokenBelow h.ticket o side how (put h.goroutine.0 (wakened k r) gs)
 woken-passed n o side how gs h r k rises last below f = λ g x w l i q z.
@@ -140,9 +139,6 @@ woken-passed n o side how gs h r k rises last below f = λ g x w l i q z.
         ]
       ]
     ]
-
-pub nobody-below : (n o : ℕ) (side : Side) (how : Waking) (gs : List (ℕ × GoroutineView)) → IsHolderBelow n o side gs None → AreWokenBelow n o side how gs → NobodyWoken o side how gs
-nobody-below n o side how gs last below = λ g r w k i q z. let a = last g r w i q in let b = below g r w k i q z in absurd (omega (arith, a, b))
 
 -- ---- on which sides those stand who are woken
 
@@ -161,7 +157,7 @@ wait-side o (x ∷ ws) w h = elim (x.object.0 == o) as (λ b. cond b (Some x) (w
 waiter-some : (o : ℕ) (side : Side) (g : ℕ) (r : GoroutineView) (v : Wait) → wait_for o side (waits_of r.mode) ≡ Some v → (w : Waiter) × (waiter_of o side (g, r) ≡ Some w)
 waiter-some o side g r v h = (record { number = g; goroutine = r; wait = v }, ap (λ (m : Option Wait). option_map (λ y. let x : Waiter = record { number = g; goroutine = r; wait = y } in x) m) h)
 
--- where nobody who waits there is woken, on any side, all stay as they are
+-- if nobody who waits there is woken, on any side, all stay as they are
 all-same : (o : ℕ) (how : Waking) (s : State) → ((g : ℕ) (r : GoroutineView) (k : Wakening) → Entry s.goroutines g r → wakening_of r.mode o how ≡ Some k → ⊥) → wake_all o (waking_of how) s ≡ s
 all-same o how s h = ap (λ (es : List (ℕ × GoroutineView)). record s { goroutines = es }) (map-same (woken_by (waking_of how) o) s.goroutines (λ g r i.
     elim (wakening_of r.mode o how) as (λ m. wakening_of r.mode o how ≡ m → woken_by (waking_of how) o r ≡ r) [

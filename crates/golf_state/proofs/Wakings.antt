@@ -1,7 +1,8 @@
--- Who is woken.
-use Rattle.std.proofs.Common.{◌≡◌, ℕ, zero, suc, ◌+◌, ◌<◌, ◌≤◌, Bool, true, false, cond, List, [], ◌∷◌, ◌++◌, length, take, drop, get_or, Option, Some, None, ◌==◌, refl, sym, ap, ◌∙◌, drop_of_length-le, slice_get, add-one}
+-- How a waiting goroutine is woken, and the list of those that run, place by place.
+-- For: `woken_by` (golf_model/specs/Waking.antt) and `wait_on` (src/waking.rt), `list_running` (src/places.rt)
+-- By: induction over the entries of the map of goroutines; otherwise cases of the mode
+use Rattle.std.proofs.Common.{◌≡◌, ℕ, zero, suc, ◌+◌, ◌<◌, ◌≤◌, Bool, true, false, cond, List, [], ◌∷◌, ◌++◌, length, take, drop, get_or, Option, Some, None, refl, sym, ap, ◌∙◌, drop_of_length-le, slice_get, add-one}
 use Rattle.std.specs.Prelude.{option_map}
-use Rattle.std.proofs.lemmas.List.{drop_more}
 use Rattle.std.proofs.lemmas.Option.{slice_get_read, slice_get-map}
 use Rattle.golf_data.specs.declared.value.Value.{Value}
 use Rattle.golf_data.specs.declared.goroutine.Mode.{Mode}
@@ -16,16 +17,9 @@ use Rattle.golf_state.specs.Looked.{values_of}
 use Rattle.golf_state.specs.Places.{plain_entry, plain_entries, running_of}
 use Rattle.golf_state.specs.Woken.{given_for, waking_of, wakening_by_close, wakening_on, released_where, wakening_of, wakened_by}
 use Rattle.golf_state.specs.declared.waking.Waking.{Waking}
-use Rattle.golf_state.specs.declared.frames.Wakening.{Wakening}
 use Rattle.golf_state.specs.declared.places.Place.{Place}
 
 -- ---- along the waits of a goroutine
-
-pub on_skip : (o : ℕ) (ws : List Wait) (i : ℕ) (w : Wait) → i < length ws → ((get_or ws i w).object.0 == o) ≡ false → wait_on o ws ≡ wait_on o (drop i ws) → wait_on o ws ≡ wait_on o (drop (i + 1) ws)
-on_skip o ws i w l h e = e ∙ ap (wait_on o) (drop_more ws i w l) ∙ ap (λ b. cond b (Some (get_or ws i w)) (wait_on o (drop (i + 1) ws))) h
-
-pub on_hit : (o : ℕ) (ws : List Wait) (i : ℕ) (w : Wait) → i < length ws → ((get_or ws i w).object.0 == o) ≡ true → wait_on o ws ≡ wait_on o (drop i ws) → Some (get_or ws i w) ≡ wait_on o ws
-on_hit o ws i w l h e = sym (e ∙ ap (wait_on o) (drop_more ws i w l) ∙ ap (λ b. cond b (Some (get_or ws i w)) (wait_on o (drop (i + 1) ws))) h)
 
 pub on_end : (o : ℕ) (ws : List Wait) (i : ℕ) → length ws ≤ i → wait_on o ws ≡ wait_on o (drop i ws) → None ≡ wait_on o ws
 on_end o ws i l e = sym (e ∙ ap (wait_on o) (drop_of_length-le ws l))
@@ -65,11 +59,6 @@ woken-is fs started Mode.Running o (Waking.ToReaders below) =
 woken-is fs started (Mode.Blocked kind line waits ticket) o (Waking.Closing v) = closed-on v fs started kind line waits ticket (wait_on o waits)
 woken-is fs started (Mode.Blocked kind line waits ticket) o Waking.AtZero = released-is _ (wait_for o Side.Group waits)
 woken-is fs started (Mode.Blocked kind line waits ticket) o (Waking.ToReaders below) = released-is _ (cond (is_below below ticket) (wait_for o Side.Read waits) None)
-
--- who runs is not woken
-pub woken-blocked : (m : Mode) (o : ℕ) (how : Waking) (k : Wakening) → wakening_of m o how ≡ Some k → is_running m ≡ false
-woken-blocked Mode.Running o how k h = cc
-woken-blocked (Mode.Blocked kind line waits ticket) o how k h = refl
 
 -- ---- those that run, one more place
 

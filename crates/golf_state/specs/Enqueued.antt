@@ -11,12 +11,12 @@ use Rattle.golf_state_queues.specs.WaitQueues.{WaitQueues, key, wait_queue_at, A
 abbrev pub HasWaiters : ℕ → Side → List (ℕ × GoroutineView) → List (ℕ × ℕ) → Type 0
 HasWaiters o side gs line = (g : ℕ) (r : GoroutineView) (w : Waiter) → Entry gs g r → waiter_of o side (g, r) ≡ Some w → Entry line (ticket_of r.mode) g
 
--- where it is blocked, its ticket is below n
+-- if it is blocked, its ticket is below n
 abbrev pub IsEarly : ℕ → Mode → Type 0
 IsEarly n Mode.Running = Unit {0}
 IsEarly n (Mode.Blocked kind line waits ticket) = ticket < n
 
--- whether all who wait on that side stand in the queue; those who wait for a mutex do where they all could be listed
+-- whether all who wait on that side stand in the queue; those who wait for a mutex do if they all could be listed
 abbrev pub has_queue : Bool → Side → Bool
 has_queue listed Side.Receive = true
 has_queue listed Side.Send = true

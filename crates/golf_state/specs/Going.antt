@@ -12,7 +12,7 @@ use Rattle.golf_model.specs.Calls.{handed_back}
 abbrev pub went : ℕ → ℕ → List Value → FrameView → FrameView
 went after taken vs f = record f { at = after; operands = vs ++ drop taken f.operands }
 
--- with one in place of the top one, where there is one
+-- with one in place of the top one, if there is one
 abbrev pub exchanged_in : ℕ → Value → FrameView → List Value → FrameView
 exchanged_in after v f [] = f
 exchanged_in after v f (w ∷ rest) = record f { at = after; operands = v ∷ rest }
@@ -20,7 +20,7 @@ exchanged_in after v f (w ∷ rest) = record f { at = after; operands = v ∷ re
 abbrev pub exchanged : ℕ → Value → FrameView → FrameView
 exchanged after v f = exchanged_in after v f f.operands
 
--- with the top operand in a slot, where both are there
+-- with the top operand in a slot, if both are there
 abbrev pub stored_in : ℕ → ℕ → FrameView → List Value → Option Value → FrameView
 stored_in after i f [] old = f
 stored_in after i f (v ∷ rest) None = f
@@ -29,7 +29,7 @@ stored_in after i f (v ∷ rest) (Some old) = record f { at = after; slots = sli
 abbrev pub stored : ℕ → ℕ → FrameView → FrameView
 stored after i f = stored_in after i f f.operands (slice_get f.slots i)
 
--- the frame returns, with a value where it has one
+-- the frame returns, with a value if it has one
 abbrev pub has_returned : ℕ → ℕ → Option Value → FrameView → FrameView
 has_returned after taken v f = record f { at = after; operands = drop taken f.operands; leaving = Leaving.Returning v }
 

@@ -9,12 +9,12 @@ use Rattle.golf_model.specs.Changes.{become, replace}
 use Rattle.golf_state.specs.declared.waiters.Waiting.{Waiting}
 use Rattle.golf_state.specs.Looked.{looked_up, is_blocked}
 
--- it is blocked, where there is one
+-- it is blocked, if there is one
 abbrev pub is_blocked_where : Option Waiting → State → Bool
 is_blocked_where None s = true
 is_blocked_where (Some x) s = is_blocked x.goroutine.0 s
 
--- the waiter, where there is one, is there and blocked
+-- the waiter, if there is one, is there and blocked
 abbrev pub IsBlockedIn : State → Option Waiter → Type 0
 IsBlockedIn s m = IfSome m (λ w. find w.number s.goroutines ≡ Some w.goroutine × is_running w.goroutine.mode ≡ false)
 

@@ -12,10 +12,10 @@ use Rattle.golf_model.specs.Changes.{replace}
 use Rattle.golf_state.specs.contracts.state.State.{the_row as state_row}
 use Rattle.golf_state.specs.Looked.{reframed}
 
--- the goroutine ends with the last frames behind the loan
+-- the goroutine ends with the last frames after the loan
 abbrev pub LendsFrames : MutBor State → ℕ → MutBor (List Frame) → Fml
 LendsFrames s g r = Lends state_row (list_row frame_row) s r (λ w. reframed g (frame_views w) s.now)
 
--- the object ends as the last value behind the loan
+-- the object ends as the last value after the loan
 abbrev pub LendsObject : MutBor State → ℕ → MutBor Object → Fml
 LendsObject s o r = Lends state_row object_row s r (λ x. replace o x s.now)

@@ -5,6 +5,6 @@ use Rattle.golf_base.specs.contracts.list.List.{the_row as list_row}
 use Rattle.golf_data.specs.declared.goroutine.Frame.{Frame}
 use Rattle.golf_data.specs.contracts.goroutine.Frame.{the_row as frame_row}
 
--- the last frame ends as the last value behind the loan
+-- the last frame ends as the last value after the loan
 abbrev pub LendsTop : MutBor (List Frame) → MutBor Frame → Fml
 LendsTop fs r = Lends (list_row frame_row) frame_row fs r (slice_set fs.now (length fs.now - 1))

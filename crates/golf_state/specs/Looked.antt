@@ -38,7 +38,7 @@ abbrev pub frames_in : Option GoroutineView → List FrameView
 frames_in None = []
 frames_in (Some r) = r.frames
 
--- the goroutine's frames, the innermost one first; none where it is not there
+-- the goroutine's frames, the innermost one first; none if it is not there
 abbrev pub frames_of : ℕ → State → List FrameView
 frames_of g s = frames_in (find g s.goroutines)
 

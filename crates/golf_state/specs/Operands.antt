@@ -9,7 +9,7 @@ abbrev pub top_operands : List FrameView → List Value
 top_operands [] = []
 top_operands (f ∷ fs) = f.operands
 
--- none where there is no frame
+-- none if there is no frame
 abbrev pub operands_of : ℕ → State → List Value
 operands_of g s = top_operands (frames_of g s)
 

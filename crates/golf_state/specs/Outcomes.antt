@@ -1,5 +1,5 @@
 -- What the outcomes of operations say.
-use Rattle.std.specs.Prelude.{◌≡◌, ℕ, Bool, true, false, List}
+use Rattle.std.specs.Prelude.{◌≡◌, ℕ, true, List}
 use Rattle.golf_data.specs.declared.goroutine.PanicKind.{PanicKind}
 use Rattle.golf_data.specs.Fatal.{is_fatal}
 use Rattle.golf_model.specs.State.{State}
@@ -13,7 +13,7 @@ use Rattle.golf_state.specs.Doing.{does, Stands}
 abbrev pub faults : Actor → PanicKind → List Change
 faults a kind = choose (is_fatal kind) (dies a kind) (panics a kind)
 
--- where it panics, the goroutine still stands at its instruction
+-- if it panics, the goroutine still stands at its instruction
 abbrev pub StandsToFault : Outcome → ℕ → ℕ → State → Type 0
 StandsToFault Outcome.Done g after s = Unit {0}
 StandsToFault Outcome.Blocked g after s = Unit {0}

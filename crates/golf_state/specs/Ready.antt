@@ -3,7 +3,7 @@ use Rattle.std.specs.Prelude.{List, [], ◌∷◌}
 use Rattle.golf_state.specs.declared.places.Place.{Place}
 use Rattle.golf_state.specs.Roominess.{IsReadyIn}
 
--- where it is blocked, its innermost frame has room
+-- if it is blocked, its innermost frame has room
 abbrev pub IsReady : Place → Type 0
 IsReady p = IsReadyIn p.goroutine.mode p.goroutine.frames
 

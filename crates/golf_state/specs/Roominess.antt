@@ -7,7 +7,7 @@ abbrev pub HasRoomIn : Option Frame → Type 0
 HasRoomIn None = Unit {0}
 HasRoomIn (Some f) = 2 ≤ f.operands.spare
 
--- the innermost frame, where there is one, has room for two operands more
+-- the innermost frame, if there is one, has room for two operands more
 abbrev pub HasRoom : List Frame → Type 0
 HasRoom fs = HasRoomIn (slice_get fs (length fs - 1))
 

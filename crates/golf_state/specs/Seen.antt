@@ -12,7 +12,7 @@ sooner None w = w
 sooner (Some v) None = Some v
 sooner (Some v) (Some w) = cond (nat_lt w.ticket v.ticket) (Some w) (Some v)
 
--- the goroutine as a waiter, where it is there, has the ticket, and is one
+-- the goroutine as a waiter, if it is there, has the ticket, and is one
 abbrev pub waiter_held : ℕ → Side → ℕ → ℕ → Option GoroutineView → Option Waiter
 waiter_held o side t g None = None
 waiter_held o side t g (Some r) = cond (ticket_of r.mode == t) (waiter_of o side (g, r)) None

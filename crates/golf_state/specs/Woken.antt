@@ -38,7 +38,7 @@ abbrev pub wakening_on : Value → ℕ → Option Wait → Option Wakening
 wakening_on zero line None = None
 wakening_on zero line (Some w) = wakening_by_close zero w line w.side
 
--- how a goroutine in this mode goes on, where all who wait on the object are woken
+-- how a goroutine in this mode goes on, if all who wait on the object are woken
 abbrev pub wakening_of : Mode → ℕ → Waking → Option Wakening
 wakening_of Mode.Running o how = None
 wakening_of (Mode.Blocked kind line waits ticket) o (Waking.Closing zero) = wakening_on zero line (wait_on o waits)
@@ -49,6 +49,6 @@ abbrev pub wakened_by : Option Wakening → GoroutineView → GoroutineView
 wakened_by None r = r
 wakened_by (Some how) r = wakened how r
 
--- a goroutine, where all who wait on the object are woken
+-- a goroutine, if all who wait on the object are woken
 abbrev pub woken_entry : Woken → ℕ → ℕ × GoroutineView → ℕ × GoroutineView
 woken_entry how o e = (e.0, woken_by how o e.1)

@@ -1,4 +1,4 @@
--- Who is still to be woken, where all who wait on an object are.
+-- Who is still to be woken, if all who wait on an object are.
 use Rattle.std.specs.Prelude.{◌≡◌, ◌≤◌, ◌<◌, ℕ, List, Option, Some, None, ◌⊎◌}
 use Rattle.golf_theory.specs.Maps.{Entry}
 use Rattle.golf_data.specs.declared.goroutine.Side.{Side}
@@ -11,7 +11,7 @@ use Rattle.golf_state.specs.Woken.{waking_of, wakening_of}
 use Rattle.golf_state.specs.declared.frames.Wakening.{Wakening}
 use Rattle.golf_state.specs.declared.waking.Waking.{Waking}
 
--- how a goroutine goes on, where it is there and woken
+-- how a goroutine goes on, if it is there and woken
 abbrev pub wakening_in : Option GoroutineView → ℕ → Waking → Option Wakening
 wakening_in None o how = None
 wakening_in (Some r) o how = wakening_of r.mode o how

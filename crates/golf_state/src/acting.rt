@@ -8,6 +8,6 @@ pub struct Acting {
     pub goroutine: GoroutineId,
     /// The line of the instruction.
     pub line: u32,
-    /// The place behind the instruction.
+    /// The place after the instruction.
     pub after: u32,
 }

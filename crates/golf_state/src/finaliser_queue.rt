@@ -12,7 +12,7 @@ use std::marker::Model;
 /// The finalisers that are to be called, the next one first.
 ///
 /// One that is taken is only counted, so that to take one costs the same however many there are. The
-/// list closes up where others are added and more were taken than are left.
+/// list closes up if others are added and more were taken than are left.
 #[derive(Debug, Drop)]
 pub struct FinaliserQueue {
     entries: Vec<Queued>,
@@ -55,7 +55,7 @@ impl FinaliserQueue {
         Some(next)
     }
 
-    // Those that were taken are gone from memory, where they are more than those that are left.
+    // Those that were taken are gone from memory, if they are more than those that are left.
     fn close_up(&mut self)
         ensures { self.new ≡ self.old }
     {
@@ -67,7 +67,7 @@ impl FinaliserQueue {
         }
     }
 
-    /// Adds finalisers behind the others.
+    /// Adds finalisers after the others.
     pub fn add(&mut self, entries: &[Queued]) -> Result<(), Memory>
         ensures ok { OnOk result (self.new ≡ self.old ++ entries.now) }
         ensures err { OnErr result (self.new ≡ self.old) }

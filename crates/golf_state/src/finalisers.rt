@@ -14,7 +14,7 @@ fn rank_of(finalisers: &[(u32, u32)], object: u32) -> usize
     finalisers.partition_point(|finaliser| finaliser.0 < object)
 }
 
-/// The function of an object's finaliser, where it has one.
+/// The function of an object's finaliser, if it has one.
 pub fn function_of(finalisers: &[(u32, u32)], object: u32) -> Option<u32>
     requires { Rises 0 finalisers.now }
     ensures { result ≡ find object finalisers.now }
@@ -43,7 +43,7 @@ pub fn put_finaliser(
     Ok(())
 }
 
-/// The finaliser of an object is gone, where it has one.
+/// The finaliser of an object is gone, if it has one.
 pub fn take_finaliser(finalisers: &mut Vec<(u32, u32)>, object: u32)
     requires { Rises 0 finalisers.old.items }
     ensures { finalisers.new.items ≡ only (λ p. not (p == object)) finalisers.old.items }

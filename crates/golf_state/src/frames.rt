@@ -121,7 +121,7 @@ pub fn advance(frames: &mut List<Frame>, after: u32, taken: usize)
     }
 }
 
-// The last operand becomes this one, where there is one, and the frame goes on at a place.
+// The last operand becomes this one, if there is one, and the frame goes on at a place.
 #[inline(always)]
 fn exchange_last(frame: &mut Frame, after: u32, value: Value)
     ensures { frame_view frame.new ≡ exchanged after value (frame_view frame.old) }
@@ -132,7 +132,7 @@ fn exchange_last(frame: &mut Frame, after: u32, value: Value)
     }
 }
 
-/// The last operand of the innermost frame becomes this one, where there is one, and the frame goes
+/// The last operand of the innermost frame becomes this one, if there is one, and the frame goes
 /// on at a place.
 #[inline(always)]
 pub fn exchange(frames: &mut List<Frame>, after: u32, value: Value)
@@ -143,7 +143,7 @@ pub fn exchange(frames: &mut List<Frame>, after: u32, value: Value)
     }
 }
 
-// Stores the last operand in a slot, where both are there, and goes on at a place.
+// Stores the last operand in a slot, if both are there, and goes on at a place.
 fn store_last(frame: &mut Frame, after: u32, slot: u32)
     ensures { frame_view frame.new ≡ stored after slot (frame_view frame.old) }
 {
@@ -156,7 +156,7 @@ fn store_last(frame: &mut Frame, after: u32, slot: u32)
     }
 }
 
-/// Stores the last operand of the innermost frame in a slot, where both are there, and goes on at a
+/// Stores the last operand of the innermost frame in a slot, if both are there, and goes on at a
 /// place.
 pub fn store(frames: &mut List<Frame>, after: u32, slot: u32)
     ensures { frame_views frames.new ≡ on_top (stored after slot) (frame_views frames.old) }
@@ -191,7 +191,7 @@ fn return_in(frame: &mut Frame, after: u32, taken: usize, value: Option<Value>)
     frame.leaving = Leaving::Returning(value);
 }
 
-/// The innermost frame returns with a value, where it has one, and stands at a place behind its
+/// The innermost frame returns with a value, if it has one, and stands at a place after its
 /// return, without so many of its operands.
 pub fn begin_return(frames: &mut List<Frame>, after: u32, taken: usize, value: Option<Value>)
     ensures { frame_views frames.new ≡ on_top (has_returned after taken value) (frame_views frames.old) }
@@ -248,13 +248,13 @@ pub fn settle(goroutine: &mut Goroutine, after: u32, taken: usize) -> Result<(),
 pub enum Wakening {
     /// Where it stands, without a value.
     Released,
-    /// Where its wait says, with these values on top of its operands.
+    /// If its wait says, with these values on top of its operands.
     Served(Wait, Given),
     /// Its innermost frame unwinds.
     Unwound(Fault),
 }
 
-// Goes on where the wait says, with these values on top of the operands.
+// Goes on if the wait says, with these values on top of the operands.
 #[inline(always)]
 fn resume_frame(frame: &mut Frame, wait: Wait, given: Given)
     requires { 2 ≤ frame.old.operands.spare }
@@ -264,7 +264,7 @@ fn resume_frame(frame: &mut Frame, wait: Wait, given: Given)
     give(&mut frame.operands, given);
 }
 
-// The innermost frame goes on where the wait says, with these values on top of its operands.
+// The innermost frame goes on if the wait says, with these values on top of its operands.
 #[inline(always)]
 fn resume(frames: &mut List<Frame>, wait: Wait, given: Given)
     requires { HasRoom frames.old }

@@ -36,7 +36,7 @@ fn last_three(items: &[Value]) -> Option<(Value, Value, Value)>
     Some((items[count - 3], items[count - 2], items[count - 1]))
 }
 
-/// The last operand of a goroutine's innermost frame, where there is one.
+/// The last operand of a goroutine's innermost frame, if there is one.
 #[inline(always)]
 pub fn last_operand(state: &State, g: GoroutineId) -> Option<Value>
     ensures { result ≡ slice_get (operands_of g.0 state.now) 0 }
@@ -45,7 +45,7 @@ pub fn last_operand(state: &State, g: GoroutineId) -> Option<Value>
     last(frame.operands.as_slice())
 }
 
-/// The last two operands of a goroutine's innermost frame, the last one second, where there are two.
+/// The last two operands of a goroutine's innermost frame, the last one second, if there are two.
 #[inline(always)]
 pub fn last_operands(state: &State, g: GoroutineId) -> Option<(Value, Value)>
     ensures { result ≡ two_of (operands_of g.0 state.now) }
@@ -54,7 +54,7 @@ pub fn last_operands(state: &State, g: GoroutineId) -> Option<(Value, Value)>
     last_two(frame.operands.as_slice())
 }
 
-/// The last three operands of a goroutine's innermost frame, the last one third, where there are
+/// The last three operands of a goroutine's innermost frame, the last one third, if there are
 /// three.
 pub fn last_three_operands(state: &State, g: GoroutineId) -> Option<(Value, Value, Value)>
     ensures { result ≡ three_of (operands_of g.0 state.now) }

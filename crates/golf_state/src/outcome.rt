@@ -107,17 +107,15 @@ pub fn block_at(
     state.block(acting.goroutine, kind, acting.line, waits, target, taken)
 }
 
-/// A list of one wait.
+/// A list of one wait, with room for no more.
 #[inline(always)]
 pub fn one_wait(alloc: Global, wait: Wait) -> Result<List<Wait>, Memory>
     ensures { IfOk result (λ waits. waits ≡ wait ∷ []) }
 {
-    let mut waits = List::new(alloc);
-    waits.push(wait)?;
-    Ok(waits)
+    Ok(List::from_vec(vec![in alloc; wait]?))
 }
 
-/// The goroutine in its turn blocks behind its instruction, without so many operands, on an object
+/// The goroutine in its turn blocks after its instruction, without so many operands, on an object
 /// with this side.
 #[inline(always)]
 pub fn block_on(

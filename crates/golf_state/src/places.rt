@@ -41,7 +41,7 @@ pub fn place_of(
     })
 }
 
-// The number as an index, where its goroutine stands there, as it does where no goroutine before it
+// The number as an index, if its goroutine stands there, as it does if no goroutine before it
 // has ended.
 #[inline(always)]
 fn index_of(places: &[Place], number: u32) -> Option<usize>
@@ -68,7 +68,7 @@ pub fn rank_of(places: &[Place], number: u32) -> usize
     }
 }
 
-/// The goroutine of this number, where it is there.
+/// The goroutine of this number, if it is there.
 #[inline(always)]
 pub fn goroutine_at(places: &[Place], number: u32) -> Option<&Goroutine>
     requires { Rises 0 (plain_entries places.now) }
@@ -82,7 +82,7 @@ pub fn goroutine_at(places: &[Place], number: u32) -> Option<&Goroutine>
     }
 }
 
-/// The goroutine of this number is gone, where it is there.
+/// The goroutine of this number is gone, if it is there.
 pub fn take_place(places: &mut Vec<Place>, number: u32)
     requires rises { Rises 0 (plain_entries places.old.items) }
     requires ready { AllReady places.old.items }

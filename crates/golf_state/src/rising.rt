@@ -7,7 +7,7 @@ ghost use Rattle.golf_state.specs.Rising.{RisesFrom, leading};
 
 use golf_base::GoroutineId;
 
-/// The goroutines behind the first one.
+/// The goroutines after the first one.
 #[inline(always)]
 pub fn behind_first(goroutines: &[GoroutineId]) -> &[GoroutineId]
     ensures { map (λ h. h.0) result.now ≡ behind_first (map (λ h. h.0) goroutines.now) }
@@ -28,7 +28,7 @@ fn leading(goroutines: &[GoroutineId], bound: u64) -> usize
     goroutines.partition_point(|other| u64::from(other.0) < bound)
 }
 
-/// Takes a goroutine out, where it is one of them.
+/// Takes a goroutine out, if it is one of them.
 #[inline(always)]
 pub fn leave_out(goroutines: &mut Vec<GoroutineId>, g: GoroutineId)
     requires { RisesFrom 0 (map (λ h. h.0) goroutines.old.items) }

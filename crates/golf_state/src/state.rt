@@ -48,7 +48,7 @@ use std::marker::Model;
 /// The state of a running program, seen as that of the plain machine. Of the operands of a frame
 /// contracts see the items alone.
 ///
-/// A call that answers `Memory` leaves it unchanged. Where objects, goroutines or tickets have used
+/// A call that answers `Memory` leaves it unchanged. If objects, goroutines or tickets have used
 /// up their numbers, the answer is `Memory` too.
 pub struct State {
     globals: List<Value>,
@@ -148,7 +148,7 @@ impl State {
         }
     }
 
-    /// How the program has ended: as recorded, else asleep where no goroutine can run.
+    /// How the program has ended: as recorded, else asleep if no goroutine can run.
     #[inline(always)]
     pub fn ending(&self) -> Option<Ending>
         ensures { result ≡ ending self.now }
@@ -167,7 +167,7 @@ impl State {
         self.present.as_slice()
     }
 
-    /// The goroutine of this number, where it has not ended.
+    /// The goroutine of this number, if it has not ended.
     #[inline(always)]
     pub fn goroutine(&self, g: GoroutineId) -> Option<&Goroutine>
         ensures { option_map (λ r. goroutine_view r.now) result ≡ find g.0 self.now.goroutines }
@@ -175,7 +175,7 @@ impl State {
         goroutine_at(self.goroutines.as_slice(), g.0)
     }
 
-    /// The innermost frame of a goroutine, where it has not ended and has one.
+    /// The innermost frame of a goroutine, if it has not ended and has one.
     #[inline(always)]
     pub fn frame(&self, g: GoroutineId) -> Option<&Frame>
         ensures { option_map (λ f. frame_view f.now) result ≡ slice_get (frames_of g.0 self.now) 0 }
@@ -184,7 +184,7 @@ impl State {
         goroutine.frames.as_slice().last()
     }
 
-    /// How many frames a goroutine has; none where it has ended.
+    /// How many frames a goroutine has; none if it has ended.
     pub fn depth(&self, g: GoroutineId) -> usize
         ensures { result ≡ length (frames_of g.0 self.now) }
     {
@@ -208,7 +208,7 @@ impl State {
         &self.heap
     }
 
-    /// The function of an object's finaliser, where it has one.
+    /// The function of an object's finaliser, if it has one.
     pub fn finaliser(&self, object: ObjectId) -> Option<u32>
         ensures { result ≡ find object.0 self.now.finalisers }
     {
@@ -256,7 +256,7 @@ impl State {
         self.heap.make(object)
     }
 
-    /// Puts an object in the place of the one of this number, where it is there.
+    /// Puts an object in the place of the one of this number, if it is there.
     pub fn replace(&mut self, object: ObjectId, with: Object)
         ensures { self.new ≡ replace object.0 with self.old }
     {
@@ -439,7 +439,7 @@ impl State {
         waiter_by(holder, self.goroutines.as_slice(), object, side).is_some()
     }
 
-    /// How a goroutine goes on where all who wait on the object are woken, and it is one of them.
+    /// How a goroutine goes on if all who wait on the object are woken, and it is one of them.
     pub(crate) fn wakening(&self, g: GoroutineId, object: ObjectId, how: Waking) -> Option<Wakening>
         ensures { result ≡ wakening_in (find g.0 self.now.goroutines) object.0 how }
     {
@@ -457,7 +457,7 @@ impl State {
     }
 
     // The one wait of a blocked goroutine becomes a wait for the mutex, with the next ticket. Where
-    // memory is wanting for its place in the queue, the queues of mutexes are looked at no more.
+    // memory runs out for its place in the queue, the queues of mutexes are looked at no more.
     fn move_wait(&mut self, g: GoroutineId, mutex: ObjectId)
         requires blocked { is_blocked g.0 self.old ≡ true }
         requires tickets { self.old.next_ticket + 1 < 2 ^ 64 }
@@ -530,7 +530,7 @@ impl State {
         self.recorded = Some(ending);
     }
 
-    /// A global becomes this value, where it is there.
+    /// A global becomes this value, if it is there.
     pub fn set_global(&mut self, global: u32, value: Value)
         ensures { self.new ≡ set_global global value self.old }
     {
@@ -555,7 +555,7 @@ impl State {
         take_finaliser(&mut self.finalisers, object.0);
     }
 
-    /// Finalisers are to be called, behind those that are to be called already.
+    /// Finalisers are to be called, after those that are to be called already.
     pub fn enqueue(&mut self, entries: &[Queued]) -> Result<(), Memory>
         ensures ok { OnOk result (self.new ≡ record self.old { queue = self.old.queue ++ entries.now }) }
         ensures err { OnErr result (self.new ≡ self.old) }
@@ -579,7 +579,7 @@ impl State {
         self.finalisers.as_slice()
     }
 
-    /// The finalisers whose flag is false are set no longer, and are to be called, behind those
+    /// The finalisers whose flag is false are set no longer, and are to be called, after those
     /// that are to be called already. The answer is how many they are.
     pub fn queue_finalisers(&mut self, stays: &[bool]) -> Result<usize, Memory>
         requires { length stays.now ≡ length self.old.finalisers }

@@ -60,7 +60,7 @@ pub fn wait_for(waits: &[Wait], object: ObjectId, side: Side) -> Option<Wait>
     None
 }
 
-// The goroutine at a place as a waiter, where it is one.
+// The goroutine at a place as a waiter, if it is one.
 fn waiter_in(place: &Place, object: ObjectId, side: Side) -> Option<Waiting>
     ensures { result ≡ option_map waiting_of (waiter_of object.0 side (plain_entry place.now)) }
 {
@@ -88,7 +88,7 @@ fn sooner(seen: Option<Waiting>, other: Option<Waiting>) -> Option<Waiting>
     }
 }
 
-/// One who stood in the queue, where it waits there with that ticket.
+/// One who stood in the queue, if it waits there with that ticket.
 #[inline(always)]
 pub fn waiter_by(
     holder: TicketHolder,
@@ -149,7 +149,7 @@ pub fn leave_queues(queues: &mut Queues, g: GoroutineId, mode: &Mode)
     }
 }
 
-/// The goroutine of this number is gone from the queues that it stands in, where it is there; all others
+/// The goroutine of this number is gone from the queues that it stands in, if it is there; all others
 /// stand where they stood.
 pub fn forget(queues: &mut Queues, places: &[Place], g: GoroutineId)
     requires { Rises 0 (plain_entries places.now) }
@@ -160,7 +160,7 @@ pub fn forget(queues: &mut Queues, places: &[Place], g: GoroutineId)
     }
 }
 
-/// Where fewer goroutines are there than there were, those alone stand in the queue still, and nobody else;
+/// If fewer goroutines are there than there were, those alone stand in the queue still, and nobody else;
 /// lines in which nobody stands then are gone. It takes no memory.
 pub fn narrow_queues(queues: &mut Queues, goroutines: &[GoroutineId], were: usize)
     requires { Rises 0 (listed goroutines.now) }
@@ -189,7 +189,7 @@ pub fn first_waiter(places: &[Place], object: ObjectId, side: Side) -> Option<Wa
 }
 
 /// The goroutine stands last in the queue for the mutex, with a ticket that nobody who waits there has. It
-/// answers whether all who wait for mutexes stand in the queue still: not where memory was wanting.
+/// answers whether all who wait for mutexes stand in the queue still: not if memory ran out.
 pub fn enter_for_mutex(
     queues: &mut Queues,
     are_mutexes_enqueued: bool,

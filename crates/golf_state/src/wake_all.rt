@@ -1,4 +1,4 @@
-//! Who is woken where all who wait on an object are, by the queues that they stand in.
+//! Who is woken if all who wait on an object are, by the queues that they stand in.
 
 ghost use Rattle.std.specs.Prelude.{◌≡◌, ◌≤◌, ◌^◌, false, true, Some};
 ghost use Rattle.golf_model.specs.Changes.{wake_all};

@@ -1,4 +1,4 @@
-//! Who is woken where all who wait on an object are.
+//! Who is woken if all who wait on an object are.
 
 ghost use Rattle.std.specs.Prelude.{◌≡◌};
 ghost use Rattle.golf_model.specs.Waiting.{wait_on};
@@ -50,7 +50,7 @@ fn wait_on(waits: &[Wait], object: ObjectId) -> Option<Wait>
     None
 }
 
-// How a goroutine that blocked on this line goes on where the channel of its wait is closed: a
+// How a goroutine that blocked on this line goes on if the channel of its wait is closed: a
 // receiver gets the zero value, and a sender unwinds.
 fn wakening_by_close(zero: Value, wait: Wait, line: u32) -> Option<Wakening>
     ensures { result ≡ wakening_by_close zero wait line wait.side }
@@ -68,7 +68,7 @@ fn wakening_by_close(zero: Value, wait: Wait, line: u32) -> Option<Wakening>
     }
 }
 
-// Whether the ticket is below this one, where there is one.
+// Whether the ticket is below this one, if there is one.
 fn is_below(below: Option<u64>, ticket: u64) -> bool
     ensures { result ≡ is_below below ticket }
 {
@@ -78,7 +78,7 @@ fn is_below(below: Option<u64>, ticket: u64) -> bool
     }
 }
 
-// Goes on where there is a wait.
+// Goes on if there is a wait.
 fn released_by(wait: Option<Wait>) -> Option<Wakening>
     ensures { result ≡ released_where wait }
 {
@@ -88,7 +88,7 @@ fn released_by(wait: Option<Wait>) -> Option<Wakening>
     }
 }
 
-/// How a goroutine in this mode goes on, where it is woken.
+/// How a goroutine in this mode goes on, if it is woken.
 pub fn wakening_of(mode: &Mode, object: ObjectId, how: Waking) -> Option<Wakening>
     ensures { result ≡ wakening_of mode.now object.0 how }
 {

@@ -1,4 +1,6 @@
 -- Queues that one more stands in.
+-- For: `join`, src/holders.rt; `enter`, `enter_all`, src/queues.rt; `AddsOnly`, specs/WaitQueues.antt
+-- By: cases of the key of a queue; induction over the list of waits
 use Rattle.std.proofs.Common.{◌≡◌, ℕ, zero, suc, ◌<◌, Bool, true, false, ◌&&◌, ◌||◌, List, [], ◌∷◌, length, get_or, ◌++◌, ◌==◌, inl, inr, refl, sym, ap, ◌∙◌, subst, arith}
 use Rattle.std.proofs.lemmas.Bool.{cases_eq, eq-eqb, true≢false}
 use Rattle.golf_data.specs.declared.goroutine.Wait.{Wait}
@@ -11,7 +13,7 @@ use Rattle.golf_state_queues.proofs.HolderLaws.{Changed}
 is_holder-self : (t g u h : ℕ) → u ≡ t → h ≡ g → is_holder t g (u, h) ≡ true
 is_holder-self t g u h p q = ap (λ b. b && (u == t)) (eq-eqb h g q) ∙ eq-eqb u t p
 
--- the goroutine stands behind some of those who stood in the queue
+-- the goroutine stands after some of those who stood in the queue
 pub adds-last : (t g : ℕ) (old cut : List (ℕ × ℕ)) → ((u h : ℕ) → Entry cut u h → Entry old u h) → AddsOnlyIn t g old (cut ++ (t, g) ∷ [])
 adds-last t g old cut a = λ u h n i. elim (Entry-add t g cut u h i) [
   | inl e ↦ absurd (true≢false (sym (is_holder-self t g u h e.0 e.1) ∙ n))

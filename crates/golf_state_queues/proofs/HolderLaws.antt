@@ -1,4 +1,6 @@
 -- Queues after a change of one of them.
+-- For: `enter`, `leave`, `holders`, src/queues.rt; `IsInOrder`, specs/WaitQueues.antt
+-- By: induction over the list of queues, and over the list of waits
 use Rattle.std.proofs.Common.{◌≡◌, ℕ, zero, suc, ◌<◌, Bool, true, false, cond, List, [], ◌∷◌, take, drop, length, get_or, ◌++◌, nat_lt, Option, Some, None, ◌==◌, inl, inr, refl, sym, ap, ◌∙◌, subst, arith, slice_get, slice_set}
 use Rattle.std.specs.Prelude.{insert as insert_item, option_map}
 use Rattle.std.proofs.lemmas.Bool.{cases_eq, eqb-true, eqb-false, eq-eqb, ne_eqb}
@@ -17,7 +19,7 @@ use Rattle.golf_state_queues.specs.WaitQueues.{WaitQueues, IsInOrder, AllRise, k
 use Rattle.golf_state_queues.specs.declared.queues.Queue.{Queue}
 use Rattle.golf_state_queues.proofs.Keyed.{set-keyed}
 
--- ---- where a queue stands
+-- ---- if a queue stands
 
 pub record Standing (k at : ℕ) (ls : WaitQueues) : Type 0 where
   pub entry : ℕ × List (ℕ × ℕ)

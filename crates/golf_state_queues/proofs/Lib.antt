@@ -1,5 +1,5 @@
 pub mod Keyed
-pub mod Holders
+pub mod Held
 pub mod HolderLaws
 pub mod Adding
 pub mod Standing

@@ -1,4 +1,6 @@
 -- Queues of which those alone are left whose goroutines are among some.
+-- For: `narrow`, `is_among`, src/holders.rt; `retain`, src/queues.rt; `narrowed`, specs/WaitQueues.antt
+-- By: induction over the list of queues, and over the list of goroutines
 use Rattle.std.proofs.Common.{◌≡◌, ℕ, zero, suc, ◌<◌, ◌≤◌, true, false, cond, ◌||◌, List, [], ◌∷◌, map, filter, length, nat_lt, Some, ◌==◌, inl, inr, refl, sym, ap, ◌∙◌, subst, arith, slice_get, slice_set}
 use Rattle.std.proofs.lemmas.Bool.{eq-eqb, ne_eqb, ltb-true, ltb-false, cases_eq}
 use Rattle.golf_base.specs.declared.ids.GoroutineId.{GoroutineId}

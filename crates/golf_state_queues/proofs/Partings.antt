@@ -1,4 +1,6 @@
 -- Queues without those who left.
+-- For: `part`, src/holders.rt; `leave`, `leave_all`, src/queues.rt; `IsWithout`, specs/WaitQueues.antt
+-- By: induction over the list of holders, and over the list of waits
 use Rattle.std.proofs.Common.{◌≡◌, ℕ, zero, suc, ◌<◌, Bool, true, false, cond, not, ◌&&◌, ◌||◌, List, [], ◌∷◌, take, length, get_or, filter, Some, None, ◌==◌, nat_lt, inl, inr, refl, sym, ap, ◌∙◌, subst, arith, slice_get}
 use Rattle.std.specs.Prelude.{remove}
 use Rattle.std.proofs.lemmas.Bool.{cases_eq, ltb-true, ltb-false, eq-eqb, ne_eqb, true≢false}
@@ -12,7 +14,7 @@ use Rattle.golf_theory.proofs.Lists.{Every-from, filter-all, filter-same}
 use Rattle.golf_heap.specs.Objects.{rank}
 use Rattle.golf_state_queues.specs.WaitQueues.{WaitQueues, key, keys_of, held, wait_queue_in, wait_queue_at, is_holder, is_holder_in, parted, leaves, IsWithout, AreBelow, Keeps}
 use Rattle.golf_state_queues.specs.declared.holders.TicketHolder.{TicketHolder}
-use Rattle.golf_state_queues.proofs.Holders.{held-remove}
+use Rattle.golf_state_queues.proofs.Held.{held-remove}
 use Rattle.golf_state_queues.proofs.HolderLaws.{Changed}
 
 -- ---- entries that pass a test
@@ -64,7 +66,7 @@ and-false : (a : Bool) → (a && false) ≡ false
 and-false true = refl
 and-false false = refl
 
--- where all tickets are later ones nobody leaves
+-- if all tickets are later ones nobody leaves
 parted-above : (t g j : ℕ) (es : List (ℕ × ℕ)) → t < j → Rises j es → parted t g es ≡ es
 parted-above t g j [] l r = refl
 parted-above t g j (e ∷ es) l r =
@@ -126,12 +128,9 @@ module _ (t g at : ℕ) (hs seen again : List TicketHolder) (b : Bool) (r : Rise
 
 -- ---- all queues
 
--- where nobody leaves all stay
+-- if nobody leaves all stay
 pub without-none : (p : ℕ → ℕ × ℕ → Bool) (ls : WaitQueues) → ((k : ℕ) (h : ℕ × ℕ) → p k h ≡ false) → IsWithout p ls ls
 without-none p ls n = λ k. sym (filter-every (λ h. not (p k h)) (wait_queue_at k ls) (λ h. ap not (n k h)))
-
-pub without-same : (p q : ℕ → ℕ × ℕ → Bool) (old new : WaitQueues) → ((k : ℕ) (h : ℕ × ℕ) → p k h ≡ q k h) → IsWithout p old new → IsWithout q old new
-without-same p q old new s w = λ k. w k ∙ filter-alike (λ h. not (p k h)) (λ h. not (q k h)) (wait_queue_at k old) (λ h. ap not (s k h))
 
 -- a queue in which the goroutine is not asked to leave
 other-holders : (t g j k : ℕ) (es : List (ℕ × ℕ)) → (j ≡ k → ⊥) → es ≡ filter (λ h. not (leaves t g (k ∷ []) j h)) es

@@ -1,4 +1,6 @@
 -- Queues of which those alone are left in which someone stands.
+-- For: `drop_empty`, src/queues.rt; `standing`, specs/WaitQueues.antt
+-- By: induction over the list of queues
 use Rattle.std.proofs.Common.{◌≡◌, ℕ, suc, true, false, cond, List, [], ◌∷◌, filter, Option, Some, ◌==◌, refl, sym, ap, ◌∙◌, subst, arith}
 use Rattle.std.proofs.lemmas.Bool.{eqb-true, true≢false}
 use Rattle.golf_theory.specs.Maps.{Entry, find, Rises, AllBelow}

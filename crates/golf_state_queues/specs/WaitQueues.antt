@@ -60,7 +60,7 @@ has_key k (Some e) = e.0 == k
 abbrev pub AreBelow : ℕ → WaitQueues → Type 0
 AreBelow n ls = (k : ℕ) → AllBelow n (wait_queue_at k ls)
 
--- the last of a queue whose ticket is below this one; nobody where all tickets are later ones
+-- the last of a queue whose ticket is below this one; nobody if all tickets are later ones
 abbrev pub IsLastBefore : ℕ → List (ℕ × ℕ) → Option TicketHolder → Type 0
 IsLastBefore t es None = (u g : ℕ) → Entry es u g → t ≤ u
 IsLastBefore t es (Some h) = Entry es h.ticket h.goroutine.0 × (h.ticket < t) × ((u g : ℕ) → Entry es u g → u < t → u ≤ h.ticket)

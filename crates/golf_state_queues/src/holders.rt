@@ -27,7 +27,11 @@ fn rank_of(holders: &[TicketHolder], ticket: u64) -> usize
 
 /// The goroutine stands last in the queue, with a ticket that nobody who waits there has.
 #[inline(always)]
-pub fn join(holders: &mut Vec<TicketHolder>, ticket: u64, goroutine: GoroutineId) -> Result<(), Memory>
+pub fn join(
+    holders: &mut Vec<TicketHolder>,
+    ticket: u64,
+    goroutine: GoroutineId,
+) -> Result<(), Memory>
     requires { Rises 0 (held holders.old.items) }
     ensures rises { Rises 0 (held holders.new.items) }
     ensures joins { OnOk result (Entry (held holders.new.items) ticket goroutine.0) }
@@ -52,7 +56,7 @@ fn stands_at(holders: &[TicketHolder], at: usize, ticket: u64, goroutine: Gorout
     }
 }
 
-/// The goroutine with this ticket is gone from the queue, where it stands there; all others stand where
+/// The goroutine with this ticket is gone from the queue, if it stands there; all others stand where
 /// they stood.
 #[inline(always)]
 pub fn part(holders: &mut Vec<TicketHolder>, ticket: u64, goroutine: GoroutineId)
@@ -83,7 +87,7 @@ fn is_at(goroutines: &[GoroutineId], at: usize, number: u32) -> bool
     }
 }
 
-// Whether a goroutine is among these, where they rise.
+// Whether a goroutine is among these, if they rise.
 fn is_among(goroutines: &[GoroutineId], g: GoroutineId) -> bool
     ensures { Rises 0 (listed goroutines.now) → result ≡ is_in g.0 (map (λ h. h.0) goroutines.now) }
 {

@@ -140,9 +140,16 @@ impl Queues {
         if stands_at(self.queues.as_slice(), at, key) {
             return join(&mut self.queues[at].holders, ticket, goroutine);
         }
-        let mut holders = Vec::new(*self.queues.allocator());
+        let mut holders = Vec::with_capacity(*self.queues.allocator(), 1)?;
         join(&mut holders, ticket, goroutine)?;
-        self.queues.insert(at, Queue { object, side, holders })?;
+        self.queues.insert(
+            at,
+            Queue {
+                object,
+                side,
+                holders,
+            },
+        )?;
         Ok(())
     }
 
@@ -165,7 +172,7 @@ impl Queues {
         Ok(())
     }
 
-    /// The goroutine is gone from the queue for the object with that side, where it stands there with
+    /// The goroutine is gone from the queue for the object with that side, if it stands there with
     /// this ticket; all others stand where they stood. It takes no memory.
     #[inline(always)]
     pub fn leave(&mut self, object: ObjectId, side: Side, ticket: u64, goroutine: GoroutineId)
@@ -178,7 +185,7 @@ impl Queues {
         }
     }
 
-    /// The goroutine is gone from the queues of these waits, where it stands there with this ticket; all
+    /// The goroutine is gone from the queues of these waits, if it stands there with this ticket; all
     /// others stand where they stood. It takes no memory.
     pub fn leave_all(&mut self, waits: &[Wait], ticket: u64, goroutine: GoroutineId)
         ensures { IsWithout (leaves ticket goroutine.0 (keys_of waits.now)) self.old self.new }

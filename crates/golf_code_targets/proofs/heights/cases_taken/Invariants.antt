@@ -1,5 +1,5 @@
 use Rattle.std.proofs.Common.{◌≡◌, ◌+◌, drop}
-use Rattle.golf_code_layout.specs.Depth.{cases_taken}
+use Rattle.golf_data.specs.Effects.{cases_taken}
 use Rattle.golf_code_targets.proofs.heights.cases_taken.Given as goal
 
 -- the sum so far, and then that of the cases left

@@ -5,7 +5,7 @@ use Rattle.golf_theory.proofs.MapEntries.{Entry-add_old, Entry-add_new}
 use Rattle.golf_heap.specs.Objects.{rank}
 use Rattle.golf_state_queues.specs.WaitQueues.{held, AddsOnlyIn}
 use Rattle.golf_state_queues.specs.declared.holders.TicketHolder.{TicketHolder}
-use Rattle.golf_state_queues.proofs.Holders.{Entry-front, Entry-take, AllBelow-front, Rises-take, held-take, held-push}
+use Rattle.golf_state_queues.proofs.Held.{Entry-front, Entry-take, AllBelow-front, Rises-take, held-take, held-push}
 use Rattle.golf_state_queues.proofs.Adding.{adds-last}
 use Rattle.golf_state_queues.proofs.holders.join.Goals as goal
 
@@ -58,7 +58,7 @@ has-joined c =
     joined c.args.ticket c.args.goroutine.0 (held hs) (held cut) (held c.push.new.self.items) (was-cut c)
     (ap held c.in_ok-push.ensures.items ∙ held-push cut (record { ticket = c.args.ticket; goroutine = c.args.goroutine }))
 
--- the same where memory was wanting
+-- the same if memory ran out
 stays-cut : (c : goal.After-from_residual) → Front c.args.ticket (held c.args.holders.now.items) (held c.push.new.self.items)
 stays-cut c =
     let hs = c.args.holders.now.items in

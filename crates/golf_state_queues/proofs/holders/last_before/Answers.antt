@@ -5,7 +5,7 @@ use Rattle.golf_theory.specs.Maps.{Rises}
 use Rattle.golf_heap.specs.Objects.{rank}
 use Rattle.golf_state_queues.specs.WaitQueues.{held, IsLastBefore}
 use Rattle.golf_state_queues.specs.declared.holders.TicketHolder.{TicketHolder}
-use Rattle.golf_state_queues.proofs.Holders.{none-before, last-before}
+use Rattle.golf_state_queues.proofs.Held.{none-before, last-before}
 use Rattle.golf_state_queues.proofs.holders.last_before.Goals as goal
 
 pub returns-then-at-eq0 : goal.returns-then-at-eq0

@@ -110,7 +110,7 @@ returns-clause-only c =
     let es = held c.join-2.new.holders.items in
     rw (← c.self.view_is)
     (adds-changed c.args.ticket c.args.goroutine.0 (key c.args.object.0 c.args.side) es (wait_queues_of c.self.inside.queues.items) (wait_queues_of c.insert.new.self.items) (is-new c).changed
-    (subst (λ (fs : List (ℕ × ℕ)). AddsOnlyIn c.args.ticket c.args.goroutine.0 fs es) (ap held c.new-holders.ensures.items ∙ sym (nobody-was c)) c.join-2.ensures.only))
+    (subst (λ (fs : List (ℕ × ℕ)). AddsOnlyIn c.args.ticket c.args.goroutine.0 fs es) (ap held c.in_ok-holders.ensures.items ∙ sym (nobody-was c)) c.join-2.ensures.only))
 
 pub returns-clause-below : goal.returns-clause-below
 returns-clause-below c =

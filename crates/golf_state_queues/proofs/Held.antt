@@ -1,4 +1,6 @@
 -- Those in a queue, by rising ticket.
+-- For: `join`, `last_before`, src/holders.rt; `held`, specs/WaitQueues.antt
+-- By: induction over the list of holders
 use Rattle.std.proofs.Common.{◌≡◌, ℕ, zero, suc, ◌<◌, ◌≤◌, true, false, cond, List, [], ◌∷◌, ◌++◌, take, Some, nat_lt, inl, inr, refl, sym, ap, ◌∙◌, arith, slice_get}
 use Rattle.std.specs.Prelude.{remove}
 use Rattle.std.proofs.lemmas.Bool.{ltb-true, ltb-false}
@@ -56,7 +58,7 @@ module _ {X : Type 0} where
     pub before : e.0 < k
     pub last : (u : ℕ) (x : X) → Entry es u x → u < k → u ≤ e.0
 
-  -- one more in front, and then the last of the others, where one of them comes before the key
+  -- one more in front, and then the last of the others, if one of them comes before the key
   last-more : (k i : ℕ) (f : ℕ × X) (es : List (ℕ × X)) (e : ℕ × X) → Rises (suc f.0) es → f.0 < k → rank k es ≡ i → slice_get (f ∷ es) i ≡ Some e
       → ((n : ℕ) → i ≡ suc n → slice_get es n ≡ Some e → LastBefore k es e) → LastBefore k (f ∷ es) e
   last-more k zero f es e r l z s more =

@@ -1,9 +1,9 @@
-//! How many operands an instruction takes and leaves.
+//! How many operands an instruction takes and leaves, and whether it goes on.
 
 ghost use Rattle.std.specs.Prelude.{◌≡◌};
-ghost use Rattle.golf_code_layout.specs.Depth.{taken as taken_by, left as left_by, goes_on as goes_on_behind};
+ghost use Rattle.golf_data.specs.Effects.{taken as taken_by, left as left_by, goes_on as goes_on_by, case_left as left_by_case, case_taken as taken_by_case};
 
-use golf_data::Instr;
+use crate::code::{CaseKind, Instr};
 
 /// How many operands an instruction takes.
 pub fn taken(instr: &Instr) -> u32
@@ -76,7 +76,7 @@ pub fn taken(instr: &Instr) -> u32
     }
 }
 
-/// How many operands an instruction leaves, where these functions give a value.
+/// How many operands an instruction leaves, if these functions give a value.
 pub fn left(gives: &[bool], instr: &Instr) -> u32
     ensures { result ≡ left_by gives.now instr.now }
 {
@@ -150,7 +150,7 @@ pub fn left(gives: &[bool], instr: &Instr) -> u32
 
 /// Whether the next instruction is led to by this one.
 pub fn goes_on(instr: &Instr) -> bool
-    ensures { result ≡ goes_on_behind instr.now }
+    ensures { result ≡ goes_on_by instr.now }
 {
     match instr {
         Instr::Jump(_) | Instr::Return | Instr::ReturnValue | Instr::Panic => false,
@@ -213,5 +213,27 @@ pub fn goes_on(instr: &Instr) -> bool
         | Instr::Collect
         | Instr::SetFinalizer(_)
         | Instr::ClearFinalizer => true,
+    }
+}
+
+/// How many operands a case of a `select` leaves at its target.
+pub fn case_left(kind: CaseKind) -> u32
+    ensures { result ≡ left_by_case kind }
+{
+    match kind {
+        CaseKind::Send => 0,
+        CaseKind::Take => 1,
+        CaseKind::TakeOk => 2,
+    }
+}
+
+/// How many operands a case of a `select` takes.
+pub fn case_taken(kind: CaseKind) -> u32
+    ensures { result ≡ taken_by_case kind }
+{
+    match kind {
+        CaseKind::Send => 2,
+        CaseKind::Take => 1,
+        CaseKind::TakeOk => 1,
     }
 }
