@@ -10,7 +10,7 @@ next_fault faults = min (faults + 1) (2 ^ 64 - 1)
 abbrev pub Rose : ℕ → ℕ → Type 0
 Rose before now = (before < now) ⊎ ((before ≡ 2 ^ 64 - 1) × (now ≡ before))
 
--- an error comes only where the count rose, and wherever it rose
+-- an error comes only if the count rose, and wherever it rose
 pub record HasCause {T E : Type 0} (before now : ℕ) (result : Result T E) : Type 0 where
   pub later : before ≤ now
   pub failed : OnErr result (Rose before now)

@@ -112,7 +112,7 @@ impl Model for MemorySink {
 
 impl MemorySink {
     /// A sink with room for `room` bytes that takes at most `most` bytes a call. It fails exactly
-    /// at the calls whose numbers, from 1, are in `fail`, and where no room is left for a piece
+    /// at the calls whose numbers, from 1, are in `fail`, and if no room is left for a piece
     /// that is not empty.
     pub fn new(alloc: Global, room: u32, most: u32, fail: List<u32>) -> Result<MemorySink, Memory>
         requires { 0 < most }

@@ -26,10 +26,10 @@ pub use streams::{
     Failed, Gate, OpenGate, ReadError, Sink, Source, WriteFault, read_file, write_all,
 };
 
-/// Memory was wanting.
+/// Out of memory.
 ///
 /// It is the one answer that no clause ties to a cause: a call that answers it says what stands
-/// after it, and tests show that it does not come where memory is ample.
+/// after it, and tests show that it does not come if memory is ample.
 #[derive(Clone, Copy, Debug, PartialEq, Eq)]
 pub struct Memory;
 

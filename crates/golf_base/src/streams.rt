@@ -50,7 +50,7 @@ impl From<Failed> for WriteFault {
 
 /// Where bytes come from.
 pub trait Source {
-    /// The bytes that are left, where it tells them.
+    /// The bytes that are left, if it tells them.
     ghost left: { Self → Option (List ℕ) };
 
     /// How often it has failed.
@@ -66,13 +66,13 @@ pub trait Source {
 
 /// Where bytes go.
 pub trait Sink {
-    /// The bytes that were written, where it tells them.
+    /// The bytes that were written, if it tells them.
     ghost written: { Self → Option (List ℕ) };
 
     /// How often it has failed.
     ghost faults: { Self → ℕ };
 
-    /// Appends bytes of the front of the piece, at least one where it is not empty.
+    /// Appends bytes of the front of the piece, at least one if it is not empty.
     fn write(&mut self, piece: &[u8]) -> Result<usize, Failed>
         ensures bound { WritesAtMost result piece.now }
         ensures some { IfOk result (λ n. 0 < length piece.now → 0 < n) }
@@ -113,10 +113,10 @@ pub fn read_file<S: Source>(
     ensures at_end { OnOk result (IsAtEnd (S.left source.new)) }
     ensures within { IfOk result (λ bytes. length bytes ≤ limit) }
 
-    // Too long is told only where more bytes came.
+    // Too long is told only if more bytes came.
     ensures too_long { IsErrOf result ReadError.TooLong → ReadsSome (S.left source.old) (S.left source.new) limit }
 
-    // A fault is told where the source has failed, and nowhere else.
+    // A fault is told if the source has failed, and nowhere else.
     ensures cause { ReadCause result (S.faults source.old) (S.faults source.new) }
     ensures later { S.faults source.old ≤ S.faults source.new }
 {
@@ -137,7 +137,7 @@ pub fn write_all<K: Sink>(sink: &mut K, piece: &[u8]) -> Result<(), WriteFault>
     ensures ok { OnOk result (Appends (K.written sink.old) (K.written sink.new) piece.now) }
     ensures front { WritesFront (K.written sink.old) (K.written sink.new) piece.now }
 
-    // A fault is told where the sink has failed, and nowhere else.
+    // A fault is told if the sink has failed, and nowhere else.
     ensures cause { HasCause (K.faults sink.old) (K.faults sink.new) result }
 {
     let mut at = 0;

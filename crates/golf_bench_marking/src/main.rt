@@ -58,7 +58,9 @@ fn main(rt: HostRuntime) -> Result<(), BenchFault> {
         },
     ) = read_order(words.as_slice())
     else {
-        eprintln!(rt; "usage: golf_bench_marking [list|shuffled|tree|quad|random|dense NODES MARKERS]")?;
+        eprintln!(rt;
+            "usage: golf_bench_marking [list|shuffled|tree|quad|random|dense NODES MARKERS]"
+        )?;
         eprintln!(rt;
             "       golf_bench_marking certificate list|shuffled|tree|quad|random|dense|star|relay PLACES"
         )?;

@@ -33,7 +33,7 @@ impl Display for Took {
     }
 }
 
-/// Marks a graph by so many markers, or by the plain marking where the count is 0.
+/// Marks a graph by so many markers, or by the plain marking if the count is 0.
 pub(crate) fn measure<R: Clock + Threads + Sync>(
     rt: &R,
     alloc: Global,

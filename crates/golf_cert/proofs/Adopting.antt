@@ -1,4 +1,6 @@
 -- Parents, found one after the other.
+-- For: `HasParentsBelow` (golf_cert/specs/Parents.antt) and `adopt_all`, `parents_of` (src/parents.rt)
+-- By: induction over the list of places that a parent justifies
 use Rattle.std.proofs.Common.{◌≡◌, ℕ, ◌+◌, ◌<◌, ◌≤◌, ◌⊎◌, inl, inr, List, [], ◌∷◌, length, get_or, set, replicate, Bool, true, eqb, Option, Some, None, refl, sym, ap, ◌∙◌, subst, arith}
 use Rattle.std.specs.Prelude.{◌&&◌, is_none}
 use Rattle.std.proofs.lemmas.Bool.{cases_eq, cases_lt, cases_Bool, eq-eqb, eqb-true, cond-true, cond-false, and_parts, and_from, both_ways}

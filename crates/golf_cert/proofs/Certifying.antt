@@ -1,4 +1,6 @@
 -- A certificate, link by link.
+-- For: `AreJustified`, `IsClosed` (golf_cert/specs/Links.antt) and `links_of`, `certify` (src/certificates.rt)
+-- By: what one more link keeps, as the loop needs it; no induction
 use Rattle.std.proofs.Common.{◌≡◌, ℕ, ◌+◌, ◌<◌, ◌≤◌, inl, inr, List, [], ◌∷◌, ◌++◌, length, get_or, take, refl, sym, ap, ◌∙◌, subst, arith}
 use Rattle.std.specs.Prelude.{slice_get}
 use Rattle.std.proofs.lemmas.Bool.{cases_lt}

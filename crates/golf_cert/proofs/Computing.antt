@@ -1,4 +1,6 @@
 -- Computed levels and reasons are the derived ones.
+-- For: `reason_to` (golf_cert/specs/Computing.antt) and `ReasonsComputed` (golf_cert/specs/Laws.antt)
+-- By: induction over the rounds, which are the levels; and over the list of places of a way
 use Rattle.std.proofs.Common.{◌≡◌, ℕ, zero, suc, ◌+◌, ◌-◌, ◌<◌, ◌≤◌, ◌⊎◌, inl, inr, Bool, true, false, not, ◌&&◌, List, [], ◌∷◌, ◌++◌, length, get_or, replicate, Option, Some, None, refl, sym, ap, ◌∙◌, subst, arith}
 use Rattle.std.specs.Prelude.{nat_le, find, option_map, unwrap_or}
 use Rattle.std.specs.List.{range_with_len}

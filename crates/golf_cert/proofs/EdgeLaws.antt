@@ -1,4 +1,6 @@
 -- Which links a graph has.
+-- For: `IsEdge`, `IsFinding` (golf_cert/specs/Edges.antt) and `edge_flags` (src/edges.rt)
+-- By: induction over the list of sleepers for one that refers; otherwise what one more turn of a loop adds
 use Rattle.std.proofs.Common.{◌≡◌, ℕ, zero, suc, ◌+◌, ◌-◌, ◌<◌, ◌≤◌, ◌⊎◌, inl, inr, List, [], ◌∷◌, ◌++◌, length, get_or, set, take, replicate, Option, Some, None, Bool, true, false, refl, sym, ap, ◌∙◌, subst, arith}
 use Rattle.std.specs.Prelude.{◌↔◌, slice_get, unwrap_or, option_map}
 use Rattle.std.proofs.lemmas.Bool.{cases_eq, cases_lt}
@@ -76,10 +78,6 @@ held_step-is g s node from fit low near is = record {
         subst (λ (t : ℕ). In node (sleeper_references g t)) same r,
   );
 }
-
--- nothing is entered for a link that the graph has not
-pub Enters-none : (g : GraphParts) (link : Link) (number : ℕ) (rows : List (List ℕ)) → (IsEdge g link → ⊥) → Enters g link number rows rows
-Enters-none g link number rows none = record { kept = λ n i h. inl h; stays = λ n i h. h; there = λ e. absurd (none e) }
 
 pub Enters-one : (g : GraphParts) (link : Link) (step : Step) (number : ℕ) (old new : List (List ℕ)) → IsStepOf g link step → AddsTo (λ n. In n (step.from ∷ [])) number old new → Enters g link number old new
 Enters-one g link step number old new s adds = record {

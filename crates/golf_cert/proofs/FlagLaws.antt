@@ -1,4 +1,6 @@
 -- Flags and links that are added.
+-- For: `IsSet` (golf_marks/specs/Flags.antt) and `flags_of`, `are_set` (src/flags.rt)
+-- By: induction over the list for what is read in it once more is added
 use Rattle.std.proofs.Common.{◌≡◌, ℕ, zero, suc, ◌+◌, ◌<◌, inl, inr, List, [], ◌∷◌, ◌++◌, length, get_or, set, take, replicate, Some, Bool, true, false, refl, sym, subst, arith}
 use Rattle.std.specs.Prelude.{◌↔◌, slice_get}
 use Rattle.std.proofs.lemmas.Bool.{cases_lt}

@@ -1,4 +1,6 @@
--- A place has one reason, and it is a list of the least closed set.
+-- A place has one reason.
+-- For: `OneReason` (golf_cert/specs/Laws.antt) and `reasons_are_unique` (src/laws.rt)
+-- By: induction over the distance from the end of the reason
 use Rattle.std.proofs.Common.{◌≡◌, ℕ, zero, suc, ◌+◌, ◌-◌, ◌<◌, List, length, get_or, sym, ap, ◌∙◌, subst, arith}
 use Rattle.std.proofs.lemmas.List.{get_or_push, length_push, same_lists, get_or_default}
 use Rattle.golf_model.specs.declared.graph.GraphParts.{GraphParts}

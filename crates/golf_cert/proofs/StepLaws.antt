@@ -1,4 +1,6 @@
 -- The two parts of what a place justifies are all of it.
+-- For: `referred_by`, `HasWoken` (golf_cert/specs/Steps.antt) and `referred`, `woken_rows` (src/steps.rt)
+-- By: cases of the place, a node or a sleeper; no induction
 use Rattle.std.proofs.Common.{◌≡◌, ℕ, ◌+◌, ◌-◌, ◌<◌, ◌≤◌, ◌⊎◌, inl, inr, List, length, sym, subst, arith}
 use Rattle.std.specs.Prelude.{nat_lt}
 use Rattle.std.proofs.lemmas.Bool.{cases_lt, lt-ltb, le-ltb, cond-true, cond-false}

@@ -1,4 +1,6 @@
 -- From a place back to a root, parent by parent.
+-- For: `IsReason` (golf_cert/specs/Levels.antt) and `links_to` (src/reasons.rt), `link_to` (src/certificates.rt)
+-- By: induction over the list of places of a way, and over the links of a trail
 use Rattle.std.proofs.Common.{◌≡◌, ℕ, ◌+◌, ◌-◌, ◌<◌, ◌≤◌, inl, inr, List, [], ◌∷◌, ◌++◌, length, get_or, take, Option, None, refl, sym, ap, ◌∙◌, subst, arith}
 use Rattle.std.specs.Prelude.{reverse}
 use Rattle.std.proofs.lemmas.Bool.{cases_eq, cases_lt}
@@ -88,15 +90,6 @@ trail_last g links at = get_or_push (places_of g links) at 0 (length links) (len
 -- one more link
 places_push : (g : GraphParts) (links : List Link) (link : Link) → places_of g (links ++ link ∷ []) ≡ places_of g links ++ placed_by g link ∷ []
 places_push g links link = map-append (placed_by g) links (link ∷ [])
-
-pub trail_begins : (g : GraphParts) (w : Walk) (start : ℕ) (links : List Link) → 0 < level_of w start → links ≡ [] → IsTrail g w start start links
-trail_begins g w start links some is = subst (IsTrail g w start start) (sym is) record {
-  reached = some;
-  count = omega arith;
-  first = refl;
-  steps = λ k h. absurd (omega (arith, h));
-  justified = λ k h. absurd (omega (arith, h));
-}
 
 pub trail_goes_on : (g : GraphParts) (w : Walk) (start at parent : ℕ) (links new : List Link) (link : Link) → HasLevels g w → IsTrail g w start at links → IsParent g w.levels parent at
     → new ≡ links ++ link ∷ [] → placed_by g link ≡ at → IsJustifiedBy g (parent ∷ []) link → IsTrail g w start parent new

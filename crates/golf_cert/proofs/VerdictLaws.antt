@@ -1,4 +1,6 @@
 -- What a certificate that is checked comes to.
+-- For: `IsVerdictOn` (golf_cert/specs/Links.antt) and `verify`, `place_by` (src/verdicts.rt)
+-- By: induction over the number of links that are checked; otherwise what one more link keeps
 use Rattle.std.proofs.Common.{◌≡◌, ℕ, zero, suc, ◌+◌, ◌<◌, ◌≤◌, inl, inr, List, [], ◌∷◌, ◌++◌, length, get_or, set, take, replicate, Option, Some, None, Bool, true, false, refl, sym, ap, ◌∙◌, subst, arith, below_more}
 use Rattle.std.specs.Prelude.{◌↔◌, slice_get, MatchOption}
 use Rattle.std.proofs.lemmas.Bool.{cases_lt, cases_order}
@@ -16,8 +18,7 @@ use Rattle.golf_cert.specs.declared.links.Verdict.TheVariants.{Proved, Refused}
 use Rattle.golf_marks.specs.Flags.{IsSet}
 use Rattle.golf_cert.specs.Links.{placed_by, places_of, IsJustifiedAmong, IsJustifiedBy, AreJustifiedBelow, AreJustified, IsClosedSet, IsClosed, IsRefusedAt, IsVerdictOn}
 use Rattle.golf_cert.specs.Steps.{place_count}
-use Rattle.golf_cert.specs.Edges.{source_of, IsEdge}
-use Rattle.golf_cert.specs.Verifying.{IsVerifying, IsUnrooted, TellsPlace}
+use Rattle.golf_cert.specs.Verifying.{IsVerifying, TellsPlace}
 use Rattle.golf_marks.proofs.Flags.{IsSet-set, set-IsSet}
 use Rattle.golf_cert.proofs.FlagLaws.{unset, same_item}
 use Rattle.golf_cert.proofs.Walks.{place_of}
@@ -28,19 +29,6 @@ justified_among g P Q (Root node) f j = j
 justified_among g P Q (Child from to) f j = (f from j.0, j.1)
 justified_among g P Q (Woken node sleeper) f j = (f node j.0, j.1)
 justified_among g P Q (Held sleeper node) f j = (f (sleeper_place g sleeper) j.0, j.1)
-
--- a link that is no root is justified if the graph has it and its source is placed
-pub edge_justified : (g : GraphParts) (P : ℕ → Type 0) (link : Link) → P (source_of g link) → IsEdge g link → IsJustifiedAmong g P link
-edge_justified g P (Root node) s e = absurd e
-edge_justified g P (Child from to) s e = (s, e)
-edge_justified g P (Woken node sleeper) s e = (s, e)
-edge_justified g P (Held sleeper node) s e = (s, e)
-
-pub where_edge : (g : GraphParts) (P : ℕ → Type 0) (link : Link) → IsUnrooted link → IsJustifiedAmong g P link → P (source_of g link) × IsEdge g link
-where_edge g P (Root node) u j = absurd u
-where_edge g P (Child from to) u j = j
-where_edge g P (Woken node sleeper) u j = j
-where_edge g P (Held sleeper node) u j = j
 
 -- the prefix with one more item
 take_push : {X : Type 0} (xs : List X) (i : ℕ) (x : X) → slice_get xs i ≡ Some x → take (suc i) xs ≡ take i xs ++ x ∷ []

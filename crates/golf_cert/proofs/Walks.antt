@@ -1,4 +1,6 @@
--- A walk from its begin to its end.
+-- A walk from its beginning to its end.
+-- For: `IsUnderWay`, `HasLevels` (golf_cert/specs/Walking.antt) and `walk_through` (src/walk.rt)
+-- By: induction over the list of places of a way; otherwise what one more turn of the walk keeps
 use Rattle.std.proofs.Common.{◌≡◌, ℕ, suc, ◌+◌, ◌<◌, ◌≤◌, ◌⊎◌, inl, inr, List, [], ◌∷◌, length, get_or, replicate, refl, sym, ap, ◌∙◌, subst, arith, below_more, length-append}
 use Rattle.std.proofs.lemmas.Bool.{cases_eq, cases_lt}
 use Rattle.std.proofs.lemmas.List.{get_or-replicate, get_or_past, length-replicate}
@@ -7,7 +9,7 @@ use Rattle.golf_theory.specs.Counting.{times}
 use Rattle.golf_theory.proofs.Lists.{In-get_or, Every-from, Every-at, Every-weaker}
 use Rattle.golf_theory.proofs.Times.{In-times, times-In, length-counted, sum-bits}
 use Rattle.golf_model.specs.declared.graph.GraphParts.{GraphParts}
-use Rattle.golf_model.specs.Graph.{node_count, Justifies, Least, IsInRange}
+use Rattle.golf_model.specs.Graph.{node_count, Justifies, IsInRange}
 use Rattle.golf_cert.specs.declared.walk.Walk.{Walk}
 use Rattle.golf_cert.specs.Levels.{IsWay}
 use Rattle.golf_cert.specs.Steps.{place_count}
@@ -27,10 +29,6 @@ HasWay-root g p h = ([], (inl h, tt), refl)
 
 pub HasWay-step : (g : GraphParts) (q p level : ℕ) → HasWay g q level → Justifies g q p → HasWay g p (level + 1)
 HasWay-step g q p level w j = (q ∷ w.0, (inr (q, inl refl, j), w.1), omega (arith, w.2))
-
--- who ends such a list is in the least closed set
-pub HasWay-least : (g : GraphParts) (p level : ℕ) → HasWay g p level → Least g p
-HasWay-least g p level w = (w.0, w.1)
 
 -- levels of which each root has the first, and each place that is justified one that is at most one more
 pub record IsRelaxed (g : GraphParts) (w : Walk) : Type 0 where

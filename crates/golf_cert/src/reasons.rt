@@ -6,7 +6,6 @@ ghost use Rattle.golf_cert.specs.Computing.{reason_in};
 ghost use Rattle.golf_cert.specs.Levels.{IsReason, IsShortest};
 ghost use Rattle.golf_cert.specs.Links.{placed_by, places_of, IsJustifiedBy, AreJustified};
 ghost use Rattle.golf_cert.specs.Parents.{HasParents};
-ghost use Rattle.golf_cert.specs.Steps.{place_count};
 ghost use Rattle.golf_cert.specs.Walking.{HasLevels};
 
 use crate::links::Link;

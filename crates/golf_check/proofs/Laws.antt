@@ -1,4 +1,6 @@
--- Heads of functions, the scope behind one, the scope with the written types, and the passes over a file.
+-- Heads of functions, the scope after one, the scope with the written types, and the passes over a file.
+-- For: `func_at`, src/functions.rt; `add_written_types`, src/scopes.rt; `found_of_file`, src/files.rt
+-- By: cases of the outcome; induction over the list of parameters
 use Rattle.std.proofs.Common.{◌≡◌, ℕ, List, [], ◌∷◌, ◌++◌, map, refl, sym, ap, subst, ◌∙◌, append-nil}
 use Rattle.std.specs.Prelude.{Option, Some, None, Result, flat_map}
 use Rattle.golf_syntax_trees.specs.declared.declarations.Receiver.{Receiver}
@@ -50,7 +52,7 @@ func_tells a f file t r ps result old new head names gives h =
 back : Scope → Scope
 back s = record s { locals = []; result = None; next = 0 }
 
--- behind a function the scope is as before
+-- after a function the scope is as before
 pub left_scope : (s t u : Scope) (g : Option GoType) (w : Walked) → s ≡ outside s.file → t ≡ behind (record s { result = g }) w → u ≡ record t { locals = []; result = None; next = 0 } → u ≡ s
 unfolding back
 left_scope s t u g w is at left = left ∙ ap back at ∙ ap back is ∙ sym is
@@ -60,7 +62,7 @@ parameters_facts : (l : ℕ) (ps : List (List ℕ × Option GoType)) (s : Scope)
 parameters_facts l [] s = refl
 parameters_facts l (p ∷ ps) s = parameters_facts l ps (behind s (parameter_walk l p s))
 
--- where the parameters break nothing, the answer for what stands behind them tells of both
+-- if the parameters break nothing, the answer for what stands after them tells of both
 pub inner_tells : {A : Type 0} (r : Result A TypeFault) (l : ℕ) (ps : List (List ℕ × Option GoType)) (ws : List Walk) (s mid t : Scope) (old new : List Fact) → (in_order (map (parameter_walk l) ps) s).faults ≡ [] → mid ≡ behind s (in_order (map (parameter_walk l) ps) s) → Walks r (in_order ws mid) mid t old new → Walks r (in_order (in_order (map (parameter_walk l) ps) ∷ ws) s) s t old new
 inner_tells r l ps ws s mid t old new none at h =
     let a = in_order (map (parameter_walk l) ps) s in
@@ -96,7 +98,7 @@ func_stays r f s t old new is h = subst (λ u. Stays r (func_walk f u) s t old n
 
 -- Passes over the declarations of a file.
 
--- behind the scope with all types the answer for the declarations is that for the file with its types
+-- after the scope with all types the answer for the declarations is that for the file with its types
 pub walked_tells : (r : Result (List Fact) TypeFault) (f : FileScope) (s t : Scope) (xs : List Decl) → t ≡ outside f → Tells r (walk_faults t.file 0 xs) (λ fs. (s ≡ t) × (fs ≡ walk_facts t.file 0 xs)) → Tells r (walk_faults f 0 xs) (λ fs. (s ≡ outside f) × (fs ≡ walk_facts f 0 xs))
 walked_tells r f s t xs is h = subst (λ (u : Scope). Tells r (walk_faults u.file 0 xs) (λ fs. (s ≡ u) × (fs ≡ walk_facts u.file 0 xs))) is h
 
@@ -108,7 +110,7 @@ named_tells r i s t xs is h = subst (λ (u : Scope). Tells r (named_faults u xs)
 abbrev pub FoundIn : Imports → List Decl → Found → Type 0
 FoundIn i ys x = (x.scope ≡ outside (file_scope i ys)) × (x.facts ≡ walk_facts (file_scope i ys) 0 ys)
 
--- where the imports break nothing, the answer for the declarations tells of the file
+-- if the imports break nothing, the answer for the declarations tells of the file
 pub broken_tells : (r : Result Found TypeFault) (f : File) (xs : List Import) (ys : List Decl) (i : Imports) → xs ≡ f.imports → ys ≡ f.declarations → import_faults no_imports xs ≡ [] → i ≡ with_imports no_imports xs → Tells r (decl_faults i ys) (FoundIn i ys) → Tells r (Broken f) (λ x. (x.scope ≡ scope_of f) × (x.facts ≡ facts_in f))
 unfolding Broken facts_in scope_of
 broken_tells r f xs ys i from at none is h =

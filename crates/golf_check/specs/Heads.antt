@@ -26,11 +26,11 @@ optional_parameter l (Some p) s = parameter_walk l p s
 abbrev pub body_walks : Func → List Walk
 body_walks f = in_order (map walk f.body) ∷ (λ s. breaks (end_faults f)) ∷ []
 
--- parameters of these names and types, and a body behind them
+-- parameters of these names and types, and a body after them
 abbrev pub inner_walks : Func → List (List ℕ × Option GoType) → List Walk
 inner_walks f ps = in_order (map (parameter_walk f.line) ps) ∷ body_walks f
 
--- a receiver, parameters, and a body behind them
+-- a receiver, parameters, and a body after them
 abbrev pub head_walks : Func → Option (List ℕ × Option GoType) → List (List ℕ × Option GoType) → List Walk
 head_walks f r ps = optional_parameter f.line r ∷ inner_walks f ps
 
@@ -48,7 +48,7 @@ function_walked f r ps s = of_function (arguments f r ps s) s (in_order (head_wa
 abbrev pub Counts : Result ℕ TypeFault → Walked → ℕ → Scope → Scope → List Fact → List Fact → Type 0
 Counts result w n s t old new = Tells result w.faults (λ k. (k ≡ n) × ((t ≡ behind s w) × (new ≡ old ++ w.facts)))
 
--- What the answers of the checker tell of a declaration: they come where no rule is broken, and then the scope is as before, and these facts were added.
+-- What the answers of the checker tell of a declaration: they come if no rule is broken, and then the scope is as before, and these facts were added.
 abbrev pub Stays : {A : Type 0} → Result A TypeFault → Walked → Scope → Scope → List Fact → List Fact → Type 0
 Stays result w s t old new = Tells result w.faults (λ _. (t ≡ s) × (new ≡ old ++ w.facts))
 

@@ -12,8 +12,8 @@ use crate::scopes::{add_types, bare_scope};
 use golf_base::{List, Memory};
 use golf_check_forms::next_global;
 use golf_check_names::{imported, main_is_there, names_are_good, types_are_there};
-use golf_syntax_trees::{Decl, File};
 use golf_check_types::{Fact, GoType, Imports, Scope, TypeFault, type_of};
+use golf_syntax_trees::{Decl, File};
 use std::alloc::Global;
 
 /// A file that keeps the rules, and what was found of its parts: constants, initialisers and
@@ -108,7 +108,7 @@ fn decls_at(
     Ok(())
 }
 
-// Constants, initialisers and bodies, where the names of the file have no types yet.
+// Constants, initialisers and bodies, if the names of the file have no types yet.
 #[tactic(auto, using(crate::proofs::Laws::walked_tells))]
 fn facts_behind_names(
     alloc: Global,

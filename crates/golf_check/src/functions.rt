@@ -7,15 +7,15 @@ ghost use Rattle.golf_check_types.specs.Files.{parameter as parameter_of, parame
 ghost use Rattle.golf_check.specs.Heads.{receiver_name as receiver_name_of, optional_parameter as optional_parameter_of, body_walks, inner_walks, head_walks, arguments as arguments_of, function_walked, Counts, Stays};
 
 use golf_base::{List, Memory};
+use golf_check_endings::all_ending;
 use golf_check_forms::{TypedName, result_type, typed_names};
 use golf_check_operands::{plain_type, pointer_to};
 use golf_check_statements::all;
-use golf_check_endings::all_ending;
-use golf_syntax_trees::{Func, Receiver};
 use golf_check_types::{
     Fact, GoType, Scope, TypeFault, copy_name, copy_optional, declare, may_be_declared, meaning_at,
     require,
 };
+use golf_syntax_trees::{Func, Receiver};
 use std::alloc::Global;
 
 // Rule 2 of receivers and parameters.
@@ -133,7 +133,7 @@ fn named_receiver(alloc: Global, scope: &Scope, receiver: &Receiver) -> Result<T
     Ok((name, plain_type(alloc, pointer_to(meaning))))
 }
 
-/// The name of a receiver with its type, where there is one.
+/// The name of a receiver with its type, if there is one.
 fn receiver_name(
     alloc: Global,
     scope: &Scope,

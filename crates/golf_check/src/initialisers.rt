@@ -10,11 +10,11 @@ use golf_base::List;
 use golf_check_expressions::given;
 use golf_check_operands::{assignable, int_value, written_type};
 use golf_check_simple::is_nil;
-use golf_syntax_trees::{Const, Expr, TypeExpr, Var, VarContent};
 use golf_check_types::{Fact, Scope, TypeFault, require};
+use golf_syntax_trees::{Const, Expr, TypeExpr, Var, VarContent};
 use std::alloc::Global;
 
-/// A constant, and the fact of its value where it is an integer: rule 19.
+/// A constant, and the fact of its value if it is an integer: rule 19.
 pub fn const_at(line: u32, value: &Const, facts: &mut List<Fact>) -> Result<(), TypeFault>
     ensures { Adds result (judges (const_faults line value.now) (const_facts value.now)) facts.old facts.new }
 {

@@ -6,8 +6,8 @@ ghost use Rattle.golf_check_types.specs.Files.{bare_file, with_types, with_forms
 use golf_base::Memory;
 use golf_check_forms::{form_globals, function_types, global_types, struct_types};
 use golf_check_names::{add_methods, naming_of};
-use golf_syntax_trees::Decl;
 use golf_check_types::{FileScope, Imports, Locals, Scope};
+use golf_syntax_trees::Decl;
 use std::alloc::Global;
 
 fn outside(alloc: Global, file: FileScope) -> Scope

@@ -217,7 +217,7 @@ pub fn sets_finaliser(callee: &Operand) -> bool
     }
 }
 
-/// What a call of an operand makes, behind its arguments: rules 8, 9, 11 and 16.
+/// What a call of an operand makes, after its arguments: rules 8, 9, 11 and 16.
 pub fn call(
     alloc: Global,
     line: u32,
@@ -264,7 +264,7 @@ fn is_struct_pointer(given: &Given) -> bool
     }
 }
 
-// Whether a parameter, where its type is known, has the type of a value, where that is known.
+// Whether a parameter, if its type is known, has the type of a value, if that is known.
 fn same_known(parameter: &Option<GoType>, given: &Given) -> bool
     ensures { result ≡ same_known_of parameter.now (type_given_of given.now) }
 {

@@ -4,8 +4,8 @@ ghost use Rattle.std.specs.Prelude.{◌≡◌, ◌&&◌, not, map};
 ghost use Rattle.std.specs.List.{list_all};
 ghost use Rattle.golf_check_types.specs.Endings.{panics as panics_of, simple_ends as simple_ends_of, is_endless as is_endless_of, of_all, ending as ending_of, clause_ending};
 
+use golf_check_types::{Panics, Terminates};
 use golf_syntax_trees::{Clause, Expr, Header, SimpleKind, Stmt};
-use golf_check_types::{Terminates, Panics};
 
 fn panicking(e: &Expr) -> Panics
     ensures { result ≡ panics_of e.now }

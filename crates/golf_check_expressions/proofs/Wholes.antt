@@ -1,4 +1,6 @@
 -- What the answer for an expression with a list of parts tells.
+-- For: `call_at`, `slice_at` and `struct_at`, src/expressions.rt; `Judges`, golf_check_types/specs/Judging.antt.
+-- By: computing; no induction.
 use Rattle.std.proofs.Common.{◌≡◌, ℕ, List, map, sym, ap, subst, ◌∙◌}
 use Rattle.std.specs.Prelude.{Result}
 use Rattle.golf_syntax_trees.specs.declared.types.TypeExpr.{TypeExpr}

@@ -1,6 +1,6 @@
 //! What expressions are, and whether they keep the rules.
 
-ghost use Rattle.std.specs.Prelude.{◌≡◌, ◌∷◌, map};
+ghost use Rattle.std.specs.Prelude.{◌∷◌, map};
 ghost use Rattle.golf_check_types.specs.Types.{with_layer as with_layer_of};
 ghost use Rattle.golf_check_types.specs.Scopes.{meaning as meaning_of};
 ghost use Rattle.golf_check_types.specs.Written.{write, pointer_to as pointer_to_of};
@@ -15,11 +15,11 @@ use golf_check_operands::{
     made, made_sized, made_struct, made_sync, named, plain_type, pointer_to, select, unary, value,
     without_package, written,
 };
-use golf_syntax_trees::{BinaryOperator, Element, Expr, TypeExpr, UnaryOperator};
 use golf_check_types::{
     Base, Fact, Given, Layer, Operand, Scope, TypeFault, copy_operand, meaning_at, require,
     value_of, with_layer,
 };
+use golf_syntax_trees::{BinaryOperator, Element, Expr, TypeExpr, UnaryOperator};
 use std::alloc::Global;
 
 // A literal of an integer, and the fact of its value: rule 19.
@@ -314,7 +314,7 @@ fn call_at(
     called(alloc, line, scope, &callee, xs, facts)
 }
 
-/// A call of an operand, behind that.
+/// A call of an operand, after that.
 #[cycle(judging)]
 pub fn called(
     alloc: Global,

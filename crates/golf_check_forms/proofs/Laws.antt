@@ -1,4 +1,6 @@
 -- What a form keeps: everything but the rule that the arguments of a call break.
+-- For: `selected`, src/forms.rt; `without_late`, specs/Forms.antt
+-- By: cases of the operand, and of what its name or its type means; no induction
 use Rattle.std.proofs.Common.{◌≡◌, ℕ, ◌≤◌, List, [], ◌∷◌, length, refl, sym, ap, subst, ◌∙◌}
 use Rattle.std.specs.Prelude.{Option, Some, None, Result, Ok, Err, slice_set, true, false, cond, codes}
 use Rattle.std.specs.Str.{bytes_eq}
@@ -65,7 +67,7 @@ selected_late l f n m = refl
 pub same_selected : (l : ℕ) (f : FileScope) (n : List ℕ) (m k : Operand) → without_late m ≡ without_late k → (selected_from l f n m).meaning ≡ (selected_from l f n k).meaning
 same_selected l f n m k h = sym (selected_late l f n m) ∙ ap (λ x. (selected_from l f n x).meaning) h ∙ selected_late l f n k
 
--- What breaks a rule behind a dot is not known.
+-- What breaks a rule after a dot is not known.
 
 Refused : ℕ → ℕ → Judged → Type 0
 Refused r l j = IsFirst r l j.faults → operand.Unknown ≡ j.meaning

@@ -1,4 +1,6 @@
 -- What the answer for an expression with a list of parts is.
+-- For: `form`, src/forms.rt; `Forms`, specs/Forms.antt
+-- By: equations of what the expression is; no induction
 use Rattle.std.proofs.Common.{◌≡◌, ℕ, List, map, sym, ap, subst, ◌∙◌}
 use Rattle.std.specs.Prelude.{Result}
 use Rattle.golf_base.specs.declared.Memory.{Memory}

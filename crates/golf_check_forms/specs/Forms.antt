@@ -26,7 +26,7 @@ called_form f (operand.Method k) = signature_result (slice_get f.functions k)
 called_form f (operand.BuiltIn b) = built_in_result b None
 called_form f _ = operand.Outcome None
 
--- the types behind one declaration more, where g globals stand above
+-- the types after one declaration more, if g globals stand above
 abbrev pub formed_decl : FileScope → ℕ → Decl → FileScope
 formed_decl f g (d.Var v) = formed_content f v.line g v.content
 formed_decl f g _ = f

@@ -14,11 +14,11 @@ use golf_check_operands::{
     element, made_base, plain_type, pointer_to, result_base, select, value, without_package,
     written_type,
 };
-use golf_syntax_trees::{Expr, TypeExpr, UnaryOperator};
 use golf_check_types::{
     Base, BuiltIn, FileScope, Given, Layer, Operand, Scope, TypeFault, copy_optional, is_blank,
     meaning_at, value_of, with_layer,
 };
+use golf_syntax_trees::{Expr, TypeExpr, UnaryOperator};
 use std::alloc::Global;
 
 fn named(alloc: Global, line: u32, scope: &Scope, name: &[u8]) -> Result<Operand, Memory>

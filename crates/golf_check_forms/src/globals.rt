@@ -9,8 +9,8 @@ ghost use Rattle.golf_check_forms.specs.Forms.{formed_decl};
 
 use crate::forms::form;
 use golf_base::Memory;
-use golf_syntax_trees::{Decl, Expr, VarContent};
 use golf_check_types::{GoType, Scope, type_of};
+use golf_syntax_trees::{Decl, Expr, VarContent};
 use std::alloc::Global;
 
 #[tactic(auto, using(crate::proofs::Laws::same_given, crate::proofs::Laws::type_of_given))]

@@ -6,11 +6,11 @@ ghost use Rattle.golf_check_types.specs.Files.{typed_names as typed_names_of, al
 
 use golf_base::{List, Memory};
 use golf_check_operands::written_type;
-use golf_syntax_trees::{Decl, Field, Func, Name, OwnedType, VarContent};
 use golf_check_types::{GoType, Scope, Signature, copy_name, copy_optional};
+use golf_syntax_trees::{Decl, Field, Func, Name, OwnedType, VarContent};
 use std::alloc::Global;
 
-/// A name of a field or parameter, and its type, `None` where it is not known.
+/// A name of a field or parameter, and its type, `None` if it is not known.
 pub type TypedName = (Name, Option<GoType>);
 
 fn typed_name(alloc: Global, scope: &Scope, name: &[u8], field: &Field) -> Result<TypedName, Memory>
@@ -72,7 +72,7 @@ fn field_types(
     types_alone(alloc, names.as_slice())
 }
 
-/// The type of a result, where there is one and it is known.
+/// The type of a result, if there is one and it is known.
 pub fn result_type(
     alloc: Global,
     scope: &Scope,

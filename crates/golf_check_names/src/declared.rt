@@ -9,11 +9,11 @@ ghost use Rattle.golf_check_types.specs.Files.{struct_number as struct_number_of
 use crate::names::names_of;
 use golf_base::{List, Memory};
 use golf_check_operands::type_is_there;
-use golf_syntax_trees::{Decl, Field, Func, Name, OwnedType, Receiver, VarContent};
 use golf_check_types::{
-    FileScope, Entity, Member, Members, Naming, Scope, Table, TypeFault, is_blank, is_reserved,
+    Entity, FileScope, Member, Members, Naming, Scope, Table, TypeFault, is_blank, is_reserved,
     kind_at, require,
 };
+use golf_syntax_trees::{Decl, Field, Func, Name, OwnedType, Receiver, VarContent};
 use std::alloc::Global;
 
 // The struct of the file with this name.
@@ -73,7 +73,7 @@ fn put_method(
     Ok(())
 }
 
-/// Puts the methods behind the fields of their structs.
+/// Puts the methods after the fields of their structs.
 pub fn add_methods(alloc: Global, naming: &mut Naming, decls: &[Decl]) -> Result<(), Memory>
     ensures { OnOk result (naming.new ≡ record naming.old { structs = methods_added naming.old 0 naming.old.structs decls.now }) }
 {

@@ -4,8 +4,8 @@ ghost use Rattle.std.specs.Prelude.{◌≡◌};
 ghost use Rattle.golf_check_types.specs.Faults.{Tells, broken as broken_of};
 ghost use Rattle.golf_check_types.specs.Files.{package_of as package_of_of, is_new_import as is_new_import_of, with_import as with_import_of, path_faults, with_paths, import_line, import_paths as import_paths_of, import_faults, with_imports, no_imports};
 
-use golf_syntax_trees::{Import, Name};
 use golf_check_types::{Imports, Package, TypeFault, require};
+use golf_syntax_trees::{Import, Name};
 
 #[tactic(auto, unfolding(golf_check_types::specs::Files::package_of))]
 fn package_of(path: &[u8]) -> Option<Package>

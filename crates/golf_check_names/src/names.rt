@@ -4,8 +4,8 @@ ghost use Rattle.std.specs.Prelude.{◌≡◌, ◌∷◌, ◌++◌, ◌+◌, [],
 ghost use Rattle.golf_check_types.specs.Files.{const_base as const_base_of, field_names, with_field as with_field_of, members_of as members_of_of, name_added, function_added, decl_added, naming_of as naming_of_of};
 
 use golf_base::{List, Memory};
-use golf_syntax_trees::{Const, Decl, Field, Name, Receiver};
 use golf_check_types::{Base, Entity, Member, Members, Naming, Table, copy_name};
+use golf_syntax_trees::{Const, Decl, Field, Name, Receiver};
 use std::alloc::Global;
 
 /// The type of a constant.
@@ -21,7 +21,7 @@ fn const_base(value: &Const) -> Base
     }
 }
 
-// The number behind the last.
+// The number after the last.
 fn number(count: usize) -> Result<u32, Memory>
     ensures { IfOk result (λ n. n ≡ count) }
 {

@@ -1,4 +1,6 @@
 -- The numbers that digits stand for.
+-- For: `small_value`, src/literals.rt; `value_from`, golf_check_types/specs/Expressions.antt
+-- By: induction over the list of digits
 use Rattle.std.proofs.Common.{ℕ, suc, ◌+◌, ◌-◌, ◌*◌, ◌≤◌, ◌<◌, List, [], ◌∷◌, drop, length, get_or, arith, drop-cons}
 use Rattle.golf_check_types.specs.Expressions.{value_from}
 

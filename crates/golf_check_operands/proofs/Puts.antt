@@ -1,4 +1,6 @@
 -- The first of the elements and of the values that are left.
+-- For: `all_fit`, src/literals.rt; `all_put_faults`, golf_check_types/specs/Expressions.antt
+-- By: cases of the list of values; no induction
 use Rattle.std.proofs.Common.{◌≡◌, ℕ, ◌+◌, ◌<◌, ◌≤◌, List, [], ◌∷◌, ◌++◌, map, drop, length, get_or, sym, ap, ◌∙◌, arith}
 use Rattle.std.specs.Prelude.{Option}
 use Rattle.std.proofs.lemmas.List.{at_drop_more}

@@ -1,4 +1,6 @@
--- What the answer for what stands behind the dot of a value tells.
+-- What the answer for what stands after the dot of a value tells.
+-- For: `select`, src/selectors.rt; `value_member`, golf_check_types/specs/Expressions.antt
+-- By: cases of what stands before the dot; no induction
 use Rattle.std.proofs.Common.{◌≡◌, ℕ, List, [], refl, subst}
 use Rattle.std.specs.Prelude.{Result}
 use Rattle.golf_check_types.specs.declared.fault.TypeFault.{TypeFault}

@@ -13,11 +13,11 @@ ghost use Rattle.golf_check_types.specs.Written.{pointer_to as pointer_to_of};
 use crate::values::{assignable, has_any, has_base, has_channel};
 use crate::written_types::{plain_type, pointer_to};
 use golf_base::Memory;
-use golf_syntax_trees::Element;
 use golf_check_types::{
     Base, FileScope, Given, GoType, Member, Operand, Scope, TypeFault, Where, copy_optional,
     given_type, is_blank, meaning_at, member_at, require, type_at,
 };
+use golf_syntax_trees::Element;
 use std::alloc::Global;
 
 /// The largest `int`.
@@ -35,7 +35,7 @@ fn reads_global(operand: &Operand) -> Option<u32>
     }
 }
 
-// Whether a global may be read where another is initialised.
+// Whether a global may be read if another is initialised.
 fn is_above(initialises: Option<u32>, read: Option<u32>) -> bool
     ensures { result ≡ is_above_of initialises read }
 {
@@ -79,7 +79,7 @@ pub fn named(alloc: Global, line: u32, scope: &Scope, name: &[u8]) -> Result<Ope
     known(line, scope.initialises, meaning)
 }
 
-// The number that digits stand for, where an `int` can hold it.
+// The number that digits stand for, if an `int` can hold it.
 fn small_value(digits: &[u8]) -> Option<u64>
     ensures { SomeIff result (value_from 0 digits.now ≤ MAX_INT) (value_from 0 digits.now) }
 {
@@ -285,7 +285,7 @@ pub fn elements_fit(line: u32, values: &[Given], t: &Option<GoType>) -> Result<(
     Ok(())
 }
 
-/// `make(T)`, behind its type: rule 11.
+/// `make(T)`, after its type: rule 11.
 pub fn made(alloc: Global, line: u32, t: Option<GoType>) -> Result<Operand, TypeFault>
     ensures { Tells result (broken_of line 11 (has_layer is_channel (given_of (Operand.Value t)))) (λ m. m ≡ Operand.Value t) }
 {
@@ -294,7 +294,7 @@ pub fn made(alloc: Global, line: u32, t: Option<GoType>) -> Result<Operand, Type
     Ok(Operand::Value(own))
 }
 
-/// `make(T, e)`, behind its type and size: rules 8 and 11.
+/// `make(T, e)`, after its type and size: rules 8 and 11.
 pub fn made_sized(
     alloc: Global,
     line: u32,

@@ -6,8 +6,8 @@ ghost use Rattle.golf_check_types.specs.Types.{given as given_of, has_base as ha
 ghost use Rattle.golf_check_types.specs.Expressions.{late_faults, value_faults, name_faults, value as value_of_base, unary_faults, unary_meaning, result_base as result_base_of, operand_base as operand_base_of, binary_fits as binary_fits_of, without_package as without_package_of};
 
 use crate::values::{can_give, comparable, element, has_base, has_slice};
-use golf_syntax_trees::{BinaryOperator, UnaryOperator};
 use golf_check_types::{Base, Given, Operand, Scope, TypeFault, plain, require, value_of};
+use golf_syntax_trees::{BinaryOperator, UnaryOperator};
 use std::alloc::Global;
 
 /// The rule that the arguments of a call without a result break, if any.

@@ -7,7 +7,9 @@ ghost use Rattle.golf_check_types.specs.Expressions.{fmt_member as fmt_member_of
 use crate::literals::type_of_field;
 use crate::operators::{as_value, value};
 use crate::written_types::sync_base;
-use golf_check_types::{Base, BuiltIn, FileScope, Given, Member, Operand, Package, TypeFault, member_at};
+use golf_check_types::{
+    Base, BuiltIn, FileScope, Given, Member, Operand, Package, TypeFault, member_at,
+};
 use std::alloc::Global;
 
 #[tactic(auto, unfolding(golf_check_types::specs::Expressions::fmt_member))]
@@ -224,7 +226,7 @@ fn value_member(
     }
 }
 
-/// What stands behind a dot: of a package, or of a value. Rules 3, 8 and 18.
+/// What stands after a dot: of a package, or of a value. Rules 3, 8 and 18.
 pub fn select(
     alloc: Global,
     line: u32,

@@ -8,10 +8,10 @@ ghost use Rattle.golf_check_types.specs.Expressions.{made_sync as made_sync_of};
 ghost use Rattle.golf_check_types.specs.Judging.{Finds};
 
 use golf_base::Memory;
-use golf_syntax_trees::TypeExpr;
 use golf_check_types::{
     Base, GoType, Layer, Operand, Scope, TypeFault, meaning_at, plain, require, with_layer,
 };
+use golf_syntax_trees::TypeExpr;
 use std::alloc::Global;
 
 #[tactic(auto, unfolding(golf_check_types::specs::Written::named_base))]
@@ -71,7 +71,7 @@ pub fn pointer_to(meaning: Option<Operand>) -> Option<Base>
     }
 }
 
-/// A type without layers, where there is one.
+/// A type without layers, if there is one.
 pub fn plain_type(alloc: Global, base: Option<Base>) -> Option<GoType>
     ensures { result ≡ option_map plain_of base }
 {
@@ -81,7 +81,7 @@ pub fn plain_type(alloc: Global, base: Option<Base>) -> Option<GoType>
     }
 }
 
-/// The type that is written, where it is one of the language's.
+/// The type that is written, if it is one of the language's.
 #[tactic(auto, unfolding(golf_check_types::specs::Written::write))]
 pub fn written_type(
     alloc: Global,

@@ -125,7 +125,7 @@ pub fn declare_told(
     Ok(())
 }
 
-/// Declares a variable where it is new, and adds the fact of what is stored to: its slot, or what
+/// Declares a variable if it is new, and adds the fact of what is stored to: its slot, or what
 /// was kept. On an `Err` nothing is said of the scope.
 #[tactic(auto, using(golf_check_types::proofs::WalkLaws::stays))]
 pub fn new_or_kept(
@@ -178,7 +178,7 @@ fn declare_both(
     new_or_kept(alloc, scope, second_new, second_kept, second, truth, facts)
 }
 
-/// `first, second := <-e`, behind the receive: rules 2, 9 and 24.
+/// `first, second := <-e`, after the receive: rules 2, 9 and 24.
 pub fn define_pair(
     alloc: Global,
     line: u32,
@@ -276,7 +276,7 @@ fn are_assigned(
     require(line, 10, takes_value(first) && takes_value(second))
 }
 
-/// `name = <-e`, behind the receive: rules 3, 9 and 10.
+/// `name = <-e`, after the receive: rules 3, 9 and 10.
 pub fn assign_name(
     alloc: Global,
     line: u32,
@@ -293,7 +293,7 @@ pub fn assign_name(
     Ok(())
 }
 
-/// `first, second = <-e`, behind the receive: rules 3, 9 and 10.
+/// `first, second = <-e`, after the receive: rules 3, 9 and 10.
 pub fn assign_pair(
     alloc: Global,
     line: u32,

@@ -11,11 +11,11 @@ use golf_check_expressions::{callee, given, operand};
 use golf_check_operands::{
     assignable, can_give, can_take, element, has_base, has_channel, is_value, late,
 };
-use golf_syntax_trees::{Expr, Simple, SimpleKind};
 use golf_check_types::{
     Base, Fact, Given, GoType, Operand, Scope, TypeFault, is_blank, is_here, is_reserved, require,
     type_of, value_of,
 };
+use golf_syntax_trees::{Expr, Simple, SimpleKind};
 use std::alloc::Global;
 
 /// Whether a value is nil.

@@ -1,4 +1,6 @@
 -- What the answer for a `select` tells.
+-- For: `statement`, src/statements.rt; `walk`, golf_check_types/specs/Statements.antt
+-- By: computing; no induction
 use Rattle.std.proofs.Common.{◌≡◌, ℕ, List, map, sym, ap, subst, ◌∙◌}
 use Rattle.std.specs.Prelude.{Result}
 use Rattle.std.proofs.lemmas.Simd.{map-map}

@@ -17,10 +17,12 @@ use golf_check_simple::{
     assign_name, declare_told, define_name, define_received, is_nil, new_or_kept, received, send,
     simple,
 };
-use golf_syntax_trees::{Communication, Expr, OwnedExpr, OwnedSimple, RangeNames, TypeExpr, VarContent};
 use golf_check_types::{
     Base, BuiltIn, Fact, Given, GoType, Layer, Operand, Scope, TypeFault, copy_optional, hide,
     is_blank, is_reserved, may_be_declared, plain, require,
+};
+use golf_syntax_trees::{
+    Communication, Expr, OwnedExpr, OwnedSimple, RangeNames, TypeExpr, VarContent,
 };
 use std::alloc::Global;
 
@@ -189,7 +191,7 @@ pub fn condition(
     require(line, 8, has_base(Base::Bool, &value))
 }
 
-/// A condition, where there is one.
+/// A condition, if there is one.
 pub fn optional_test(
     alloc: Global,
     line: u32,
@@ -214,7 +216,7 @@ pub fn count_part(facts: &mut List<Fact>, at: usize)
     facts.set(at, Fact::Part(parts));
 }
 
-/// A simple statement, where there is one.
+/// A simple statement, if there is one.
 #[tactic(auto, using(golf_check_types::proofs::WalkLaws::stays))]
 pub fn optional(
     alloc: Global,

@@ -9,8 +9,10 @@ use crate::bodies::{
 };
 use golf_base::List;
 use golf_check_simple::simple;
-use golf_syntax_trees::{Clause, Communication, Expr, Header, OwnedExpr, OwnedSimple, RangeNames, Stmt};
 use golf_check_types::{Fact, Scope, TypeFault, begin, end, require};
+use golf_syntax_trees::{
+    Clause, Communication, Expr, Header, OwnedExpr, OwnedSimple, RangeNames, Stmt,
+};
 use std::alloc::Global;
 
 /// Statements in order, in one block.

@@ -1,4 +1,6 @@
--- Written types are the same wherever names mean the same structs.
+-- Written types are the same if names mean the same structs.
+-- For: `write`, specs/Written.antt; `result_type` and `all_typed_names`, specs/Files.antt
+-- By: induction over the tree of a written type, and over the list of fields
 use Rattle.std.proofs.Common.{◌≡◌, ℕ, List, [], ◌∷◌, ◌++◌, map, Option, Some, None, refl, sym, ap, ◌∙◌, subst}
 use Rattle.std.specs.Option.{option_map}
 use Rattle.golf_syntax_trees.specs.declared.types.TypeExpr.{TypeExpr, roll-TypeExpr}
@@ -60,7 +62,7 @@ module _ (s u : Scope) (pointers : (n : List ℕ) → pointer_to (meaning s n) �
   result-alike None = refl
   result-alike (Some x) = written-alike x 0 0
 
--- where package sync is imported alike, they break the same rules
+-- if package sync is imported alike, they break the same rules
 module _ (s u : Scope) (pointers : (n : List ℕ) → pointer_to (meaning s n) ≡ pointer_to (meaning u n)) (sync : s.file.imports.sync ≡ u.file.imports.sync) where
   abbrev R : TypeExpr → Type 0
   R x = (l : ℕ) → write x l s ≡ write x l u

@@ -1,4 +1,6 @@
 -- What expressions with lists of parts are.
+-- For: `judge`, specs/Judging.antt
+-- By: induction over the list of elements; else computing
 use Rattle.std.proofs.Common.{◌≡◌, ℕ, List, [], ◌∷◌, map, refl, sym, ap, ◌∙◌}
 use Rattle.std.proofs.lemmas.Simd.{map-map}
 use Rattle.golf_syntax_trees.specs.declared.types.TypeExpr.{TypeExpr}

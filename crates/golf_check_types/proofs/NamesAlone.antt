@@ -1,4 +1,6 @@
 -- What an expression is depends on the names that are known, and on nothing else of its scope.
+-- For: `judge`, specs/Judging.antt; `write`, specs/Written.antt
+-- By: induction over the tree of an expression, and over the tree of a written type
 use Rattle.std.proofs.Common.{◌≡◌, ℕ, Bool, List, [], ◌∷◌, map, Option, refl, sym, ap, ◌∙◌, subst}
 use Rattle.golf_syntax_trees.specs.declared.types.TypeExpr.{TypeExpr, roll-TypeExpr}
 use Rattle.golf_syntax_trees.specs.declared.types.TypeExpr.TheOpen.{TypeExpr-F}

@@ -1,4 +1,6 @@
 -- What changes of a map from names to places leave at each name, and where a look-up finds.
+-- For: `Locals::look`, `add_place` and `take_place`, src/locals.rt; `places_from`, specs/Places.antt
+-- By: induction over the list of local names
 use Rattle.std.proofs.Common.{◌≡◌, ℕ, ◌+◌, ◌-◌, Bool, true, false, cond, List, [], ◌∷◌, ◌++◌, length, take, refl, sym, ap, subst, ◌∙◌, append_assoc, append-nil, ◌<◌, ◌≤◌, Bor, inl, inr, ◌⊎◌, arith}
 use Rattle.std.specs.Prelude.{Option, Some, None, nat_eq, unwrap_or, slice_get, if◌then◌else◌, MatchOption}
 use Rattle.std.specs.Option.{option_and_then, option_map}
@@ -143,6 +145,3 @@ invariant-drop m n ds d old step q =
     at : (b : Bool) → cond b (without_place (cond b (places_in ds q ++ (0 + length ds) ∷ []) (places_in ds q))) (cond b (places_in ds q ++ (0 + length ds) ∷ []) (places_in ds q)) ≡ places_in ds q
     at true = sym (popped (places_in ds q ++ (0 + length ds) ∷ []) (places_in ds q) (Some (0 + length ds)) refl)
     at false = refl
-
-pub invariant-none : {S : Type 0} (m : HashMap (Vec ℕ) (List ℕ) S) → m.entries ≡ [] → (q : List ℕ) → places_at m q ≡ []
-invariant-none m e q = ap (λ es. unwrap_or (lookup (is_vec q) es) []) e

@@ -1,4 +1,6 @@
--- The first of the rules broken by one part and then by another.
+-- Which rule is the first that is broken, if one part is checked and then another.
+-- For: `Refuses` and `Tells`, specs/Faults.antt
+-- By: cases of the answer; no induction
 use Rattle.std.proofs.Common.{◌≡◌, ℕ, ◌-◌, List, [], ◌∷◌, ◌++◌, length, sym, ap, subst, ◌∙◌, append_assoc, arith, length-append}
 use Rattle.std.specs.Prelude.{Result, Ok, Err, slice_set}
 use Rattle.std.proofs.Math.Seq.{set-append_seam}
@@ -22,11 +24,11 @@ pub refuses_front : (e : TypeFault) (xs ys : List Fault) → Refuses e xs → Re
 refuses_front answers.Memory xs ys h = tt
 refuses_front (answers.At line rule) xs ys h = first_front rule line xs ys h
 
--- where the first part breaks nothing, what refuses the second refuses both
+-- if the first part breaks nothing, what refuses the second refuses both
 pub refuses_behind : (e : TypeFault) (xs ys : List Fault) → xs ≡ [] → Refuses e ys → Refuses e (xs ++ ys)
 refuses_behind e xs ys p h = subst (λ zs. Refuses e (zs ++ ys)) (sym p) h
 
--- where the first part breaks nothing, the answer of the second tells of both
+-- if the first part breaks nothing, the answer of the second tells of both
 pub tells_behind : {A : Type 0} (r : Result A TypeFault) (xs ys : List Fault) (P Q : A → Type 0) → xs ≡ [] → ((a : A) → P a → Q a) → Tells r ys P → Tells r (xs ++ ys) Q
 tells_behind (Ok a) xs ys P Q p f h = (none_of_both xs ys p h.0, f a h.1)
 tells_behind (Err e) xs ys P Q p f h = refuses_behind e xs ys p h
@@ -58,8 +60,3 @@ part_filled old inner new x at n e h j = filled fact.Part old inner new x at n e
 pub function_filled : (old inner new : List Fact) (x : Fact) (a s at n : ℕ) → at ≡ length old → new ≡ (old ++ x ∷ []) ++ inner → n ≡ length new - at - 1
     → slice_set new at (fact.Function a s n) ≡ old ++ fact.Function a s (length inner) ∷ inner
 function_filled old inner new x a s at n e h j = filled (fact.Function a s) old inner new x at n e h j
-
--- where the first part breaks nothing and added its facts, the answer of the second tells of both
-pub told_behind : {A T : Type 0} (r : Result A TypeFault) (fs gs : List Fault) (m : A) (old mid new ts us : List T) → fs ≡ [] → mid ≡ old ++ ts → Tells r gs (λ a. (a ≡ m) × (new ≡ mid ++ us)) → Tells r (fs ++ gs) (λ a. (a ≡ m) × (new ≡ old ++ (ts ++ us)))
-told_behind r fs gs m old mid new ts us p q h =
-    tells_behind r fs gs (λ a. (a ≡ m) × (new ≡ mid ++ us)) (λ a. (a ≡ m) × (new ≡ old ++ (ts ++ us))) p (λ a k. (k.0, k.1 ∙ (ap (λ xs. xs ++ us) q ∙ append_assoc old ts us))) h

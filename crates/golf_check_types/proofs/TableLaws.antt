@@ -1,4 +1,6 @@
 -- A table, and the map that it is kept as.
+-- For: `Table::add` and `Table::number_of`, src/table.rt; `number_of`, specs/Names.antt
+-- By: induction over the list of entries
 use Rattle.std.proofs.Common.{◌≡◌, ℕ, List, [], ◌∷◌, ◌++◌, map, cond, refl, ap, ◌∙◌, Bool}
 use Rattle.std.specs.Prelude.{Some, None, nat_eq}
 use Rattle.std.specs.Cmp.Lexicographic.{pointwise}

@@ -74,7 +74,7 @@ abbrev pub is_empty : List Judged → Bool
 is_empty [] = true
 is_empty (x ∷ xs) = false
 
--- Rules 21 and 22, behind rule 18.
+-- Rules 21 and 22, after rule 18.
 
 abbrev pub rule_unless : ℕ → Bool → Option ℕ
 rule_unless rule true = None

@@ -123,7 +123,7 @@ in_parens x = record { meaning = without_package x.meaning; faults = x.faults; i
 
 -- Literals, `make` and `new`.
 
--- the number that digits stand for, behind those of n
+-- the number that digits stand for, after those of n
 abbrev pub value_from : ℕ → List ℕ → ℕ
 value_from n [] = n
 value_from n (d ∷ ds) = value_from (10 * n + (d - 48)) ds
@@ -161,7 +161,7 @@ abbrev pub put_faults : ℕ → Option (Option GoType) → Given → List Fault
 put_faults l None v = []
 put_faults l (Some t) v = broken l 9 (assignable v t)
 
--- the fields of these names, and the values behind them
+-- the fields of these names, and the values after them
 abbrev pub all_put_faults : ℕ → FileScope → Option Base → List (List ℕ) → List Given → List Fault
 all_put_faults l f b (n ∷ ns) (v ∷ vs) = put_faults l (field_type f b n) v ++ all_put_faults l f b ns vs
 all_put_faults l f b _ _ = []
@@ -238,7 +238,7 @@ abbrev pub has_type : Package → List ℕ → Bool
 has_type packages.Sync n = is_some (sync_base n)
 has_type p n = false
 
--- Rule 3: what stands behind a dot is known.
+-- Rule 3: what stands after a dot is known.
 abbrev pub called_name : ℕ → Option BuiltIn → Judged
 called_name l None = leaf operand.Unknown (broken l 3 false)
 called_name l (Some b) = leaf (operand.BuiltIn b) []
@@ -293,13 +293,13 @@ abbrev pub type_member : ℕ → FileScope → List ℕ → List Layer → Base 
 type_member l f n [] b = base_member l f n b
 type_member l f n (x ∷ xs) b = wrong_selector l
 
--- A value whose type is not known may have what stands behind the dot.
+-- A value whose type is not known may have what stands after the dot.
 abbrev pub value_member : ℕ → FileScope → List ℕ → Given → Judged
 value_member l f n (given_as.Typed t) = type_member l f n t.layers t.base
 value_member l f n given_as.Nil = wrong_selector l
 value_member l f n given_as.Unknown = leaf operand.Unknown []
 
--- what stands behind a dot: of a package, or of a value
+-- what stands after a dot: of a package, or of a value
 abbrev pub selected_from : ℕ → FileScope → List ℕ → Operand → Judged
 selected_from l f n (operand.Package p) = package_selected l p n
 selected_from l f n m = record {

@@ -26,7 +26,7 @@ abbrev pub target : Bool → Operand → Scope → Option GoType → Fact
 target true kept s t = new_target s t
 target false kept s t = fact.Target kept
 
--- The types of the expressions, which are left of the facts where all others are taken away.
+-- The types of the expressions, which are left of the facts if all others are taken away.
 abbrev pub types_told : List Fact → List (Option GoType)
 types_told [] = []
 types_told (fact.Expression m parts ∷ fs) = type_of m ∷ types_told fs

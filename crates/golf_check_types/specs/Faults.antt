@@ -22,7 +22,7 @@ abbrev pub Refuses : TypeFault → List Fault → Type 0
 Refuses answers.Memory faults = Unit {0}
 Refuses (answers.At line rule) faults = IsFirst rule line faults
 
--- An answer comes exactly where no rule is broken.
+-- An answer comes exactly if no rule is broken.
 abbrev pub Tells : {A : Type 0} → Result A TypeFault → List Fault → (A → Type 0) → Type 0
 Tells (Ok a) faults Good = (faults ≡ []) × Good a
 Tells (Err e) faults Good = Refuses e faults

@@ -121,7 +121,7 @@ abbrev pub function_added : Naming → Option Receiver → List ℕ → Naming
 function_added k None n = record (name_added k n (meant.Function k.functions)) { functions = k.functions + 1 }
 function_added k (Some r) n = record k { functions = k.functions + 1 }
 
--- the names behind one declaration more; a method has none here
+-- the names after one declaration more; a method has none here
 abbrev pub decl_added : Naming → Decl → Naming
 decl_added k (d.Const l n c) = record (name_added k n (meant.Constant k.constants (const_base c))) { constants = k.constants + 1 }
 decl_added k (d.Var v) = record (name_added k v.name (meant.Global k.globals)) { globals = k.globals + 1 }
@@ -142,7 +142,7 @@ struct_number _ = None
 abbrev pub struct_named : Naming → List ℕ → Option ℕ
 struct_named k n = struct_number (option_and_then (slice_get k.entities) (number_of k.names n))
 
--- Methods stand behind all fields, in source order.
+-- Methods stand after all fields, in source order.
 
 abbrev pub with_method : Members → List ℕ → ℕ → Members
 with_method m n f = record { names = with_name m.names n (length m.kinds); kinds = m.kinds ++ member_as.Method f ∷ [] }
@@ -159,7 +159,7 @@ abbrev pub receiver_struct : Naming → Option Receiver → Option ℕ
 receiver_struct k None = None
 receiver_struct k (Some r) = struct_named k r.type_name
 
--- the members behind these declarations, where f functions and methods stand above
+-- the members after these declarations, if f functions and methods stand above
 abbrev pub methods_added : Naming → ℕ → List Members → List Decl → List Members
 methods_added k f structs [] = structs
 methods_added k f structs (d.Func x ∷ xs) = methods_added k (f + 1) (method_added structs (receiver_struct k x.receiver) x.name f) xs
@@ -345,7 +345,7 @@ with_types f xs = record f {
   functions = flat_map (function_types (outside f)) xs;
 }
 
--- A global without a written type has that of the form of what it begins with, where the globals above it are known.
+-- A global without a written type has that of the form of what it begins with, if the globals above it are known.
 
 abbrev pub formed_content : FileScope → ℕ → ℕ → VarContent → FileScope
 formed_content f l g (content.Untyped e) = record f { globals = slice_set f.globals g (type_given (given_by (judge_at l (outside f) e))) }
@@ -422,7 +422,7 @@ of_function arguments s w = told w (fact.Function arguments (behind s w).next (l
 abbrev pub func_walk : Func → Scope → Walked
 func_walk f file = of_function (body_scope file f).next (head_scope file f) (parts_walk f file (head_scope file f))
 
--- a declaration where g globals stand above
+-- a declaration if g globals stand above
 abbrev pub decl_walked : FileScope → ℕ → Decl → Walked
 decl_walked f g (d.Const l n c) = judges (const_faults l c) (const_facts c)
 decl_walked f g (d.Var v) = initial_walk v.line v.content (record (outside f) { initialises = Some g })
@@ -461,6 +461,6 @@ facts_in f = walk_facts (file_scope (with_imports no_imports f.imports) f.declar
 abbrev pub types_in : File → List (Option GoType)
 types_in f = types_told (facts_in f)
 
--- A file is typed where it breaks no rule.
+-- A file is typed if it breaks no rule.
 abbrev pub Typed : File → Type 0
 Typed f = Broken f ≡ []

@@ -60,7 +60,7 @@ judge_at l s e = judge e l s
 abbrev pub value_at : ℕ → Scope → Element → Judged
 value_at l s x = judge x.value l s
 
--- What the answers of the checker tell of an expression: they come where no rule is broken, and then these facts were added.
+-- What the answers of the checker tell of an expression: they come if no rule is broken, and then these facts were added.
 
 abbrev pub Judges : Result Operand TypeFault → Judged → List Fact → List Fact → Type 0
 Judges result j old new = Tells result j.faults (λ m. (m ≡ j.meaning) × (new ≡ old ++ j.inner))

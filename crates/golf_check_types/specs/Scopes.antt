@@ -61,7 +61,7 @@ is_reserved n = is_some (predeclared (record { fmt = true; runtime = true; sync 
 
 -- Names of the file.
 
--- the type at a number, where it is known
+-- the type at a number, if it is known
 abbrev pub type_at : List (Option GoType) → ℕ → Option GoType
 type_at ts k = option_and_then (λ t. t) (slice_get ts k)
 
@@ -102,7 +102,7 @@ may_be_declared s n = not (is_blank n) && (not (is_reserved n) && not (is_here s
 abbrev pub variable : Scope → List ℕ → Option GoType → Local
 variable s n t = record { name = n; depth = s.depth; slot = s.next; of_type = t }
 
--- the scope behind these declarations, which have this number of slots
+-- the scope after these declarations, which have this number of slots
 abbrev pub declared : Scope → List Local → ℕ → Scope
 declared s ds n = record s { locals = s.locals ++ ds; next = s.next + n }
 

@@ -43,7 +43,7 @@ use Rattle.golf_check_types.specs.Expressions.{facts_of, used, named_or_used, gi
 use Rattle.golf_check_types.specs.Calls.{call_judged}
 use Rattle.golf_check_types.specs.Judging.{judge_at}
 
--- what a statement declares behind it, the types of the slots that it hands out, the rules that it breaks, and the facts of its parts
+-- what a statement declares after it, the types of the slots that it hands out, the rules that it breaks, and the facts of its parts
 pub record Walked : Type 0 where
   pub declares : List Local
   pub slots : List (Option GoType)
@@ -75,7 +75,7 @@ told w facts = record { declares = w.declares; slots = w.slots; faults = w.fault
 abbrev pub both : Walked → Walked → Walked
 both a b = record { declares = a.declares ++ b.declares; slots = a.slots ++ b.slots; faults = a.faults ++ b.faults; facts = a.facts ++ b.facts }
 
--- the scope behind what was walked
+-- the scope after what was walked
 abbrev pub behind : Scope → Walked → Scope
 behind s w = declared s w.declares (length w.slots)
 
@@ -87,7 +87,7 @@ abbrev pub in_order : List Walk → Walk
 in_order [] s = nothing
 in_order (w ∷ ws) s = both (w s) (in_order ws (behind s (w s)))
 
--- in a block of its own: what it declares is not known behind
+-- in a block of its own: what it declares is not known after
 abbrev pub closed : Walked → Walked
 closed w = record { declares = []; slots = w.slots; faults = w.faults; facts = w.facts }
 
@@ -202,7 +202,7 @@ kept_faults l s n t = kept_local l s.depth (look s.locals n) t
 unfoldable pub pair_differs : Scope → List ℕ → List ℕ → Bool
 pair_differs s n m = not (is_reserved n) && (not (is_reserved m) && not (bytes_eq n m && is_new s n))
 
--- Rule 9 of two names. One name that stands twice is not assigned: where it is there, it is not new.
+-- Rule 9 of two names. One name that stands twice is not assigned: if it is there, it is not new.
 abbrev pub kept_pair_faults : ℕ → Scope → List ℕ → List ℕ → Option GoType → List Fault
 kept_pair_faults l s n m t = cond (bytes_eq n m) [] (kept_faults l s n t ++ kept_faults l s m bool_type)
 
@@ -214,7 +214,7 @@ abbrev pub one_new : Bool → List ℕ → Option GoType → Walk
 one_new true n t s = declares_one s n t [] []
 one_new false n t s = nothing
 
--- a name that is declared where it is new, and what is stored to
+-- a name that is declared if it is new, and what is stored to
 abbrev pub new_or_kept : Bool → Operand → List ℕ → Option GoType → Walk
 new_or_kept new kept n t s = told (one_new new n t s) (target new kept s t ∷ [])
 
@@ -225,7 +225,7 @@ assigned_name s n = cond (is_blank n) (Some operand.Blank) (meaning s n)
 abbrev pub assigned : Scope → List ℕ → Operand
 assigned s n = unwrap_or (assigned_name s n) operand.Unknown
 
--- `n, m := <-e` behind the receive
+-- `n, m := <-e` after the receive
 abbrev pub pair : ℕ → List ℕ → List ℕ → Option GoType → Walk
 pair l n m t s = both (breaks (pair_faults l s n m t)) (then (new_or_kept (is_new s n) (assigned s n) n t) (new_or_kept (is_new s m) (assigned s m) m bool_type) s)
 
@@ -252,7 +252,7 @@ assigned_faults l p t = broken l 3 (is_some p) ++ (put_in_faults l p t ++ broken
 abbrev pub assigned_pair_faults : ℕ → Option Operand → Option Operand → Option GoType → List Fault
 assigned_pair_faults l p q t = broken l 3 (is_some p && is_some q) ++ (put_in_faults l p t ++ (put_in_faults l q bool_type ++ broken l 10 (takes_value p && takes_value q)))
 
--- `n = <-e` and `n, m = <-e` behind the receive
+-- `n = <-e` and `n, m = <-e` after the receive
 
 abbrev pub assign_name : ℕ → List ℕ → Option GoType → Walk
 assign_name l n t s = judges (assigned_faults l (assigned_name s n) t) (fact.Target (assigned s n) ∷ [])
@@ -316,7 +316,7 @@ may_be_begun (operand.Method k) = true
 may_be_begun operand.Unknown = true
 may_be_begun _ = false
 
--- A call that stands as a statement is no value; rules 21 and 22 come behind its others.
+-- A call that stands as a statement is no value; rules 21 and 22 come after its others.
 abbrev pub done_faults : ℕ → Operand → List Fault
 done_faults l (operand.Nothing late) = late_faults l late
 done_faults l m = []
@@ -354,7 +354,7 @@ abbrev pub optional : Option Simple → Walk
 optional None s = nothing
 optional (Some x) s = simple_walk x s
 
--- a condition, and what stands behind it
+-- a condition, and what stands after it
 abbrev pub behind_test : ℕ → Expr → Walk → Walk
 behind_test l test w s = both (condition l test s) (w s)
 
@@ -503,15 +503,15 @@ walk = fold-Stmt (ℕ → Walk) Walk clause_step stmt_step
 unfoldable pub walk_clause : Clause → ℕ → Walk
 walk_clause = fold-Clause (ℕ → Walk) Walk clause_step stmt_step
 
--- What the answers of the checker tell of a statement: they come where no rule is broken, and then the scope is that behind it, and these facts were added.
+-- What the answers of the checker tell of a statement: they come if no rule is broken, and then the scope is that after it, and these facts were added.
 abbrev pub Walks : {A : Type 0} → Result A TypeFault → Walked → Scope → Scope → List Fact → List Fact → Type 0
 Walks result w s t old new = Tells result w.faults (λ _. (t ≡ behind s w) × (new ≡ old ++ w.facts))
 
--- the same where the scope stays
+-- the same if the scope stays
 abbrev pub Adds : {A : Type 0} → Result A TypeFault → Walked → List Fact → List Fact → Type 0
 Adds result w old new = Tells result w.faults (λ _. new ≡ old ++ w.facts)
 
--- the same where there are no facts
+-- the same if there are no facts
 abbrev pub Moves : {A : Type 0} → Result A TypeFault → Walked → Scope → Scope → Type 0
 Moves result w s t = Tells result w.faults (λ _. t ≡ behind s w)
 

@@ -44,7 +44,7 @@ same_type a b = same_layers a.layers b.layers && same_base a.base b.base
 abbrev pub plain : Base → GoType
 plain b = record { layers = []; base = b }
 
--- a type with one more layer in front
+-- a type with one more layer before it
 abbrev pub with_layer : Layer → Option GoType → Option GoType
 with_layer x None = None
 with_layer x (Some t) = Some (record { layers = x ∷ t.layers; base = t.base })
@@ -66,7 +66,7 @@ given (operand.Element t) = given_type t
 given operand.Nil = given_as.Nil
 given _ = given_as.Unknown
 
--- the type of an operand, where it has one
+-- the type of an operand, if it has one
 abbrev pub type_of : Operand → Option GoType
 type_of (operand.Value t) = t
 type_of (operand.Outcome t) = t
@@ -77,7 +77,7 @@ type_of (operand.Field i t) = t
 type_of (operand.Element t) = t
 type_of _ = None
 
--- the type of a value, where it has one
+-- the type of a value, if it has one
 abbrev pub type_given : Given → Option GoType
 type_given (given_as.Typed t) = Some t
 type_given _ = None
@@ -86,7 +86,7 @@ abbrev pub is_nil : Given → Bool
 is_nil given_as.Nil = true
 is_nil _ = false
 
--- Tests of values. Where a value's type is not known, no rule is broken.
+-- Tests of values. If a value's type is not known, no rule is broken.
 
 -- a type without layers
 abbrev pub has_base : Base → Given → Bool

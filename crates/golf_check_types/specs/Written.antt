@@ -40,7 +40,7 @@ abbrev pub pointer_to : Option Operand → Option Base
 pointer_to (Some (operand.Struct k)) = Some (base.Pointer k)
 pointer_to _ = None
 
--- a type, where it is one of the language's, and the rules that it breaks
+-- a type, if it is one of the language's, and the rules that it breaks
 pub record Written : Type 0 where
   pub type : Option GoType
   pub faults : List Fault

@@ -15,7 +15,7 @@ pub fn is_new(scope: &Scope, name: &[u8]) -> bool
     !is_blank(name) && !is_here(scope, name)
 }
 
-/// What is assigned where a name stands left of `=`.
+/// What is assigned if a name stands left of `=`.
 #[tactic(auto, unfolding(crate::specs::Statements::assigned_name))]
 pub fn assigned_name(alloc: Global, scope: &Scope, name: &[u8]) -> Result<Option<Operand>, Memory>
     ensures { IfOk result (λ m. m ≡ assigned_name_of scope.now name.now) }

@@ -15,7 +15,7 @@ pub enum Fact {
     Number(i64),
     /// Before each value of a struct literal: the place of its field.
     Field(u32),
-    /// Where a value is put that is stored under a name: the variable that is declared here, what an
+    /// If a value is put that is stored under a name: the variable that is declared here, what an
     /// assigned name is, or `_`.
     Target(Operand),
     /// After the expression of a `range`: the first hidden slot.

@@ -9,7 +9,7 @@ use golf_base::Memory;
 /// Why a file is not accepted.
 #[derive(Clone, Copy, Debug, PartialEq, Eq)]
 pub enum TypeFault {
-    /// Memory was wanting.
+    /// Out of memory.
     Memory,
     /// This rule is broken on this line, and none before it in the order of the walk.
     At { line: u32, rule: u32 },

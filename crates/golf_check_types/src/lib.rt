@@ -13,7 +13,7 @@ mod table;
 mod types;
 
 pub use assigned::{assigned_name, is_new};
-pub use endings::{Terminates, Panics};
+pub use endings::{Panics, Terminates};
 pub use facts::Fact;
 pub use fault::{TypeFault, require};
 pub use locals::{Local, Locals};
@@ -21,7 +21,7 @@ pub use operands::{
     BuiltIn, Given, Operand, Package, Signature, Where, copy_operand, given_type, type_of, value_of,
 };
 pub use scopes::{
-    FileScope, Imports, Entity, Member, Members, Naming, Scope, begin, copy_name, declare, end,
+    Entity, FileScope, Imports, Member, Members, Naming, Scope, begin, copy_name, declare, end,
     hide, is_blank, is_here, is_reserved, kind_at, may_be_declared, meaning_at, member_at, type_at,
 };
 pub use table::Table;

@@ -19,7 +19,7 @@ pub struct Local {
     /// How many blocks are open where it is declared.
     pub depth: u32,
     pub slot: u32,
-    /// None where its type is not known.
+    /// None if its type is not known.
     pub of_type: Option<GoType>,
 }
 
@@ -37,7 +37,7 @@ impl Drop for Local {
 // The places of each name in a list, rising.
 type Places = HashMap<Vec<u8>, List<usize>>;
 
-// Adds a place behind those of a name. On an `Err` nothing is said of the places.
+// Adds a place after those of a name. On an `Err` nothing is said of the places.
 fn add_place(alloc: Global, places: &mut Places, name: &[u8], place: usize) -> Result<(), Memory>
     ensures { OnOk result ((n : List ℕ) → places_at places.new n ≡ (if bytes_eq name.now n then with_place (places_at places.old n) place else places_at places.old n)) }
 {

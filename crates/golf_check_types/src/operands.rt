@@ -21,7 +21,7 @@ pub enum Where {
 #[derive(Debug)]
 pub struct Signature {
     pub parameters: List<Option<GoType>>,
-    /// None where the function has no result.
+    /// None if the function has no result.
     pub result: Option<GoType>,
 }
 
@@ -193,7 +193,7 @@ impl Drop for Given {
 }
 
 impl Given {
-    /// Its type, where it has one.
+    /// Its type, if it has one.
     pub fn into_type(self) -> Option<GoType>
         ensures { result ≡ type_given self }
     {
@@ -231,7 +231,7 @@ pub fn value_of(alloc: Global, operand: Operand) -> Given
     operand.into_given(alloc)
 }
 
-/// The type of an operand, where it has one.
+/// The type of an operand, if it has one.
 pub fn type_of(alloc: Global, operand: &Operand) -> Result<Option<GoType>, Memory>
     ensures { IfOk result (λ t. t ≡ type_of_of operand.now) }
 {

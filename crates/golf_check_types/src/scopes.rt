@@ -62,7 +62,7 @@ pub struct FileScope {
     pub structs: List<Members>,
     /// The types of the fields of each struct.
     pub fields: List<List<Option<GoType>>>,
-    /// The types of globals, None where a type is not known.
+    /// The types of globals, None if a type is not known.
     pub globals: List<Option<GoType>>,
     /// The types of functions and methods.
     pub functions: List<Signature>,
@@ -136,7 +136,7 @@ pub struct Scope {
     pub locals: Locals,
     /// How many blocks are open.
     pub depth: u32,
-    /// The type that the function returns, None where it returns nothing.
+    /// The type that the function returns, None if it returns nothing.
     pub result: Option<GoType>,
     /// Whether a `break` has something to leave.
     pub breaks: bool,
@@ -269,7 +269,7 @@ pub fn is_blank(name: &[u8]) -> bool
     name == b"_".as_slice()
 }
 
-/// The type at a number, where it is known.
+/// The type at a number, if it is known.
 pub fn type_at(
     alloc: Global,
     types: &[Option<GoType>],

@@ -6,7 +6,7 @@ ghost use Rattle.golf_check_types.specs.Types.{same_layer as same_layer_of, same
 use golf_base::{List, Memory};
 use std::alloc::Global;
 
-/// What stands in front of a type.
+/// What stands before a type.
 #[derive(Clone, Copy, Debug, PartialEq, Eq)]
 pub enum Layer {
     /// `[]`
@@ -130,7 +130,7 @@ pub fn plain(alloc: Global, base: Base) -> GoType
     }
 }
 
-/// A type with one more layer in front.
+/// A type with one more layer before it.
 pub fn with_layer(
     alloc: Global,
     layer: Layer,
@@ -162,7 +162,7 @@ fn copy_type(alloc: Global, t: &GoType) -> Result<GoType, Memory>
     })
 }
 
-/// The same type, where there is one.
+/// The same type, if there is one.
 pub fn copy_optional(alloc: Global, t: &Option<GoType>) -> Result<Option<GoType>, Memory>
     ensures { IfOk result (λ r. r ≡ t.now) }
 {

@@ -1,4 +1,6 @@
 -- The code by what was written down of a file is its code.
+-- For: `generate`, src/files.rt
+-- By: computing
 use Rattle.std.proofs.Common.{◌≡◌, List, ap, ◌∙◌}
 use Rattle.golf_syntax_trees.specs.declared.declarations.Decl.{Decl}
 use Rattle.golf_syntax_trees.specs.declared.declarations.File.{File}

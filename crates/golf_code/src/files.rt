@@ -7,8 +7,8 @@ ghost use Rattle.golf_check.specs.Heads.{scope_of};
 
 use golf_base::Memory;
 use golf_check::Checked;
-use golf_data::Code;
 use golf_code_files::code;
+use golf_data::Code;
 use std::alloc::Global;
 
 /// The code of a typed file.

@@ -1,4 +1,6 @@
--- The code of an expression with a list of parts, by its facts; and where facts are wanting.
+-- The code of an expression with a list of parts, by its facts; and what is written if facts are missing.
+-- For: `expression`, src/expressions.rt; `left_side`, src/places.rt
+-- By: induction over the tree of an expression, and over the list of arguments
 use Rattle.std.proofs.Common.{◌≡◌, ℕ, suc, pos, Bool, false, cond, List, [], ◌∷◌, length, map, refl, sym, ap, subst, ◌∙◌}
 use Rattle.golf_syntax_trees.specs.declared.types.TypeExpr.{TypeExpr}
 use Rattle.golf_syntax_trees.specs.declared.expressions.Expr.{Expr, roll-Expr}
@@ -35,7 +37,7 @@ module _ (t : Tables) (l : ℕ) where
   unfolding taking
   rolled z = ap (λ (k : Take). k l []) (fold-roll-Expr Take Take (taking_step t) element_taking_step z)
 
-  -- where facts are wanting there is no code
+  -- if facts are missing there is no code
   pub no_facts : (e : Expr) → P e
   no_facts = ind-Expr P Q (λ x y is. rolled x) (λ x y is. tt)
 
@@ -81,7 +83,7 @@ module _ (t : Tables) (l : ℕ) where
         ∙ ap (λ zs. (slice_literal l (type_in m) (pieces (arguments l (map (taking t) zs) fs))).piece) also
         ∙ sym (ap (λ z. (taking t z l (m ∷ fs)).piece) is ∙ ap (λ (x : Made). x.piece) (taking-Slice w xs))
 
--- Where facts are wanting nothing is written.
+-- Where facts are missing nothing is written.
 
 abbrev written : List Fact → Draft → Writer
 written fs d = record { facts = fs; draft = d }

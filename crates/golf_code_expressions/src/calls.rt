@@ -7,9 +7,9 @@ ghost use Rattle.golf_code_layout.specs.Emission.{Adds};
 
 use crate::values::count;
 use golf_base::{List, Memory};
-use golf_data::Instr;
-use golf_code_layout::{Emitted, op};
 use golf_check_types::{BuiltIn, Operand};
+use golf_code_layout::{Emitted, op};
+use golf_data::Instr;
 
 // A counter goes down by one.
 fn done(emitted: &mut List<Emitted>, line: u32) -> Result<(), Memory>

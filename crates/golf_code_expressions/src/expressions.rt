@@ -1,6 +1,6 @@
 //! The code of an expression by its facts.
 
-ghost use Rattle.std.specs.Prelude.{◌≡◌, ◌∷◌, [], map, length, pos, true, false};
+ghost use Rattle.std.specs.Prelude.{◌∷◌, [], map, length, pos, true, false};
 ghost use Rattle.golf_code_layout.specs.Piece.{all, op as op_of};
 ghost use Rattle.golf_code_of.specs.Table.{text_number};
 ghost use Rattle.golf_code_of.specs.Values.{makes as makes_of};
@@ -17,13 +17,18 @@ use crate::operators::{combining, unary_instr};
 use crate::values::whole as whole_number;
 use crate::writer::Writer;
 use golf_base::{List, Memory};
+use golf_check_types::{Fact, Operand};
+use golf_code_layout::{Emitted, block, end, exit, op, unless};
 use golf_code_of::Tables;
 use golf_data::Instr;
-use golf_code_layout::{Emitted, block, end, exit, op, unless};
 use golf_syntax_trees::{BinaryOperator, Element, Expr, UnaryOperator};
-use golf_check_types::{Fact, Operand};
 
-fn text_at(emitted: &mut List<Emitted>, tables: &Tables, line: u32, text: &[u8]) -> Result<(), Memory>
+fn text_at(
+    emitted: &mut List<Emitted>,
+    tables: &Tables,
+    line: u32,
+    text: &[u8],
+) -> Result<(), Memory>
     ensures { Adds result (op_of line (Instr.Text (text_number tables.now.texts text.now))) emitted.old emitted.new }
 {
     let number = tables.texts.number_of(text)?;

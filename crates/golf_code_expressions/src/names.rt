@@ -10,10 +10,10 @@ ghost use Rattle.golf_code_layout.specs.Emission.{Adds};
 
 use crate::values::{constant, makes, push};
 use golf_base::{List, Memory};
+use golf_check_types::{Base, Operand, Where};
+use golf_code_layout::{Emitted, op};
 use golf_code_of::Tables;
 use golf_data::Instr;
-use golf_code_layout::{Emitted, op};
-use golf_check_types::{Base, Operand, Where};
 
 fn load(emitted: &mut List<Emitted>, line: u32, place: Where) -> Result<(), Memory>
     ensures { Adds result (variable_of line place).piece emitted.old emitted.new }

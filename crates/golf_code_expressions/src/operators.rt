@@ -6,8 +6,8 @@ ghost use Rattle.golf_code_of.specs.Expressions.{unary_instr as unary_instr_of, 
 ghost use Rattle.golf_code_layout.specs.Emission.{Adds};
 
 use golf_base::{List, Memory};
-use golf_data::Instr;
 use golf_code_layout::{Emitted, op};
+use golf_data::Instr;
 use golf_syntax_trees::{BinaryOperator, UnaryOperator};
 
 /// The instruction of a unary operator.
@@ -30,7 +30,11 @@ fn negated(emitted: &mut List<Emitted>, line: u32, instr: Instr) -> Result<(), M
 }
 
 /// Adds what stands after both operands of a binary operator.
-pub fn combining(emitted: &mut List<Emitted>, line: u32, operator: BinaryOperator) -> Result<(), Memory>
+pub fn combining(
+    emitted: &mut List<Emitted>,
+    line: u32,
+    operator: BinaryOperator,
+) -> Result<(), Memory>
     ensures { Adds result (combining_of line operator) emitted.old emitted.new }
 {
     match operator {

@@ -2,7 +2,7 @@
 
 ghost use Rattle.std.specs.Prelude.{◌∷◌};
 ghost use Rattle.golf_code_layout.specs.Emission.{Adds};
-ghost use Rattle.golf_code_of.specs.Expressions.{name as name_of, selector, index};
+ghost use Rattle.golf_code_of.specs.Expressions.{selector, index};
 ghost use Rattle.golf_code_facts.specs.Facts.{skip};
 ghost use Rattle.golf_code_facts.specs.Expressions.{taking};
 ghost use Rattle.golf_code_expressions.specs.Places.{twice_of, read_of, store_of, IsVariable, Tells, TellsAll};
@@ -10,10 +10,10 @@ ghost use Rattle.golf_code_expressions.specs.Places.{twice_of, read_of, store_of
 use crate::expressions::expression;
 use crate::writer::Writer;
 use golf_base::{List, Memory};
-use golf_data::Instr;
-use golf_code_layout::{Emitted, op};
-use golf_syntax_trees::Expr;
 use golf_check_types::{Fact, Operand, Where};
+use golf_code_layout::{Emitted, op};
+use golf_data::Instr;
+use golf_syntax_trees::Expr;
 
 /// What stands on a left side.
 #[derive(Clone, Copy, Debug, PartialEq, Eq)]

@@ -2,8 +2,8 @@
 
 use crate::facts::Facts;
 use golf_base::List;
-use golf_code_of::{Making, Tables};
 use golf_code_layout::Emitted;
+use golf_code_of::{Making, Tables};
 use std::alloc::Global;
 
 /// The code so far, and what it looks up.

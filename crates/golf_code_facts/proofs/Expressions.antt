@@ -1,4 +1,6 @@
--- The code of every expression by its facts is its code: one step for each kind of expression, and an induction.
+-- The code of every expression by its facts is its code.
+-- For: `taken_at`, golf_code_facts/specs/Expressions.antt; the law `expressions_follow`, src/lib.rt.
+-- By: induction over the tree of an expression, one step for each kind.
 use Rattle.std.proofs.Common.{◌≡◌, ℕ, List, [], ◌∷◌, ◌++◌, map, refl, sym, ap, subst, ◌∙◌, append_assoc}
 use Rattle.std.specs.Prelude.{flat_map, Option}
 use Rattle.std.specs.Option.{option_map}

@@ -1,4 +1,6 @@
 -- The code of a file by its facts is its code.
+-- For: `CodeBy`, golf_code_facts/specs/Files.antt; the law `files_follow`, src/lib.rt.
+-- By: induction over the list of declarations; cases of the kind of declaration.
 use Rattle.std.proofs.Common.{◌≡◌, ℕ, ◌+◌, Bool, List, [], ◌∷◌, ◌++◌, length, map, refl, sym, ap, ◌∙◌, append-nil}
 use Rattle.std.specs.Prelude.{Option, Some, None, flat_map}
 use Rattle.std.proofs.Math.Seq.{drop-append_seam}

@@ -1,4 +1,6 @@
--- Loops by their facts.
+-- The code of every loop by its facts is its code.
+-- For: `for_lay`, golf_code_facts/specs/Loops.antt.
+-- By: cases of the header of the loop and of its names; no induction.
 use Rattle.std.proofs.Common.{◌≡◌, ℕ, ◌+◌, Bool, true, false, cond, List, [], ◌∷◌, ◌++◌, refl, sym, ap, ◌∙◌, append_assoc}
 use Rattle.std.specs.Prelude.{Option, Some, None, not}
 use Rattle.std.proofs.Math.Seq.{drop-append_seam}

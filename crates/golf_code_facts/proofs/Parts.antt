@@ -1,4 +1,6 @@
--- One law for each way of putting statements together, and `go` and `defer`.
+-- The code by facts of statements put together, and of `go` and `defer`, is their code.
+-- For: `then`, `or_else` and `begin_lay`, golf_code_facts/specs/Statements.antt.
+-- By: computing; induction over the list of arguments for `go` and `defer`.
 use Rattle.std.proofs.Common.{◌≡◌, ℕ, suc, ◌+◌, List, [], ◌∷◌, ◌++◌, length, map, refl, sym, ap, ◌∙◌, append_assoc, arith}
 use Rattle.std.specs.Prelude.{flat_map}
 use Rattle.golf_syntax_trees.specs.declared.expressions.Expr.{Expr}
@@ -25,7 +27,7 @@ use Rattle.golf_code_facts.proofs.Steps.{One, takes, facts, args, all_taken, all
 use Rattle.golf_code_facts.proofs.Expressions.{made-alone, made-among, past-among}
 use Rattle.golf_code_facts.proofs.Simple.{PieceFollows}
 
--- a statement: whatever names are known, its code is that by the facts in front, and those after them are left
+-- a statement: whatever names are known, its code is that by the first facts, and those after them are left
 pub record Follows (x : Part) (k : LayBy) : Type 0 where
   pub code : (a : Around) (s : Scope) (rest : List Fact) → k a ((x.walk s).facts ++ rest) ≡ by (x.lay a s) rest
 

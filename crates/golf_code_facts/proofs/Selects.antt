@@ -1,4 +1,8 @@
--- `select` by its facts. The operands of all clauses are judged in the scope of their clause, and stand in that of the `select`, which judges alike.
+-- The code of a `select` by its facts is its code.
+-- For: `select_lay`, golf_code_facts/specs/Selects.antt.
+-- By: induction over the list of clauses.
+-- The operands of all clauses are judged in the scope of their clause,
+-- and stand in that of the `select`, which judges alike.
 use Rattle.std.proofs.Common.{◌≡◌, ℕ, suc, ◌+◌, true, List, [], ◌∷◌, ◌++◌, length, map, refl, sym, ap, ◌∙◌, append_assoc, append-nil}
 use Rattle.std.proofs.Math.Seq.{drop-append_seam}
 use Rattle.golf_syntax_trees.specs.declared.expressions.Expr.{Expr}

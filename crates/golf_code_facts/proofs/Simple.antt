@@ -1,4 +1,6 @@
--- Expressions among others, names that are stored to, variables and simple statements by their facts.
+-- The code of simple statements, variables and `return` by their facts is their code.
+-- For: `simple_by`, `var_by` and `return_by`, golf_code_facts/specs/Statements.antt.
+-- By: cases of the kind of simple statement; no induction.
 use Rattle.std.proofs.Common.{◌≡◌, ℕ, Bool, true, false, cond, List, [], ◌∷◌, ◌++◌, refl, ap, ◌∙◌}
 use Rattle.std.specs.Prelude.{Option, Some, None, unwrap_or, pos, not}
 use Rattle.golf_syntax_trees.specs.declared.expressions.Expr.{Expr}
@@ -30,7 +32,7 @@ use Rattle.golf_code_facts.specs.Expressions.{taken_at, pushed_at}
 use Rattle.golf_code_facts.specs.Statements.{PieceBy, piece_by, stores, stores_next, stores_two, past_two, steps_by, defines_by, simple_by, optional_by, var_by, return_by}
 use Rattle.golf_code_facts.proofs.Expressions.{made-alone, past-alone, made-among, past-among}
 
--- code for which no function is made: whatever names are known, it is that by the facts in front
+-- code for which no function is made: whatever names are known, it is that by the first facts
 pub record PieceFollows (w : Walk) (p : Scope → Piece) (k : List Fact → PieceBy) : Type 0 where
   pub code : (s : Scope) (rest : List Fact) → k ((w s).facts ++ rest) ≡ piece_by (p s) rest
 

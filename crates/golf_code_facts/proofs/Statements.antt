@@ -1,4 +1,6 @@
--- The code of every statement by its facts is its code: one induction.
+-- The code of every statement by its facts is its code.
+-- For: `stmt_by`, golf_code_facts/specs/Laying.antt; the law `statements_follow`, src/lib.rt.
+-- By: induction over the tree of a statement, and over the list of statements of a body.
 use Rattle.std.proofs.Common.{◌≡◌, ℕ, List, [], ◌∷◌, ◌++◌, map, refl, sym, ap, subst, ◌∙◌}
 use Rattle.golf_syntax_trees.specs.declared.statements.Stmt.{Stmt, roll-Stmt}
 use Rattle.golf_syntax_trees.specs.declared.statements.Clause.{Clause, roll-Clause}

@@ -1,4 +1,6 @@
--- Each construct of expressions by facts, over plain variables.
+-- Taking the facts of one expression from the list, and of several expressions one after the other.
+-- For: `skip`, golf_code_facts/specs/Facts.antt; `arguments`, golf_code_facts/specs/Expressions.antt.
+-- By: induction over the list of arguments, and over the list of fields.
 use Rattle.std.proofs.Common.{◌≡◌, ℕ, Bool, true, false, cond, List, [], ◌∷◌, ◌++◌, length, map, refl, ap, ◌∙◌, append_assoc}
 use Rattle.std.specs.Prelude.{Option, Some, None, flat_map}
 use Rattle.std.specs.Option.{option_map}
@@ -23,7 +25,7 @@ use Rattle.golf_code_facts.specs.Expressions.{Take, arguments, puts}
 pub skipped : (m : Operand) (fs rest : List Fact) → skip (with_parts m fs ++ rest) ≡ rest
 skipped m fs rest = drop-append_seam fs rest
 
--- also where more facts of the same part follow
+-- also if more facts of the same part follow
 pub skipped-among : (m : Operand) (fs gs rest : List Fact) → skip ((with_parts m fs ++ gs) ++ rest) ≡ gs ++ rest
 skipped-among m fs gs rest = ap skip (append_assoc (with_parts m fs) gs rest) ∙ skipped m fs (gs ++ rest)
 
@@ -36,7 +38,7 @@ two_parts k x y m fs q r a b h i =
     ∙ ap (λ z. k a.piece (y z).piece) (skipped m fs (q ++ r))
     ∙ ap (λ (c : Made). k a.piece c.piece) i
 
--- Lists of parts: each is made by the facts in front.
+-- Lists of parts: each is made by the first facts.
 
 pub record Reads (l : ℕ) (x : Take) (m : Operand) (fs : List Fact) (c : Made) : Type 0 where
   pub code : (rest : List Fact) → x l (with_parts m fs ++ rest) ≡ c

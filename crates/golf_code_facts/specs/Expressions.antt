@@ -1,4 +1,4 @@
--- The code of an expression by its facts, which stand in front of others: one equation a construct.
+-- The code of an expression by its facts, which stand before others: one equation a construct.
 use Rattle.std.specs.Prelude.{ℕ, List, [], ◌∷◌, map}
 use Rattle.golf_syntax_trees.specs.declared.expressions.Expr.{Expr}
 use Rattle.golf_syntax_trees.specs.declared.expressions.Expr.TheOpen.{Expr-F, Element-F, Integer, Text, Name, Parens, StructLiteral, SyncLiteral, SliceLiteral, EmptyLiteral, Make, MakeSized, New, NewSync, Selector, Index, Call, Unary, Binary}
@@ -12,7 +12,7 @@ use Rattle.golf_code_of.specs.Expressions.{Made, only, name, put, new_struct, ne
 use Rattle.golf_code_of.specs.Calls.{Argument, call}
 use Rattle.golf_code_facts.specs.Facts.{operand_in, number_in, field_in, type_in, base_in, next, next_is, past_one, skip}
 
--- the code of an expression on a line by the facts in front
+-- the code of an expression on a line by the first facts
 abbrev pub Take : Type 0
 Take = ℕ → List Fact → Made
 
@@ -50,7 +50,7 @@ take_step t (Call g xs) l f fs = call l (next_is fs) (g l fs).piece (arguments l
 take_step t (Unary o e) l f fs = unary_operator l o (e l fs).piece
 take_step t (Binary o a b) l f fs = binary_operator l o (a l fs).piece (b l (skip fs)).piece
 
--- where facts are wanting there is no code
+-- if facts are missing there is no code
 abbrev pub with_fact : (ℕ → Fact → List Fact → Made) → Take
 with_fact k l [] = only Piece.Empty
 with_fact k l (f ∷ fs) = k l f fs

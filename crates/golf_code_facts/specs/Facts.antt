@@ -59,7 +59,7 @@ type_in f = type_of_value (operand_in f)
 abbrev pub base_in : Fact → Option Base
 base_in f = base_of (type_in f)
 
--- Facts in front of others.
+-- Facts before others.
 
 -- the next one; if there is none, one that says nothing
 abbrev pub next : List Fact → Fact

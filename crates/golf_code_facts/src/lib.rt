@@ -1,6 +1,6 @@
 //! The code of a file by what the checker wrote down of it.
 //!
-//! The definitions stand in `specs/`: the code of each construct by its facts, which stand in front of others. No scope
+//! The definitions stand in `specs/`: the code of each construct by its facts, which stand before others. No scope
 //! stands in them. Each function here has one law about the definitions as its contract.
 #![tactic(auto)]
 

@@ -17,7 +17,6 @@ use Rattle.golf_code_of.specs.Files.{function, made_function, main_number}
 use Rattle.golf_code_facts.specs.Facts.{next}
 use Rattle.golf_code_facts.specs.Statements.{LaidBy, PieceBy, piece_by}
 use Rattle.golf_code_facts.specs.Files.{past_decl, const_by, next_result, past_signature, body_by, function_by, functions_by, initial_by, entry_by}
-use Rattle.golf_code_expressions.specs.declared.writer.Draft.{Draft}
 use Rattle.golf_code_expressions.specs.declared.writer.Writer.{Writer}
 
 abbrev pub decl_constants : Texts → Decl → List Fact → List Value

@@ -1,16 +1,16 @@
 //! The values of constants. Those of integers stand in their facts.
 
 ghost use Rattle.std.specs.Prelude.{◌≡◌, ◌++◌, IfOk, OnOk};
-ghost use Rattle.golf_code_facts.specs.Files.{const_by, past_decl, constants_by, tables_by};
+ghost use Rattle.golf_code_facts.specs.Files.{const_by, constants_by, tables_by};
 ghost use Rattle.golf_code_files.specs.Steps.{decl_constants};
 
 use crate::passing::pass_decl;
 use golf_base::{List, Memory};
+use golf_code_expressions::Facts;
 use golf_code_of::{Tables, TextTable};
+use golf_code_texts::texts_of_decls;
 use golf_data::Value;
 use golf_syntax_trees::{Const, Decl};
-use golf_code_texts::texts_of_decls;
-use golf_code_expressions::Facts;
 use std::alloc::Global;
 
 fn const_value(texts: &TextTable, constant: &Const, facts: &Facts) -> Result<Value, Memory>

@@ -1,6 +1,6 @@
 //! Function 0, which runs the initialisers and calls `main`.
 
-ghost use Rattle.std.specs.Prelude.{◌≡◌, ◌+◌, [], IfOk, OnOk};
+ghost use Rattle.std.specs.Prelude.{◌≡◌, [], IfOk, OnOk};
 ghost use Rattle.golf_code_of.specs.Files.{function as function_with};
 ghost use Rattle.golf_code_facts.specs.Files.{initial_by, initials_by, entry_by};
 ghost use Rattle.golf_syntax_trees.specs.declared.statements.VarContent.TheVariants as content_as;
@@ -11,11 +11,11 @@ ghost use Rattle.golf_code_simple.specs.Doing.{Does};
 
 use crate::passing::pass_decl;
 use golf_base::Memory;
-use golf_data::{Function, Instr};
-use golf_code_layout::op;
-use golf_syntax_trees::{Decl, Expr, VarContent};
-use golf_code_targets::function;
 use golf_code_expressions::{Writer, expression};
+use golf_code_layout::op;
+use golf_code_targets::function;
+use golf_data::{Function, Instr};
+use golf_syntax_trees::{Decl, Expr, VarContent};
 
 // What a global begins with is pushed and stored.
 fn value(writer: &mut Writer, line: u32, global: u32, e: &Expr) -> Result<(), Memory>

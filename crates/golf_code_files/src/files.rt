@@ -1,7 +1,6 @@
 //! The code of a file.
 
 ghost use Rattle.std.specs.Prelude.{◌≡◌, IfOk};
-ghost use Rattle.golf_code_of.specs.Files.{main_line as main_line_in, giving as giving_in};
 ghost use Rattle.golf_code_facts.specs.Files.{tables_by, code_by};
 ghost use Rattle.golf_code_files.specs.Steps.{functions_with, code_of_parts};
 
@@ -12,11 +11,11 @@ use crate::made::made_functions;
 use crate::numbers::{first_made, giving, main_line, main_number};
 use crate::values::{struct_zeros, zero_values};
 use golf_base::{List, Memory};
+use golf_check_types::{Fact, FileScope, Operand};
+use golf_code_expressions::{Draft, Facts, Writer};
 use golf_code_of::Tables;
 use golf_data::{Code, Function};
 use golf_syntax_trees::Decl;
-use golf_check_types::{Fact, FileScope, Operand};
-use golf_code_expressions::{Draft, Facts, Writer};
 use std::alloc::Global;
 
 // Function 0, those of the file, and those that are made.

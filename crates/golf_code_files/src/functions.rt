@@ -1,8 +1,7 @@
 //! The functions and methods of a file.
 
-ghost use Rattle.std.specs.Prelude.{◌≡◌, ◌+◌, ◌++◌, ◌∷◌, [], length, IfOk, OnOk};
-ghost use Rattle.golf_code_layout.specs.Emission.{Adds, flat};
-ghost use Rattle.golf_code_layout.specs.Piece.{all};
+ghost use Rattle.std.specs.Prelude.{◌≡◌, ◌+◌, ◌++◌, [], IfOk, OnOk};
+ghost use Rattle.golf_code_layout.specs.Emission.{Adds};
 ghost use Rattle.golf_code_of.specs.Files.{last_return as last_return_of};
 ghost use Rattle.golf_code_facts.specs.Facts.{next, past_one, arguments_in, slots_in};
 ghost use Rattle.golf_code_facts.specs.Files.{next_result, past_signature, body_by, function_by, functions_by};
@@ -10,13 +9,13 @@ ghost use Rattle.golf_code_files.specs.Steps.{decl_by, func_by, signatures_after
 
 use crate::passing::pass_decl;
 use golf_base::{List, Memory};
-use golf_data::{Function, Instr};
-use golf_code_layout::{Emitted, op};
-use golf_syntax_trees::{Decl, Func};
-use golf_code_targets::function;
 use golf_check_types::{Fact, GoType, Signature};
 use golf_code_expressions::{Facts, Writer, push, zero_value};
+use golf_code_layout::{Emitted, op};
 use golf_code_statements::body;
+use golf_code_targets::function;
+use golf_data::{Function, Instr};
+use golf_syntax_trees::{Decl, Func};
 
 // How many slots of a function hold receiver and parameters, and how many slots it has.
 #[derive(Clone, Copy, Debug, PartialEq, Eq)]
@@ -78,7 +77,11 @@ fn last_return(
 }
 
 // The return that ends the function with the next of these signatures.
-fn next_return(emitted: &mut List<Emitted>, line: u32, signatures: &[Signature]) -> Result<(), Memory>
+fn next_return(
+    emitted: &mut List<Emitted>,
+    line: u32,
+    signatures: &[Signature],
+) -> Result<(), Memory>
     ensures { Adds result (last_return_of line (next_result signatures.now)) emitted.old emitted.new }
 {
     match signatures {

@@ -5,16 +5,20 @@ ghost use Rattle.golf_code_layout.specs.Emission.{Adds};
 ghost use Rattle.golf_code_of.specs.Files.{loads as loads_of, made_body as made_body_of, made_function as made_function_of};
 
 use golf_base::{List, Memory};
-use golf_code_of::Making;
-use golf_data::{Function, Instr};
-use golf_code_layout::{Emitted, op};
-use golf_code_targets::function;
 use golf_check_types::GoType;
 use golf_code_expressions::operation;
+use golf_code_layout::{Emitted, op};
+use golf_code_of::Making;
+use golf_code_targets::function;
+use golf_data::{Function, Instr};
 use std::alloc::Global;
 
 // The parameters are pushed.
-fn loads(emitted: &mut List<Emitted>, line: u32, parameters: &[Option<GoType>]) -> Result<(), Memory>
+fn loads(
+    emitted: &mut List<Emitted>,
+    line: u32,
+    parameters: &[Option<GoType>],
+) -> Result<(), Memory>
     ensures { Adds result (loads_of line 0 parameters.now) emitted.old emitted.new }
 {
     let mut slot = 0u32;

@@ -6,8 +6,8 @@ ghost use Rattle.golf_code_of.specs.Files.{number_of_function as number_of_funct
 
 use golf_base::{List, Memory};
 use golf_check_names::{declares_main, line_of};
+use golf_check_types::{Entity, FileScope};
 use golf_syntax_trees::Decl;
-use golf_check_types::{FileScope, Entity};
 use std::alloc::Global;
 
 // What a name of the file means.
@@ -39,7 +39,7 @@ pub fn main_number(file: &FileScope) -> Result<u32, Memory>
     number_of_function(meaning_of(file, b"main".as_slice()))
 }
 
-/// The line of `main`, or 0 where it is not declared.
+/// The line of `main`, or 0 if it is not declared.
 pub fn main_line(decls: &[Decl]) -> u32
     ensures { result ≡ main_line_in decls.now }
 {

@@ -3,8 +3,8 @@
 ghost use Rattle.std.specs.Prelude.{◌≡◌};
 ghost use Rattle.golf_code_facts.specs.Files.{past_const, past_content, past_decl};
 
-use golf_syntax_trees::{Const, Decl, VarContent};
 use golf_code_expressions::Facts;
+use golf_syntax_trees::{Const, Decl, VarContent};
 
 /// Passes over the value of a constant.
 pub fn pass_const(facts: &mut Facts, constant: &Const)

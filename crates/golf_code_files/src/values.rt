@@ -4,9 +4,9 @@ ghost use Rattle.std.specs.Prelude.{◌≡◌, map, IfOk};
 ghost use Rattle.golf_code_of.specs.Values.{zero_value as zero_value_of};
 
 use golf_base::{List, Memory};
-use golf_data::Value;
 use golf_check_types::GoType;
 use golf_code_expressions::zero_value;
+use golf_data::Value;
 use std::alloc::Global;
 
 /// The zero values of types.

@@ -1,4 +1,6 @@
 -- The machine that frees and reclaims nothing is never stuck.
+-- For: `plain_runs_go_on`, src/lib.rt; `PlainGoesOn`, specs/Laws.antt
+-- By: the lemmas on what each turn and each collection keep; no induction
 use Rattle.std.proofs.Common.{ℕ, List, [], false}
 use Rattle.golf_theory.specs.Membership.{In}
 use Rattle.golf_data.specs.declared.code.Code.{Code}

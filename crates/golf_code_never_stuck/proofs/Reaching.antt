@@ -1,4 +1,6 @@
 -- The code of a file that breaks no rule has shapes, so that every state that it reaches is typed and moves on.
+-- For: `reached_states_go_on`, `files_have_shapes`, src/lib.rt; `Reached`, specs/Reached.antt
+-- By: induction over the moves that lead on from a state
 use Rattle.std.proofs.Common.{sym, subst}
 use Rattle.golf_data.specs.declared.code.Code.{Code}
 use Rattle.golf_model.specs.State.{State}

@@ -40,7 +40,7 @@ ReachedGoesOn = (code : Code) (s : State) → Reached code s → ((t : State) �
 abbrev pub ReachedDeadAreStill : Type 0
 ReachedDeadAreStill = (code : Code) (s : State) (g : ℕ) → Reached code s → Dead s g → Still code s g × GoesOn code s
 
--- recovery in a reached state cannot be seen, and no continuation behind it is stuck
+-- recovery in a reached state cannot be seen, and no continuation after it is stuck
 abbrev pub ReachedRecoveryUnseen : Type 0
 ReachedRecoveryUnseen = (code : Code) (s : State) (recover : Bool) → Reached code s → ending s ≡ None
     → ((events : List Event) → futures code (real_collect s recover (sets_finalisers code)) events (removed s recover (sets_finalisers code)) ≡ futures code (plain_collect s) events (removed s recover (sets_finalisers code)))

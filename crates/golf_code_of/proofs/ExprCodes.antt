@@ -1,4 +1,6 @@
 -- The code of each kind of expression, as an equation.
+-- For: `coded` (golf_code_of/specs/Coding.antt)
+-- By: computing, kind by kind; induction over the list of elements of a literal
 use Rattle.std.proofs.Common.{◌≡◌, ℕ, List, [], ◌∷◌, map, refl, ap, sym, ◌∙◌}
 use Rattle.golf_syntax_trees.specs.declared.types.TypeExpr.{TypeExpr}
 use Rattle.golf_syntax_trees.specs.declared.expressions.UnaryOperator.{UnaryOperator}

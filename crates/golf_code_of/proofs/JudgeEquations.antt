@@ -1,4 +1,6 @@
 -- What each kind of expression is, as an equation.
+-- For: `judge` (golf_check_types/specs/Judging.antt)
+-- By: computing, kind by kind; induction over the list of elements of a literal
 use Rattle.std.proofs.Common.{◌≡◌, ℕ, List, [], ◌∷◌, map, refl, ap, sym, ◌∙◌}
 use Rattle.golf_syntax_trees.specs.declared.types.TypeExpr.{TypeExpr}
 use Rattle.golf_syntax_trees.specs.declared.expressions.UnaryOperator.{UnaryOperator}

@@ -1,4 +1,6 @@
 -- What code takes an expression for is what the checker takes it for.
+-- For: `JudgmentsAgree` (golf_code_of/specs/Laws.antt) and `judgments_agree` (src/lib.rt)
+-- By: induction over the tree of an expression
 use Rattle.std.proofs.Common.{◌≡◌, ℕ, List, [], ◌∷◌, map, refl, sym, ap, ◌∙◌, subst}
 use Rattle.golf_syntax_trees.specs.declared.expressions.Expr.{Expr, roll-Expr}
 use Rattle.golf_syntax_trees.specs.declared.expressions.Element.{Element, roll-Element}

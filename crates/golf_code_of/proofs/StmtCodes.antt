@@ -1,4 +1,6 @@
 -- The code of each kind of statement and clause, as an equation.
+-- For: `stmt_part`, `clause_part` (golf_code_of/specs/Laying.antt)
+-- By: computing, kind by kind; no induction
 use Rattle.std.proofs.Common.{◌≡◌, ℕ, List, map, ap, sym, ◌∙◌}
 use Rattle.std.specs.Prelude.{Option}
 use Rattle.golf_syntax_trees.specs.declared.expressions.Expr.{Expr}

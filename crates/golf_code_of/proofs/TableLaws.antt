@@ -1,4 +1,6 @@
 -- Texts that are kept as vectors.
+-- For: `text_number` (golf_code_of/specs/Table.antt) and `add`, `place` (src/tables.rt)
+-- By: induction over the list of texts that are kept
 use Rattle.std.proofs.Common.{◌≡◌, ℕ, ◌+◌, Bool, true, false, cond, List, [], ◌∷◌, ◌++◌, map, refl, ap, ◌∙◌}
 use Rattle.std.specs.Prelude.{Some, nat_eq, unwrap_or, position, ◌||◌}
 use Rattle.std.specs.List.{list_any}

@@ -1,4 +1,6 @@
 -- The texts of each kind of expression and statement, as equations.
+-- For: `expr_texts`, `stmt_texts` (golf_code_of/specs/Texts.antt)
+-- By: computing, kind by kind; induction over the list of elements of a literal
 use Rattle.std.proofs.Common.{◌≡◌, ℕ, List, [], ◌∷◌, map, refl, ap, sym, ◌∙◌}
 use Rattle.std.specs.Prelude.{Option}
 use Rattle.golf_syntax_trees.specs.declared.types.TypeExpr.{TypeExpr}

@@ -1,4 +1,6 @@
 -- Each kind of written type, as an equation.
+-- For: `write` (golf_check_types/specs/Written.antt)
+-- By: computing, kind by kind; no induction
 use Rattle.std.proofs.Common.{◌≡◌, ℕ, List, ap, sym, ◌∙◌}
 use Rattle.golf_syntax_trees.specs.declared.types.TypeExpr.{TypeExpr}
 use Rattle.golf_syntax_trees.specs.declared.types.TypeExpr.TheVariants as ty

@@ -1,4 +1,6 @@
--- What code knows behind a statement is what the checker knows there.
+-- What code knows after a statement is what the checker knows there.
+-- For: `WalksAgree` (golf_code_of/specs/Laws.antt) and `walks_agree` (src/lib.rt)
+-- By: induction over the tree of a statement
 use Rattle.std.proofs.Common.{◌≡◌, ℕ, List, [], ◌∷◌, map, Option, Some, None, refl, sym, ap, ◌∙◌, subst}
 use Rattle.golf_syntax_trees.specs.declared.statements.Simple.{Simple}
 use Rattle.golf_syntax_trees.specs.declared.statements.Header.{Header}

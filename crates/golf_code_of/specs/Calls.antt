@@ -94,7 +94,7 @@ abbrev pub makings : ℕ → Operand → List Argument → List Making
 makings l (operand.BuiltIn b) xs = record { operation = b; parameters = begun_parameters b xs; line = l } ∷ []
 makings l _ xs = []
 
--- `go` or `defer`, where the next function that is made has this number
+-- `go` or `defer`, if the next function that is made has this number
 abbrev pub beginning : ℕ → (ℕ → ℕ → Instr) → ℕ → Operand → List Argument → Piece
 beginning l begin next (operand.Function k) xs = op l (begin (k + 1) (length xs))
 beginning l begin next (operand.Method k) xs = op l (begin (k + 1) (length xs + 1))

@@ -18,7 +18,7 @@ use Rattle.golf_code_layout.specs.Piece.{Piece, all, op}
 use Rattle.golf_code_of.specs.declared.tables.Tables.{Tables}
 use Rattle.golf_code_of.specs.Values.{push, constant, makes}
 
--- The code of an expression: what pushes its value; what pushes the receiver, where it is a method. Where it stands on a left side,
+-- The code of an expression: what pushes its value; what pushes the receiver, if it is a method. Where it stands on a left side,
 -- `parts` pushes what tells its place, `twice` doubles that, `read` turns it into the value, and `store` takes it with a new value on top.
 pub record Made : Type 0 where
   pub piece : Piece
@@ -77,7 +77,7 @@ abbrev pub elements : ℕ → ℕ → List Piece → Piece
 elements l i [] = Piece.Empty
 elements l i (e ∷ es) = Piece.Then (all (op l Instr.Dup ∷ op l (Instr.Int (pos i)) ∷ e ∷ op l Instr.SetIndex ∷ [])) (elements l (i + 1) es)
 
--- `[]T{e, ..}`, where this is the type of the slice
+-- `[]T{e, ..}`, if this is the type of the slice
 abbrev pub slice_literal : ℕ → Option GoType → List Piece → Made
 slice_literal l slice es = only (all (op l (Instr.Int (pos (length es))) ∷ op l (makes slice) ∷ elements l 0 es ∷ []))
 
@@ -110,7 +110,7 @@ unary_instr unary.Receive = Instr.Receive
 abbrev pub unary_operator : ℕ → UnaryOperator → Piece → Made
 unary_operator l o e = only (all (e ∷ op l (unary_instr o) ∷ []))
 
--- what stands behind both operands
+-- what stands after both operands
 abbrev pub combining : ℕ → BinaryOperator → Piece
 combining l binary.Equal = op l Instr.Eq
 combining l binary.NotEqual = all (op l Instr.Eq ∷ op l Instr.Not ∷ [])
@@ -125,11 +125,11 @@ combining l binary.Divide = op l Instr.Div
 combining l binary.Remainder = op l Instr.Rem
 combining l _ = Piece.Empty
 
--- p, and where it gives true q; else r
+-- p, and if it gives true q; else r
 abbrev pub either : ℕ → Piece → Piece → Piece → Piece
 either l p q r = Piece.Block (all (Piece.Block (all (p ∷ Piece.Unless l 0 ∷ q ∷ Piece.Exit l 1 ∷ [])) ∷ r ∷ []))
 
--- The second operand of `||` and `&&` is evaluated only where it decides ("Logical operators").
+-- The second operand of `||` and `&&` is evaluated only if it decides ("Logical operators").
 abbrev pub binary_piece : ℕ → BinaryOperator → Piece → Piece → Piece
 binary_piece l binary.Or a b = either l (all (a ∷ op l Instr.Not ∷ [])) b (op l (Instr.Bool true))
 binary_piece l binary.And a b = either l a b (op l (Instr.Bool false))

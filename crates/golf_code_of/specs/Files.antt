@@ -1,5 +1,5 @@
 -- The code of a file: function 0 runs the initialisers of the globals and calls `main`; the functions and methods of the file follow in
--- source order, and behind them those that are made for `go` and `defer` (Go specification, "Package initialization", "Program execution"; profile).
+-- source order, and after them those that are made for `go` and `defer` (Go specification, "Package initialization", "Program execution"; profile).
 use Rattle.std.specs.Prelude.{ℕ, ◌+◌, Bool, false, is_some, List, [], ◌∷◌, ◌++◌, length, map, flat_map, cond, Option, Some, None, codes}
 use Rattle.golf_syntax_trees.specs.declared.statements.VarContent.{VarContent}
 use Rattle.golf_syntax_trees.specs.declared.statements.VarContent.TheVariants as content
@@ -32,7 +32,7 @@ use Rattle.golf_code_of.specs.Coding.{piece_at}
 use Rattle.golf_code_of.specs.Statements.{Laid, Part, in_order}
 use Rattle.golf_code_of.specs.Laying.{stmt_part}
 
--- a function with this body and its masks, where these functions give a value
+-- a function with this body and its masks, if these functions give a value
 abbrev pub function : List Bool → ℕ → ℕ → ℕ → Piece → Function
 function gives params slots line body = record { params = params; slots = slots; depth = depth gives body; line = line; body = placed body 0 []; live = live slots (placed body 0 []) }
 
@@ -92,7 +92,7 @@ initial t s g l (content.Zero of_type) = Piece.Empty
 initial t s g l (content.Typed of_type e) = all (piece_at t l s e ∷ op l (Instr.StoreGlobal g) ∷ [])
 initial t s g l (content.Untyped e) = all (piece_at t l s e ∷ op l (Instr.StoreGlobal g) ∷ [])
 
--- the initialisers in source order, where so many globals stand above
+-- the initialisers in source order, if so many globals stand above
 abbrev pub initials : Tables → FileScope → ℕ → List Decl → Piece
 initials t f g [] = Piece.Empty
 initials t f g (d.Var v ∷ xs) = Piece.Then (initial t (record (outside f) { initialises = Some g }) g v.line v.content) (initials t f (g + 1) xs)

@@ -78,7 +78,7 @@ abbrev pub channel_name : ℕ → RangeNames → Scope → Piece
 channel_name l (range.One n) s = cond (is_blank n) (op l Instr.Drop) (op l (Instr.Store s.next))
 channel_name l _ s = op l Instr.Drop
 
--- What a closed channel gives stands on top where the loop ends, and is dropped there: seen from the loop, target 1 is before that and target 2 behind.
+-- What a closed channel gives stands on top where the loop ends, and is dropped there: seen from the loop, target 1 is before that and target 2 after.
 abbrev pub over_channel : ℕ → ℕ → Piece → Piece → Piece → Piece
 over_channel l h e name body = all (
     e ∷ op l (Instr.Store h)
@@ -87,7 +87,7 @@ over_channel l h e name body = all (
     ∷ op l Instr.Drop ∷ []))
     ∷ [])
 
--- the scope behind the hidden slots
+-- the scope after the hidden slots
 abbrev pub behind_hidden : Given → Scope → Scope
 behind_hidden v s = behind s (hides (hidden (is_outer is_slice v) (type_given v)))
 

@@ -16,7 +16,7 @@ use Rattle.golf_code_of.specs.declared.making.Around.{Around}
 use Rattle.golf_code_of.specs.Statements.{Lay, Part, laid, wrapped, past, then_lay, in_order, stores_name, stores_pair}
 
 -- A clause: its walk, what it communicates, none for `default`, and what pushes its operands, each on the line of `select`; then the
--- code behind the choice, and its own line.
+-- code after the choice, and its own line.
 pub record ClausePart : Type 0 where
   pub walk : ℕ → Walk
   pub kind : Option CaseKind
@@ -99,11 +99,11 @@ default_from i (c ∷ cs) = default_or i c.kind (default_from (i + 1) cs)
 abbrev pub choice : ℕ → List ClausePart → Scope → Piece
 choice l cs s = all (all (map (λ c. c.operands l s) cs) ∷ Piece.Choose l (cases_from 0 cs) (default_from 0 cs) ∷ [])
 
--- seen from a clause, the end of the `select` is behind the beginnings of so many clauses more
+-- seen from a clause, the end of the `select` is after the beginnings of so many clauses more
 abbrev pub in_clause : ℕ → Around → Around
 in_clause later a = record { breaks = later; continues = a.continues + (later + 1); functions = a.functions }
 
--- Clauses behind p, in which the first of them begins at target 0: each begins at the end of what stands before it, and leads to the end of all.
+-- Clauses after p, in which the first of them begins at target 0: each begins at the end of what stands before it, and leads to the end of all.
 abbrev pub clauses_lay : ℕ → Piece → List ClausePart → Lay
 clauses_lay l p [] a s = laid p
 clauses_lay l p (c ∷ cs) a s =

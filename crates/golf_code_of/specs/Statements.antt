@@ -35,7 +35,7 @@ pub record Laid : Type 0 where
 abbrev pub Lay : Type 0
 Lay = Around → Scope → Laid
 
--- a statement: its walk, which says what is known behind it, and its code
+-- a statement: its walk, which says what is known after it, and its code
 pub record Part : Type 0 where
   pub walk : Walk
   pub lay : Lay
@@ -53,7 +53,7 @@ wrapped f x = record { piece = f x.piece; made = x.made }
 abbrev pub follow : Laid → Laid → Laid
 follow x y = record { piece = Piece.Then x.piece y.piece; made = x.made ++ y.made }
 
--- behind a statement, more functions are made
+-- after a statement, more functions are made
 abbrev pub past : Around → Laid → Around
 past a x = record a { functions = a.functions + length x.made }
 
@@ -96,7 +96,7 @@ stores_to l t (Some p) = (name l t p).store
 abbrev pub stores_name : ℕ → Tables → Scope → List ℕ → Piece
 stores_name l t s n = stores_to l t (assigned_name s n)
 
--- n, where the scope at its declaration is the second one
+-- n, if the scope at its declaration is the second one
 abbrev pub stores_new : ℕ → Tables → Scope → Scope → List ℕ → Piece
 stores_new l t s at n = cond (is_new s n) (op l (Instr.Store at.next)) (stores_name l t s n)
 
@@ -180,7 +180,7 @@ continue_part l = record { walk = W.continue_walk l; lay = λ a s. laid (Piece.E
 
 -- If.
 
--- a condition, and what stands behind it; where it is false, it goes on at target 0
+-- a condition, and what stands after it; if it is false, it goes on at target 0
 abbrev pub behind_test : Tables → ℕ → Expr → Part → Part
 behind_test t l test x = record { walk = W.behind_test l test x.walk; lay = λ a s. wrapped (λ p. all (piece_at t l s test ∷ Piece.Unless l 0 ∷ p ∷ [])) (x.lay a s) }
 

@@ -14,7 +14,7 @@ with_text table t = cond (list_any (bytes_eq t) table) table (table ++ t ∷ [])
 abbrev pub table_of : Texts → Texts
 table_of ts = fold with_text ([] ∷ []) ts
 
--- the number of a text from this one on; that of the empty text, where it is not there
+-- the number of a text from this one on; that of the empty text, if it is not there
 abbrev pub number_from : ℕ → Texts → List ℕ → ℕ
 number_from n [] t = 0
 number_from n (x ∷ xs) t = cond (bytes_eq t x) n (number_from (n + 1) xs t)

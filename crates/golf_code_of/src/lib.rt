@@ -17,7 +17,7 @@ pub fn judgments_agree()
     ensures { JudgmentsAgree }
 {}
 
-/// What code knows behind a statement is what the checker knows there.
+/// What code knows after a statement is what the checker knows there.
 pub fn walks_agree()
     ensures { WalksAgree }
 {}

@@ -50,11 +50,11 @@ impl TextTable {
         self.texts.get_index_of(text).unwrap_or(0)
     }
 
-    /// The number of a text, or that of the first one where it is not there.
+    /// The number of a text, or that of the first one if it is not there.
     ///
     /// # Errors
     ///
-    /// `Memory` where the number is 2^32 or more.
+    /// `Memory` if the number is 2^32 or more.
     pub fn number_of(&self, text: &[u8]) -> Result<u32, Memory>
         ensures { IfOk result (λ n. n ≡ text_number_of self.now text.now) }
     {

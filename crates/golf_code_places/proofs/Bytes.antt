@@ -1,4 +1,6 @@
--- Bytes have at most two tokens for each of them: one for each lexeme that is a token, and a semicolon behind it.
+-- Bytes have at most two tokens for each of them: one for each lexeme that is a token, and a semicolon after it.
+-- For: `tokens_are_few`, src/lib.rt
+-- By: induction over the lists of lexemes, of items and of tokens
 use Rattle.std.proofs.Common.{◌≡◌, ℕ, suc, ◌+◌, ◌*◌, ◌<◌, ◌≤◌, Bool, true, false, cond, List, [], ◌∷◌, ◌++◌, length, refl, ap, arith, length-append}
 use Rattle.std.specs.Prelude.{◌&&◌, nat_eq, codes}
 use Rattle.golf_lex_tokens.specs.declared.token.Token.{Token}

@@ -1,4 +1,6 @@
--- The code of every expression is small beside its words: one step for each kind of expression, and an induction.
+-- The code of every expression is small beside its words: one step for each kind of expression.
+-- For: `bodies_are_small`, src/lib.rt
+-- By: induction over the tree of an expression
 use Rattle.std.proofs.Common.{◌≡◌, ℕ, ◌*◌, ◌≤◌, List, [], ◌∷◌, ◌++◌, length, map, refl, sym, ap, subst, arith, length-append}
 use Rattle.golf_lex_tokens.specs.declared.token.Punctuation.TheVariants as punctuations
 use Rattle.golf_syntax_trees.specs.declared.expressions.Expr.{Expr, roll-Expr}

@@ -1,4 +1,6 @@
 -- Each body of the code of a file has at most eight instructions for each word that the file prints; so its places fit.
+-- For: `bodies_are_small` and `files_have_places`, src/lib.rt
+-- By: induction over the list of declarations, and over the list of made functions
 use Rattle.std.proofs.Common.{◌≡◌, ℕ, zero, suc, ◌+◌, ◌*◌, ◌^◌, ◌<◌, ◌≤◌, Bool, List, [], ◌∷◌, ◌++◌, length, map, Option, Some, None, refl, sym, ap, arith, length-append}
 use Rattle.std.specs.Prelude.{slice_get}
 use Rattle.golf_lex_tokens.specs.declared.token.Token.{Token}

@@ -1,4 +1,6 @@
--- The code of statements in which no loop and no select stands has at most eight instructions and made parameters for each of its words.
+-- The code of statements without loops and selects has at most eight instructions and made parameters for each word.
+-- For: `bodies_are_small`, src/lib.rt
+-- By: induction over the list of statements, and over the list of arguments
 use Rattle.std.proofs.Common.{◌≡◌, ℕ, ◌+◌, ◌*◌, ◌≤◌, Bool, true, false, cond, List, [], ◌∷◌, ◌++◌, length, map, Option, Some, None, arith, length-append}
 use Rattle.std.proofs.lemmas.List.{length-map}
 use Rattle.golf_lex_tokens.specs.declared.token.Punctuation.TheVariants as punctuations

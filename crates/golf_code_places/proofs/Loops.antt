@@ -1,4 +1,6 @@
 -- The code of loops has at most eight instructions and made parameters for each of its words.
+-- For: `bodies_are_small`, src/lib.rt
+-- By: arithmetic; no induction
 use Rattle.std.proofs.Common.{ℕ, ◌+◌, ◌*◌, ◌≤◌, Bool, true, false, cond, List, [], ◌∷◌, length, Option, Some, None, arith}
 use Rattle.golf_syntax_trees.specs.declared.expressions.Expr.{Expr}
 use Rattle.golf_syntax_trees.specs.declared.statements.RangeNames.{RangeNames}

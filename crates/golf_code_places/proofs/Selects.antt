@@ -1,4 +1,6 @@
 -- The code of `select` has at most eight instructions and made parameters for each of its words.
+-- For: `bodies_are_small`, src/lib.rt
+-- By: induction over the list of clauses
 use Rattle.std.proofs.Common.{ℕ, ◌+◌, ◌*◌, ◌≤◌, true, List, [], ◌∷◌, length, map, arith, length-append}
 use Rattle.golf_lex_tokens.specs.declared.token.Punctuation.TheVariants as punctuations
 use Rattle.golf_syntax_trees.specs.declared.statements.Communication.{Communication}
@@ -19,7 +21,7 @@ use Rattle.golf_code_places.proofs.Words.{clause_total, clauses_total}
 use Rattle.golf_code_places.proofs.Exprs.{expr-small}
 use Rattle.golf_code_places.proofs.Light.{parameters-append, weight, Light, store-name, store-pair}
 
--- the operands in any scope, the code behind the choice, and the way to the end
+-- the operands in any scope, the code after the choice, and the way to the end
 abbrev pub ClauseLight : ℕ → ClausePart → Type 0
 ClauseLight n c = (l : ℕ) (a : Around) (s at : Scope) → size (c.operands l at) + (weight (c.lay l a s) + 1) ≤ 8 * n
 

@@ -1,4 +1,6 @@
--- The code of each kind of expression has at most eight instructions for each of its words, where its parts have.
+-- The code of each kind of expression has at most eight instructions for each of its words, if its parts have.
+-- For: `bodies_are_small`, src/lib.rt
+-- By: induction over the list of parts, with their words; else arithmetic
 use Rattle.std.proofs.Common.{ℕ, ◌+◌, ◌*◌, ◌≤◌, Bool, true, false, cond, List, [], ◌∷◌, length, Option, Some, None, arith}
 use Rattle.golf_syntax_trees.specs.declared.expressions.UnaryOperator.{UnaryOperator}
 use Rattle.golf_syntax_trees.specs.declared.expressions.BinaryOperator.{BinaryOperator}

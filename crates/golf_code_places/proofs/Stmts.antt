@@ -1,4 +1,6 @@
--- The code of every statement is light: one step for each kind of statement, and an induction.
+-- The code of every statement is light: one step for each kind of statement.
+-- For: `bodies_are_small`, src/lib.rt
+-- By: induction over the tree of a statement
 use Rattle.std.proofs.Common.{◌≡◌, ℕ, ◌+◌, ◌≤◌, List, [], ◌∷◌, ◌++◌, length, map, Option, Some, None, refl, sym, subst, arith, length-append}
 use Rattle.std.proofs.lemmas.List.{length-map}
 use Rattle.golf_data.specs.declared.code.Instr.{Instr}

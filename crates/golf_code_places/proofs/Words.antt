@@ -1,4 +1,6 @@
 -- How many words there are in what trees print.
+-- For: `Word` and `separated`, golf_syntax_trees/specs/Words.antt
+-- By: induction over the list of what is printed
 use Rattle.std.proofs.Common.{◌≡◌, ℕ, suc, ◌+◌, ◌≤◌, List, [], ◌∷◌, ◌++◌, length, refl, arith, length-append}
 use Rattle.golf_lex_tokens.specs.declared.token.Punctuation.{Punctuation}
 use Rattle.golf_lex_tokens.specs.declared.token.Punctuation.TheVariants as punctuations

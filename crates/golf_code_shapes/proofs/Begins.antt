@@ -1,4 +1,6 @@
 -- The code of `go` and `defer` leads on, and the functions that are made for it take what they are given.
+-- For: `statements_fit`, src/lib.rt; `MadeFit`, specs/Flowing.antt
+-- By: induction over the list of arguments; cases of the callee
 use Rattle.std.proofs.Common.{◌≡◌, ℕ, ◌+◌, true, List, [], ◌∷◌, ◌++◌, map, length, Option, Some, None, refl, sym, ap, ◌∙◌, subst, slice_get, arith}
 use Rattle.std.proofs.lemmas.List.{length-map}
 use Rattle.std.proofs.lemmas.Bool.{eqb-true}

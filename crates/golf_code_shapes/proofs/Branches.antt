@@ -1,4 +1,6 @@
 -- The code of conditions, `if` and loops without `range` leads on.
+-- For: `statements_fit`, src/lib.rt; `WaysFit`, specs/Flowing.antt
+-- By: putting the shapes of the parts together; no induction
 use Rattle.std.proofs.Common.{◌≡◌, ℕ, suc, ◌+◌, true, List, [], ◌∷◌, ◌++◌, length, Option, Some, None, refl, sym, ap, ◌∙◌, subst, slice_get, arith, append_assoc}
 use Rattle.golf_theory.specs.Membership.{In, Every}
 use Rattle.golf_theory.proofs.Lists.{Every-append}
@@ -58,7 +60,7 @@ module _ (types : Types) (t : Tables) (ft : FunctionTypes) where
   tests : (l : ℕ) (e : Expr) (s : Scope) (A : List ℕ) → Fits A s → (W.condition l e s).faults ≡ [] → Pushes types ft A (piece_at t l s e) ValueType.Bool
   tests l e s A ok none = let j = judge e l s in based types t ft A s base.Bool (given_by j) (piece_at t l s e) (kept l 8 _ (none-right (used l j) _ none)) (value-of types t ft l e s A ok (none-left (used l j) _ none))
 
-  -- a test, and behind it what leads from these slots to these
+  -- a test, and after it what leads from these slots to these
   tested : (l k : ℕ) (A : List ℕ) (exits : List Shape) (p q : Piece) → Pushes types ft A p ValueType.Bool → Reaches exits [] A k → Has types ft q (shape [] A) (shape [] A) exits
       → Has types ft (all (p ∷ Piece.Unless l k ∷ q ∷ [])) (shape [] A) (shape [] A) exits
   tested l k A exits p q hp r hq =
@@ -67,7 +69,7 @@ module _ (types : Types) (t : Tables) (ft : FunctionTypes) where
       (has-then types ft (Piece.Unless l k) _ (shape (ValueType.Bool ∷ []) A) sh sh exits (has-unless types ft l k [] A exits r)
       (has-then types ft q Piece.Empty sh sh sh exits hq (has-empty types ft sh exits)))
 
-  -- what a part does that declares nothing, where more slots behind it are not asked for
+  -- what a part does that declares nothing, if more slots after it are not asked for
   calm-has : (x : Part) → Right types t ft x → (a : Around) (s : Scope) (A : List ℕ) (exits : List Shape) → Fits A s → WaysFit A exits s a → Slotted ft s.next (x.walk s).slots → MadeFit types a.functions (x.lay a s).made → (x.walk s).faults ≡ []
       → Has types ft (x.lay a s).piece (shape [] A) (shape [] A) exits × Every IsMaking (x.lay a s).made
   calm-has x h a s A exits ok ways slots made none =
@@ -75,14 +77,14 @@ module _ (types : Types) (t : Tables) (ft : FunctionTypes) where
       let l = r.0 in
       (has-weaker types ft (x.lay a s).piece (shape [] A) [] A l.0 exits l.1 l.3, r.1)
 
-  -- behind a test nothing is known that was not before it
+  -- after a test nothing is known that was not before it
   fits-tested : (A : List ℕ) (s : Scope) (w : Walked) (fs : List Fault) (ts : List Fact) → w.declares ≡ [] → Fits A s → Fits A (behind s (both (W.judges fs ts) w))
   fits-tested A s w fs ts calm ok = scope-quiet types t ft A s (both (W.judges fs ts) w) calm ok
 
   fits-both : (A : List ℕ) (s : Scope) (v w : Walked) → Fits A (behind (behind s v) w) → Fits A (behind s (both v w))
   fits-both A s v w ok = record { file = ok.file; locals = subst (Every (LocalFits types t ft A)) (append_assoc s.locals v.declares w.declares) ok.locals; result = ok.result }
 
-  -- A simple statement, a test, and a body behind it.
+  -- A simple statement, a test, and a body after it.
   module _ (w : Walk) (p : Scope → Piece) (simple : SimpleFits types t ft w p) (l : ℕ) (test : Expr) (body : Part) (calm : Calm body) (right : Right types t ft body) where
     abbrev First : Part
     First = then (simply w p) (behind_test t l test body)
@@ -90,7 +92,7 @@ module _ (types : Types) (t : Tables) (ft : FunctionTypes) where
     abbrev Inner : Walk
     Inner s = both (W.condition l test s) (body.walk s)
 
-    -- the slots behind the simple statement, which are kept where the condition is false
+    -- the slots after the simple statement, which are kept if the condition is false
     abbrev Simply : List ℕ → Scope → Type 0
     Simply A s = Moves types t ft A (behind s (w s)) (p s)
 

@@ -1,4 +1,6 @@
 -- The code of calls has shapes.
+-- For: `expressions_fit`, src/lib.rt; `Shown`, specs/Sound.antt
+-- By: induction over the list of arguments, with that of the parameters; cases of the callee
 use Rattle.std.proofs.Common.{◌≡◌, inl, inr, ℕ, suc, ◌+◌, Bool, true, false, List, [], ◌∷◌, ◌++◌, map, length, Option, Some, None, refl, sym, ap, ◌∙◌, subst, slice_get, arith, negsuc}
 use Rattle.std.proofs.lemmas.Bool.{eqb-true, eq-eqb, and_parts, or_cases}
 use Rattle.std.specs.Prelude.{flat_map, option_to_list}
@@ -160,7 +162,7 @@ module _ (types : Types) (t : Tables) (ft : FunctionTypes) (A : List ℕ) (s : S
   on-receiver l b c r receiver xs none h hr =
       operates receiver (pushes (arguments xs)) r (base_type c ∷ []) [] [] h (none-passed l xs (kept l 11 _ (none-right (argument_faults l [] (map given_by (js xs))) _ none))) hr
 
-  -- rules 21 and 22 stand behind the call
+  -- rules 21 and 22 stand after the call
   late-shown : (rule : ℕ) (holds : Bool) (x : Made) → (holds ≡ true → Silent types ft A x.piece) → Sh (operand.Nothing (rule_unless rule holds)) x
   late-shown rule true x h = h refl
   late-shown rule false x h = tt

@@ -1,4 +1,6 @@
 -- The code of `select` leads on.
+-- For: `statements_fit`, src/lib.rt
+-- By: induction over the list of clauses
 use Rattle.std.proofs.Common.{◌≡◌, inl, inr, ℕ, zero, suc, ◌+◌, true, List, [], ◌∷◌, ◌++◌, length, map, Option, Some, None, refl, sym, ap, ◌∙◌, subst, slice_get, arith, append_assoc, append-nil, length-append}
 use Rattle.std.specs.Prelude.{is_some}
 use Rattle.golf_theory.specs.Membership.{In, Every}
@@ -38,7 +40,7 @@ use Rattle.golf_code_shapes.proofs.Simples.{value-of}
 use Rattle.golf_code_shapes.proofs.Receives.{pair-taken, stores-assigned}
 use Rattle.golf_check_types.proofs.NamesAlone.{judged-by-names}
 
--- what a clause leaves at its target, and what it takes, where it is on a channel of this type; `default` takes and leaves nothing
+-- what a clause leaves at its target, and what it takes, if it is on a channel of this type; `default` takes and leaves nothing
 abbrev leaves_of : Option CaseKind → ValueType → List ValueType
 leaves_of None e = []
 leaves_of (Some kind) e = case_leaves kind e
@@ -54,7 +56,7 @@ Alike r s = (x : Expr) (l : ℕ) → judge x l s ≡ judge x l r
 alike-begun : (r s : Scope) → Alike r s → Alike r (begun s)
 alike-begun r s h x l = judged-by-names (s.depth + 1) s.result s.breaks s.loops s.next x l s ∙ h x l
 
--- behind what declares nothing
+-- after what declares nothing
 alike-behind : (r s : Scope) (w : Walked) → w.declares ≡ [] → Alike r s → Alike r (behind s w)
 alike-behind r s w e h x l =
     ap (λ ds. judge x l (record s { locals = s.locals ++ ds; next = (behind s w).next })) e
@@ -65,7 +67,7 @@ module _ (types : Types) (t : Tables) (ft : FunctionTypes) where
   abbrev Fits : List ℕ → Scope → Type 0
   Fits = ScopeFits types t ft
 
-  -- What a clause does: its operands, in the scope of the `select`, and its code behind the choice.
+  -- What a clause does: its operands, in the scope of the `select`, and its code after the choice.
   pub record ClauseGives (l : ℕ) (c : ClausePart) (s r : Scope) (A : List ℕ) : Type 0 where
     pub e : ValueType
     pub operands : (ops : List ValueType) (exits : List Shape) → Has types ft (c.operands l r) (shape ops A) (shape (takes_of c.kind e ops) A) exits
@@ -76,7 +78,7 @@ module _ (types : Types) (t : Tables) (ft : FunctionTypes) where
     pub calm : (l : ℕ) (s : Scope) → (c.walk l s).declares ≡ []
     pub gives : (l : ℕ) (s r : Scope) (A : List ℕ) → Fits A s → Fits A r → Alike r s → Slotted ft s.next (c.walk l s).slots → (c.walk l s).faults ≡ [] → ClauseGives l c s r A
 
-  -- the statements of a clause behind its communication
+  -- the statements of a clause after its communication
   body-has : (w : Walk) (p : Scope → Piece) (x : Part) → Right types t ft x → (b : Around) (s : Scope) (A : List ℕ) (leaves : List ValueType) (exits : List Shape) (B : List ℕ) → Every (λ i. In i B) A → Fits B (behind (begun s) (w (begun s)))
       → Has types ft (p (begun s)) (shape leaves A) (shape [] B) exits → Reaches exits [] A b.breaks → (s.loops ≡ true → Reaches exits [] A b.continues)
       → Slotted ft s.next (W.in_block (W.then w (W.breaking x.walk)) s).slots → MadeFit types b.functions (then_lay (λ a r. laid (p r)) w (breaking x).lay b (begun s)).made → (W.in_block (W.then w (W.breaking x.walk)) s).faults ≡ []
@@ -247,13 +249,13 @@ module _ (types : Types) (t : Tables) (ft : FunctionTypes) where
   right-case k (comm.Assign n e) xs h = right-assign k n e xs h
   right-case k (comm.DefineReceived n m e) xs h = right-pair k n m e xs h
 
-  -- Clauses one behind the other.
+  -- Clauses one after the other.
 
   abbrev pub EachClause : List ClausePart → Type 0
   EachClause [] = Unit {0}
   EachClause (c ∷ cs) = ClauseFits c × EachClause cs
 
-  -- what each does, where each is in the scope behind those before it
+  -- what each does, if each is in the scope after those before it
   abbrev AllGive : ℕ → List ClausePart → Scope → Scope → List ℕ → Type 0
   AllGive l [] s r A = Unit {0}
   AllGive l (c ∷ cs) s r A = ClauseGives l c s r A × AllGive l cs (behind s (c.walk l s)) r A
@@ -333,7 +335,7 @@ module _ (types : Types) (t : Tables) (ft : FunctionTypes) where
   entries-long l [] s r A g = refl
   entries-long l (c ∷ cs) s r A g = ap (λ n. suc n) (entries-long l cs (behind s (c.walk l s)) r A g.1)
 
-  -- a target behind so many others
+  -- a target after so many others
   past-shapes : (pre post : List Shape) (n k : ℕ) → n ≡ length pre → slice_get (pre ++ post) (k + n) ≡ slice_get post k
   past-shapes [] post n k e = ap (slice_get post) (let f = e in omega (arith, f))
   past-shapes (x ∷ xs) post zero k e = absurd (omega (arith, e))
@@ -342,7 +344,7 @@ module _ (types : Types) (t : Tables) (ft : FunctionTypes) where
   reaches-past : (pre post : List Shape) (A : List ℕ) (n k : ℕ) → n ≡ length pre → Reaches post [] A k → Reaches (pre ++ post) [] A (k + n)
   reaches-past pre post A n k e w = (w.0, past-shapes pre post n k e ∙ w.1, w.2)
 
-  -- clauses behind p, of which the first begins where p leads to target 0
+  -- clauses after p, of which the first begins if p leads to target 0
   clauses-has : (l : ℕ) (cs : List ClausePart) (p : Piece) (a : Around) (s r : Scope) (A : List ℕ) (exits : List Shape) (from : Shape) (g : AllGive l cs s r A) → (s.loops ≡ true → Reaches exits [] A a.continues) → MadeFit types a.functions (clauses_lay l p cs a s).made
       → ((to : Shape) → Has types ft p from to (entries l cs s r A g ++ (shape [] A ∷ exits)))
       → Has types ft (clauses_lay l p cs a s).piece from (shape [] A) (shape [] A ∷ exits) × Every IsMaking (clauses_lay l p cs a s).made

@@ -1,4 +1,6 @@
--- The code of every expression that breaks no rule has shapes: one step for each kind of expression, and an induction.
+-- The code of every expression that breaks no rule has shapes: one step for each kind of expression.
+-- For: `expressions_fit`, src/lib.rt
+-- By: induction over the tree of an expression
 use Rattle.std.proofs.Common.{◌≡◌, ℕ, ◌<◌, List, [], ◌∷◌, map, refl, sym, ap, ◌∙◌, subst, arith, pos}
 use Rattle.golf_data.specs.declared.code.Instr.{Instr}
 use Rattle.golf_syntax_trees.specs.declared.expressions.Expr.{Expr, roll-Expr}

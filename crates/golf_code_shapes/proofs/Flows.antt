@@ -1,4 +1,6 @@
--- Statements put together: what is known behind them.
+-- Statements put together: what is known after them.
+-- For: `statements_fit`, src/lib.rt; `StatementFits`, specs/Flowing.antt
+-- By: induction over the lists of slots, of made functions and of statements
 use Rattle.std.proofs.Common.{◌≡◌, inl, inr, ℕ, ◌+◌, List, [], ◌∷◌, ◌++◌, length, map, Option, Some, refl, sym, ap, ◌∙◌, subst, slice_get, arith, append_assoc, append-nil}
 use Rattle.golf_theory.specs.Membership.{In, Every}
 use Rattle.golf_theory.proofs.Lists.{Every-weaker, Every-at, Every-from, Every-append}
@@ -71,7 +73,7 @@ module _ (types : Types) (t : Tables) (ft : FunctionTypes) where
   pub right-nothing : Right nothing
   right-nothing a s A exits ok ways slots made none = (quiet A exits s W.nothing Piece.Empty refl ok (has-empty types ft (shape [] A) exits), tt)
 
-  -- one behind the other, where both are known
+  -- one after the other, if both are known
   pub leads-both : (A : List ℕ) (exits : List Shape) (s : Scope) (v w : Walked) (p q : Piece) (h : Leads types t ft A exits (behind s v) p) → Leads types t ft h.0 exits (behind (behind s v) w) q → Leads types t ft A exits (behind s (both v w)) (Piece.Then p q)
   leads-both A exits s v w p q h k = (
     k.0,

@@ -1,4 +1,6 @@
 -- The functions of a file that break no rule fit their types, and so do those that are made for `go` and `defer`.
+-- For: `functions_fit` and `made_functions_fit`, src/lib.rt
+-- By: induction over the list of parameters, and over the types that a made function takes
 use Rattle.std.proofs.Common.{◌≡◌, ◌⊎◌, inl, inr, ℕ, zero, suc, ◌+◌, ◌<◌, ◌≤◌, true, List, [], ◌∷◌, ◌++◌, length, map, Option, Some, None, refl, sym, ap, ◌∙◌, subst, slice_get, arith, append_assoc, append-nil, length-append, negsuc}
 use Rattle.std.proofs.lemmas.List.{length-map}
 use Rattle.std.proofs.lemmas.Bool.{and_parts}
@@ -43,7 +45,7 @@ known-append : (xs ys : List (Option GoType)) → known_types (xs ++ ys) ≡ kno
 known-append [] ys = refl
 known-append (x ∷ xs) ys = ap (λ vs. known_type x ∷ vs) (known-append xs ys)
 
--- slots that stand behind others
+-- slots that stand after others
 slotted-behind : (ft : FunctionTypes) (pre : List ValueType) (xs : List (Option GoType)) (n : ℕ) → n ≡ length pre → slot_types ft ≡ pre ++ known_types xs → Slotted ft n xs
 slotted-behind ft pre [] n e is = tt
 slotted-behind ft pre (x ∷ xs) n e is = (
@@ -60,7 +62,7 @@ module _ (types : Types) (t : Tables) (ft : FunctionTypes) where
   abbrev Fits : List ℕ → Scope → Type 0
   Fits = ScopeFits types t ft
 
-  -- what is known where parameters have slots below n
+  -- what is known if parameters have slots below n
   pub record Entered (n : ℕ) (s : Scope) : Type 0 where
     pub slots : List ℕ
     pub below : Every (λ i. i < n) slots

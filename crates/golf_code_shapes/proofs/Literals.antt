@@ -1,4 +1,6 @@
 -- The code of literals, `make` and `new` has shapes.
+-- For: `expressions_fit`, src/lib.rt; `Shown`, specs/Sound.antt
+-- By: induction over the tree of a written type, and over the list of elements
 use Rattle.std.proofs.Common.{◌≡◌, ℕ, ◌+◌, ◌<◌, Bool, true, false, cond, ◌&&◌, not, List, [], ◌∷◌, ◌++◌, map, length, Option, Some, None, refl, sym, subst, slice_get, pos}
 use Rattle.std.proofs.lemmas.Bool.{and_parts}
 use Rattle.std.specs.Prelude.{flat_map, is_some}

@@ -1,4 +1,6 @@
 -- The code of names has shapes, and so has what an expression gives as a value.
+-- For: `expressions_fit`, src/lib.rt; `NameFits` and `Gives`, specs/Sound.antt
+-- By: induction over the list of local names; cases of what a name means
 use Rattle.std.proofs.Common.{◌≡◌, ◌⊎◌, inr, ℕ, ◌+◌, Bool, true, false, cond, List, [], ◌∷◌, Option, Some, None, refl, sym, subst, slice_get}
 use Rattle.std.specs.Prelude.{codes}
 use Rattle.std.specs.Option.{option_map}

@@ -1,4 +1,6 @@
--- The code of operators, indices and selectors has shapes.
+-- The code of operators and indices has shapes.
+-- For: `expressions_fit`, src/lib.rt
+-- By: cases of the operator; no induction
 use Rattle.std.proofs.Common.{◌≡◌, inl, inr, ℕ, ◌+◌, true, false, ◌&&◌, ◌||◌, not, List, [], ◌∷◌, Some, refl, sym, subst}
 use Rattle.std.proofs.lemmas.Bool.{and_parts, or_cases}
 use Rattle.golf_data.specs.declared.code.Instr.{Instr}

@@ -1,4 +1,6 @@
 -- A loop over a `range` leads on.
+-- For: `statements_fit`, src/lib.rt
+-- By: putting the lemmas of the names and of the loop together; no induction
 use Rattle.std.proofs.Common.{ℕ, List, ◌++◌, refl}
 use Rattle.golf_theory.specs.Membership.{Every}
 use Rattle.golf_syntax_trees.specs.declared.expressions.Expr.{Expr}

@@ -1,4 +1,6 @@
 -- The code of a `range` leads on.
+-- For: `statements_fit`, src/lib.rt
+-- By: cases of what is ranged over, and of the names; no induction
 use Rattle.std.proofs.Common.{◌≡◌, inl, inr, ℕ, ◌+◌, Bool, true, false, cond, not, ◌&&◌, List, [], ◌∷◌, ◌++◌, Some, refl, sym, subst, slice_get, arith, pos, append-nil}
 use Rattle.golf_theory.specs.Membership.{In, Every}
 use Rattle.golf_theory.proofs.Lists.{Every-at, Every-from, Every-append}
@@ -76,7 +78,7 @@ module _ (types : Types) (t : Tables) (ft : FunctionTypes) where
   int : GoType
   int = plain base.Int
 
-  -- The names of a range over a slice, behind the hidden slots.
+  -- The names of a range over a slice, after the hidden slots.
   pub record NamesTaken (names : RangeNames) (e : GoType) (s : Scope) (A : List ℕ) (p : Piece) : Type 0 where
     pub slots : List ℕ
     pub more : Every (λ i. In i slots) A
@@ -178,7 +180,7 @@ module _ (types : Types) (t : Tables) (ft : FunctionTypes) where
         b.1,
       )
 
-  -- the loop over a channel: the hidden slot has the channel; what a closed one gives is dropped behind the loop
+  -- the loop over a channel: the hidden slot has the channel; what a closed one gives is dropped after the loop
   channel-loop : (M : Type 0) (l h : ℕ) (e : GoType) (A : List ℕ) (p name_piece body : Piece) (exits : List Shape) (B : List ℕ) → slice_get (slot_types ft) h ≡ Some (ValueType.Chan (value_type e)) → Pushes types ft A p (ValueType.Chan (value_type e)) → Every (λ i. In i B) (h ∷ A)
       → ((exits : List Shape) → H name_piece (value_type e ∷ []) (h ∷ A) [] B exits) → ((E : List Shape) → Reaches E [] B 2 → Reaches E [] B 0 → H body [] B [] B E × M) → H (over_channel l h p name_piece body) [] A [] A exits × M
   channel-loop M l h e A p name_piece body exits B typedh hp more hn hb =

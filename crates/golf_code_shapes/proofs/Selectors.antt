@@ -1,4 +1,6 @@
 -- The code of selectors has shapes.
+-- For: `expressions_fit`, src/lib.rt
+-- By: cases of what stands before the dot; no induction
 use Rattle.std.proofs.Common.{◌≡◌, ℕ, Bool, true, false, cond, List, [], ◌∷◌, Option, Some, None, refl, sym, subst, slice_get}
 use Rattle.golf_data.specs.declared.code.Instr.{Instr}
 use Rattle.golf_check_types.specs.declared.types.Layer.{Layer}
@@ -61,7 +63,7 @@ module _ (types : Types) (t : Tables) (ft : FunctionTypes) (A : List ℕ) (s : S
       subst (λ o. Sh (operand.Field i o) (selector l (operand.Field i o) p)) (sym f.3) (field-place l i k f.0 (value_type f.1) p f.2 f.4 h)
   of-struct l k p (Some (members.Method q)) fits none h = (k, h, fits (members.Method q) refl)
 
-  -- a name of a method of package sync, where its receiver has this type
+  -- a name of a method of package sync, if its receiver has this type
   named-method : (l : ℕ) (p : Piece) (b : Base) (o : Option BuiltIn) → ((m : BuiltIn) → o ≡ Some m → receiver_base m ≡ Some b) → (called_name l o).faults ≡ [] → Pu p (base_type b)
       → Sh (called_name l o).meaning (selector l (called_name l o).meaning p)
   named-method l p b None fits none h = cc
@@ -146,7 +148,7 @@ module _ (types : Types) (t : Tables) (ft : FunctionTypes) (A : List ℕ) (s : S
   of-given l n given_as.Nil p none h = cc
   of-given l n given_as.Unknown p none h = absurd h
 
-  -- `e.n`, where this is what e is
+  -- `e.n`, if this is what e is
   pub on-selector : (l : ℕ) (n : List ℕ) (m : Operand) (x : Made) → (selected_from l s.file n m).faults ≡ [] → Sh m x → Sh (selected_from l s.file n m).meaning (selector l (selected_from l s.file n m).meaning x.piece)
   on-selector l n (operand.Package q) x none h = package-name l x.piece (has_type q n) (called_name l (package_member q n)) (λ e. of-package l x.piece (package_member q n) (from-package q n) e h) none
   on-selector l n (operand.Value e) x none h = of-given l n (given (operand.Value e)) x.piece (none-right (value_faults l (operand.Value e)) _ none) (valued types t ft A s l (operand.Value e) x (none-left (value_faults l (operand.Value e)) _ none) h)

@@ -1,4 +1,6 @@
 -- The code of each kind of simple statement moves on.
+-- For: `statements_fit`, src/lib.rt; `SimpleFits`, specs/Flowing.antt
+-- By: cases of the kind of statement; no induction
 use Rattle.std.proofs.Common.{◌≡◌, ℕ, ◌&&◌, List, [], ◌∷◌, Option, Some, None, refl, sym, subst}
 use Rattle.std.proofs.lemmas.Bool.{and_parts}
 use Rattle.std.specs.Prelude.{is_some}

@@ -1,4 +1,6 @@
 -- The code of simple statements, variables, `go`, `defer` and `return` leads on.
+-- For: `statements_fit`, src/lib.rt; `SimpleFits`, specs/Flowing.antt
+-- By: cases of the parts of the statement; no induction
 use Rattle.std.proofs.Common.{◌≡◌, ℕ, ◌<◌, Bool, true, not, ◌&&◌, List, [], ◌∷◌, ◌++◌, Option, Some, None, refl, sym, ◌∙◌, subst, arith, pos}
 use Rattle.std.proofs.lemmas.Bool.{and_parts}
 use Rattle.std.specs.Prelude.{is_none}

@@ -1,4 +1,6 @@
--- The code of every well-formed statement that breaks no rule leads on: one step for each kind of statement, and an induction.
+-- The code of every well-formed statement that breaks no rule leads on: one step for each kind of statement.
+-- For: `statements_fit`, src/lib.rt
+-- By: induction over the tree of a statement
 use Rattle.std.proofs.Common.{◌≡◌, ℕ, true, not, List, [], ◌∷◌, map, Option, Some, None, refl, sym, subst}
 use Rattle.std.proofs.lemmas.Bool.{and_parts}
 use Rattle.std.specs.List.{list_all}

@@ -1,4 +1,6 @@
 -- Code that turns operands of some types into others, put together.
+-- For: `Turns`, specs/Sound.antt
+-- By: putting the shapes of the parts together; no induction
 use Rattle.std.proofs.Common.{ℕ, ◌+◌, List, [], ◌∷◌, ◌++◌, refl}
 use Rattle.golf_data.specs.declared.code.Instr.{Instr}
 use Rattle.golf_model_typing.specs.Types.{ValueType, Shape, FunctionTypes, Types}

@@ -1,4 +1,6 @@
 -- What the tests of the checker say of the types of shapes.
+-- For: `value_type` and `layers_type`, specs/Types.antt
+-- By: induction over the layers of a type
 use Rattle.std.proofs.Common.{◌≡◌, ◌⊎◌, inl, inr, ℕ, Bool, true, false, not, ◌&&◌, ◌||◌, ◌==◌, List, [], ◌∷◌, ◌++◌, Some, refl, ap, ◌∙◌, arith}
 use Rattle.std.proofs.lemmas.Bool.{and_parts, or_cases}
 use Rattle.golf_check_types.specs.declared.types.Layer.{Layer}
@@ -66,7 +68,7 @@ narrow-value (layer.Chan ∷ xs) (layer.SendChan ∷ ys) b e = ap ValueType.Chan
 narrow-value (layer.Chan ∷ xs) (layer.ReceiveChan ∷ ys) b e = ap ValueType.Chan (same-layers xs ys b e)
 narrow-value xs ys b e = cc
 
--- what is assignable has the same type, where directions are forgotten
+-- what is assignable has the same type, if directions are forgotten
 pub assigned-value : (a b : GoType) → assignable_type a b ≡ true → value_type a ≡ value_type b
 assigned-value a b e = elim (or_cases (same_type a b) (narrows a.layers b.layers && same_base a.base b.base) e) [
   | inl p ↦ same-value a.layers b.layers a.base b.base p
@@ -122,13 +124,6 @@ where-true false b h e = cc
 -- what may be sent is of the type that the channel carries
 pub carried-on : (c v : Given) → has_layer takes c ≡ true → is_carried c v ≡ true → assignable v (element c) ≡ true
 carried-on c v e h = where-true (has_layer is_channel c) (assignable v (element c)) (has-channel c e) h
-
-pub channel-of : (xs : List Layer) (b : Base) → starts_with is_channel xs ≡ true → (e : GoType) × (inside xs b ≡ Some e) × (layers_type xs b ≡ ValueType.Chan (value_type e))
-channel-of [] b e = cc
-channel-of (layer.Slice ∷ xs) b e = cc
-channel-of (layer.Chan ∷ xs) b e = (record { layers = xs; base = b }, refl, refl)
-channel-of (layer.SendChan ∷ xs) b e = (record { layers = xs; base = b }, refl, refl)
-channel-of (layer.ReceiveChan ∷ xs) b e = (record { layers = xs; base = b }, refl, refl)
 
 pub slice-of : (xs : List Layer) (b : Base) → starts_with is_slice xs ≡ true → (e : GoType) × (inside xs b ≡ Some e) × (layers_type xs b ≡ ValueType.Slice (value_type e))
 slice-of (layer.Slice ∷ xs) b e = (record { layers = xs; base = b }, refl, refl)

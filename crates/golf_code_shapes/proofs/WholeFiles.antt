@@ -1,4 +1,6 @@
 -- The code of a file whose names fit has shapes.
+-- For: `files_fit`, src/lib.rt
+-- By: induction over the list of declarations, and over the signatures with their functions
 use Rattle.std.proofs.Common.{◌≡◌, ℕ, zero, suc, ◌+◌, ◌<◌, ◌≤◌, Bool, true, false, cond, fold, flat_map, List, [], ◌∷◌, ◌++◌, length, map, Option, Some, None, refl, sym, ap, ◌∙◌, subst, slice_get, arith, append_assoc, length-append, option_to_list}
 use Rattle.std.proofs.lemmas.Bool.{and_parts}
 use Rattle.std.specs.List.{list_all, list_any}
@@ -121,7 +123,7 @@ made-fitted : (types : Types) (gives : List Bool) (ms : List Making) → Every I
 made-fitted types gives [] h = tt
 made-fitted types gives (m ∷ ms) h = (masked types (made_function gives m) (made_signature m) refl (made-functions-fit types gives m h.0), made-fitted types gives ms h.1)
 
--- functions that are made, behind others
+-- functions that are made, after others
 made-behind : (types : Types) (pre : List Signature) (ms : List Making) (n : ℕ) → n ≡ length pre → types.functions ≡ pre ++ map made_signature ms → MadeFit types n ms
 made-behind types pre [] n e is = tt
 made-behind types pre (m ∷ ms) n e is = (

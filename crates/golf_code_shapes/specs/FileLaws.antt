@@ -1,4 +1,4 @@
--- The law of the code of a whole file, as a statement: where its names fit, it has shapes.
+-- The law of the code of a whole file, as a statement: if its names fit, it has shapes.
 use Rattle.std.specs.List.{list_all}
 use Rattle.golf_theory.specs.Membership.{Every}
 use Rattle.std.specs.Prelude.{◌≡◌, ℕ, ◌+◌, true, List, [], ◌∷◌, ◌++◌, length, map, Option, Some, None, slice_get}
@@ -79,7 +79,7 @@ DeclarationIsKnown f g (d.Var v) = GlobalIsKnown f g v.line v.content
 DeclarationIsKnown f g (d.Func x) = ParametersAreKnown (outside f) x
 DeclarationIsKnown f g _ = Unit {0}
 
--- where so many globals stand above
+-- if so many globals stand above
 abbrev pub DeclarationsAreKnown : FileScope → ℕ → List Decl → Type 0
 DeclarationsAreKnown f g [] = Unit {0}
 DeclarationsAreKnown f g (x ∷ xs) = DeclarationIsKnown f g x × DeclarationsAreKnown f (globals_above g x) xs

@@ -1,4 +1,4 @@
--- What is said of the code of statements: it leads from the slots that are assigned before it to those behind it.
+-- What is said of the code of statements: it leads from the slots that are assigned before it to those after it.
 use Rattle.std.specs.Prelude.{◌≡◌, ℕ, ◌+◌, true, List, [], ◌∷◌, Option, Some, slice_get}
 use Rattle.golf_theory.specs.Membership.{In, Every}
 use Rattle.golf_check_types.specs.declared.types.GoType.{GoType}
@@ -48,16 +48,16 @@ BeginsWith _ ts = ⊥
 abbrev pub IsMaking : Making → Type 0
 IsMaking m = BeginsWith m.operation (known_types m.parameters)
 
--- `break` and `continue` lead where no operand stands, and no slot is asked for but these
+-- `break` and `continue` lead if no operand stands, and no slot is asked for but these
 pub record WaysFit (assigned : List ℕ) (exits : List Shape) (s : Scope) (a : Around) : Type 0 where
   pub breaks : s.breaks ≡ true → Reaches exits [] assigned a.breaks
   pub continues : s.loops ≡ true → Reaches exits [] assigned a.continues
 
--- the piece leads on, with more slots assigned, and behind it the names fit
+-- the piece leads on, with more slots assigned, and after it the names fit
 abbrev pub Leads : Types → Tables → FunctionTypes → List ℕ → List Shape → Scope → Piece → Type 0
 Leads types t ft assigned exits s p = (more : List ℕ) × Every (λ i. In i more) assigned × ScopeFits types t ft more s × Has types ft p (shape [] assigned) (shape [] more) exits
 
--- where the names of a scope fit, a statement that breaks no rule leads on
+-- if the names of a scope fit, a statement that breaks no rule leads on
 abbrev pub StatementFits : Types → Tables → FunctionTypes → Walk → Lay → Type 0
 StatementFits types t ft w x =
     (a : Around) (s : Scope) (assigned : List ℕ) (exits : List Shape) → ScopeFits types t ft assigned s → WaysFit assigned exits s a → Slotted ft s.next (w s).slots → MadeFit types a.functions (x a s).made → (w s).faults ≡ []
@@ -67,7 +67,7 @@ StatementFits types t ft w x =
 abbrev pub Moves : Types → Tables → FunctionTypes → List ℕ → Scope → Piece → Type 0
 Moves types t ft assigned s p = (more : List ℕ) × Every (λ i. In i more) assigned × ScopeFits types t ft more s × ((exits : List Shape) → Has types ft p (shape [] assigned) (shape [] more) exits)
 
--- where the names of a scope fit, a simple statement that breaks no rule moves on
+-- if the names of a scope fit, a simple statement that breaks no rule moves on
 abbrev pub SimpleFits : Types → Tables → FunctionTypes → Walk → (Scope → Piece) → Type 0
 SimpleFits types t ft w p =
     (s : Scope) (assigned : List ℕ) → ScopeFits types t ft assigned s → Slotted ft s.next (w s).slots → (w s).faults ≡ [] → Moves types t ft assigned (behind s (w s)) (p s)

@@ -39,14 +39,14 @@ function_signature t file f = record {
   result = option_map value_type (result_type file f.result);
 }
 
--- where its written types are known, a function breaks no rule
+-- if its written types are known, a function breaks no rule
 pub record FunctionIsFit (file : Scope) (f : Func) : Type 0 where
   pub receiver : (r : Receiver) → f.receiver ≡ Some r → IsKnown (receiver_type file r.type_name)
   pub parameters : Every (λ (p : List ℕ × Option GoType). IsKnown p.1) (all_typed_names file f.parameters)
   pub good : stmts_good (map stmt_form f.body) ≡ true
   pub none : (func_walk f file).faults ≡ []
 
--- such a function fits its types, where those of the names of the file and of the functions that are made fit
+-- such a function fits its types, if those of the names of the file and of the functions that are made fit
 abbrev pub FunctionsFit : Type 0
 FunctionsFit = (types : Types) (t : Tables) (gives : List Bool) (names : FileScope) (f : Func) (n : ℕ) → FileFits types t names → FunctionIsFit (outside names) f → MadeFit types n (body_laid t (outside names) n f).made
     → ((shapes : List Shape) × FunctionFits types (function_of t gives (outside names) f (body_laid t (outside names) n f).piece) (with_shapes (function_signature t (outside names) f) shapes)) × Every IsMaking (body_laid t (outside names) n f).made

@@ -14,7 +14,7 @@ use Rattle.golf_code_of.specs.Laying.{stmt_part}
 use Rattle.golf_code_shapes.specs.Flowing.{StatementFits}
 use Rattle.golf_code_shapes.specs.Sound.{ScopeFits, Shown}
 
--- where the names of a scope mean what the types of the code say, an expression that breaks no rule has the code of what it is
+-- if the names of a scope mean what the types of the code say, an expression that breaks no rule has the code of what it is
 abbrev pub ExpressionFits : Types → Tables → FunctionTypes → Judge → (ℕ → Scope → Made) → Type 0
 ExpressionFits types t ft j c = (l : ℕ) (s : Scope) (assigned : List ℕ) → ScopeFits types t ft assigned s → (j l s).faults ≡ [] → Shown types t ft assigned s.file (j l s).meaning (c l s)
 

@@ -14,12 +14,12 @@ pub fn expressions_fit()
 {}
 
 /// The code of a well-formed statement that breaks no rule leads on, from the slots that are
-/// assigned before it to those behind it.
+/// assigned before it to those after it.
 pub fn statements_fit()
     ensures { StatementsFit }
 {}
 
-/// A function of a file that breaks no rule fits its types, where the names of the file mean what
+/// A function of a file that breaks no rule fits its types, if the names of the file mean what
 /// the types of the code say.
 pub fn functions_fit()
     ensures { FunctionsFit }
@@ -30,7 +30,7 @@ pub fn made_functions_fit()
     ensures { MadeFunctionsFit }
 {}
 
-/// A well-formed file that breaks no rule has code that has shapes, where the names of the file
+/// A well-formed file that breaks no rule has code that has shapes, if the names of the file
 /// mean what the types of the code say.
 pub fn files_fit()
     ensures { FilesFit }

@@ -1,4 +1,6 @@
 -- What the initialiser of a global is depends on the globals above it alone.
+-- For: `FormsStay` (golf_code_shapes_globals/specs/Laws.antt) and `forms_stay` (src/lib.rt)
+-- By: induction over the tree of an expression, and over the list of names of fields in a literal
 use Rattle.std.proofs.Common.{◌≡◌, ℕ, ◌+◌, ◌<◌, Bool, true, false, not, ◌&&◌, cond, List, [], ◌∷◌, ◌++◌, map, flat_map, Option, Some, None, refl, sym, ap, ◌∙◌, subst, arith}
 use Rattle.std.specs.Prelude.{nat_le, is_some}
 use Rattle.std.specs.List.{list_any}
@@ -124,7 +126,7 @@ module _ (f : FileScope) (globals : List (Option GoType)) where
   behind-dot e j = record { meaning = j.meaning; faults = e.faults ++ j.faults; inner = facts_of e }
 
 module _ (f : FileScope) (globals : List (Option GoType)) (g : ℕ) (same : SameBelow g globals f.globals) where
-  -- where the global of this number is initialised
+  -- if the global of this number is initialised
   abbrev here : Scope
   here = initial_scope f g
 

@@ -1,4 +1,6 @@
 -- Globals have the types of what they begin with, and receivers and parameters have types.
+-- For: `DeclarationsKnown`, `NamesFitAll` (golf_code_shapes_globals/specs/Laws.antt)
+-- By: induction over the list of declarations
 use Rattle.std.proofs.Common.{◌≡◌, ◌⊎◌, inl, inr, ℕ, zero, suc, ◌+◌, ◌<◌, not, true, List, [], ◌∷◌, length, flat_map, slice_get, slice_set, Option, Some, None, unwrap_or, refl, sym, ap, ◌∙◌, subst, arith}
 use Rattle.std.specs.Option.{option_and_then}
 use Rattle.golf_theory.specs.Membership.{Every}
@@ -55,7 +57,7 @@ set-past (x ∷ xs) zero v (suc k) l = refl
 set-past (x ∷ xs) (suc i) v zero l = absurd (omega (arith, l))
 set-past (x ∷ xs) (suc i) v (suc k) l = set-past xs i v k (omega (arith, l))
 
--- so many types, those of the list where it has them
+-- so many types, those of the list if it has them
 padded : ℕ → List (Option GoType) → List (Option GoType)
 padded zero os = []
 padded (suc n) [] = Some (plain base.Int) ∷ padded n []
@@ -132,7 +134,7 @@ module _ (i : Imports) (xs : List Decl) (w : WellNamed i xs) where
   abbrev at : List (Option GoType) → FileScope
   at globals = named_with i xs globals
 
-  -- an expression that breaks no rule where all globals have types has a type, or is nil
+  -- an expression that breaks no rule if all globals have types has a type, or is nil
   has-type : (globals : List (Option GoType)) (l : ℕ) (e : Expr) → GlobalsAreKnown globals (length (flat_map contents_of xs)) → used l (judge e l (outside (at globals))) ≡ [] → not (is_nil (given_by (judge e l (outside (at globals))))) ≡ true
       → IsKnown (type_given (given_by (judge e l (outside (at globals)))))
   has-type globals l e known none not-nil =
@@ -157,7 +159,7 @@ module _ (i : Imports) (xs : List Decl) (w : WellNamed i xs) where
         let k = written-known x l begin none in
         (k.0, written-alike (initial_scope final g) begin (pointers i xs formed w (Some g)) x l l ∙ k.1, is ∙ ap Some (written-alike begin begin (λ n. refl) x 0 l ∙ k.1))
 
-    -- what a global has whose initialiser breaks no rule, where the globals above it are formed
+    -- what a global has whose initialiser breaks no rule, if the globals above it are formed
     formed-global : (gs : List (Option GoType)) (g l : ℕ) (e : Expr) → GlobalsAreKnown gs g → ((k : ℕ) → k < g → slice_get formed k ≡ slice_get gs k) → (initial_walk l (content.Untyped e) (initial_scope final g)).faults ≡ []
         → (t : GoType) × (type_given (given_by (judge e l (initial_scope final g))) ≡ Some t) × (type_given (given_by (judge e l (outside (at gs)))) ≡ Some t)
     formed-global gs g l e known below none =
@@ -189,7 +191,7 @@ module _ (i : Imports) (xs : List Decl) (w : WellNamed i xs) where
       parameters = subst (Every NameKnown) (sym (fields-alike (outside final) begin (pointers i xs formed w None) f.parameters)) (fields-known f.line begin f.parameters (none-left (flat_map (field_fault f.line begin) f.parameters) _ types));
     }
 
-    -- what is known where the global of this number is the next
+    -- what is known if the global of this number is the next
     record Next (gs : List (Option GoType)) (g : ℕ) (rest : List Decl) : Type 0 where
       pub known : GlobalsAreKnown gs g
       pub written : (j : ℕ) → slice_get gs (g + j) ≡ slice_get (flat_map (global_types begin) rest) j

@@ -6,13 +6,13 @@
 
 ghost use Rattle.golf_code_shapes_globals.specs.Laws.{DeclarationsKnown, FormsStay, NamesFitAll};
 
-/// What the initialiser of a global is, where it breaks no rule, depends on the types of the globals
+/// What the initialiser of a global is, if it breaks no rule, depends on the types of the globals
 /// above it alone.
 pub fn forms_stay()
     ensures { FormsStay }
 {}
 
-/// Globals have the types of what they begin with, and receivers and parameters have types, where a
+/// Globals have the types of what they begin with, and receivers and parameters have types, if a
 /// file breaks no rule.
 pub fn declarations_known()
     ensures { DeclarationsKnown }

@@ -1,4 +1,6 @@
 -- Bodies that end fit their types.
+-- For: `bodies_fit`, src/lib.rt; `Ends`, specs/Has.antt
+-- By: cases of how a body ends; induction over the list of lines of code
 use Rattle.std.proofs.Common.{◌≡◌, ℕ, zero, suc, ◌+◌, ◌<◌, List, [], ◌∷◌, ◌++◌, Option, Some, refl, ap, ◌∙◌, sym, subst, slice_get, arith, length, length-append}
 use Rattle.golf_theory.specs.Membership.{In}
 use Rattle.golf_theory.proofs.Lists.{Every-weaker, Every-at}
@@ -31,7 +33,7 @@ module _ (types : Types) (ft : FunctionTypes) where
       right : (full : List Shape) (at : ℕ) → Stand full at (hp.shapes ++ hq.shapes) → Stand full (at + size p) hq.shapes
       right full at st = let f = hp.long in stand-right full at (at + size p) hp.shapes hq.shapes (omega (arith, f)) st
 
-  -- nothing stands behind it
+  -- nothing stands after it
   pub ends-last : (p : Piece) (from : Shape) → Ends types ft p from → Ends types ft (Piece.Then p Piece.Empty) from
   ends-last p from h = record {
     shapes = h.shapes;

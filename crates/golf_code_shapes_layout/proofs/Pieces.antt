@@ -1,4 +1,6 @@
--- Structured code has shapes where its parts have: once for each way of putting parts together.
+-- Structured code has shapes if its parts have: once for each way of putting parts together.
+-- For: `pieces_have_shapes`, src/lib.rt; `Has`, specs/Has.antt
+-- By: cases of how it is put together; induction over the lists of shapes, of lines of code and of cases
 use Rattle.std.proofs.Common.{◌≡◌, ℕ, zero, suc, ◌+◌, List, [], ◌∷◌, ◌++◌, map, Option, Some, None, refl, subst, slice_get, arith, length, length-append}
 use Rattle.std.specs.Option.{option_map}
 use Rattle.golf_theory.specs.Membership.{In, Every}

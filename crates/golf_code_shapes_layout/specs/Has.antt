@@ -34,14 +34,14 @@ Exits ft [] ts = Unit {0}
 Exits ft (sh ∷ shs) [] = ⊥
 Exits ft (sh ∷ shs) (t ∷ ts) = To ft sh t × Exits ft shs ts
 
--- A piece leads from one shape to another, where the targets around have these.
+-- A piece leads from one shape to another, if the targets around have these.
 pub record Has (types : Types) (ft : FunctionTypes) (p : Piece) (from to : Shape) (exits : List Shape) : Type 0 where
   pub shapes : List Shape
   pub long : length shapes ≡ size p
   pub enters : (full : List Shape) (at : ℕ) → Stand full at shapes → To (filled ft full) to (at + size p) → To (filled ft full) from at
   pub fits : (full : List Shape) (at : ℕ) (ts : List ℕ) → Stand full at shapes → To (filled ft full) to (at + size p) → Exits (filled ft full) exits ts → Fit types (filled ft full) at (placed p at ts)
 
--- A piece begins with this shape, and does not go on behind itself.
+-- A piece begins with this shape, and does not go on after itself.
 pub record Ends (types : Types) (ft : FunctionTypes) (p : Piece) (from : Shape) : Type 0 where
   pub shapes : List Shape
   pub long : length shapes ≡ size p

@@ -22,7 +22,7 @@ pub record PutTogether (types : Types) (ft : FunctionTypes) : Type 0 where
       → CasesReach exits assigned below cases below ts → DefaultReaches exits assigned below otherwise → Has types ft (Piece.Choose line cases otherwise) (shape ts assigned) to exits
   pub block : (p : Piece) (from to : Shape) (exits : List Shape) → Has types ft p from to (to ∷ exits) → Has types ft (Piece.Block p) from to exits
   pub again : (p : Piece) (from to : Shape) (exits : List Shape) → Has types ft p from to (from ∷ exits) → Has types ft (Piece.Again p) from to exits
-  -- fewer slots are asked for behind it
+  -- fewer slots are asked for after it
   pub weaker : (p : Piece) (from : Shape) (ts : List ValueType) (needed assigned : List ℕ) (exits : List Shape)
       → Every (λ i. In i assigned) needed → Has types ft p from (shape ts assigned) exits → Has types ft p from (shape ts needed) exits
 

@@ -1,4 +1,4 @@
-//! Structured code has shapes where its parts have, wherever it is placed.
+//! Structured code has shapes if its parts have, wherever it is placed.
 //!
 //! Each function here has one law as its contract. The statements and the definitions stand in
 //! `specs/`, the proofs in `proofs/`.
@@ -6,7 +6,7 @@
 
 ghost use Rattle.golf_code_shapes_layout.specs.Laws.{BodiesFit, PiecesHaveShapes};
 
-/// For each way of putting pieces together, the whole has shapes where the parts have.
+/// For each way of putting pieces together, the whole has shapes if the parts have.
 pub fn pieces_have_shapes()
     ensures { PiecesHaveShapes }
 {}

@@ -1,4 +1,6 @@
 -- The names and members of a file mean what the types of its code say.
+-- For: `names_mean`, src/lib.rt
+-- By: induction over the list of declarations, and over lists of fields and of parameters
 use Rattle.std.proofs.Common.{◌≡◌, ℕ, zero, suc, ◌+◌, ◌<◌, List, [], ◌∷◌, ◌++◌, length, map, flat_map, Option, Some, None, refl, sym, ap, ◌∙◌, subst, slice_get, arith, unwrap_or}
 use Rattle.std.specs.Option.{option_map, option_and_then}
 use Rattle.std.proofs.lemmas.List.{map-append}

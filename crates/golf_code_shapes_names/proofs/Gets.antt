@@ -1,10 +1,12 @@
 -- What stands at a place of a list.
+-- For: `names_mean` and `main_fits`, src/lib.rt
+-- By: induction over the list
 use Rattle.std.proofs.Common.{◌≡◌, ◌⊎◌, inl, inr, ℕ, zero, suc, ◌+◌, List, [], ◌∷◌, ◌++◌, length, map, flat_map, Some, refl, sym, ap, ◌∙◌, subst, slice_get, slice_set, arith, length-append}
 use Rattle.std.specs.Option.{option_map}
 use Rattle.std.proofs.lemmas.Grind.{flat_map-append}
 use Rattle.std.proofs.lemmas.Option.{slice_get-map}
 
--- the first element behind others
+-- the first element after others
 pub get-behind : {X : Type 0} (xs : List X) (x : X) (ys : List X) (n : ℕ) → n ≡ length xs → slice_get (xs ++ (x ∷ ys)) n ≡ Some x
 get-behind [] x ys n e = subst (λ k. slice_get (x ∷ ys) k ≡ Some x) (sym e) refl
 get-behind (y ∷ xs) x ys zero e = absurd (omega (arith, e))

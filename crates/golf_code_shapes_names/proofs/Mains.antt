@@ -1,4 +1,6 @@
 -- `main` takes nothing and gives nothing.
+-- For: `main_fits`, src/lib.rt
+-- By: induction over the list of declarations
 use Rattle.std.proofs.Common.{◌≡◌, ℕ, ◌+◌, Bool, true, false, not, cond, fold, List, [], ◌∷◌, ◌++◌, length, map, flat_map, Option, Some, None, refl, sym, ap, ◌∙◌, subst, slice_get, arith, append_assoc, length-append}
 use Rattle.std.proofs.lemmas.Bool.{and_parts}
 use Rattle.std.specs.Prelude.{codes}

@@ -1,4 +1,6 @@
 -- What the names of a file and the members of its structs stand for: parts of its declarations.
+-- For: `naming_of`, golf_check_types/specs/Files.antt
+-- By: induction over the list of declarations; for members, over the list of names of fields
 use Rattle.std.proofs.Common.{◌≡◌, ℕ, ◌+◌, ◌<◌, ◌≤◌, fold, List, [], ◌∷◌, ◌++◌, length, map, flat_map, Option, Some, None, refl, sym, ap, ◌∙◌, subst, slice_get, arith, append_assoc, append-nil, length-append}
 use Rattle.std.proofs.lemmas.Grind.{flat_map-append}
 use Rattle.std.proofs.lemmas.List.{length-map, map-append}
@@ -45,7 +47,7 @@ all-mean-more : (xs ys : List Decl) (ms : List Entity) → Every (Means xs) ms �
 all-mean-more xs ys [] h = tt
 all-mean-more xs ys (m ∷ ms) h = (means-more xs ys m h.0, all-mean-more xs ys ms h.1)
 
--- what the names behind these declarations count, and what they mean
+-- what the names after these declarations count, and what they mean
 pub record Counted (xs : List Decl) (k : Naming) : Type 0 where
   pub constants : k.constants ≡ length (flat_map constants_in xs)
   pub globals : k.globals ≡ length (flat_map contents_of xs)

@@ -1,4 +1,6 @@
 -- The members of the structs of a file: fields and methods.
+-- For: `names_mean`, src/lib.rt
+-- By: induction over the list of declarations; for fields, over the list of members of a struct
 use Rattle.std.proofs.Common.{◌≡◌, inl, inr, ℕ, ◌+◌, ◌<◌, List, [], ◌∷◌, ◌++◌, length, flat_map, Option, Some, None, refl, sym, ◌∙◌, subst, slice_get, append_assoc}
 use Rattle.golf_theory.specs.Membership.{Every}
 use Rattle.golf_theory.proofs.Lists.{Every-push}
@@ -55,7 +57,7 @@ module _ (xs : List Decl) (k : Naming) where
   is-method f q None there is s e = cc
   is-method f q (Some r) there is s e = record { method = f; receiver = r; there = there; has = is; named = e }
 
-  -- behind these declarations
+  -- after these declarations
   methods-belong : (pre rest : List Decl) (q : ℕ) (structs : List Members) → pre ++ rest ≡ xs → q ≡ length (flat_map functions_of pre) → AllBelong xs k structs → AllBelong xs k (methods_added k q structs rest)
   methods-belong pre [] q structs all count h = h
   methods-belong pre (d.Const l n c ∷ rest) q structs all count h = methods-belong (pre ++ d.Const l n c ∷ []) rest q structs (append_assoc pre (d.Const l n c ∷ []) rest ∙ all) (same-count functions_of pre (d.Const l n c) q refl count) h

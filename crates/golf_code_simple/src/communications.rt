@@ -6,10 +6,10 @@ ghost use Rattle.golf_code_simple.specs.Doing.{Does};
 
 use crate::names::{store_next, store_two};
 use golf_base::Memory;
-use golf_data::Instr;
-use golf_code_layout::op;
-use golf_syntax_trees::{Communication, Expr};
 use golf_code_expressions::{Writer, expression};
+use golf_code_layout::op;
+use golf_data::Instr;
+use golf_syntax_trees::{Communication, Expr};
 
 fn two_operands(writer: &mut Writer, line: u32, channel: &Expr, e: &Expr) -> Result<(), Memory>
     ensures { Extends result (operands_by writer.old.draft.tables.now (Communication.Send channel.now e.now) line writer.old.facts) writer.old writer.new }

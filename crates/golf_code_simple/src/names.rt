@@ -5,8 +5,8 @@ ghost use Rattle.golf_code_expressions.specs.Writing.{Writes};
 ghost use Rattle.golf_code_simple.specs.Doing.{Does};
 
 use golf_base::Memory;
-use golf_syntax_trees::Expr;
 use golf_code_expressions::{Writer, expression, store};
+use golf_syntax_trees::Expr;
 
 /// Stores what is on top under the name whose fact comes next.
 pub fn store_next(writer: &mut Writer, line: u32) -> Result<(), Memory>

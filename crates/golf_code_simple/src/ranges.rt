@@ -8,11 +8,11 @@ ghost use Rattle.golf_code_expressions.specs.Writing.{Writes};
 
 use crate::names::store_next;
 use golf_base::Memory;
-use golf_data::Instr;
-use golf_code_layout::op;
-use golf_syntax_trees::RangeNames;
 use golf_check_types::is_blank;
 use golf_code_expressions::Writer;
+use golf_code_layout::op;
+use golf_data::Instr;
+use golf_syntax_trees::RangeNames;
 
 // The index, which stands in this slot.
 fn index_name(

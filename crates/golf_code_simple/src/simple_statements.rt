@@ -8,11 +8,11 @@ ghost use Rattle.golf_code_simple.specs.Doing.{Does};
 
 use crate::names::{define, store_two};
 use golf_base::{List, Memory};
-use golf_data::Instr;
-use golf_code_layout::{Emitted, op};
-use golf_syntax_trees::{Expr, OwnedSimple, Simple, SimpleKind, UpdateOperator};
 use golf_check_types::Operand;
 use golf_code_expressions::{Writer, expression, left_side, read, twice, write};
+use golf_code_layout::{Emitted, op};
+use golf_data::Instr;
+use golf_syntax_trees::{Expr, OwnedSimple, Simple, SimpleKind, UpdateOperator};
 
 // What a call or receive leaves is dropped.
 fn drops(emitted: &mut List<Emitted>, line: u32, operand: &Operand) -> Result<(), Memory>

@@ -8,11 +8,11 @@ ghost use Rattle.golf_code_simple.specs.Doing.{Does};
 
 use crate::names::{define, store_next};
 use golf_base::Memory;
-use golf_data::Instr;
-use golf_code_layout::op;
-use golf_syntax_trees::{OwnedExpr, TypeExpr, Var, VarContent};
 use golf_check_types::{Base, Operand};
 use golf_code_expressions::{Writer, base_zero, expression, push, zero_value};
+use golf_code_layout::op;
+use golf_data::Instr;
+use golf_syntax_trees::{OwnedExpr, TypeExpr, Var, VarContent};
 
 // The instruction that pushes the zero value of a variable.
 fn zero_of(operand: &Operand) -> Instr

@@ -1,15 +1,14 @@
 -- What begins a function, and what is made for it.
-use Rattle.std.proofs.Common.{◌≡◌, ℕ, suc, ◌+◌, List, [], ◌∷◌, ◌++◌, map, length, refl, ap, sym, ◌∙◌, arith}
-use Rattle.std.specs.Prelude.{Option, Some, None}
+-- For: `begin_callee`, src/begins.rt; `begun`, golf_code_statements/specs/Begun.antt.
+-- By: computing; induction over the list of arguments for their number.
+use Rattle.std.proofs.Common.{◌≡◌, ℕ, suc, ◌+◌, List, [], ◌∷◌, map, length, refl, ap, sym, ◌∙◌, arith}
 use Rattle.golf_syntax_trees.specs.declared.expressions.Expr.{Expr}
 use Rattle.golf_data.specs.declared.code.Instr.{Instr}
 use Rattle.golf_check_types.specs.declared.facts.Fact.{Fact}
-use Rattle.golf_check_types.specs.declared.types.Base.{Base}
-use Rattle.golf_check_types.specs.declared.types.GoType.{GoType}
 use Rattle.golf_check_types.specs.declared.operands.Operand.TheVariants as operand
 use Rattle.golf_code_layout.specs.Piece.{all, op}
 use Rattle.golf_code_of.specs.declared.tables.Tables.{Tables}
-use Rattle.golf_code_of.specs.Calls.{Argument, pushes, with_receiver}
+use Rattle.golf_code_of.specs.Calls.{Argument, pushes}
 use Rattle.golf_code_facts.specs.Facts.{skip, skip_all}
 use Rattle.golf_code_facts.specs.Expressions.{taking, arguments}
 use Rattle.golf_code_expressions.specs.declared.writer.Writer.{Writer}
@@ -17,10 +16,6 @@ use Rattle.golf_code_expressions.specs.Writing.{with_piece}
 use Rattle.golf_code_statements.specs.Begun.{begun}
 use Rattle.golf_code_statements.specs.Lays.{after}
 use Rattle.golf_code_statements.proofs.Seams.{written, quiet}
-
-pub with_receiver-append : (b : Option Base) (ts us : List (Option GoType)) → with_receiver b (ts ++ us) ≡ with_receiver b ts ++ us
-with_receiver-append None ts us = refl
-with_receiver-append (Some b) ts us = refl
 
 -- as many arguments as expressions
 pub as_many : (t : Tables) (l : ℕ) (xs : List Expr) (fs : List Fact) → length (arguments l (map (taking t) xs) fs) ≡ length xs

@@ -1,4 +1,4 @@
-pub mod Types
 pub mod Seams
 pub mod Selects
 pub mod Begun
+pub mod Types

@@ -1,15 +1,17 @@
 -- Code for which no function is made, and one statement after another.
-use Rattle.std.proofs.Common.{◌≡◌, ℕ, ◌+◌, List, [], ◌∷◌, ◌++◌, length, ap, sym, ◌∙◌, append_assoc, append-nil, length-append, arith}
+-- For: `Lays` and `after`, golf_code_statements/specs/Lays.antt.
+-- By: computing; no induction.
+use Rattle.std.proofs.Common.{◌≡◌, ℕ, ◌+◌, List, [], ◌++◌, length, ap, sym, ◌∙◌, append_assoc, append-nil, length-append, arith}
 use Rattle.std.specs.Prelude.{Result, Ok, Err}
 use Rattle.golf_base.specs.declared.Memory.{Memory}
 use Rattle.golf_check_types.specs.declared.facts.Fact.{Fact}
 use Rattle.golf_code_layout.specs.Piece.{Piece}
 use Rattle.golf_code_of.specs.declared.making.Making.{Making}
-use Rattle.golf_code_of.specs.Statements.{laid, follow}
+use Rattle.golf_code_of.specs.Statements.{laid}
 use Rattle.golf_code_layout.specs.declared.emitted.Emitted.{Emitted}
 use Rattle.golf_code_layout.specs.declared.emitted.Emitted.TheVariants as emit
 use Rattle.golf_code_layout.specs.Emission.{onto}
-use Rattle.golf_code_facts.specs.Statements.{LaidBy, by, branches}
+use Rattle.golf_code_facts.specs.Statements.{LaidBy, by}
 use Rattle.golf_code_expressions.specs.declared.writer.Draft.{Draft}
 use Rattle.golf_code_expressions.specs.declared.writer.Writer.{Writer}
 use Rattle.golf_code_expressions.specs.Writing.{with_piece, Writes}
@@ -41,14 +43,3 @@ pub made_twice : (d : Draft) (ms : List Emitted) (xs ys : List Making) → draft
 made_twice d ms xs ys =
     ap (λ made. drafted d ms made (d.functions + length xs + length ys)) (append_assoc d.made xs ys)
     ∙ ap (drafted d ms (d.made ++ (xs ++ ys))) (let e : d.functions + length xs + length ys ≡ d.functions + length (xs ++ ys) = omega (arith, length-append xs ys) in e)
-
-pub laid_twice : (w : Writer) (x y : LaidBy) → after (after w x) y ≡ after w (by (follow x.laid y.laid) y.left)
-laid_twice w x y = ap (written y.left) (made_twice w.draft (onto (onto w.draft.emitted x.laid.piece) y.laid.piece) x.laid.made y.laid.made)
-
--- the first of two branches, which leads to the end of both, and the second
-pub branches_laid : (l : ℕ) (w : Writer) (x y : LaidBy)
-    → (let first = after (written w.facts (record w.draft { emitted = (w.draft.emitted ++ emit.Block ∷ []) ++ emit.Block ∷ [] })) x in
-    let second = after (written first.facts (record first.draft { emitted = onto first.draft.emitted (Piece.Exit l 1) ++ emit.End ∷ [] })) y in
-    written second.facts (record second.draft { emitted = second.draft.emitted ++ emit.End ∷ [] }))
-    ≡ after w (by (branches l x.laid y.laid) y.left)
-branches_laid l w x y = ap (written y.left) (made_twice w.draft (onto w.draft.emitted (branches l x.laid y.laid).piece) x.laid.made y.laid.made)

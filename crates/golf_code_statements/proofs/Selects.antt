@@ -1,4 +1,6 @@
 -- The clauses of a `select` one after the other are its code.
+-- For: `select_at` and `clauses_at`, src/statements.rt.
+-- By: induction over the list of clauses.
 use Rattle.std.proofs.Common.{◌≡◌, ℕ, suc, ◌+◌, ◌<◌, List, [], ◌∷◌, ◌++◌, length, map, drop, get_or, add-one, ap, sym, ◌∙◌}
 use Rattle.std.proofs.Math.Seq.{drop-cons}
 use Rattle.golf_check_types.specs.declared.facts.Fact.{Fact}

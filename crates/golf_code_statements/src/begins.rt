@@ -14,12 +14,12 @@ ghost use Rattle.golf_code_statements.specs.Lays.{around, Lays};
 
 use crate::targets::Targets;
 use golf_base::{List, Memory};
-use golf_code_of::Making;
-use golf_data::Instr;
-use golf_code_layout::op;
-use golf_syntax_trees::Expr;
 use golf_check_types::{Base, BuiltIn, GoType, Operand, plain, type_of};
 use golf_code_expressions::{Writer, count, expression};
+use golf_code_layout::op;
+use golf_code_of::Making;
+use golf_data::Instr;
+use golf_syntax_trees::Expr;
 use std::alloc::Global;
 
 /// How a function is begun.
@@ -146,7 +146,11 @@ fn begin_operation(
     pushed_with_types(writer, line, xs, &mut parameters)?;
     let operands = count(parameters.len())?;
     let next = writer.draft.functions;
-    op(&mut writer.draft.emitted, line, begin(begins, next, operands))?;
+    op(
+        &mut writer.draft.emitted,
+        line,
+        begin(begins, next, operands),
+    )?;
     let making = Making {
         operation,
         parameters,

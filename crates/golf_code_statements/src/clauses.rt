@@ -11,11 +11,11 @@ ghost use Rattle.golf_code_statements.specs.Clauses.{first_of, opened};
 ghost use Rattle.golf_code_of.specs.declared.tables.Tables.{Tables};
 
 use golf_base::{List, Memory};
-use golf_data::{CaseKind, SelectCase};
-use golf_code_layout::{Emitted, block};
-use golf_syntax_trees::{Clause, Communication};
 use golf_code_expressions::Writer;
+use golf_code_layout::{Emitted, block};
 use golf_code_simple::operands;
+use golf_data::{CaseKind, SelectCase};
+use golf_syntax_trees::{Clause, Communication};
 use std::alloc::Global;
 
 /// The cases of a `select`, and which clause is `default`.

@@ -13,11 +13,11 @@ ghost use Rattle.golf_code_expressions.specs.Writing.{Writes};
 ghost use Rattle.golf_code_simple.specs.Doing.{Does};
 
 use golf_base::{List, Memory};
-use golf_data::Instr;
-use golf_code_layout::{Emitted, again, block, end, exit, op, unless};
-use golf_syntax_trees::{Expr, OwnedExpr};
 use golf_check_types::{GoType, Layer, Operand};
 use golf_code_expressions::{Writer, expression};
+use golf_code_layout::{Emitted, again, block, end, exit, op, unless};
+use golf_data::Instr;
+use golf_syntax_trees::{Expr, OwnedExpr};
 
 /// The end and the beginning of a loop become targets.
 pub fn begin_round(emitted: &mut List<Emitted>) -> Result<(), Memory>
@@ -123,7 +123,12 @@ pub fn store_slice(
 }
 
 /// Whether the index is below the length.
-pub fn test_index(emitted: &mut List<Emitted>, line: u32, length: u32, index: u32) -> Result<(), Memory>
+pub fn test_index(
+    emitted: &mut List<Emitted>,
+    line: u32,
+    length: u32,
+    index: u32,
+) -> Result<(), Memory>
     ensures { Adds result (all (op_of line (Instr.Load index) ∷ op_of line (Instr.Load length) ∷ op_of line Instr.Less ∷ Piece.Unless line 1 ∷ [])) emitted.old emitted.new }
 {
     op(emitted, line, Instr::Load(index))?;

@@ -5,10 +5,10 @@ ghost use Rattle.golf_code_statements.specs.Lays.{around, Lays};
 
 use crate::targets::Targets;
 use golf_base::Memory;
-use golf_code_layout::exit;
-use golf_syntax_trees::{OwnedExpr, Simple, Var};
 use golf_code_expressions::Writer;
+use golf_code_layout::exit;
 use golf_code_simple::{returned, simple, variable};
+use golf_syntax_trees::{OwnedExpr, Simple, Var};
 
 /// A simple statement.
 pub fn simple_at(writer: &mut Writer, targets: Targets, one: &Simple) -> Result<(), Memory>

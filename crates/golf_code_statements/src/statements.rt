@@ -1,7 +1,7 @@
 //! The code of a statement, and of a body.
 
 ghost use Rattle.std.specs.Prelude.{map, OnOk, ◌≡◌};
-ghost use Rattle.golf_code_facts.specs.Statements.{in_order, after as after_piece, optional_by, after_test, then_lay as then_lay_of, if_lay, else_lay};
+ghost use Rattle.golf_code_facts.specs.Statements.{in_order, after_test, then_lay as then_lay_of, if_lay, else_lay};
 ghost use Rattle.golf_code_facts.specs.Loops.{in_loop, forever as forever_of, while as while_of, stepping as stepping_of, steps as steps_of, ranging, for_lay};
 ghost use Rattle.golf_code_facts.specs.Selects.{case_clause, default_clause, select_lay};
 ghost use Rattle.golf_code_facts.specs.Laying.{stmt_by, clause_by};
@@ -18,11 +18,13 @@ use crate::rounds::{
 use crate::singles::{break_at, continue_at, return_at, simple_at, variable_at};
 use crate::targets::{Targets, in_clause, within};
 use golf_base::Memory;
-use golf_data::Instr;
-use golf_code_layout::{block as begin_block, end as end_block, exit, op};
-use golf_syntax_trees::{Clause, Communication, Expr, Header, OwnedExpr, OwnedSimple, RangeNames, Stmt};
 use golf_code_expressions::{Writer, expression};
+use golf_code_layout::{block as begin_block, end as end_block, exit, op};
 use golf_code_simple::{channel_name, communication, optional, slice_names};
+use golf_data::Instr;
+use golf_syntax_trees::{
+    Clause, Communication, Expr, Header, OwnedExpr, OwnedSimple, RangeNames, Stmt,
+};
 
 #[cycle(laying)]
 fn all(writer: &mut Writer, targets: Targets, stmts: &[Stmt]) -> Result<(), Memory>

@@ -1,4 +1,6 @@
 -- Texts are added one part after the other, and what the texts of each construct are.
+-- For: `expr_texts` and `stmt_texts`, golf_code_of/specs/Texts.antt; `with_texts`, golf_code_texts/specs/Adding.antt.
+-- By: computing, for each construct; induction over the list of parts.
 use Rattle.std.proofs.Common.{◌≡◌, ℕ, suc, ◌+◌, ◌<◌, ◌≤◌, List, [], ◌∷◌, ◌++◌, length, get_or, map, drop, drop-cons, refl, ap, sym, ◌∙◌, arith}
 use Rattle.std.specs.Prelude.{flat_map, Option}
 use Rattle.std.proofs.lemmas.List.Sums.{fold-append}

@@ -27,7 +27,7 @@ pub fn simple(alloc: Global, table: &mut TextTable, kind: &SimpleKind) -> Result
     }
 }
 
-/// Adds the texts of a simple statement, where there is one.
+/// Adds the texts of a simple statement, if there is one.
 #[tactic(auto, using(crate::proofs::Walks::with_none))]
 pub fn optional_simple(
     alloc: Global,
@@ -42,7 +42,7 @@ pub fn optional_simple(
     }
 }
 
-/// Adds the texts of an expression, where there is one.
+/// Adds the texts of an expression, if there is one.
 #[tactic(auto, using(crate::proofs::Walks::with_none))]
 pub fn optional_expr(
     alloc: Global,

@@ -1,4 +1,6 @@
 -- What the ends of a call mean, by its words.
+-- For: `golf`, `serve`, src/top.rt; `fetch`, src/loading.rt; `Tells`, specs/Means.antt
+-- By: cases of the line and of how the call ends; no induction
 use Rattle.std.proofs.Common.{◌≡◌, ◌≤◌, ◌<◌, ◌+◌, ℕ, List, [], ◌∷◌, ◌++◌, length, length-append, refl, sym, subst, ap, ◌∙◌, ◌⊎◌, inl, inr, append-nil, arith}
 use Rattle.std.specs.Prelude.{Option, Some, None, IfSome, replicate}
 use Rattle.std.specs.Io.KnownBytes.{Appends, Keeps, Consumes, IsAtEnd}
@@ -81,7 +83,7 @@ read-file (CommandLine.Generate n) left bytes reads told = absurd reads
 read-file (CommandLine.Threads n) left bytes reads told = told
 read-file CommandLine.Meaning left bytes reads told = told
 
--- memory was wanting before anything was run
+-- memory ran out before anything was run
 pub wanting : (line : CommandLine) (within : IsWithin line) (left left' : Option (List ℕ)) (rf rf' : ℕ) (r : Status) (a b : Sinks) → rf' ≡ rf → Says s.Memory NO_MEMORY.now r a b → LineTells line r (seen left rf a) (seen left' rf' b)
 wanting line within left left' rf rf' r a b same h =
     let file = some-file line left in
@@ -220,7 +222,7 @@ module _ (words : List (List ℕ)) (left left' : Option (List ℕ)) (rf rf' : �
       (λ _. untouched same counts)
       (says-causes s.Usage r USAGE.now (λ v w x y. record { source = x; sinks = y }) counts h)
 
-  -- memory was wanting for the words
+  -- memory ran out for the words
   pub tells-wanting : (r : Status) → Says s.Memory NO_MEMORY.now r a b → left' ≡ left → rf' ≡ rf → Tells words r before after
   tells-wanting r h same counts =
       let causes : Causes r before after = says-causes s.Memory r NO_MEMORY.now (λ v w x y. record { source = x; sinks = y }) counts h in

@@ -1,4 +1,6 @@
 -- What the reading of a line's file means for a line that reads.
+-- For: `fetch`, `load`, src/loading.rt; `run_source`, src/top.rt
+-- By: cases of how the reading ends; no induction
 use Rattle.std.proofs.Common.{◌≡◌, ◌≤◌, ℕ, List, length, subst}
 use Rattle.std.specs.Prelude.{Option, IfSome}
 use Rattle.std.specs.Io.KnownBytes.{IsAtEnd}

@@ -1,4 +1,6 @@
 -- What the ends of a file's run mean.
+-- For: `run_source`, src/top.rt; `run_generated`, src/generated.rt; `FileTells`, specs/Means.antt
+-- By: cases of the way of the line and of the status; no induction
 use Rattle.std.proofs.Common.{◌≡◌, ◌≤◌, ℕ, Bool, true, false, List, [], ◌∷◌, ◌++◌, length, refl, sym, subst, ap, ◌∙◌, inl, inr, append_assoc}
 use Rattle.std.specs.Prelude.{Option, Some, None}
 use Rattle.std.specs.Io.KnownBytes.{Appends}
@@ -70,7 +72,7 @@ module _ (line : CommandLine) (bytes : List ℕ) (within : IsWithin line) where
   none-first = record { accepted = λ file a. begins line bytes file a (some-way line file within); refused = λ none. refl }
 
   module _ (old new : Sinks) where
-    -- a write failed behind these
+    -- a write failed after these
     broken : (done : List Write) (cut : Write) (r : Status) → MayFollow line bytes done cut → r ≡ s.WriteFault → Breaks old new done cut → FileTells line bytes r old new
     broken done cut r why is breaks = subst (λ t. FileTells line bytes t old new) (sym is) (record { means = (done, (cut, why, breaks)); causes = some-rose cut old new breaks.failed })
 
@@ -153,7 +155,7 @@ module _ (line : CommandLine) (bytes : List ℕ) (within : IsWithin line) where
       pub failed-tells : (done rest : List Write) (cut : Write) → writes_for way code ≡ done ++ (cut ∷ rest) → Breaks old new done cut → FileTells line bytes s.WriteFault old new
       failed-tells done rest cut split breaks = broken old new done cut s.WriteFault (Next cut (first-of (done ++ cut ∷ []) rest (split ∙ sym (append_assoc done (cut ∷ []) rest)))) refl breaks
 
-    -- memory was wanting in it, and then a line was written
+    -- memory ran out in it, and then a line was written
     module _ (out out' mid err err' : Option (List ℕ)) (of of' mf ef ef' : ℕ) (done more : List Write) (split : writes_for way code ≡ done ++ more) (stands : MayStand line done) where
       abbrev first : Sinks
       first = sinks out of err ef

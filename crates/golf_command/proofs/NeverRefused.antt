@@ -1,4 +1,6 @@
 -- No generated file is refused.
+-- For: `run_generated`, src/generated.rt
+-- By: cases of the refusal; no induction
 use Rattle.std.proofs.Common.{◌≡◌, ℕ, ◌≤◌, List, length, subst}
 use Rattle.golf_syntax_trees.specs.declared.declarations.File.{File}
 use Rattle.golf_command_sample.specs.File.{file as generated_file}

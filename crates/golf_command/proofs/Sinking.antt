@@ -1,5 +1,7 @@
 -- What sinks got by one write after another, and by the line of a cause.
-use Rattle.std.proofs.Common.{◌≡◌, ℕ, List, [], ◌∷◌, ◌++◌, refl, sym, subst, ap, ◌∙◌, inl, inr, append-nil, append_assoc}
+-- For: `write_texts`, `write_told`, src/texts.rt; `Says`, specs/Means.antt
+-- By: cases of the write and of what the sinks have; no induction
+use Rattle.std.proofs.Common.{ℕ, List, [], ◌∷◌, ◌++◌, refl, sym, subst, ◌∙◌, inl, inr, append-nil}
 use Rattle.std.specs.Prelude.{Option}
 use Rattle.std.specs.Io.KnownBytes.{Appends}
 use Rattle.std.proofs.KnownBytes.{Appends-nil, Appends-trans}
@@ -7,19 +9,10 @@ use Rattle.golf_base.specs.Causes.{Rose, WritesFront}
 use Rattle.golf_run_texts.specs.declared.status.Status.{Status}
 use Rattle.golf_run_texts.specs.declared.status.Status.TheVariants as s
 use Rattle.golf_run_texts.specs.Writes.{Write, out_bytes, err_bytes}
+use Rattle.golf_run_texts.proofs.Writings.{out-append, err-append}
 use Rattle.golf_run.specs.HasRun.{Sinks, sinks, GotWrites, HasFailed, IsSteady}
 use Rattle.golf_command.specs.Ends.{EndsWith}
 use Rattle.golf_command.specs.Means.{Breaks, Says, SinkCauses}
-
-out-append : (xs ys : List Write) → out_bytes (xs ++ ys) ≡ out_bytes xs ++ out_bytes ys
-out-append [] ys = refl
-out-append (Write.ToOut b ∷ xs) ys = ap (λ t. b ++ t) (out-append xs ys) ∙ sym (append_assoc b (out_bytes xs) (out_bytes ys))
-out-append (Write.ToErr b ∷ xs) ys = out-append xs ys
-
-err-append : (xs ys : List Write) → err_bytes (xs ++ ys) ≡ err_bytes xs ++ err_bytes ys
-err-append [] ys = refl
-err-append (Write.ToOut b ∷ xs) ys = err-append xs ys
-err-append (Write.ToErr b ∷ xs) ys = ap (λ t. b ++ t) (err-append xs ys) ∙ sym (append_assoc b (err_bytes xs) (err_bytes ys))
 
 -- some writes and then others
 pub gets-more : (a b c : Sinks) (xs ys : List Write) → GotWrites xs a b → GotWrites ys b c → GotWrites (xs ++ ys) a c
@@ -28,15 +21,11 @@ gets-more a b c xs ys first more = (
   subst (Appends a.err c.err) (sym (err-append xs ys)) (Appends-trans a.err b.err c.err (err_bytes xs) (err_bytes ys) first.1 more.1),
 )
 
--- no write
-pub gets-nothing : (a : Sinks) → GotWrites [] a a
-gets-nothing a = (Appends-nil a.out, Appends-nil a.err)
-
 fails-later : (cut : Write) (a b c : Sinks) → IsSteady a b → HasFailed cut b c → HasFailed cut a c
 fails-later (Write.ToOut bytes) a b c steady f = (subst (λ n. Rose n c.out_faults) steady.out f.0, f.1 ∙ steady.err)
 fails-later (Write.ToErr bytes) a b c steady f = (f.0 ∙ steady.out, subst (λ n. Rose n c.err_faults) steady.err f.1)
 
--- a write that fails behind others
+-- a write that fails after others
 pub breaks-later : (a b c : Sinks) (done : List Write) (cut : Write) → GotWrites done a b → IsSteady a b → Breaks b c [] cut → Breaks a c done cut
 breaks-later a b c done cut first steady h = record { front = h.front; is_front = h.is_front; got = gets-more a b c done (h.front ∷ []) first h.got; failed = fails-later cut a b c steady h.failed }
 

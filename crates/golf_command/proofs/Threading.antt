@@ -1,4 +1,6 @@
 -- The texts of a run by threads are those of the run of its numbers.
+-- For: `texts_by_threads`, src/threads.rt
+-- By: the laws of the history's turns; induction over the list of reports
 use Rattle.std.proofs.Common.{◌≡◌, ℕ, false, List, [], ◌∷◌, ◌++◌, length, refl, sym, ap, append-nil, ◌∙◌}
 use Rattle.golf_data.specs.declared.code.Code.{Code}
 use Rattle.golf_model.specs.State.{State, start, ending}

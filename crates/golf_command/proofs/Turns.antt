@@ -1,4 +1,6 @@
 -- The numbers of all turns of a run by threads: that there are some, and those of a history.
+-- For: `texts_by_threads`, src/threads.rt; `AreTurns`, specs/Ways.antt
+-- By: induction over the list of numbers, and over k, the turns that are allowed
 use Rattle.std.proofs.Common.{◌≡◌, ℕ, zero, suc, ◌+◌, ◌<◌, ◌≤◌, ◌⊎◌, inl, inr, false, List, [], ◌∷◌, ◌++◌, length, map, take, Option, Some, None, slice_get, refl, sym, ap, ◌∙◌, arith, length-append}
 use Rattle.std.specs.Prelude.{option_map}
 use Rattle.std.proofs.lemmas.List.{take_all, take-map, length-map, length-take-le}

@@ -1,4 +1,6 @@
 -- The ways of a line: there is one, and none writes anything before its first write.
+-- For: `IsWayOf`, specs/Ways.antt; `MayStand`, specs/Means.antt
+-- By: cases of the line; no induction
 use Rattle.std.proofs.Common.{◌<◌, [], refl, arith}
 use Rattle.golf_syntax_trees.specs.declared.declarations.File.{File}
 use Rattle.golf_code_of.specs.Files.{CodeOf}

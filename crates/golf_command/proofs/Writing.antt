@@ -1,4 +1,6 @@
 -- What it means that the texts of a run that is over were written, or could not be made.
+-- For: `write_texts`, `write_told`, src/texts.rt; `HasWritten`, specs/Written.antt
+-- By: cases of whether the texts were made and written; no induction
 use Rattle.std.proofs.Common.{◌≡◌, ℕ, List, [], ◌∷◌, refl, sym, subst, ap, ◌∙◌, inl, inr, append-nil}
 use Rattle.std.specs.Prelude.{Option, Bool, true, false, Result, Ok, Err, IfOk}
 use Rattle.std.specs.Io.KnownBytes.{Appends}
@@ -23,7 +25,7 @@ use Rattle.golf_command.specs.Generating.{generated_writes}
 use Rattle.golf_command.specs.Ways.{Way, IsWayOf, AreTurns, out_for, err_for, writes_for}
 use Rattle.golf_command.specs.Written.{AreTextsOf, AreTextsByThreads, text_writes, WroteBoth, HasWritten, HasTold}
 use Rattle.golf_command.specs.Promises.{Accepts}
-use Rattle.golf_command.specs.Means.{Breaks, Says, FileTells}
+use Rattle.golf_command.specs.Means.{Says, FileTells}
 use Rattle.golf_command.proofs.Filing.{went-tells, failed-tells, wanting-tells}
 
 -- ---- both texts

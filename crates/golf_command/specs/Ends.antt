@@ -27,6 +27,6 @@ refusal_status (refusals.Syntax line) = s.Refused
 refusal_status (refusals.Untyped line rule) = s.Refused
 refusal_status refusals.Memory = s.Memory
 
--- the refusal's line was written with its status, or memory was wanting for the line
+-- the refusal's line was written with its status, or memory ran out for the line
 abbrev pub Refuses : Status → Refusal → Option (List ℕ) → Option (List ℕ) → ℕ → ℕ → Type 0
 Refuses result refusal err err' before now = EndsWith result (refusal_status refusal) (refusal_line refusal) err err' before now ⊎ EndsWith result s.Memory NO_MEMORY.now err err' before now

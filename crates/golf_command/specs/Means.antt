@@ -33,7 +33,7 @@ seen left read_faults sinks = record { left = left; read_faults = read_faults; s
 
 -- ---- what sinks got
 
--- they got the first writes whole and a front of the next one, whose sink failed, and nothing behind it
+-- they got the first writes whole and a prefix of the next one, whose sink failed, and nothing after it
 pub record Breaks (old new : Sinks) (done : List Write) (cut : Write) : Type 0 where
   pub front : Write
   pub is_front : IsFrontOf front cut
@@ -180,7 +180,7 @@ pub record GotMeaning (words : List (List ℕ)) (answer : Status) (old new : Vie
   pub got_out : Appends old.sinks.out new.sinks.out out
   pub got_err : Appends old.sinks.err new.sinks.err err
 
--- if no count rose, so it is, or memory was wanting
+-- if no count rose, so it is, or memory ran out
 abbrev pub IsComplete : List (List ℕ) → Status → View → View → Type 0
 IsComplete words answer old new = IsQuiet old new → (answer ≡ s.Memory) ⊎ GotMeaning words answer old new
 

@@ -14,8 +14,8 @@ ghost use Rattle.golf_command_words.specs.declared.line.CommandLine.{CommandLine
 use crate::ends::end;
 use crate::texts::{RunTexts, write_texts};
 use golf_base::{Gate, List, Memory, Sink};
+use golf_command_sample::{Summary, file_lines, sample_file, summary_line};
 use golf_data::Code;
-use golf_command_sample::{Summary, file_lines, generate, summary_line};
 use golf_reader::{Refusal, read};
 use golf_run::survey;
 use golf_run_schedules::{RunOptions, Schedule};
@@ -95,7 +95,7 @@ pub(crate) fn run_generated<R: Threads + Sync, O: Sink, E: Sink, G: Gate + Sync>
         (sinks (O.written out.old) (O.faults out.old) (E.written err.old) (E.faults err.old))
         (sinks (O.written out.new) (O.faults out.new) (E.written err.new) (E.faults err.new)) }
 {
-    let bytes = match generate(alloc, parts) {
+    let bytes = match sample_file(alloc, parts) {
         Ok(bytes) => bytes,
         Err(_) => return end(err, NO_MEMORY, Status::Memory),
     };

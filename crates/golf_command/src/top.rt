@@ -13,10 +13,10 @@ use crate::loading::load;
 use crate::meaning::serve_meaning;
 use crate::threads::serve_threads;
 use golf_base::{Gate, Memory, Sink, Source};
+use golf_command_words::{CommandLine, parse};
 use golf_run::{RunFault, run};
 use golf_run_schedules::RunOptions;
 use golf_run_texts::{NO_MEMORY, Status, USAGE};
-use golf_command_words::{CommandLine, parse};
 use std::alloc::Global;
 use std::sync::Wait;
 use std::thread::Threads;
@@ -75,7 +75,9 @@ fn serve<R: AllocGlobal + Threads + Sync, S: Source, O: Sink, E: Sink, G: Gate +
 {
     match line {
         Ok(Some(CommandLine::Run(options))) => run_source(rt, options, source, out, err, gate),
-        Ok(Some(CommandLine::Generate(parts))) => { run_generated(rt, rt.alloc(), parts, out, err, gate) }
+        Ok(Some(CommandLine::Generate(parts))) => {
+            run_generated(rt, rt.alloc(), parts, out, err, gate)
+        }
         Ok(Some(CommandLine::Meaning)) => serve_meaning(rt.alloc(), source, out, err),
         Ok(Some(CommandLine::Threads(_))) => unreachable!(),
         Ok(None) => end(err, USAGE, Status::Usage),
@@ -88,9 +90,9 @@ fn serve<R: AllocGlobal + Threads + Sync, S: Source, O: Sink, E: Sink, G: Gate +
 /// lock of its program; every other line is served by a call that returns.
 ///
 /// The clause is about what is seen of the source and the sinks before the call and after it: what
-/// the status tells where the words are a line, and where they are not; which counts of faults
+/// the status tells where the words are a line, and if they are not; which counts of faults
 /// rose, which are those that the status names and no other; and that without a fault all is
-/// written, unless memory was wanting.
+/// written, unless memory ran out.
 pub fn golf<R: AllocGlobal + Threads + Wait + Sync, S: Source, O: Sink, E: Sink, G: Gate + Sync>(
     rt: &R,
     words: &[String],

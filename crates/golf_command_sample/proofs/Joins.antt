@@ -1,4 +1,6 @@
 -- A text that grew piece by piece.
+-- For: `file` (golf_command_sample/specs/File.antt) and `add_part`, `add_parts`, `add_calls` (src/file.rt)
+-- By: computing, as joining is associative; no induction
 use Rattle.std.proofs.Common.{◌≡◌, ℕ, suc, ◌+◌, List, [], ◌++◌, ap, sym, ◌∙◌, append_assoc, codes, arith}
 use Rattle.golf_command_sample.specs.File.{head, part, parts, call, calls, tail, file}
 

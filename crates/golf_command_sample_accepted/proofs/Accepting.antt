@@ -1,4 +1,6 @@
 -- Every generated file is accepted.
+-- For: `AlwaysAccepted` (golf_command_sample_accepted/specs/Accepted.antt) and `always_accepted` (src/lib.rt)
+-- By: the lemmas on its tokens, its tree and its rules, put together; no induction
 use Rattle.std.proofs.Common.{arith}
 use Rattle.golf_command_sample_accepted.specs.Accepted.{AlwaysAccepted}
 use Rattle.golf_command_sample_accepted.specs.Trees.{tree}

@@ -1,4 +1,6 @@
--- How bytes are scanned that stand in front of others.
+-- How bytes are scanned that stand before others.
+-- For: `scan` (golf_lex/specs/Scanning.antt) and `Lexes` (golf_lex_tokens/specs/Lexes.antt)
+-- By: induction over the list of digits; otherwise computing with the automaton
 use Rattle.std.proofs.Common.{◌≡◌, ℕ, ◌≤◌, Bool, true, false, ◌||◌, List, [], ◌∷◌, ◌++◌, refl, sym, ap, ◌∙◌, append_assoc, append-nil, arith}
 use Rattle.std.proofs.lemmas.Bool.{and_parts}
 use Rattle.std.proofs.lemmas.Bool.Decides.{nat_tests}
@@ -14,13 +16,13 @@ use Rattle.golf_lex.specs.Automaton.{begun}
 use Rattle.golf_lex.specs.Scanning.{behind, scan}
 use Rattle.golf_lex.proofs.Runs.{scans-lexes}
 
--- The states of the automaton have no names outside its crate: each is that behind a byte.
+-- The states of the automaton have no names outside its crate: each is that after a byte.
 
--- the lexemes that follow, where these bytes of one are behind it, of which this is the first
+-- the lexemes that follow, if these bytes of one are after it, of which this is the first
 abbrev pub in_state : ℕ → List ℕ → List ℕ → Option (List Lexeme)
 in_state first bytes rest = option_and_then (λ state. scan state bytes rest) (begun first)
 
--- the lexemes of bytes that stand alone, behind these of a word, and behind these of an integer
+-- the lexemes of bytes that stand alone, after these of a word, and after these of an integer
 abbrev pub scanned : List ℕ → Option (List Lexeme)
 scanned rest = in_state 32 [] rest
 
@@ -30,7 +32,7 @@ in_word bytes rest = in_state 97 bytes rest
 abbrev pub in_integer : List ℕ → List ℕ → Option (List Lexeme)
 in_integer bytes rest = in_state 49 bytes rest
 
--- digits behind digits
+-- digits after digits
 pub scan-digits : (bytes ds rest : List ℕ) → list_all is_digit ds ≡ true → in_integer bytes (ds ++ rest) ≡ in_integer (bytes ++ ds) rest
 scan-digits bytes [] rest h = ap (λ xs. in_integer xs rest) (sym (append-nil bytes))
 scan-digits bytes (d ∷ ds) rest h =
@@ -73,7 +75,7 @@ begun-digit d least most =
     let digit : is_digit d ≡ true = grind (arith, nat_tests) in
     rw (letter, nought, digit) refl
 
--- an integer behind a parenthesis, and behind a space
+-- an integer after a parenthesis, and after a space
 abbrev pub in_paren : List ℕ → Option (List Lexeme)
 in_paren rest = in_state 40 (40 ∷ []) rest
 

@@ -1,4 +1,6 @@
--- The tree reads the file.
+-- The tree reads the file: the declarations above all parts, and then the whole.
+-- For: `tree` (golf_command_sample_accepted/specs/Trees.antt) and `file` (golf_command_sample/specs/File.antt)
+-- By: computing, with the lemmas on what follows; no induction
 use Rattle.std.proofs.Common.{◌≡◌, ℕ, ◌<◌, ◌≤◌, ◌^◌, true, false, ◌&&◌, refl, sym, ap, subst, ◌∙◌, List, [], ◌∷◌, ◌++◌, map, codes}
 use Rattle.std.specs.Prelude.{Some}
 use Rattle.std.specs.List.{list_all}

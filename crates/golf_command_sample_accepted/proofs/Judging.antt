@@ -1,4 +1,6 @@
--- A part breaks no rule, whatever stands behind the three declarations above all parts.
+-- A part breaks no rule, whatever stands after the three declarations above all parts.
+-- For: `part_func` (golf_command_sample_accepted/specs/Trees.antt)
+-- By: computing, expression by expression and statement by statement; no induction
 use Rattle.std.proofs.Common.{◌≡◌, ℕ, ◌+◌, true, false, not, ◌&&◌, refl, sym, ap, ◌∙◌, List, [], ◌∷◌, ◌++◌, map, codes}
 use Rattle.std.specs.Prelude.{Option, Some, None}
 use Rattle.golf_syntax_trees.specs.declared.types.TypeExpr.TheVariants as ty

@@ -1,4 +1,6 @@
 -- How long a generated file is.
+-- For: `file` (golf_command_sample/specs/File.antt)
+-- By: induction over the number of parts or calls
 use Rattle.std.proofs.Common.{◌≡◌, ℕ, zero, suc, ◌*◌, ◌≤◌, refl, List, ◌++◌, length, length-append, codes, decimal, arith, lit<}
 use Rattle.std.proofs.lemmas.Fmt.{length-decimal-le}
 use Rattle.golf_command_sample.specs.File.{head, part, part_body, parts, call, calls, tail, file}

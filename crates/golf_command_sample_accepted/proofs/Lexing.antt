@@ -1,4 +1,6 @@
 -- How a part is cut into lexemes.
+-- For: `part` (golf_command_sample/specs/File.antt) and `scan` (golf_lex/specs/Scanning.antt)
+-- By: computing with the automaton; no induction
 use Rattle.std.proofs.Common.{◌≡◌, ℕ, ◌<◌, ◌≤◌, ◌^◌, refl, ap, ◌∙◌, List, [], ◌∷◌, ◌++◌, append_assoc, codes, decimal}
 use Rattle.std.specs.Prelude.{Option, Some, None}
 use Rattle.golf_lex_tokens.specs.Lexemes.{Lexeme}

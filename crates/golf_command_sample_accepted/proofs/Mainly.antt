@@ -1,4 +1,6 @@
 -- `main` and `wait` break no rule.
+-- For: `main_func`, `wait_func` (golf_command_sample_accepted/specs/Trees.antt)
+-- By: induction over the number of parts, which `main` calls, and over the list of digits
 use Rattle.std.proofs.Common.{◌≡◌, ℕ, zero, suc, ◌+◌, ◌*◌, ◌-◌, ◌<◌, ◌≤◌, ◌%◌, ◌^◌, true, refl, sym, ap, ◌∙◌, List, [], ◌∷◌, ◌++◌, map, codes, decimal, arith}
 use Rattle.std.specs.Prelude.{Some, None, slice_get, nat_le}
 use Rattle.std.proofs.lemmas.Bool.Decides.{nat_tests}
@@ -29,7 +31,7 @@ use Rattle.golf_check_types.specs.Written.{Write, write_step, named_base}
 use Rattle.golf_check_types.specs.Expressions.{used, named_or_used, given_by, facts_of, value_from, fits_int, runtime_member}
 use Rattle.golf_check_types.specs.Judging.{Judge, judge, judge_step}
 use Rattle.golf_check_types.specs.Statements as W
-use Rattle.golf_check_types.specs.Statements.{Walk, Walked, walk, clause_step, stmt_step}
+use Rattle.golf_check_types.specs.Statements.{Walk, walk, clause_step, stmt_step}
 use Rattle.golf_check_types.specs.Files.{func_walk, outside}
 use Rattle.golf_code_of.proofs.JudgeEquations as e
 use Rattle.golf_code_of.proofs.TypeWrites as w

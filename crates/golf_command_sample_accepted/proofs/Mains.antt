@@ -1,4 +1,6 @@
 -- The tokens of `main` are its words.
+-- For: `main_func`, `calls_before` (golf_command_sample_accepted/specs/Trees.antt)
+-- By: induction over the number of calls; otherwise computing
 use Rattle.std.proofs.Common.{◌≡◌, ℕ, zero, suc, ◌+◌, ◌<◌, ◌≤◌, ◌^◌, true, ◌&&◌, refl, sym, ap, subst, ◌∙◌, List, [], ◌∷◌, ◌++◌, map, append_assoc, add-zero, codes, decimal, arith}
 use Rattle.std.specs.Prelude.{Some}
 use Rattle.golf_lex_tokens.specs.declared.token.Token.{Token}
@@ -28,7 +30,7 @@ ruleset prints = (shape.print-Integer, shape.print-Name, shape.print-Selector, s
 
 ruleset forms = (shape.form-Integer, shape.form-Name, shape.form-Selector, shape.form-Call, shape.form-Binary, stmt_shape.form-Simple, stmt_shape.form-For)
 
--- a number in parentheses, and behind a space
+-- a number in parentheses, and after a space
 abbrev integer : ℕ → Lexeme
 integer k = record { class = Of (kinds.Integer (decimal k)); bytes = decimal k }
 

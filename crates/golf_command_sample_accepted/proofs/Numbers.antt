@@ -1,4 +1,6 @@
 -- What the digits of a number are.
+-- For: `is_digit`, `newlines` (golf_lex_tokens/specs/Bytes.antt)
+-- By: induction over the digits of the number
 use Rattle.std.proofs.Common.{◌≡◌, ℕ, ◌+◌, ◌<◌, ◌≤◌, ◌%◌, ◌^◌, true, false, ◌&&◌, refl, sym, ap, subst, ◌∙◌, List, [], ◌∷◌, ◌++◌, decimal, arith}
 use Rattle.std.proofs.lemmas.Bool.{and_parts}
 use Rattle.std.specs.Prelude.{nat_eq}

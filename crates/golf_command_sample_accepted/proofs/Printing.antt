@@ -1,4 +1,6 @@
 -- What the function of a part prints, and its form.
+-- For: `part_func` (golf_command_sample_accepted/specs/Trees.antt)
+-- By: computing; no induction
 use Rattle.std.proofs.Common.{◌≡◌, ℕ, ◌+◌, true, ◌&&◌, ap, ◌∙◌, List, [], ◌∷◌, ◌++◌, map, codes}
 use Rattle.std.specs.Prelude.{Some}
 use Rattle.golf_lex_tokens.specs.declared.token.TokenKind.{TokenKind}

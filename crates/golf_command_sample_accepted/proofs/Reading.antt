@@ -1,4 +1,6 @@
 -- The tokens of a part are its words, with what follows.
+-- For: `part_func`, `parts_before` (golf_command_sample_accepted/specs/Trees.antt)
+-- By: induction over the number of parts, and over the list of kinds of tokens on a line
 use Rattle.std.proofs.Common.{◌≡◌, ℕ, zero, suc, ◌+◌, ◌<◌, ◌≤◌, ◌^◌, true, false, ◌&&◌, refl, sym, ap, subst, ◌∙◌, List, [], ◌∷◌, ◌++◌, map, append_assoc, add-zero, decimal, arith}
 use Rattle.std.specs.Prelude.{Some}
 use Rattle.std.specs.List.{list_all}

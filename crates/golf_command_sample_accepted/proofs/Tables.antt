@@ -1,4 +1,6 @@
 -- The names of a generated file.
+-- For: `part_name`, `parts_before` (golf_command_sample_accepted/specs/Trees.antt)
+-- By: induction over the number of parts
 use Rattle.std.proofs.Common.{◌≡◌, ℕ, zero, suc, ◌+◌, ◌<◌, ◌^◌, ◌⊎◌, inl, inr, Bool, true, false, cond, refl, sym, ap, subst, ◌∙◌, List, [], ◌∷◌, ◌++◌, length, length-append, append_assoc, append-nil, codes, decimal, arith}
 use Rattle.std.specs.Prelude.{Option, Some, None, slice_get, nat_lt, fold}
 use Rattle.std.specs.Str.{bytes_eq}
@@ -14,7 +16,7 @@ use Rattle.golf_check_types.specs.Names.{Table, number_of, with_found}
 use Rattle.golf_check_types.specs.Files.{decl_added}
 use Rattle.golf_command_sample_accepted.specs.Trees.{part_name, part_decl, part_line, parts_before, main_decl}
 
--- the number of the name of the part behind n of them
+-- the number of the name of the part after n of them
 abbrev pub place : ℕ → ℕ
 place n = suc (suc (suc n))
 
@@ -96,7 +98,7 @@ meant-at (suc n) j rest less =
         subst (λ i. slice_get (meant n ++ (meant_as.Function (suc n) ∷ rest)) i ≡ Some (meant_as.Function (suc i))) (sym e)
         (ap (λ i. slice_get (meant n ++ (meant_as.Function (suc n) ∷ rest)) i) (sym (meant-length n)) ∙ seam (meant n) (meant_as.Function (suc n)) rest)
 
--- what the names are behind n parts
+-- what the names are after n parts
 abbrev naming : Table → List Entity → ℕ → Naming
 naming names entities functions = record {
   constants = 0;

@@ -1,4 +1,6 @@
 -- The tree breaks no rule.
+-- For: `tree` (golf_command_sample_accepted/specs/Trees.antt)
+-- By: induction over the number of parts
 use Rattle.std.proofs.Common.{◌≡◌, ℕ, zero, suc, ◌+◌, ◌<◌, ◌≤◌, ◌^◌, ◌==◌, true, false, ◌&&◌, refl, ap, ◌∙◌, List, [], ◌∷◌, ◌++◌, codes, arith}
 use Rattle.std.specs.Prelude.{Option, None, flat_map}
 use Rattle.std.proofs.lemmas.Bool.Decides.{nat_tests}

@@ -50,7 +50,7 @@ is_even = ex.Binary binary.Equal (ex.Binary binary.Remainder (name (codes "n")) 
 abbrev pub int_field : List ℕ → Field
 int_field n = record { first = n; more = []; of_type = ty.Named (codes "int") }
 
--- the function of the k-th part, where its first line is l
+-- the function of the k-th part, if its first line is l
 abbrev pub part_func : ℕ → ℕ → Func
 part_func k l = record {
   line = l;
@@ -68,12 +68,12 @@ part_decl k l = d.Func (part_func k l)
 abbrev pub next_part : ℕ → ℕ
 next_part l = l + 1 + 1 + 1 + 1 + 1 + 1 + 1 + 1
 
--- the line of the part behind n of them
+-- the line of the part after n of them
 abbrev pub part_line : ℕ → ℕ
 part_line zero = 16
 part_line (suc n) = next_part (part_line n)
 
--- the parts 1 to n, in front of other declarations
+-- the parts 1 to n, before other declarations
 abbrev pub parts_before : ℕ → List Decl → List Decl
 parts_before zero ds = ds
 parts_before (suc n) ds = parts_before n (part_decl (suc n) (part_line n) ∷ ds)
@@ -90,12 +90,12 @@ counts_to n l = st.For l (header.Steps (Some (record { line = l; kind = simple.D
 abbrev pub collects : ℕ → Stmt
 collects l = does l (simple.Expression (ex.Call (ex.Selector (name (codes "runtime")) (codes "GC")) []))
 
--- the line behind n calls, where `main` stands on line l
+-- the line after n calls, if `main` stands on line l
 abbrev pub call_line : ℕ → ℕ → ℕ
 call_line l zero = l + 1
 call_line l (suc n) = call_line l n + 1
 
--- the calls of the parts 1 to n, in front of other statements
+-- the calls of the parts 1 to n, before other statements
 abbrev pub calls_before : ℕ → ℕ → List Stmt → List Stmt
 calls_before l zero ss = ss
 calls_before l (suc n) ss = calls_before l n (calls_part (suc n) (call_line l n) ∷ ss)
@@ -125,7 +125,7 @@ wait_func = record {
   body = does 13 (simple.Expression (ex.Unary unary.Receive (name (codes "c")))) ∷ [];
 }
 
--- the declarations behind the three above all parts
+-- the declarations after the three above all parts
 abbrev pub later : ℕ → List Decl
 later n = parts_before n (main_decl n (part_line n) ∷ [])
 

@@ -1,4 +1,6 @@
 -- A text that is cut at its first separator.
+-- For: `at_comma`, `at_colon`, src/values.rt; `cut`, specs/Values.antt
+-- By: cases of whether the separator is there; no induction
 use Rattle.std.proofs.Common.{◌≡◌, ℕ, ◌<◌, Bool, cond, sym, ap, ap₂, ◌∙◌, ◌==◌, length, Option, Some, None, Bor, lt-ltb, le-ltb, arith}
 use Rattle.std.specs.Option.{option_map}
 use Rattle.std.specs.List.{position_or_len, before_first, after_first}

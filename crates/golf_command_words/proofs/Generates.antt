@@ -1,4 +1,6 @@
--- A generate line: one number, with one `--` right before or behind it.
+-- A generate line: one number, with one `--` right before or after it.
+-- For: `parse`, src/reading.rt; `generate_of`, specs/Words.antt
+-- By: cases of how many words there are and of what each word is; no induction
 use Rattle.std.proofs.Common.{◌≡◌, ◌∙◌, ◌&&◌, ℕ, Bool, cond, true, false, refl, sym, ap, List, [], ◌∷◌, length, Option, Some, None, option_map, option_and_then, bytes_eq, codes, nat_le, IsUtf8, eqb-true, true≢false}
 use Rattle.std.specs.List.{AllByRecursion}
 use Rattle.clap.specs.Lexer.{long_of, short_of}
@@ -134,7 +136,7 @@ more_words a b c rest (dashes e) k = dashes_then a (b ∷ c ∷ rest) e ∙ numb
 more_words a b c rest (hyphen e begins none) k = none nothing_held 1 (b ∷ c ∷ rest) refl
 more_words a b c rest (plain e none short) k = number_first a (b ∷ c ∷ rest) e none short ∙ second_of_more a b c rest k
 
--- the words behind `generate` give the line that the grammar gives
+-- the words after `generate` give the line that the grammar gives
 pub generate_line_is : (words : List Text) → AllByRecursion IsUtf8 words → option_and_then generate_by (outcome generate_shape (walk_from nothing_held) words) ≡ generate_of words
 generate_line_is [] utf8 = ap read (outcome-nil generate_shape (walk_from nothing_held) ∙ none_ends)
 generate_line_is (a ∷ []) utf8 = one_word a (kind_of a utf8.0)

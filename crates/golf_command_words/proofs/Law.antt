@@ -1,4 +1,6 @@
 -- The line that the words stand for is what `clap` finds in them.
+-- For: `parse`, src/reading.rt; `line_of`, specs/Words.antt; `split_of`, specs/Splitting.antt
+-- By: cases of the first word; induction over the list of words after it
 use Rattle.std.proofs.Common.{◌≡◌, ◌∙◌, ◌++◌, Bool, cond, true, false, refl, sym, ap, ap₂, subst, List, [], ◌∷◌, map, Option, Some, None, Result, Ok, Err, IfOk, option_and_then, is_some, bytes_eq, codes, IsUtf8, String, string_bytes}
 use Rattle.std.specs.List.{AllByRecursion}
 use Rattle.std.specs.Option.{option_map_or}

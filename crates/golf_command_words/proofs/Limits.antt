@@ -1,4 +1,6 @@
 -- The numbers of a line are within their limits.
+-- For: `parse`, src/reading.rt; `IsWithin`, specs/Words.antt
+-- By: cases of the line and of the tests of its bounds; no induction
 use Rattle.std.proofs.Common.{◌≡◌, ◌&&◌, ℕ, ◌≤◌, Bool, true, false, if◌then◌else◌, List, [], ◌∷◌, Option, Some, None, IfSome, Result, Ok, Err, IfOk, option_and_then, option_map, nat_le, bytes_eq, codes, refl, sym, subst, arith}
 use Rattle.std.proofs.lemmas.Bool.{and_parts}
 use Rattle.std.proofs.lemmas.Bool.Decides.{nat_tests}

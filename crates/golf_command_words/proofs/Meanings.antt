@@ -1,5 +1,7 @@
 -- A meaning line: nothing after its name, or one `--`.
-use Rattle.std.proofs.Common.{◌≡◌, ◌∙◌, Bool, cond, true, false, refl, sym, ap, List, [], ◌∷◌, Option, Some, None, option_and_then, bytes_eq, codes, IsUtf8}
+-- For: `parse`, src/reading.rt; `meaning_of`, specs/Words.antt
+-- By: cases of how many words there are and of what the first word is; no induction
+use Rattle.std.proofs.Common.{◌≡◌, ◌∙◌, Bool, cond, true, false, refl, ap, List, [], ◌∷◌, Option, Some, None, option_and_then, bytes_eq, IsUtf8}
 use Rattle.std.specs.List.{AllByRecursion}
 use Rattle.clap.specs.Lexer.{long_of, short_of}
 use Rattle.clap.specs.Walk.{Row, idle, nothing_held, walk_from}

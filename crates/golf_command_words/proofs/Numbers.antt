@@ -1,4 +1,6 @@
 -- What a written list of numbers gains, number by number.
+-- For: `add_numbers`, src/values.rt; `numbers_of`, specs/Values.antt
+-- By: cases of the cut at the first comma and of the number before it; no induction
 use Rattle.std.proofs.Common.{◌≡◌, ◌∙◌, ℕ, zero, suc, ◌-◌, Bool, true, false, refl, sym, ap, subst, List, [], ◌∷◌, ◌++◌, Option, Some, None, Result, Ok, Err, IfOk, option_map, option_and_then, append_assoc, arith}
 use Rattle.golf_command_words.specs.Values.{Gains, Text, after_comma, cut, number_of, numbers_of}
 

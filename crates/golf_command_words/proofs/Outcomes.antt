@@ -1,4 +1,6 @@
 -- What a command without subcommands finds in its words: the rows of its arguments, or none where a word is at fault.
+-- For: `parse`, src/reading.rt; `split_of`, specs/Splitting.antt
+-- By: cases of what the next word is: `--`, a long option, short ones, or plain; no induction
 use Rattle.std.proofs.Common.{◌≡◌, ◌∙◌, ◌==◌, ◌++◌, ℕ, Bool, cond, true, false, refl, sym, ap, ap₂, List, [], ◌∷◌, Option, Some, None, option_and_then, fold, bytes_eq, slice_get, chars, drop, encode_utf8, length, IsUtf8, true≢false, eqb-true, arith}
 use Rattle.std.specs.Option.{option_map_or}
 use Rattle.std.proofs.lemmas.Str.{IsUtf8-past_char, encode_ascii, encodes-chars}
@@ -77,7 +79,7 @@ short_parts (a ∷ x ∷ xs) flags e = go (a == 45) refl e
     go true is h = behind (x == 45) (eqb-true a 45 is) h
     go false is h = absurd (true≢false (sym (ap is_some_text h)))
 
--- the text behind the hyphen is UTF-8, and not empty
+-- the text after the hyphen is UTF-8, and not empty
 pub record IsText (flags : Text) : Type 0 where
   pub first : ℕ
   pub rest : Text
@@ -94,7 +96,7 @@ first_char : (cs : List ℕ) (x : ℕ) (xs : Text) → encodes cs ≡ x ∷ xs �
 first_char [] x xs e = absurd (true≢false (sym (ap some_text e)))
 first_char (y ∷ ys) x xs e = (y, refl)
 
--- a word `-x..` is at fault where no option is short
+-- a word `-x..` is at fault if no option is short
 pub bundle_fails : (c : List Rule) (again : Bool) (flags : Text) (h : Held) → IsText flags → h.skip ≡ 0 → ((x : ℕ) → arg_by_short c x ≡ None) → fails (bundle_fault c again flags h) ≡ true
 unfolding flags_fault
 bundle_fails c again flags h text whole shorts = go flags text.first text.rest text.some text.utf8
@@ -140,7 +142,7 @@ module _ (s : Shape) where
       ∙ ap (λ o. unless_fault (walk_fault s [] (walk_from nothing_held) words) o)
       (unless_or used (or_else given asked) (Some rows) ∙ ap (λ o. unless_fault used o) (unless_or given asked (Some rows)))
 
-  -- where no `--` and no subcommand came yet
+  -- if no `--` and no subcommand came yet
   abbrev pub standing : Held → Waiting → ℕ → Walk
   standing h waiting position = record { held = h; waiting = waiting; position = position; is_trailing = false; stopped = None }
 
@@ -210,7 +212,7 @@ module _ (s : Shape) where
       by_long h waiting position word rest None e none
       ∙ ap (λ o. turned h waiting position word rest (option_map_or (λ t. bundle_fault s.rules s.args_override_self t h) o []) (short_or_plain s.rules waiting word o h)) short
 
-  -- a word behind `--`
+  -- a word after `--`
   pub trailed_is : (h : Held) (waiting : Waiting) (position : ℕ) (word : Text) (rest : List Text) → outcome (trailed h waiting position) (word ∷ rest)
       ≡ unless_fault (step_fault s position h value) (outcome (to_positional s.rules (arg_by_index s.rules position) word (trailed h waiting position) h) rest)
   unfolding walked

@@ -1,4 +1,6 @@
 -- The program's commands, and what their faults come to.
+-- For: `split`, src/splitting.rt; `split_of`, specs/Splitting.antt
+-- By: computing what the commands are; cases of the list of faults
 use Rattle.std.proofs.Common.{◌≡◌, true, refl, sym, ap, subst, ◌∙◌, List, [], ◌∷◌, Option, None}
 use Rattle.clap.proofs.OnLiterals.{clap_on_literals}
 use Rattle.clap.specs.Walk.{Row}

@@ -1,4 +1,6 @@
--- A run line, whole.
+-- A run line, whole: `clap` finds in its words what the grammar says.
+-- For: `parse`, src/reading.rt; `run_of`, `uses_after`, specs/Words.antt
+-- By: induction over the list of words
 use Rattle.std.proofs.Common.{◌≡◌, ◌∙◌, Bool, cond, true, false, refl, sym, ap, ap₂, List, [], ◌∷◌, map, length, Option, Some, None, option_and_then, bytes_eq, nat_lt, is_some, IsUtf8, true≢false}
 use Rattle.std.specs.List.{AllByRecursion}
 use Rattle.std.specs.Option.{option_map_or}
@@ -43,7 +45,7 @@ rest_word word rest utf8 at_rest at_value = go (bytes_eq word (45 ∷ 45 ∷ [])
     go false None (Some flags) e is short = rest_short word rest flags utf8 e is short
     go false None None e is short = rest_plain word rest e is short
 
--- ---- a word where a value is wanted
+-- ---- a word if a value is wanted
 
 pub settle_first : (a b : Kinds) → fails a ≡ true → fails (or_else a b) ≡ true
 settle_first [] b e = absurd (true≢false (sym e))
@@ -112,7 +114,7 @@ each_word (word ∷ rest) utf8 =
     let later = each_word rest utf8.1 in
     (rest_word word rest utf8.0 later.0 later.1, value_word word rest utf8.0 later.0)
 
--- the words behind `run` give the line that the grammar gives
+-- the words after `run` give the line that the grammar gives
 pub run_line_is : (words : List Text) → AllByRecursion IsUtf8 words
     → option_and_then run_by (outcome run_shape (walk_from nothing_held) words) ≡ option_and_then run_of (uses_after [] None words)
 run_line_is words utf8 = (each_word words utf8).0 [] None (Some []) tt refl

@@ -1,9 +1,11 @@
--- A word of a run line that is an option.
-use Rattle.std.proofs.Common.{◌≡◌, ◌∙◌, ◌&&◌, ◌++◌, Bool, cond, true, false, refl, sym, ap, ap₂, List, [], ◌∷◌, map, Option, Some, None, option_map, option_and_then, is_some, bytes_eq, codes}
+-- A word of a run line that is an option: `clap` does with it what the grammar says.
+-- For: `parse`, src/reading.rt; `uses_after`, specs/Words.antt
+-- By: cases of the option's name and of its value; no induction
+use Rattle.std.proofs.Common.{◌≡◌, ◌∙◌, ◌&&◌, ◌++◌, Bool, cond, true, false, refl, sym, ap, ap₂, List, [], ◌∷◌, map, Option, Some, None, option_map, option_and_then, is_some, bytes_eq}
 use Rattle.std.specs.List.{AllByRecursion}
 use Rattle.clap.specs.Lexer.{long_of}
 use Rattle.clap.specs.Kinds.{Kinds, or_else}
-use Rattle.clap.specs.Walk.{Held, Row, Rule, idle, option, after_flag, arg_by_long, flag_met, option_met, settled, used}
+use Rattle.clap.specs.Walk.{Held, Row, Rule, idle, option, after_flag, flag_met, option_met, settled, used}
 use Rattle.clap.specs.Faults.{option_fault, react_fault, repeat_fault, settle_fault, use_fault}
 use Rattle.clap.specs.declared.error.kind.ErrorKind.TheVariants.{ArgumentConflict, TooManyValues}
 use Rattle.golf_command_words.specs.Values.{Text}
@@ -11,7 +13,7 @@ use Rattle.golf_command_words.specs.Words.{Use, is_flag, is_last, is_used, optio
 use Rattle.golf_command_words.specs.Words.{option_met as option_told}
 use Rattle.golf_command_words.specs.Splitting.{unless_fault}
 use Rattle.golf_command_words.proofs.Outcomes.{long_is, outcome, standing, turned, unless_then}
-use Rattle.golf_command_words.proofs.Runs.{IsFlag, IsValued, flagged, has_row-used, new_use, option_in-long, or_else-nil, row, rules, run_shape, same_text, unknown, used_rows, valued}
+use Rattle.golf_command_words.proofs.Runs.{IsFlag, IsValued, flagged, has_row-used, new_use, option_in-long, or_else-nil, row, rules, run_shape, unknown, used_rows, valued}
 use Rattle.golf_command_words.proofs.Settings.{IsTold}
 use Rattle.golf_command_words.proofs.RunWords.{AreTold, AtRest, AtValue, by_word, held, line_ends, line_from, none_then, read, seen, told_more}
 

@@ -1,4 +1,6 @@
 -- The words of a run line, one by one: the walk of `clap` finds what the grammar says.
+-- For: `parse`, src/reading.rt; `run_of`, `uses_after`, specs/Words.antt
+-- By: cases of the next word; induction over the lists of rules and of uses
 use Rattle.std.proofs.Common.{◌≡◌, ◌∙◌, ◌||◌, ◌++◌, Bool, cond, true, false, refl, sym, ap, List, [], ◌∷◌, map, Option, Some, None, option_map, option_and_then, fold, is_some, bytes_eq}
 use Rattle.std.specs.Bool.{⊤}
 use Rattle.std.specs.List.{AllByRecursion}
@@ -60,7 +62,7 @@ abbrev pub AreTold : Option (List Use) → Type 0
 AreTold None = ⊤
 AreTold (Some us) = AllByRecursion IsTold us
 
--- where an option may stand
+-- if an option may stand
 abbrev pub AtRest : List Text → Type 0
 AtRest words = (rows : List Row) (pending : Option (Text × List Text)) (us : Option (List Use)) → AreTold us → seen (held rows pending) ≡ option_map (map row) us
     → read (outcome run_shape (standing run_shape (held rows pending) idle 1) words) ≡ line_from us words
@@ -68,7 +70,7 @@ AtRest words = (rows : List Row) (pending : Option (Text × List Text)) (us : Op
 abbrev pub lacks : List Use → Text → Held
 lacks us name = held (map row us) (Some (name, []))
 
--- where the value of an option stands
+-- if the value of an option stands
 abbrev pub AtValue : List Text → Type 0
 AtValue words = (us : List Use) (name : Text) → AllByRecursion IsTold us → IsValued name
     → read (outcome run_shape (standing run_shape (lacks us name) (option name) 1) words) ≡ option_and_then run_of (uses_after us (Some name) words)
@@ -113,7 +115,7 @@ value_nil us name told v =
 
 -- ---- `--`
 
--- nothing may stand behind it
+-- nothing may stand after it
 pub stray : (h : Held) (waiting : Waiting) (word : Text) (rest : List Text) → outcome run_shape (trailed run_shape h waiting 1) (word ∷ rest) ≡ None
 stray h waiting word rest = trailed_is run_shape h waiting 1 word rest
 
@@ -121,7 +123,7 @@ pub by_word : (us : List Use) (word : Text) (rest : List Text) → uses_after us
 unfolding uses_after
 by_word us word rest = refl
 
--- where the word ends the line, or makes it none
+-- if the word ends the line, or makes it none
 pub line_ends : (us : Option (List Use)) (word : Text) (rest : List Text) (next : List Use → Option (List Use)) → ((now : List Use) → uses_after now None (word ∷ rest) ≡ next now)
     → line_from us (word ∷ rest) ≡ option_and_then run_of (option_and_then next us)
 line_ends None word rest next is = refl

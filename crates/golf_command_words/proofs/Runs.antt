@@ -1,4 +1,6 @@
 -- What the walk of `clap` over the words of a run line comes to.
+-- For: `parse`, src/reading.rt; `is_used`, `option_in`, specs/Words.antt
+-- By: computing the rule of each option; cases of the word; induction over the list of rows
 use Rattle.std.proofs.Common.{◌≡◌, ◌∙◌, ◌&&◌, ◌==◌, ◌++◌, inl, inr, Bool, cond, true, false, refl, sym, ap, subst, List, [], ◌∷◌, map, Option, Some, None, option_map, option_and_then, is_some, bytes_eq, codes, true≢false, append-nil}
 use Rattle.std.proofs.lemmas.Bool.{or_cases, or_parts}
 use Rattle.std.proofs.lemmas.List.{map-append}

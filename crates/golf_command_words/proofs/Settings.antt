@@ -1,4 +1,6 @@
 -- What the rows of a run line say of its settings.
+-- For: `parse`, src/reading.rt; `run_of`, specs/Words.antt
+-- By: induction over the list of uses and over the list of rows
 use Rattle.std.proofs.Common.{◌≡◌, ◌∙◌, ◌||◌, ◌++◌, ℕ, Bool, cond, true, false, refl, sym, ap, ap₂, List, [], ◌∷◌, map, drop, Option, Some, None, option_map, option_and_then, fold, is_some, find, bytes_eq, slice_get, codes, true≢false}
 use Rattle.std.specs.List.{AllByRecursion}
 use Rattle.std.specs.Option.{option_or}
@@ -14,14 +16,14 @@ use Rattle.golf_command_words.specs.Splitting.{every_or_none, is_true, options_b
 use Rattle.golf_command_words.specs.declared.line.CommandLine.{CommandLine}
 use Rattle.golf_command_words.proofs.Runs.{at_no_row, has_row-used, row, rules, same_text, value_of}
 
--- a use has a value where its option takes one
+-- a use has a value if its option takes one
 abbrev pub IsTold : Use → Type 0
 IsTold u = is_some u.1 ≡ takes_value u.0
 
 abbrev by_default : Text → Row
 by_default flag = record { id = flag; values = codes "false" ∷ []; count = None; source = Some DefaultValue; reading = AsWritten }
 
--- an option without a value has its default where it was not used
+-- an option without a value has its default if it was not used
 abbrev with_flag : Text → List Row → List Row
 with_flag flag rows = cond (has_row flag rows) rows (with_values flag AsWritten DefaultValue (codes "false" ∷ []) rows)
 

@@ -40,7 +40,7 @@ program_app = on_top (λ s. record s { disable_help_subcommand = true; disable_v
 abbrev pub golf_app : App
 golf_app = with_subcommand (with_subcommand (with_subcommand program_app run_app.top) generate_app.top) meaning_app.top
 
--- the subcommand that the words name, with what was found for its arguments; none exactly where `clap` names a fault, or no subcommand
+-- the subcommand that the words name, with what was found for its arguments; none exactly if `clap` names a fault, or no subcommand
 abbrev pub unless_fault : {X : Type 0} → Kinds → Option X → Option X
 unless_fault [] found = found
 unless_fault (k ∷ ks) found = None

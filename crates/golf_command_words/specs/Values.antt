@@ -7,7 +7,7 @@ use Rattle.golf_run_schedules.specs.declared.schedule.Schedule.{Schedule}
 abbrev pub Text : Type 0
 Text = List ℕ
 
--- what stands before and behind the first c of a text that has one
+-- what stands before and after the first c of a text that has one
 abbrev pub cut : ℕ → Text → Option (Text × Text)
 cut c text =
     if nat_lt (position_or_len (λ b. b == c) text) (length text)
@@ -18,7 +18,7 @@ cut c text =
 abbrev pub is_digit : ℕ → Bool
 is_digit b = nat_le 48 b && nat_le b 57
 
--- the number that digits write behind those of n; none where a byte is no digit, or past 2^64 - 1
+-- the number that digits write after those of n; none if a byte is no digit, or past 2^64 - 1
 abbrev pub digits_after : ℕ → Text → Option ℕ
 digits_after n [] = Some n
 digits_after n (b ∷ bs) =

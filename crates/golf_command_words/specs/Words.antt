@@ -1,4 +1,4 @@
--- The words behind the program's name, and the line that they stand for (profile).
+-- The words after the program's name, and the line that they stand for (profile).
 use Rattle.std.specs.Prelude.{ℕ, ◌≤◌, ◌++◌, ◌&&◌, ◌||◌, ◌==◌, Bool, true, false, if◌then◌else◌, List, [], ◌∷◌, find, Option, Some, None, is_some, option_and_then, option_map, codes, bytes_eq}
 use Rattle.std.specs.List.{list_any, before_first, after_first}
 use Rattle.golf_command_words.specs.Values.{Text, number_within, schedule_of}
@@ -55,13 +55,13 @@ option_met us name None next =
     if takes_value name then next us (Some name)
     else (if is_flag name then option_and_then (λ now. next now None) (with_use us name None) else None)
 
--- a word where an option may stand; one `--` may stand last
+-- a word if an option may stand; one `--` may stand last
 abbrev pub word_met : List Use → Text → List Text → (List Use → Option Text → Option (List Use)) → Option (List Use)
 word_met us word rest next =
     if bytes_eq word (codes "--") then (if is_last rest then Some us else None)
     else option_and_then (λ o. option_met us o.0 o.1 next) (option_in word)
 
--- the uses that the words name, behind those before them; the value of the option `waiting` stands in the next word
+-- the uses that the words name, after those before them; the value of the option `waiting` stands in the next word
 unfoldable pub uses_after : List Use → Option Text → List Text → Option (List Use)
 uses_after us None [] = Some us
 uses_after us (Some name) [] = None
@@ -121,7 +121,7 @@ run_of us = run_by_threads (value_in us (codes "threads")) us
 
 -- ---- lines
 
--- N, with one `--` right before or behind it
+-- N, with one `--` right before or after it
 abbrev pub number_word : List Text → Option Text
 number_word (a ∷ []) = Some a
 number_word (a ∷ b ∷ []) = if bytes_eq a (codes "--") then Some b else (if bytes_eq b (codes "--") then Some a else None)

@@ -1,6 +1,6 @@
-//! The words behind the program's name: which line they stand for.
+//! The words after the program's name: which line they stand for.
 //!
-//! - `parse`: the line, or none where the words stand for none.
+//! - `parse`: the line, or none if the words stand for none.
 //! - `CommandLine`: what a line asks for.
 #![tactic(auto)]
 

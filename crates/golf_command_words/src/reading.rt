@@ -44,7 +44,7 @@ fn number_or(value: Option<&str>, default: u32, most: u32) -> Option<u32>
     }
 }
 
-// Behind each how many turns a collection is added, if any.
+// After each how many turns a collection is added, if any.
 fn every_of(value: Option<&str>) -> Option<Option<u32>>
     ensures { result ≡ every_or_none (option_map (λ text. text.now) value.entry) }
 {
@@ -150,7 +150,7 @@ fn line_as_split(alloc: Global, words: &[String]) -> Result<Option<CommandLine>,
     }
 }
 
-/// The line that the words behind the program's name stand for; none where they stand for none.
+/// The line that the words after the program's name stand for; none where they stand for none.
 pub fn parse(alloc: Global, words: &[String]) -> Result<Option<CommandLine>, Memory>
     ensures line { IfOk result (λ line. line ≡ line_of (map string_bytes words.now)) }
     ensures limits { IfOk result (λ line. IfSome line IsWithin) }

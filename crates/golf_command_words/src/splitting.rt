@@ -110,7 +110,7 @@ fn whole<'a>(alloc: Global) -> Result<Command<'a>, AllocError>
     Ok(three)
 }
 
-/// What `clap` makes of the words; none where it refuses them.
+/// What `clap` makes of the words; none if it refuses them.
 pub(crate) fn split<'a>(
     alloc: Global,
     words: &'a [String],

@@ -10,7 +10,7 @@ use std::alloc::Global;
 /// The most numbers of a schedule that is written out.
 const CHOICES: u32 = 4_096;
 
-// The number that digits write behind those of `number`.
+// The number that digits write after those of `number`.
 fn digits_after(number: u64, text: &[u8]) -> Option<u64>
     ensures { result ≡ digits_behind number text.now }
 {
@@ -47,14 +47,14 @@ pub(crate) fn number_within(least: u32, most: u32, text: &str) -> Option<u32>
     }
 }
 
-// What stands before and behind the first comma.
+// What stands before and after the first comma.
 fn at_comma(text: &str) -> Option<(&str, &str)>
     ensures { option_map (λ parts. (parts.0.now, parts.1.now)) result ≡ cut 44 text.now }
 {
     text.split_once(',')
 }
 
-// What stands before and behind the first colon.
+// What stands before and after the first colon.
 fn at_colon(text: &str) -> Option<(&str, &str)>
     ensures { option_map (λ parts. (parts.0.now, parts.1.now)) result ≡ cut 58 text.now }
 {

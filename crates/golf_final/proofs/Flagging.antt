@@ -1,4 +1,6 @@
 -- The flag at the rank of an object that is there.
+-- For: `flagged` and `queue_finalisers`, src/queueing.rt
+-- By: induction over the list of flags, with the entries that they belong to
 use Rattle.std.proofs.Common.{◌≡◌, ℕ, suc, ◌<◌, ◌≤◌, Bool, true, false, ◌||◌, cond, List, [], ◌∷◌, ◌++◌, not, map, length, get_or, inl, inr, refl, sym, ap, ◌∙◌, arith}
 use Rattle.std.specs.Prelude.{IsTrue, ◌↔◌, Result, Ok, Err, OnOk}
 use Rattle.std.proofs.lemmas.Bool.{eq-eqb, ne_eqb, lt-ltb, le-ltb}
@@ -51,7 +53,7 @@ module _ {X : Type 0} where
         | false ↦ refl
       ]
 
--- a test that is true where the flag is set is the flag
+-- a test that is true if the flag is set is the flag
 pub is-flag : (b : Bool) (flags : List Bool) (n : ℕ) → (IsTrue b ↔ IsSet flags n) → b ≡ get_or flags n false
 is-flag b flags n h = by b (get_or flags n false) h
   where
@@ -68,7 +70,7 @@ queued-outside s xs flags is =
     let b : left_out flags s.finalisers ≡ only (λ o. not (is_in o xs)) s.finalisers = ap (λ (fs : List Bool). left_out fs s.finalisers) is ∙ left_out-only (λ o. is_in o xs) s.finalisers in
     λ i. record s { finalisers = a i; queue = s.queue ++ queued (b i) }
 
--- what holds where a call went well holds under another name
+-- what holds if a call went well holds under another name
 pub where-ok : {A E : Type 0} (r : Result A E) (P Q : Type 0) → (P → Q) → OnOk r P → OnOk r Q
 where-ok (Ok x) P Q f h = f h
 where-ok (Err e) P Q f h = h

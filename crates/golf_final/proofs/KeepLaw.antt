@@ -1,4 +1,6 @@
 -- On the graph of a state, what is kept is what the definitions keep.
+-- For: `keeps_law`, src/laws.rt; `KeepsAlike`, specs/Keeping.antt
+-- By: induction over the steps that lead to an object
 use Rattle.std.proofs.Common.{◌≡◌, ℕ, ◌+◌, ◌<◌, Bool, true, false, ◌||◌, List, [], length, get_or, Option, Some, ◌==◌, ◌⊎◌, inl, inr, refl, sym, ap, subst, ◌∙◌, slice_get}
 use Rattle.std.specs.Prelude.{◌↔◌, option_map, unwrap_or}
 use Rattle.std.proofs.lemmas.List.{length-map}

@@ -1,4 +1,6 @@
 -- What leads to a node that prevents removal, forwards and backwards.
+-- For: `keeps`, src/keeping.rt; `IsKept`, specs/Keeping.antt
+-- By: induction over the steps that lead to a node
 use Rattle.std.proofs.Common.{◌≡◌, ℕ, ◌<◌, inl, inr, Bool, List, [], ◌∷◌, length, refl, sym, subst, arith}
 use Rattle.std.specs.Prelude.{◌↔◌}
 use Rattle.golf_theory.specs.Membership.{In}

@@ -1,4 +1,6 @@
 -- The graph that is gone through backwards.
+-- For: `backward`, src/keeping.rt; `IsBackward`, specs/Backward.antt
+-- By: putting the facts of the rows together; no induction
 use Rattle.std.proofs.Common.{◌≡◌, ℕ, ◌<◌, Bool, List, [], length, sym, ap, ◌∙◌, subst, arith}
 use Rattle.std.specs.Prelude.{◌↔◌}
 use Rattle.std.proofs.lemmas.Option.{unwrap_or-slice_get}

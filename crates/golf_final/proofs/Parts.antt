@@ -1,4 +1,6 @@
 -- Numbers from 0, flags and rows.
+-- For: `count_up`, `preventing` and `keeps`, src/keeping.rt
+-- By: induction over n, the numbers that are counted, and over the list of rows
 use Rattle.std.proofs.Common.{◌≡◌, ℕ, zero, suc, ◌+◌, ◌<◌, inl, inr, Bool, false, List, [], ◌∷◌, ◌++◌, length, get_or, refl, sym, ap, ◌∙◌, subst, arith}
 use Rattle.std.specs.Prelude.{◌↔◌, IsTrue}
 use Rattle.std.proofs.lemmas.Bool.{cases_eq}

@@ -23,7 +23,7 @@ HasChild g from to = In to (children_of g from)
 abbrev pub ComesTo : GraphParts → List ℕ → ℕ → Type 0
 ComesTo g starts = Reached (λ p. In p starts) (HasChild g)
 
--- what keeps a dead goroutine that comes to it: a node with a finaliser, and a marked one where the code sets finalisers
+-- what keeps a dead goroutine that comes to it: a node with a finaliser, and a marked one if the code sets finalisers
 abbrev pub Prevents : GraphParts → List Bool → Bool → ℕ → Type 0
 Prevents g flags sets_finalisers p = IsSet g.finalised p ⊎ ((sets_finalisers ≡ true) × IsSet flags p)
 
@@ -37,7 +37,7 @@ pub record HasKept (g : GraphParts) (m : Marked) (sets_finalisers : Bool) (flags
   pub count : length flags ≡ sleeper_count g
   pub kept : (s : ℕ) → s < sleeper_count g → IsSet flags s ↔ IsKept g m sets_finalisers s
 
--- on the marked graph of a state a sleeper's flag is set where its goroutine is dead and the keep rule of the definitions keeps it
+-- on the marked graph of a state a sleeper's flag is set if its goroutine is dead and the keep rule of the definitions keeps it
 abbrev pub KeepsAlike : Type 0
 KeepsAlike = (s : State) (m : Marked) (sets_finalisers : Bool) (flags : List Bool) → Numbered s → IsWhole s → MarksLeast (live_parts s) m → HasKept (live_parts s) m sets_finalisers flags
     → (j g : ℕ) → IsSleeper s j g → IsSet flags j ↔ (Dead s g × Keeps s sets_finalisers g)

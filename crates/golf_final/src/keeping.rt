@@ -121,7 +121,7 @@ fn is_kept(leading: &[bool], awake: &[bool], sleeper: u32, references: &[u32]) -
 }
 
 /// For each sleeper of a graph whether it is kept: it is not awake, and it comes to an object that has
-/// a finaliser, or, where the code sets finalisers, to a live one (profile, keep rule).
+/// a finaliser, or, if the code sets finalisers, to a live one (profile, keep rule).
 ///
 /// The graph is gone through once, backwards from those objects, for all sleepers.
 pub fn keeps(

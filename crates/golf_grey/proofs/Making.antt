@@ -1,4 +1,6 @@
--- A new hand.
+-- A new hand fits its pool; all hands push at most as often as each may.
+-- For: `new`, src/opening.rt; `close`, src/pool.rt; `IsHandIn`, specs/Hands.antt
+-- By: the parts of the hand, and arithmetic; no induction
 use Rattle.std.proofs.Common.{◌≡◌, [], ℕ, ◌-◌, ◌<◌, ◌≤◌, List, length, sym, ap, subst, arith}
 use Rattle.std.specs.Prelude.{sum_by, ◌*◌, vec_capacity}
 use Rattle.std.proofs.lemmas.List.Sums.{sum_by-le}

@@ -1,4 +1,6 @@
--- The hands of a pool of two.
+-- The hands of a pool of two have the numbers 0 and 1.
+-- For: `two_hands`, golf_tests_marking/src/hands.rt
+-- By: cases of how many hands there are; no induction
 use Rattle.std.proofs.Common.{◌≡◌, ℕ, List, [], ◌∷◌, length, get_or, refl, sym, ap, ◌∙◌, subst, arith}
 use Rattle.std.specs.Prelude.{Some, slice_get, remove}
 use Rattle.std.proofs.lemmas.Option.{get_or_from_slice_get}

@@ -1,13 +1,13 @@
--- A row of passes after a change of one.
-use Rattle.std.proofs.Common.{◌≡◌, ◌≢◌, ℕ, ◌+◌, List, [], set, sym, ap, ◌∙◌, subst, ⊎_elim}
+-- A row of passes still fits after one pass has changed.
+-- For: `steal_at`, src/steal.rt; `IsRow`, specs/Hands.antt
+-- By: cases of whether a pass is the one that is changed; no induction
+use Rattle.std.proofs.Common.{◌≡◌, ◌≢◌, ℕ, List, [], set, sym, ap, ◌∙◌, subst, ⊎_elim}
 use Rattle.std.proofs.Math.ListN.{length-set}
 use mathlib.Core.Option.{some, some-injective}
 use lib.ListN.{get_elem?}
-use Rattle.std.specs.Prelude.{sum_by}
 use Rattle.crossbeam_deque.specs.Handles.{view, IsPassOf, stealer_deque}
 use Rattle.crossbeam_deque.proofs.Lists.{at_set}
-use Rattle.golf_grey.specs.Hands.{Thief, GreyPass, IsRow, row_weight}
-use Rattle.golf_theory.proofs.Sums.{total_set}
+use Rattle.golf_grey.specs.Hands.{Thief, GreyPass, IsRow}
 
 pub row_set : (thieves : List Thief) (passes : List GreyPass) (j : ℕ) (t : Thief) (p : GreyPass) → IsRow thieves passes → get_elem? thieves j ≡ some t → IsPassOf (stealer_deque t) p → (view p).parts ≡ 1 → (view p).pushed ≡ [] → IsRow thieves (set passes j p)
 row_set thieves passes j t p r at mine live empty = record {
@@ -20,6 +20,3 @@ row_set thieves passes j t p r at mine live empty = record {
       (at_set passes j k p q d);
   fifo = r.fifo;
 }
-
-pub weight_set : (f : ℕ → ℕ) (passes : List GreyPass) (j : ℕ) (old new : GreyPass) → get_elem? passes j ≡ some old → row_weight f (set passes j new) + sum_by f (view old).taken ≡ row_weight f passes + sum_by f (view new).taken
-weight_set f passes j old new e = total_set (λ (p : GreyPass). sum_by f (view p).taken) passes j old new e

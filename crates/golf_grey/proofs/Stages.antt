@@ -1,4 +1,6 @@
 -- The owners and the thieves of all deques, one after another.
+-- For: `IsStage` and `AllFresh`, specs/Hands.antt
+-- By: cases of which owner it is; for a place in a list, induction over the list
 use Rattle.std.proofs.Common.{◌≡◌, ◌≢◌, ℕ, zero, suc, ◌+◌, ◌<◌, ◌≤◌, ◌⊎◌, List, [], ◌∷◌, ◌++◌, length, set, refl, sym, ap, ◌∙◌, subst, arith, ⊎_elim, inl, inr, length-append}
 use Rattle.std.proofs.Math.ListN.{length-set}
 use mathlib.Core.Option.{some, some-injective, some-ne-none}

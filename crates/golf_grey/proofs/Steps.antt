@@ -1,4 +1,6 @@
 -- Each step keeps the balance.
+-- For: `Balanced`, specs/Rule.antt
+-- By: cases of whether a view is the one that is changed; for a sum of ones, induction over its list
 use Rattle.std.proofs.Common.{◌≡◌, ◌≢◌, ℕ, zero, suc, ◌+◌, ◌<◌, List, [], ◌∷◌, ◌++◌, length, set, refl, sym, ap, ◌∙◌, subst, arith, ⊎_elim, length-append}
 use Rattle.std.specs.Prelude.{sum_by}
 use Rattle.std.proofs.lemmas.List.Sums.{sum_by-cons, sum_by-append, sum_by_push}

@@ -1,4 +1,6 @@
--- A hand more is taken apart.
+-- One more hand is taken apart.
+-- For: `take_apart`, src/drain.rt
+-- By: cases of whether a hand is the one that is taken apart; no induction
 use Rattle.std.proofs.Common.{◌≡◌, ℕ, ◌+◌, ◌-◌, ◌<◌, List, [], ◌∷◌, ◌++◌, length, length-append, refl, sym, ap, ◌∙◌, subst, arith, ⊎_elim}
 use Rattle.std.specs.Prelude.{sum_by}
 use Rattle.std.specs.Global.{Vec}

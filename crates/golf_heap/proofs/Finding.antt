@@ -1,4 +1,6 @@
 -- What is found at a number, by the place of its key.
+-- For: `index_of`, `key_of` (src/places.rt) and `get` (src/heap.rt)
+-- By: induction over the list of places for an object's slot; otherwise the laws of ranks
 use Rattle.std.proofs.Common.{◌≡◌, ℕ, zero, suc, true, false, cond, List, [], ◌∷◌, length, get_or, Option, Some, None, ◌==◌, refl, sym, ap, ◌∙◌, slice_get, option_map, subst}
 use Rattle.std.specs.Prelude.{IsSome, is_some}
 use Rattle.std.specs.Borrow.{Bor}
@@ -24,7 +26,7 @@ no_item-at xs i h = slice_get_past xs i (ltb-false i (length xs) (sym h.0))
 pair : Place → ℕ × ℕ
 pair p = (p.number, p.key)
 
--- the key that is found is the one at the rank of the number, where it has that number
+-- the key that is found is the one at the rank of the number, if it has that number
 pub find-keyed : (k i : ℕ) (ps : List Place) (o : Option Place) → Rises 1 (keyed ps) → i ≡ rank k (keyed ps) → slice_get ps i ≡ o → find k (keyed ps) ≡ at_key k (option_map (λ (p : Place). (p.number, p.key)) o)
 find-keyed k i ps o r e s =
     find-rank k 1 (keyed ps) r
@@ -40,7 +42,7 @@ elsewhere k i ps p r e s other = sym (find-keyed k i ps (Some p) r e s ∙ ap (�
 pub nowhere : (k i : ℕ) (ps : List Place) → Rises 1 (keyed ps) → i ≡ rank k (keyed ps) → slice_get ps i ≡ None → None ≡ find k (keyed ps)
 nowhere k i ps r e s = sym (find-keyed k i ps None r e s)
 
--- the object behind the key
+-- the object after the key
 pub found-at : (s : Slots) (ps : List Place) (k key : ℕ) (e : ℕ × Object) → Some key ≡ find k (keyed ps) → Some e ≡ get s key → Some e.1 ≡ find k (gathered s ps)
 found-at s ps k key e f g = sym (find-gathered s k ps ∙ ap (option_map (λ n. object_in (get s n))) (sym f) ∙ ap (λ o. Some (object_in o)) (sym g))
 

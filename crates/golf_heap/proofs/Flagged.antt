@@ -1,4 +1,6 @@
 -- Lists of which some items have a flag, one place after another.
+-- For: `kept`, `left_out` (golf_heap/specs/Objects.antt)
+-- By: induction over the list of items, with their flags
 use Rattle.std.proofs.Common.{◌≡◌, ℕ, zero, suc, ◌+◌, ◌<◌, ◌≤◌, Bool, true, false, cond, not, ◌||◌, List, [], ◌∷◌, ◌++◌, length, map, filter, take, get_or, Some, inl, inr, refl, sym, ap, ◌∙◌, arith, slice_get}
 use Rattle.std.proofs.lemmas.List.{take_all}
 use Rattle.golf_theory.specs.Maps.{keys, only, Rises}

@@ -1,4 +1,6 @@
 -- Places and slots of which only the flagged ones are kept.
+-- For: `kept` (golf_heap/specs/Objects.antt) and `free`, `close_up` (src/places.rt)
+-- By: induction over the list of places, with their flags
 use Rattle.std.proofs.Common.{◌≡◌, ◌≢◌, ◌⊎◌, inl, inr, ℕ, zero, suc, ◌+◌, ◌<◌, ◌≤◌, Bool, true, false, cond, List, [], ◌∷◌, ◌++◌, length, take, drop, set, get_or, Option, Some, None, refl, sym, ap, ◌∙◌, arith, subst}
 use Rattle.std.specs.Prelude.{IsSome, nat_lt}
 use Rattle.std.specs.List.{SwappedAt}
@@ -68,7 +70,7 @@ kept_more {X} keep xs at b d l same f =
     let items : drop at xs ≡ get_or xs at d ∷ drop (suc at) xs = drop_more xs at d (omega arith) ∙ ap (λ (n : ℕ). get_or xs at d ∷ drop n xs) two in
     ap (λ (z : List Bool). kept z (drop at xs)) flags ∙ ap (λ (z : List X). kept (b ∷ drop (suc at) keep) z) items
 
--- one step of closing up: the item goes behind those that were kept
+-- one step of closing up: the item goes after those that were kept
 pub closed_more : {X : Type 0} (keep : List Bool) (now all : List X) (count at : ℕ) (x : X) → at < length keep → length now ≡ length keep → count ≤ at → get_or keep at false ≡ true → x ≡ get_or now at x → take count now ++ kept (drop at keep) (drop at now) ≡ all → take (count + 1) (set now count x) ++ kept (drop (at + 1) keep) (drop (at + 1) (set now count x)) ≡ all
 closed_more {X} keep now all count at x l same c f is e =
     let two : at + 1 ≡ suc at = omega arith in
@@ -83,7 +85,7 @@ closed_more {X} keep now all count at x l same c f is e =
     ∙ ap (λ (z : List X). take count now ++ z) (sym (kept_more keep now at true x l (sym same) f))
     ∙ e
 
--- what is written behind the front of a list does not change that front
+-- what is written after the front of a list does not change that prefix
 take-past : {X : Type 0} (xs : List X) (n i : ℕ) (y : X) → n ≤ i → take n (set xs i y) ≡ take n xs
 take-past [] n i y l = refl
 take-past (x ∷ xs) zero i y l = refl
@@ -112,7 +114,7 @@ same-item [] i d e l = absurd (omega arith)
 same-item (x ∷ xs) zero d e l = refl
 same-item (x ∷ xs) (suc i) d e l = same-item xs i d e (omega arith)
 
--- one step of closing up: the item changes places with the one behind those that were kept
+-- one step of closing up: the item changes places with the one after those that were kept
 pub swapped_more : {X : Type 0} (keep : List Bool) (now later all : List X) (count at : ℕ) → at < length keep → length now ≡ length keep → count ≤ at → get_or keep at false ≡ true → SwappedAt now later count at → take count now ++ kept (drop at keep) (drop at now) ≡ all → take (count + 1) later ++ kept (drop (at + 1) keep) (drop (at + 1) later) ≡ all
 swapped_more {X} keep now later all count at l same c f sw e =
     let d : X = some-item now at (omega (arith, l, same)) in

@@ -1,4 +1,6 @@
 -- The objects of a slab as a map by number, by the places of their numbers.
+-- For: `gathered`, `Holds` (golf_heap/specs/Kept.antt)
+-- By: induction over the list of places
 use Rattle.std.proofs.Common.{◌≡◌, ◌≢◌, ℕ, suc, true, false, cond, List, [], ◌∷◌, ◌++◌, length, Option, Some, None, ◌==◌, nat_lt, refl, sym, ap, ◌∙◌, option_map, subst}
 use Rattle.std.proofs.lemmas.Bool.{eqb-true}
 use Rattle.slab.specs.Slab.{Slab, get, Updates}

@@ -1,4 +1,6 @@
 -- Numbers that stand at their own index.
+-- For: `rank` (golf_heap/specs/Objects.antt) and `index_of` (src/places.rt)
+-- By: induction over the list of entries
 use Rattle.std.proofs.Common.{◌≡◌, ℕ, zero, suc, ◌+◌, ◌≤◌, cond, List, [], ◌∷◌, Some, ap, ◌∙◌, arith, slice_get}
 use Rattle.std.proofs.lemmas.Bool.{lt-ltb, le-ltb}
 use Rattle.golf_theory.specs.Maps.{Rises}

@@ -1,4 +1,6 @@
 -- What the changes of a heap keep of its numbers.
+-- For: `IsNumbered` (golf_heap/specs/Objects.antt) and `put`, `retain` (src/heap.rt)
+-- By: the laws of maps and arithmetic; no induction
 use Rattle.std.proofs.Common.{◌≡◌, ℕ, ◌+◌, Bool, List, false, ap, sym, arith, Option, Some, None, refl}
 use Rattle.std.specs.Prelude.{is_some}
 use Rattle.golf_data.specs.declared.value.Object.{Object}

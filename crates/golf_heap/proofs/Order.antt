@@ -1,4 +1,6 @@
 -- The places of a heap in rising order of number.
+-- For: `free`, `rank_of` (src/places.rt) and `at` (src/heap.rt)
+-- By: induction over the list of places
 use Rattle.std.proofs.Common.{◌≡◌, ◌≢◌, ◌⊎◌, inl, inr, ℕ, zero, suc, ◌<◌, ◌≤◌, List, [], ◌∷◌, length, get_or, Option, Some, None, refl, sym, ap, ◌∙◌, arith, subst, slice_get}
 use Rattle.std.specs.List.Sorted.{IsNonDecreasingBy}
 use Rattle.std.proofs.lemmas.List.{get_or-map}

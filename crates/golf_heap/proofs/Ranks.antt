@@ -1,4 +1,6 @@
 -- Places and keys of a map whose keys rise.
+-- For: `rank` (golf_heap/specs/Objects.antt) and `rank`, `count` (src/heap.rt)
+-- By: induction over the list of entries
 use Rattle.std.proofs.Common.{◌≡◌, ℕ, zero, suc, ◌+◌, ◌<◌, ◌≤◌, Bool, true, false, cond, List, [], ◌∷◌, length, get_or, Option, Some, None, ◌==◌, nat_lt, refl, sym, ap, ◌∙◌, arith, slice_get}
 use Rattle.std.specs.List.Sorted.{IsNonDecreasingBy}
 use Rattle.std.proofs.lemmas.Bool.{ne_eqb, lt-ltb, le-ltb, ltb-true, ltb-false}
@@ -7,7 +9,7 @@ use Rattle.golf_theory.proofs.MapFinds.{find_below}
 use Rattle.golf_theory.proofs.MapOrder.{Rises-less}
 use Rattle.golf_heap.specs.Objects.{rank, kept}
 
--- an entry, where it has the key
+-- an entry, if it has the key
 abbrev pub at_key : {X : Type 0} → ℕ → Option (ℕ × X) → Option X
 at_key k None = None
 at_key k (Some e) = cond (k == e.0) (Some e.1) None

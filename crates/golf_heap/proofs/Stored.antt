@@ -1,4 +1,6 @@
 -- What a heap's changes keep of its places and its slab.
+-- For: `IsStored` (golf_heap/specs/Kept.antt) and `make` (src/heap.rt)
+-- By: the lemmas on what is gathered; no induction
 use Rattle.std.proofs.Common.{◌≡◌, ℕ, ◌+◌, List, [], ◌∷◌, ◌++◌, Some, None, sym, ap, ◌∙◌, arith, subst, length-append}
 use Rattle.slab.specs.Slab.{get, Updates, slab_len}
 use Rattle.golf_data.specs.declared.value.Object.{Object}

@@ -1,4 +1,6 @@
 -- An object that was written in its slot.
+-- For: `IsStored` (golf_heap/specs/Kept.antt) and `get_mut` (src/heap.rt)
+-- By: induction over the list of places, and over the list of slots
 use Rattle.std.proofs.Common.{◌≡◌, ◌≢◌, inl, inr, ℕ, zero, suc, ◌<◌, ◌≤◌, cond, List, [], ◌∷◌, set, get_or, Option, Some, None, is_some, count_by, refl, sym, ap, ◌∙◌, arith, slice_get, subst}
 use Rattle.std.proofs.lemmas.Bool.{cases_eq, eq-eqb, ne_eqb}
 use Rattle.std.proofs.lemmas.List.Sums.{sum_by-cons}

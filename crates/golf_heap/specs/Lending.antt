@@ -6,6 +6,6 @@ use Rattle.golf_data.specs.contracts.value.Object.{the_row as object_row}
 use Rattle.golf_heap.specs.contracts.heap.Heap.{the_row}
 use Rattle.golf_heap.specs.Objects.{NumberedObjects, replaced}
 
--- the heap ends with the last value behind the loan in the place of the object
+-- the heap ends with the last value after the loan in the place of the object
 abbrev pub LendsObject : MutBor NumberedObjects → ℕ → MutBor Object → Fml
 LendsObject h o r = Lends the_row object_row h r (λ x. replaced o x h.now)

@@ -3,7 +3,7 @@ use Rattle.std.specs.Prelude.{ℕ, suc, ◌+◌, Bool, cond, List, [], ◌∷◌
 use Rattle.golf_theory.specs.Maps.{put, add, Rises, AllBelow}
 use Rattle.golf_data.specs.declared.value.Object.{Object}
 
--- the objects that are there, in rising order of number, and the last number that was given, 0 where none was
+-- the objects that are there, in rising order of number, and the last number that was given, 0 if none was
 pub record NumberedObjects : Type 0 where
   pub objects : List (ℕ × Object)
   pub last : ℕ
@@ -21,7 +21,7 @@ made x h = record { objects = add (h.last + 1) x h.objects; last = h.last + 1 }
 abbrev pub replaced : ℕ → Object → NumberedObjects → NumberedObjects
 replaced o x h = record h { objects = put o x h.objects }
 
--- the entries whose flag is true; those behind the last flag are not
+-- the entries whose flag is true; those after the last flag are not
 abbrev pub kept : {X : Type 0} → List Bool → List X → List X
 kept [] xs = []
 kept (b ∷ bs) [] = []

@@ -48,7 +48,7 @@ impl Heap {
         }
     }
 
-    /// Gives the object the next number. `Memory` also comes where the numbers are used up.
+    /// Gives the object the next number. `Memory` also comes if the numbers are used up.
     pub fn make(&mut self, object: Object) -> Result<ObjectId, Memory>
         ensures number { IfOk result (λ id. id.0 ≡ self.old.last + 1) }
         ensures ok { OnOk result (self.new ≡ made object self.old) }
@@ -79,7 +79,7 @@ impl Heap {
         self.places.len() as u32
     }
 
-    /// The last number that was given, 0 where none was.
+    /// The last number that was given, 0 if none was.
     pub fn last(&self) -> u32
         ensures last { result ≡ self.now.last }
         ensures numbers { IsNumbered self.now }
@@ -87,7 +87,7 @@ impl Heap {
         self.last
     }
 
-    /// The object of this number, where it is there.
+    /// The object of this number, if it is there.
     #[inline(always)]
     pub fn get(&self, id: ObjectId) -> Option<&Object>
         ensures { option_map (λ x. x.now) result ≡ find id.0 self.now.objects }

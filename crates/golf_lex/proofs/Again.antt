@@ -1,4 +1,6 @@
--- What is a lexeme is read as one.
+-- What is a lexeme is read as one by the automaton.
+-- For: `Forms`, golf_lex_tokens/specs/Lexemes.antt; `growth`, golf_lex/specs/Automaton.antt.
+-- By: induction over the bytes of the lexeme, for each kind of lexeme.
 use Rattle.std.proofs.Common.{◌≡◌, ℕ, Bool, true, false, cond, not, ◌&&◌, ◌||◌, List, [], ◌∷◌, ◌++◌, refl, sym, ap, ◌∙◌, append-nil, arith}
 use Rattle.std.proofs.lemmas.Bool.{and_parts, eqb-true}
 use Rattle.std.proofs.lemmas.Bool.Decides.{nat_tests}

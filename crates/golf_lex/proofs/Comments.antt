@@ -1,4 +1,6 @@
--- What a general comment goes on with.
+-- What bytes a general comment goes on with, until it closes.
+-- For: `after_general_comment` and `after_star`, src/automaton.rt.
+-- By: induction over the bytes of the comment.
 use Rattle.std.proofs.Common.{◌≡◌, ℕ, Bool, true, false, cond, not, ◌&&◌, ◌||◌, List, [], ◌∷◌, ◌++◌, refl, sym, ap, ◌∙◌}
 use Rattle.std.proofs.lemmas.Bool.{eqb-true, or_parts}
 use Rattle.std.specs.Prelude.{Some, nat_eq}
@@ -11,7 +13,7 @@ use Rattle.golf_lex.specs.Automaton.{is_complete}
 use Rattle.golf_lex.proofs.Growing.{to_only, grown}
 use Rattle.golf_lex.proofs.GoingOn.{stays}
 
--- inside a comment, behind a star or not
+-- inside a comment, after a star or not
 abbrev pub inside : Bool → State
 inside true = states.Star
 inside false = states.GeneralComment
@@ -20,7 +22,7 @@ abbrev pub star : Bool → List ℕ
 star true = 42 ∷ []
 star false = []
 
--- what a comment goes on with up to its `*/`, behind these bytes
+-- what a comment goes on with up to its `*/`, after these bytes
 pub record Ends (front bs : List ℕ) : Type 0 where
   pub body : List ℕ
   pub valid : list_all is_nonzero body ≡ true
@@ -85,11 +87,11 @@ comments true (b ∷ bs) last e whole = at (nat_eq b 47) (nat_eq b 0) (nat_eq b 
       },
     )
 
--- no `*/` stands in the body, behind these bytes
+-- no `*/` stands in the body, after these bytes
 abbrev pub NoEnd : Bool → List ℕ → Type 0
 NoEnd starred body = has_end (star starred ++ (body ++ 42 ∷ [])) ≡ false
 
--- such a body is read, and the `*/` behind it
+-- such a body is read, and the `*/` after it
 pub comments-again : (starred : Bool) (body : List ℕ) → list_all is_nonzero body ≡ true → NoEnd starred body → grown (inside starred) (body ++ 42 ∷ 47 ∷ []) ≡ Some states.Closed
 comments-again true [] v h = refl
 comments-again false [] v h = refl

@@ -25,7 +25,7 @@ string = scans-lexes (codes "return \"\\\"\"") _ refl
 leading_zero : IsFault (codes "01") 1
 leading_zero = fault-at (codes "01") 1 49 Zero (lit< tt) refl refl refl
 
--- the byte behind a lone `|`
+-- the byte after a lone `|`
 lone_bar : IsFault (codes "a|b") 2
 lone_bar = fault-at (codes "a|b") 2 98 Bar (lit< tt) refl refl refl
 

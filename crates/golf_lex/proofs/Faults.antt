@@ -1,4 +1,6 @@
 -- The fault is one place, and what is answered follows from it.
+-- For: `tokens`, src/lexer.rt; the laws `faults_once` and `lexes_or_faults`, src/laws.rt.
+-- By: induction over n, the bytes that were looked at.
 use Rattle.std.proofs.Common.{◌≡◌, ℕ, zero, suc, ◌<◌, ◌≤◌, Bool, true, false, List, [], ◌∷◌, ◌++◌, length, take, drop, get_or, refl, sym, ap, subst, ◌∙◌, append_assoc, add-one, inl, inr, arith}
 use Rattle.std.specs.Prelude.{◌⊎◌, Option, Some, None, Result, Ok, Err}
 use Rattle.std.proofs.Math.Seq.{take-length}
@@ -17,14 +19,14 @@ use Rattle.golf_lex.proofs.Loop.{run-more}
 use Rattle.golf_lex.proofs.Runs.{run-scans, scans-lexes, begins, stuck, fault-at, fault-end}
 use Rattle.golf_lex.proofs.Scans.{lexes-once}
 
--- a front of a front
+-- a prefix of a prefix
 take-front : (xs : List ℕ) (n m : ℕ) → n ≤ m → take n (take m xs) ≡ take n xs
 take-front xs zero m h = refl
 take-front xs (suc n) zero h = absurd (omega arith)
 take-front [] (suc n) (suc m) h = refl
 take-front (x ∷ xs) (suc n) (suc m) h = ap (λ ys. x ∷ ys) (take-front xs n m (omega arith))
 
--- a fault has none behind it
+-- a fault has none after it
 first-fault : (bytes : List ℕ) (place other : ℕ) → place < other → IsFault bytes place → IsFault bytes other → ⊥
 first-fault bytes place other h f g =
     let front = take (suc place) bytes in

@@ -1,4 +1,6 @@
--- What may stand behind a lexeme is what ends it.
+-- What may stand after a lexeme is what ends it.
+-- For: `MayPrecede` and `IsLongest`, golf_lex_tokens/specs/Lexemes.antt; `tokens`, src/lexer.rt.
+-- By: cases of the state and of the next byte; induction over a list of bytes for the longer prefix.
 use Rattle.std.proofs.Common.{◌≡◌, ℕ, ◌<◌, Bool, true, false, cond, not, ◌||◌, List, [], ◌∷◌, ◌++◌, length, length-append, refl, sym, ap, ◌∙◌, append_assoc, arith}
 use Rattle.std.proofs.lemmas.Bool.{eqb-true}
 use Rattle.std.specs.Prelude.{Option, Some, None, option_and_then, nat_eq}
@@ -21,7 +23,7 @@ use Rattle.golf_lex.proofs.Punctuations.{Grows, over, longer, line, general, gro
 use Rattle.golf_lex.proofs.Whole.{class_at, whole}
 use Rattle.golf_lex.proofs.Again.{again}
 
--- of two fronts of one list, the longer has the byte behind the shorter
+-- of two fronts of one list, the longer has the byte after the shorter
 longer-front : (xs : List ℕ) (c : ℕ) (rest zs ws : List ℕ) → xs ++ c ∷ rest ≡ zs ++ ws → length xs < length zs → (more : List ℕ) × (zs ≡ xs ++ c ∷ more)
 longer-front xs c rest [] ws e h = absurd (omega arith)
 longer-front [] c rest (z ∷ zs) ws e h = let same : c ≡ z = cc in (zs, ap (λ x. x ∷ zs) (sym same))
@@ -90,7 +92,7 @@ line-clear c = at (nat_eq c 0) (nat_eq c 10) refl
     at false true en e = eqb-true c 10 en
     at false false en e = absurd (cc)
 
--- where a byte ends a lexeme, the lexeme may stand before it
+-- if a byte ends a lexeme, the lexeme may stand before it
 pub follows : (b : ℕ) (bs : List ℕ) (last : State) (c : ℕ) (rest : List ℕ) → reached (b ∷ bs) ≡ Some last → growth last c ≡ Over → MayPrecede (class_at last (b ∷ bs)) (b ∷ bs) (c ∷ rest)
 follows b bs states.Word c rest r g = (longest b bs states.Word c rest r g, word-clear (b ∷ bs) (keyword_of (b ∷ bs)) (c ∷ rest))
 follows b bs states.Zero c rest r g = (longest b bs states.Zero c rest r g, zero-clear (is_word_byte c) g)
@@ -134,7 +136,7 @@ punctuation-over m b bs c rest r h clear = by (grows m c)
     by (line em ec) = let wrong : false ≡ true = ap (λ x. stands_clear (PunctuationToken punctuations.Slash) (x ∷ rest)) (sym ec) ∙ ap (λ x. stands_clear (PunctuationToken x) (c ∷ rest)) (sym em) ∙ clear in absurd (cc)
     by (general em ec) = let wrong : false ≡ true = ap (λ x. stands_clear (PunctuationToken punctuations.Slash) (x ∷ rest)) (sym ec) ∙ ap (λ x. stands_clear (PunctuationToken x) (c ∷ rest)) (sym em) ∙ clear in absurd (cc)
 
--- where a whole lexeme may stand before a byte, the byte ends it
+-- if a whole lexeme may stand before a byte, the byte ends it
 pub ends-there : (b : ℕ) (bs : List ℕ) (last : State) (c : ℕ) (rest : List ℕ) → reached (b ∷ bs) ≡ Some last → is_complete last ≡ true → MayPrecede (class_at last (b ∷ bs)) (b ∷ bs) (c ∷ rest) → growth last c ≡ Over
 ends-there b bs states.Blank c rest r whole m = refl
 ends-there b bs states.Word c rest r whole m = word-over b bs c rest r m.0

@@ -1,4 +1,6 @@
 -- What words, integers, line comments and strings go on with.
+-- For: `growth`, golf_lex/specs/Automaton.antt; `extend`, src/automaton.rt.
+-- By: induction over the bytes that follow.
 use Rattle.std.proofs.Common.{◌≡◌, ℕ, Bool, true, false, cond, not, ◌&&◌, ◌||◌, List, [], ◌∷◌, ◌++◌, refl, sym, ap, ◌∙◌, append_assoc}
 use Rattle.std.proofs.lemmas.Bool.{eqb-true}
 use Rattle.std.specs.Prelude.{Some, nat_eq}

@@ -1,4 +1,6 @@
--- The bytes of one lexeme, by the automaton.
+-- The state that the automaton reaches over the bytes of one lexeme.
+-- For: `growth`, golf_lex/specs/Automaton.antt.
+-- By: induction over the bytes of the lexeme.
 use Rattle.std.proofs.Common.{◌≡◌, ℕ, List, [], ◌∷◌, ◌++◌, refl, ap, ◌∙◌}
 use Rattle.std.specs.Prelude.{Option, Some, None, option_and_then}
 use Rattle.golf_lex.specs.declared.automaton.State.{State}
@@ -12,12 +14,12 @@ to_only (To next) f = f next
 to_only Over f = None
 to_only Fault f = None
 
--- the state, where all of the bytes make the lexeme longer
+-- the state, if all of the bytes make the lexeme longer
 abbrev pub grown : State → List ℕ → Option State
 grown state [] = Some state
 grown state (b ∷ bs) = to_only (growth state b) (λ next. grown next bs)
 
--- the state behind the bytes of one lexeme
+-- the state after the bytes of one lexeme
 abbrev pub reached : List ℕ → Option State
 reached [] = Some states.Blank
 reached (b ∷ bs) = option_and_then (λ state. grown state bs) (begun b)

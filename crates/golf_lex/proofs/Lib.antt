@@ -6,7 +6,6 @@ pub mod Told
 pub mod Whole
 pub mod Again
 pub mod Follows
-pub mod Standing
 pub mod Scans
 pub mod Runs
 pub mod Writing

@@ -1,4 +1,6 @@
 -- What the loop over the bytes of a file keeps.
+-- For: `tokens`, src/lexer.rt; `read`, golf_lex/specs/Output.antt.
+-- By: computing, one byte more; induction over the list of lexemes to add them in two parts.
 use Rattle.std.proofs.Common.{◌≡◌, ℕ, suc, ◌+◌, ◌-◌, ◌<◌, ◌≤◌, Bool, true, false, cond, List, [], ◌∷◌, ◌++◌, length, length-drop, take, drop, get_or, refl, sym, ap, subst, ◌∙◌, add-one, add-zero, arith}
 use Rattle.std.specs.Prelude.{Option, Some, None, option_and_then, nat_eq}
 use Rattle.std.specs.Option.{option_map}

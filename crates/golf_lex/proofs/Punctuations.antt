@@ -1,4 +1,6 @@
 -- How punctuation marks begin and grow.
+-- For: `begun_punctuation` and `after_punctuation`, src/automaton.rt.
+-- By: cases of the mark and of the next byte; no induction.
 use Rattle.std.proofs.Common.{◌≡◌, ℕ, Bool, true, false, cond, [], ◌∷◌, ◌++◌, refl, sym, ap, ◌∙◌}
 use Rattle.std.proofs.lemmas.Bool.{eqb-true}
 use Rattle.std.specs.Prelude.{Option, Some, None, nat_eq}

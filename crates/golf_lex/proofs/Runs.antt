@@ -1,4 +1,6 @@
 -- Where the automaton stops is the fault.
+-- For: `run`, golf_lex/specs/Automaton.antt; `scan`, golf_lex/specs/Scanning.antt.
+-- By: induction over the bytes of the file.
 use Rattle.std.proofs.Common.{◌≡◌, ℕ, suc, ◌<◌, Bool, true, false, cond, List, [], ◌∷◌, ◌++◌, length, take, drop, get_or, refl, sym, ap, subst, ◌∙◌, arith}
 use Rattle.std.specs.Prelude.{Option, Some, None, option_and_then, nat_lt}
 use Rattle.std.specs.List.{list_all}

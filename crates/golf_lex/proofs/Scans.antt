@@ -1,4 +1,6 @@
 -- What is scanned is what lexes.
+-- For: `scan`, golf_lex/specs/Scanning.antt; the law `lexes_once`, src/laws.rt.
+-- By: induction over the bytes, and over the list of lexemes.
 use Rattle.std.proofs.Common.{◌≡◌, ℕ, Bool, true, false, cond, List, [], ◌∷◌, ◌++◌, refl, sym, ap, subst, ◌∙◌, append_assoc, append-nil}
 use Rattle.std.specs.Prelude.{Option, Some, None, option_and_then}
 use Rattle.std.specs.Option.{option_map}
@@ -22,7 +24,7 @@ pub record Cuts (bytes : List ℕ) (lexemes : List Lexeme) : Type 0 where
   pub cut : Cut lexemes
   pub text : bytes ≡ lexemes_text lexemes
 
--- the lexeme so far in front of those that follow
+-- the lexeme so far before those that follow
 cuts-front : (state : State) (bytes rest : List ℕ) (qs : List Lexeme) → reached bytes ≡ Some state → is_complete state ≡ true → ((b : ℕ) (bs : List ℕ) → bytes ≡ b ∷ bs → MayPrecede (class_at state (b ∷ bs)) (b ∷ bs) rest) → Cuts rest qs → Cuts (bytes ++ rest) (ended state bytes ++ qs)
 cuts-front state [] rest qs r complete may c =
     let same : states.Blank ≡ state = cc in
@@ -86,7 +88,7 @@ scan-fresh state front d ds rest last ps r e = at (begun d) r
     at None f = absurd (cc)
     at (Some next) f = ap (behind front) (scan-grown next (d ∷ []) ds rest last f ∙ e)
 
--- a lexeme and those behind it are scanned
+-- a lexeme and those after it are scanned
 scan-lexeme : (state : State) (b : ℕ) (bs : List ℕ) (class : Class) (qs : List Lexeme) → reached (b ∷ bs) ≡ Some state → is_complete state ≡ true → class_at state (b ∷ bs) ≡ class → MayPrecede class (b ∷ bs) (lexemes_text qs) → Cut qs → scan state (b ∷ bs) (lexemes_text qs) ≡ Some (record { class = class; bytes = b ∷ bs } ∷ qs)
 scan-lexeme state b bs class [] r complete of_class may c =
     ap (λ t. cond t (Some (ended state (b ∷ bs))) None) complete

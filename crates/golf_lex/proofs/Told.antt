@@ -1,4 +1,6 @@
 -- Keywords are told from names.
+-- For: `keyword`, src/words.rt; `keyword_of`, golf_lex/specs/Words.antt.
+-- By: induction over the list of keywords that is searched.
 use Rattle.std.proofs.Common.{◌≡◌, ◌≢◌, ℕ, Bool, true, false, cond, List, [], ◌∷◌, refl, sym, ap, ◌∙◌}
 use Rattle.std.specs.Prelude.{Some, None, find}
 use Rattle.std.specs.Str.{bytes_eq}
@@ -20,7 +22,7 @@ find-passes test (y ∷ ys) x e = at (test y) refl (find-passes test ys x) e
     at true et again f = let same : y ≡ x = cc in ap test (sym same) ∙ et
     at false et again f = again f
 
--- nothing is found where nothing passes
+-- nothing is found if nothing passes
 find-none : {X : Type 0} (test : X → Bool) (xs : List X) → ((x : X) → test x ≡ false) → find test xs ≡ None
 find-none test [] fails = refl
 find-none test (y ∷ ys) fails = ap (λ t. cond t (Some y) (find test ys)) (fails y) ∙ find-none test ys fails

@@ -1,4 +1,6 @@
 -- What the bytes of a whole lexeme are, by the state that they end in.
+-- For: `Forms`, golf_lex_tokens/specs/Lexemes.antt; `ended`, golf_lex/specs/Scanning.antt.
+-- By: cases of the first byte and of the last state; induction over the parts of a string.
 use Rattle.std.proofs.Common.{◌≡◌, ℕ, Bool, true, false, cond, not, ◌&&◌, ◌||◌, List, [], ◌∷◌, ◌++◌, refl, sym, ap, ◌∙◌, subst, append-nil, arith}
 use Rattle.std.proofs.lemmas.Bool.{and_parts, eqb-true}
 use Rattle.std.proofs.lemmas.Bool.Decides.{nat_tests}

@@ -1,4 +1,6 @@
 -- What is written is the tokens with inserted semicolons, without optional separators.
+-- For: `with_lexemes` and `finished`, golf_lex/specs/Output.antt; `tokens_of`, golf_lex_tokens/specs/Semicolons.antt.
+-- By: induction over the list of lexemes.
 use Rattle.std.proofs.Common.{◌≡◌, ℕ, ◌+◌, Bool, true, false, cond, ◌&&◌, List, [], ◌∷◌, ◌++◌, refl, sym, ap, ◌∙◌, append_assoc}
 use Rattle.std.specs.Prelude.{Option, Some, None, MatchOption, option_to_list, nat_eq}
 use Rattle.golf_lex_tokens.specs.declared.token.Token.{Token}
@@ -82,7 +84,7 @@ unfolding left
 flushed tokens None h = refl
 flushed tokens (Some s) h = ap (λ t. tokens ++ cond (t && false) [] (s ∷ [])) (sym h)
 
--- all that is left of the items, behind what was written
+-- all that is left of the items, after what was written
 abbrev pub rest_of : Option ℕ → List Item → List Token
 rest_of wanted rest = pending wanted rest ++ inserted rest
 
@@ -104,7 +106,7 @@ pending-none rest = at (line_ends rest)
     at true = refl
     at false = refl
 
--- what is written at the end, where these lexemes follow
+-- what is written at the end, if these lexemes follow
 abbrev pub Later : List Lexeme → Type 0
 Later ps = (o : Output) → Holds o.held → finished (with_lexemes o ps) ≡ left o.tokens o.held (rest_of o.semicolon (items o.line ps))
 

@@ -33,7 +33,7 @@ begun_punctuation b =
     cond (nat_eq b 46) (Some punctuations.Dot) (
     cond (nat_eq b 61) (Some punctuations.Assign) None)))))))))))))))))))
 
--- the state behind the first byte of a lexeme
+-- the state after the first byte of a lexeme
 abbrev pub begun : ℕ → Option State
 begun b =
     cond (is_letter b) (Some states.Word) (
@@ -47,11 +47,11 @@ begun b =
 abbrev pub to_punctuation : Punctuation → Growth
 to_punctuation m = To (states.Punctuation m)
 
--- a punctuation mark with `=` behind it
+-- a punctuation mark with `=` after it
 abbrev pub with_equals : Punctuation → ℕ → Growth
 with_equals m b = cond (nat_eq b 61) (to_punctuation m) Over
 
--- a punctuation mark with this second byte, or with `=` behind it
+-- a punctuation mark with this second byte, or with `=` after it
 abbrev pub after_doubling : ℕ → ℕ → Punctuation → Punctuation → Growth
 after_doubling b second doubled assigning = cond (nat_eq b second) (to_punctuation doubled) (with_equals assigning b)
 
@@ -101,7 +101,7 @@ is_complete states.GeneralComment = false
 is_complete states.Star = false
 is_complete _ = true
 
--- the state behind a byte
+-- the state after a byte
 abbrev pub step_by : Growth → Option State → Option State
 step_by (To next) fresh = Some next
 step_by Over fresh = fresh
@@ -110,7 +110,7 @@ step_by Fault fresh = None
 abbrev pub step : State → ℕ → Option State
 step state b = step_by (growth state b) (begun b)
 
--- the state behind the bytes
+-- the state after the bytes
 abbrev pub run : State → List ℕ → Option State
 run state [] = Some state
 run state (b ∷ bs) = option_and_then (λ next. run next bs) (step state b)

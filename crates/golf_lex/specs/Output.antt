@@ -18,7 +18,7 @@ abbrev pub released : List Token → Option Token → Token → List Token
 released tokens None token = tokens
 released tokens (Some separator) token = cond (is_closing token.kind) tokens (tokens ++ separator ∷ [])
 
--- a token behind those written; a separator is held back
+-- a token after those written; a separator is held back
 abbrev pub pushed : Output → Token → Output
 pushed o token =
     let tokens = released o.tokens o.held token in
@@ -32,7 +32,7 @@ abbrev pub line_ended_by : Output → Option ℕ → Output
 line_ended_by o None = o
 line_ended_by o (Some line) = pushed (record o { semicolon = None }) (semicolon line)
 
--- the line ends: a semicolon where the last token on it wants one
+-- the line ends: a semicolon if the last token on it wants one
 abbrev pub line_ended : Output → Output
 line_ended o = line_ended_by o o.semicolon
 
@@ -44,7 +44,7 @@ abbrev pub with_class : Output → Class → List ℕ → Output
 with_class o (Of kind) bytes = with_token o kind
 with_class o _ bytes = with_space o bytes
 
--- the lines of the bytes are behind it
+-- the lines of the bytes are after it
 abbrev pub moved : Output → List ℕ → Output
 moved o bytes = record o { line = o.line + newlines bytes }
 
@@ -56,6 +56,6 @@ with_lexemes o (p ∷ ps) = with_lexemes (moved (with_class o p.class p.bytes) p
 abbrev pub finished : Output → List Token
 finished o = let last = line_ended o in last.tokens ++ option_to_list last.held
 
--- the tokens, where a lexeme in this state has these bytes so far and the rest follows
+-- the tokens, if a lexeme in this state has these bytes so far and the rest follows
 abbrev pub read : Output → State → List ℕ → List ℕ → Option (List Token)
 read o state bytes rest = option_map (λ lexemes. finished (with_lexemes o lexemes)) (scan state bytes rest)

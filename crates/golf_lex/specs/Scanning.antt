@@ -34,17 +34,17 @@ ended states.Text bytes = record { class = Of (Text (content_from false bytes));
 ended (states.Punctuation m) bytes = record { class = Of (Punctuation m); bytes = bytes } ∷ []
 ended _ bytes = []
 
--- lexemes in front of those that follow, if these are there
+-- lexemes before those that follow, if these are there
 abbrev pub behind : List Lexeme → Option (List Lexeme) → Option (List Lexeme)
 behind front rest = option_map (λ lexemes. front ++ lexemes) rest
 
--- what is scanned where a byte comes that does this
+-- what is scanned if a byte comes that does this
 abbrev pub scan_by : (State → List ℕ → Option (List Lexeme)) → State → List ℕ → ℕ → Growth → Option (List Lexeme)
 scan_by again state bytes b (To next) = again next (bytes ++ b ∷ [])
 scan_by again state bytes b Over = option_and_then (λ next. behind (ended state bytes) (again next (b ∷ []))) (begun b)
 scan_by again state bytes b Fault = None
 
--- the lexemes, where a lexeme in this state has these bytes so far and the rest follows
+-- the lexemes, if a lexeme in this state has these bytes so far and the rest follows
 abbrev pub scan : State → List ℕ → List ℕ → Option (List Lexeme)
 scan state bytes [] = cond (is_complete state) (Some (ended state bytes)) None
 scan state bytes (b ∷ rest) = scan_by (λ next more. scan next more rest) state bytes b (growth state b)

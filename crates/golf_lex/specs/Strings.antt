@@ -1,11 +1,11 @@
 -- The bytes that a string stands for.
 use Rattle.std.specs.Prelude.{ℕ, Bool, true, false, nat_eq, cond, List, [], ◌∷◌}
 
--- what a byte behind a backslash stands for
+-- what a byte after a backslash stands for
 abbrev pub escaped_byte : ℕ → ℕ
 escaped_byte b = cond (nat_eq b 110) 10 (cond (nat_eq b 116) 9 b)
 
--- the bytes stood for, behind a backslash or not; quotes stand for none
+-- the bytes stood for, after a backslash or not; quotes stand for none
 abbrev pub content_from : Bool → List ℕ → List ℕ
 content_from escaped [] = []
 content_from true (b ∷ bs) = escaped_byte b ∷ content_from false bs

@@ -49,7 +49,7 @@ pub(crate) enum Growth {
     Fault,
 }
 
-/// The state behind the first byte of a lexeme, if one begins with it.
+/// The state after the first byte of a lexeme, if one begins with it.
 pub(crate) fn begin(byte: u8) -> Option<State>
     ensures { result ≡ begun byte }
 {
@@ -229,8 +229,18 @@ fn after_punctuation(punctuation: Punctuation, byte: u8) -> Growth
     ensures { result ≡ automaton_spec.after_punctuation punctuation byte }
 {
     match punctuation {
-        Punctuation::Plus => after_doubling(byte, b'+', Punctuation::Increment, Punctuation::PlusAssign),
-        Punctuation::Minus => after_doubling(byte, b'-', Punctuation::Decrement, Punctuation::MinusAssign),
+        Punctuation::Plus => after_doubling(
+            byte,
+            b'+',
+            Punctuation::Increment,
+            Punctuation::PlusAssign,
+        ),
+        Punctuation::Minus => after_doubling(
+            byte,
+            b'-',
+            Punctuation::Decrement,
+            Punctuation::MinusAssign,
+        ),
         Punctuation::Less => after_doubling(byte, b'-', Punctuation::Arrow, Punctuation::AtMost),
         Punctuation::Slash => after_slash(byte),
         Punctuation::Ampersand => after_ampersand(byte),

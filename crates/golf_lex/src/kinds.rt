@@ -12,7 +12,7 @@ use golf_base::{List, Memory};
 use golf_lex_tokens::{Keyword, Punctuation, TokenKind};
 use std::alloc::Global;
 
-/// Whether a newline behind such a token stands for a semicolon.
+/// Whether a newline after such a token stands for a semicolon.
 pub(crate) fn may_end(kind: &TokenKind) -> bool
     ensures { result ≡ semicolons_spec.may_end kind.now }
 {
@@ -27,14 +27,20 @@ pub(crate) fn may_end(kind: &TokenKind) -> bool
 pub(crate) fn is_separator(kind: &TokenKind) -> bool
     ensures { result ≡ semicolons_spec.is_separator kind.now }
 {
-    matches!(kind, TokenKind::Punctuation(Punctuation::Semicolon | Punctuation::Comma))
+    matches!(
+        kind,
+        TokenKind::Punctuation(Punctuation::Semicolon | Punctuation::Comma)
+    )
 }
 
 /// Whether it is `)` or `}`.
 pub(crate) fn is_closing(kind: &TokenKind) -> bool
     ensures { result ≡ semicolons_spec.is_closing kind.now }
 {
-    matches!(kind, TokenKind::Punctuation(Punctuation::CloseParen | Punctuation::CloseBrace))
+    matches!(
+        kind,
+        TokenKind::Punctuation(Punctuation::CloseParen | Punctuation::CloseBrace)
+    )
 }
 
 fn keyword_may_end(keyword: Keyword) -> bool
@@ -51,7 +57,11 @@ fn punctuation_may_end(punctuation: Punctuation) -> bool
 {
     matches!(
         punctuation,
-        Punctuation::Increment | Punctuation::Decrement | Punctuation::CloseParen | Punctuation::CloseBracket | Punctuation::CloseBrace
+        Punctuation::Increment
+            | Punctuation::Decrement
+            | Punctuation::CloseParen
+            | Punctuation::CloseBracket
+            | Punctuation::CloseBrace
     )
 }
 
@@ -72,7 +82,7 @@ fn word(alloc: Global, bytes: &[u8]) -> Result<TokenKind, Memory>
     }
 }
 
-/// The token that a lexeme of these bytes is, where the automaton ended it in this state. Blanks and comments are none.
+/// The token that a lexeme of these bytes is, if the automaton ended it in this state. Blanks and comments are none.
 pub(crate) fn kind(alloc: Global, state: State, bytes: &[u8]) -> Result<Option<TokenKind>, Memory>
     ensures { IfOk result (λ kind. kind ≡ kind_at state bytes.now) }
 {

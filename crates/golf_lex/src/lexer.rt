@@ -15,9 +15,9 @@ use std::alloc::Global;
 #[derive(Clone, Copy, Debug, PartialEq, Eq)]
 pub enum LexFault {
     /// No text that lexes begins with the bytes up to and including this one, and `byte` is the first such, counted from 0.
-    /// Where there is none, it is the length. `line` is its line, from 1.
+    /// If there is none, it is the length. `line` is its line, from 1.
     At { line: u32, byte: u32 },
-    /// Memory was wanting.
+    /// Out of memory.
     Memory,
 }
 
@@ -49,12 +49,12 @@ fn fault(bytes: &[u8], place: usize) -> LexFault
 ///
 /// # Errors
 ///
-/// `LexFault::At` where the bytes do not lex, and `LexFault::Memory` where memory runs out, which no clause ties to a cause.
+/// `LexFault::At` if the bytes do not lex, and `LexFault::Memory` if memory runs out, which no clause ties to a cause.
 pub fn tokens(alloc: Global, bytes: &[u8]) -> Result<List<Token>, LexFault>
     requires { length bytes.now < 2 ^ 32 - 1 }
     ensures answer { Answers bytes.now result }
 
-    // Where the bytes lex, the answer is their tokens, and where they do not, the place of the fault.
+    // If the bytes lex, the answer is their tokens, and where they do not, the place of the fault.
     ensures accepts { Accepts bytes.now result }
     ensures refuses { Refuses bytes.now result }
 {

@@ -14,7 +14,7 @@ use std::alloc::Global;
 #[derive(Drop)]
 pub(crate) struct Output {
     pub(crate) tokens: List<Token>,
-    /// A `;` or `,` behind the tokens, which is left out if `)` or `}` comes next.
+    /// A `;` or `,` after the tokens, which is left out if `)` or `}` comes next.
     pub(crate) held: Option<Token>,
     /// The line reached, from 1.
     pub(crate) line: u32,

@@ -46,7 +46,7 @@ inserts : tokens_of (lexeme (Of x) (codes "x") ∷ lexeme GeneralComment (codes 
 unfolding at x lexeme
 inserts = refl
 
--- `x`, a blank, a line comment, a newline, `.`: no semicolon behind the point
+-- `x`, a blank, a line comment, a newline, `.`: no semicolon after the point
 inserts_none : tokens_of (lexeme (Of x) (codes "x") ∷ lexeme Blank (codes " ") ∷ lexeme LineComment (codes "//") ∷ lexeme Blank (codes "\n") ∷ lexeme (Of (Punctuation punctuations.Dot)) (codes ".") ∷ []) ≡ at 1 x ∷ at 1 (Punctuation punctuations.Semicolon) ∷ at 2 (Punctuation punctuations.Dot) ∷ []
 unfolding at x lexeme
 inserts_none = refl

@@ -9,7 +9,7 @@ abbrev pub one_more : List ℕ → List ℕ
 one_more [] = 1 ∷ []
 one_more (count ∷ counts) = (count + 1) ∷ counts
 
--- the count of what a bracket held goes, where one is left behind it
+-- the count of what a bracket held goes, if one is left behind it
 abbrev pub closed : List ℕ → List ℕ
 closed (inner ∷ outer ∷ counts) = outer ∷ counts
 closed counts = counts
@@ -18,7 +18,7 @@ abbrev pub cleared : List ℕ → List ℕ
 cleared [] = []
 cleared (count ∷ counts) = 0 ∷ counts
 
--- The counts behind a token, the innermost first. Each token counts one; an opening bracket begins a count of its own;
+-- The counts after a token, the innermost first. Each token counts one; an opening bracket begins a count of its own;
 -- a closing one ends it, and counts in the one outside; a `;` or `,` begins anew.
 abbrev pub counted : TokenKind → List ℕ → List ℕ
 counted (PunctuationToken OpenParen) counts = 0 ∷ one_more counts
@@ -35,6 +35,6 @@ abbrev pub costs_from : List ℕ → List Token → List ℕ
 costs_from counts [] = []
 costs_from counts (token ∷ rest) = let next = counted token.kind counts in sum next ∷ costs_from next rest
 
--- the cost of each token: the sum of the counts behind it
+-- the cost of each token: the sum of the counts after it
 abbrev pub costs : List Token → List ℕ
 costs tokens = costs_from (0 ∷ []) tokens

@@ -32,13 +32,13 @@ has_end (b ∷ c ∷ bs) = (nat_eq b 42 && nat_eq c 47) || has_end (c ∷ bs)
 abbrev pub is_nonzero : ℕ → Bool
 is_nonzero b = not (nat_eq b 0)
 
--- `//` and what stands behind it on its line; no comment has a NUL
+-- `//` and what stands after it on its line; no comment has a NUL
 pub record IsLineComment (bytes : List ℕ) : Type 0 where
   pub body : List ℕ
   pub spelled : bytes ≡ codes "//" ++ body
   pub valid : list_all (λ b. is_nonzero b && not (nat_eq b 10)) body ≡ true
 
--- `/*` and all up to the first `*/` behind it, which is that after the body
+-- `/*` and all up to the first `*/` after it, which is that after the body
 pub record IsGeneralComment (bytes : List ℕ) : Type 0 where
   pub body : List ℕ
   pub spelled : bytes ≡ codes "/*" ++ (body ++ codes "*/")
@@ -62,7 +62,7 @@ abbrev pub begins : (ℕ → Bool) → List ℕ → Bool
 begins test [] = false
 begins test (b ∷ bs) = test b
 
--- no `/` stands right before a `/` or a `*`, and no letter, `_` or digit right behind an integer
+-- no `/` stands right before a `/` or a `*`, and no letter, `_` or digit right after an integer
 abbrev pub stands_clear : TokenKind → List ℕ → Bool
 stands_clear (Integer digits) rest = not (begins is_word_byte rest)
 stands_clear (PunctuationToken Slash) rest = not (begins (λ b. nat_eq b 47 || nat_eq b 42) rest)
@@ -76,7 +76,7 @@ MayPrecede LineComment bytes (b ∷ rest) = b ≡ 10
 MayPrecede GeneralComment bytes rest = Unit {0}
 MayPrecede (Of kind) bytes rest = IsLongest bytes rest × (stands_clear kind rest ≡ true)
 
--- each is a lexeme, and may stand before those behind it
+-- each is a lexeme, and may stand before those after it
 abbrev pub Cut : List Lexeme → Type 0
 Cut [] = Unit {0}
 Cut (p ∷ ps) = Forms p.class p.bytes × MayPrecede p.class p.bytes (lexemes_text ps) × Cut ps

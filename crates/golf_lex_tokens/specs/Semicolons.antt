@@ -14,7 +14,7 @@ pub data Item : Type 0 where
   Of : Token → Item
   Newline : Item
 
--- a newline where there is one in the bytes
+-- a newline if there is one in the bytes
 abbrev pub newline_in : List ℕ → List Item
 newline_in bytes = cond (nat_eq (newlines bytes) 0) [] (Newline ∷ [])
 
@@ -28,7 +28,7 @@ abbrev pub items : ℕ → List Lexeme → List Item
 items line [] = []
 items line (p ∷ ps) = lexeme_items line p.class p.bytes ++ items (line + newlines p.bytes) ps
 
--- a newline behind it stands for a semicolon, as behind those of Go's tokens that end statements here
+-- a newline after it stands for a semicolon, as after those of Go's tokens that end statements here
 abbrev pub may_end : TokenKind → Bool
 may_end (Name name) = true
 may_end (Integer digits) = true
@@ -52,7 +52,7 @@ line_ends (Of token ∷ rest) = false
 abbrev pub semicolon : ℕ → Token
 semicolon line = record { kind = PunctuationToken Semicolon; line = line }
 
--- the semicolon that is inserted behind a token, on its line
+-- the semicolon that is inserted after a token, on its line
 abbrev pub semicolon_behind : Token → List Item → List Token
 semicolon_behind token rest = cond (may_end token.kind && line_ends rest) (semicolon token.line ∷ []) []
 

@@ -1,4 +1,6 @@
 -- Bits of masks.
+-- For: `slot_bit`, src/masks.rt; `bits_of`, specs/Live.antt
+-- By: arithmetic; induction over n, the bits of the mask
 use Rattle.std.proofs.Common.{◌≡◌, ℕ, zero, suc, ◌+◌, ◌-◌, ◌*◌, ◌^◌, ◌<◌, ◌==◌, nat_lt, Bool, true, false, not, cond, ◌&&◌, inl, inr, refl, sym, ap, ◌∙◌, subst, arith}
 use Rattle.std.specs.Prelude.{bit_and, min}
 use Rattle.std.specs.Int.{w64, bit_at, bit_not}

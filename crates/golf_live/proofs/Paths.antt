@@ -1,4 +1,6 @@
 -- What is computed is what the paths say.
+-- For: `is_needed`, specs/Live.antt; `Needed`, specs/Paths.antt
+-- By: induction over the path from an instruction to a read of the slot
 use Rattle.std.proofs.Common.{◌≡◌, ℕ, zero, suc, ◌<◌, ◌==◌, Bool, true, false, not, List, length, Option, Some, None, inl, inr, refl, sym, ap, ◌∙◌, arith, slice_get}
 use Rattle.std.proofs.lemmas.Bool.{eqb-true, eq-eqb, or_cases, or_left, or_right, and_parts, and_from, false_from_ne_true, not_from_false, cases_lt}
 use Rattle.std.proofs.lemmas.Option.{slice_get_within}
@@ -25,7 +27,7 @@ not-stores : (slot : ℕ) (i : Instr) → (i ≡ Instr.Store slot → ⊥) → n
 not-stores slot (Instr.Store j) n = not_from_false (slot == j) (false_from_ne_true (slot == j) (λ t. n (ap Instr.Store (sym (eqb-true slot j t)))))
 not-stores slot _ n = refl
 
--- where what comes next passes a test that tells the needed
+-- if what comes next passes a test that tells the needed
 pub wants-needed : (body : List CodeLine) (slot k : ℕ) (l : CodeLine) (test : ℕ → Bool) → slice_get body k ≡ Some l → ((j : ℕ) → test j ≡ true → Needed body slot j) → wants slot test k l.instr ≡ true → Needed body slot k
 wants-needed body slot k l test e h w = elim (or_cases (loads slot l.instr) _ w) [
   | inl t ↦ Needed.Read k l e (loads-is slot l.instr t)

@@ -1,4 +1,6 @@
 -- Frames that are entered and left, and goroutines that end, as the definitions have them.
+-- For: `call`, `defer_call` (src/entering.rt) and `return_to`, `unwind_to` (src/leaving.rt)
+-- By: cases of the operands, the deferred calls and the callers; no induction
 use Rattle.std.proofs.Common.{◌≡◌, ℕ, ◌+◌, ◌<◌, ◌≤◌, Bool, true, false, List, [], ◌∷◌, length, drop, Option, Some, None, ◌==◌, refl, sym, ap, ◌∙◌, arith}
 use Rattle.std.specs.Prelude.{slice_get, slice_set}
 use Rattle.std.proofs.lemmas.Bool.{eq-eqb, le-leb, lt-leb}

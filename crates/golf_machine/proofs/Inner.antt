@@ -1,4 +1,6 @@
 -- What instructions do that touch the innermost frame alone.
+-- For: `Becomes` (golf_machine/specs/Within.antt) and `double`, `load`, `store` (src/within.rt)
+-- By: cases of the operands on top; no induction
 use Rattle.std.proofs.Common.{◌≡◌, ℕ, ◌+◌, ◌≤◌, Bool, true, false, List, [], ◌∷◌, length, drop, Option, Some, None, refl, sym, ap, ◌∙◌, arith}
 use Rattle.std.specs.Prelude.{ℤ, IsTrue, ◌↔◌, slice_get, slice_set, option_map, option_and_then, not}
 use Rattle.std.specs.Int.{w64, int_wrapping_neg}
@@ -22,28 +24,6 @@ done-same true act other f h same d = record { stands = λ g r callers line. sam
 done-same false act other f h same d = d
 
 -- ---- operands
-
-pub one-there : {X : Type 0} (os : List X) (x : X) → Some x ≡ slice_get os 0 → 1 ≤ length os
-one-there [] x h = cc
-one-there (y ∷ os) x h = omega arith
-
-pub int-there : (os : List Value) (n : ℤ) → Some n ≡ int_in os → 1 ≤ length os
-int-there [] n h = cc
-int-there (y ∷ os) n h = omega arith
-
-pub bool-there : (os : List Value) (b : Bool) → Some b ≡ bool_in os → 1 ≤ length os
-bool-there [] b h = cc
-bool-there (y ∷ os) b h = omega arith
-
-pub two-there : (os : List Value) (x y : Value) → Some (x, y) ≡ two_of os → 2 ≤ length os
-two-there [] x y h = cc
-two-there (v ∷ []) x y h = cc
-two-there (v ∷ w ∷ os) x y h = omega arith
-
-pub ints-there : (os : List Value) (m n : ℤ) → Some (m, n) ≡ ints_in os → 2 ≤ length os
-ints-there [] m n h = cc
-ints-there (v ∷ []) m n h = cc
-ints-there (v ∷ w ∷ os) m n h = omega arith
 
 one-int : (os : List Value) (n : ℤ) (act : ℤ → List Value → List Change) → Some n ≡ int_in os → taking_one (λ x rest. on_some (λ k. act k rest) (int_of x)) os ≡ act n (drop 1 os)
 one-int [] n act h = cc

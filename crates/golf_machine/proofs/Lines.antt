@@ -1,4 +1,6 @@
 -- A printed line, value by value; zero values, one by one.
+-- For: `line_bytes` (golf_model/specs/Values.antt) and `line_of` (src/printing.rt), `zeros_of` (src/structures.rt)
+-- By: induction over the list of values for the zeros; otherwise what one more value adds
 use Rattle.std.specs.Prelude.{MatchOption}
 use Rattle.std.proofs.Common.{◌≡◌, ℕ, zero, suc, ◌+◌, ◌<◌, ◌≤◌, Bool, true, false, List, [], ◌∷◌, ◌++◌, length, take, drop, get_or, Option, Some, None, refl, sym, ap, ◌∙◌, arith, append_assoc}
 use Rattle.std.proofs.lemmas.List.{drop_more, drop_all, take_more}
@@ -13,7 +15,7 @@ before-nothing : (o : Option (List ℕ)) → before (Some []) o ≡ o
 before-nothing None = refl
 before-nothing (Some xs) = refl
 
--- what is still to be printed behind so many values
+-- what is still to be printed after so many values
 abbrev pub rest_bytes : List (List ℕ) → ℕ → List Value → Option (List ℕ)
 rest_bytes texts zero vs = line_bytes texts vs
 rest_bytes texts (suc i) vs = spaced_bytes texts vs

@@ -1,6 +1,8 @@
 -- Turns of the one goroutine that can run.
+-- For: `HasKeptOn` (golf_machine/specs/Taking.antt) and `keep_on`, `go_on_alone` (src/alone.rt)
+-- By: induction over the list of choices, one for each turn
 use Rattle.std.proofs.Common.{◌≡◌, ℕ, ◌+◌, ◌%◌, ◌/◌, Bool, true, false, List, [], ◌∷◌, ◌++◌, length, Option, Some, None, refl, sym, ap, ◌∙◌, arith, subst}
-use Rattle.std.specs.Prelude.{MatchOption, slice_get}
+use Rattle.std.specs.Prelude.{slice_get}
 use Rattle.std.proofs.Math.Nat.{mod-one}
 use Rattle.std.proofs.lemmas.List.{length-append}
 use Rattle.golf_theory.specs.Maps.{find, IsRising}
@@ -19,7 +21,7 @@ use Rattle.golf_state.specs.Looked.{reframed, frames_of, frames_in, on_goroutine
 use Rattle.golf_state.specs.Doing.{Runs}
 use Rattle.golf_machine.specs.Turns.{turned_of}
 use Rattle.golf_machine.specs.Within.{PassesOnTop, PassEach, HasPassedOnTop, acted}
-use Rattle.golf_machine.specs.Taking.{turn_events, stops_after, steps, needs_outside, GoOn, HasGoneOn, HasKeptOn, HasAsked, IsLone, is_turn_next}
+use Rattle.golf_machine.specs.Taking.{turn_events, stops_after, steps, needs_outside, GoOn, HasGoneOn, HasKeptOn, HasAsked, IsLone}
 use Rattle.golf_machine.proofs.Passing.{found, runnable-same, ending-same, reframed-is, turn-taken, collects-not}
 use Rattle.golf_machine.proofs.Sequence.{events-more}
 use Rattle.golf_machine.proofs.Turns.{step-is, wants-is, frames-are, turn-runs}
@@ -29,9 +31,6 @@ use Rattle.golf_machine.proofs.Turns.{step-is, wants-is, frames-are, turn-runs}
 passes-more : (code : Code) (globals : List Value) (cs : List ℕ) (c : ℕ) (fs ks hs : List FrameView) → PassEach code globals cs fs ks → PassesOnTop code globals ks hs → PassEach code globals (cs ++ c ∷ []) fs hs
 passes-more code globals [] c fs ks hs e p = (hs, subst (λ (xs : List FrameView). PassesOnTop code globals xs hs) e p, refl)
 passes-more code globals (d ∷ cs) c fs ks hs e p = (e.0, e.1, passes-more code globals cs c e.0 ks hs e.2 p)
-
-pub none-kept : (code : Code) (globals : List Value) (fs : List FrameView) (es : List Event) (n : ℕ) → HasKeptOn code globals fs fs es es n n
-none-kept code globals fs es n = record { taken = []; order = refl; count = omega arith; passes = refl }
 
 pub one-kept : (b : Bool) (code : Code) (globals : List Value) (fs ks hs : List FrameView) (es later rest : List Event) (n k m c : ℕ) → b ≡ true → HasKeptOn code globals fs ks es later n k → later ≡ Event.Turn c ∷ rest → m ≡ k + 1 → HasPassedOnTop b code globals ks hs
     → HasKeptOn code globals fs hs es rest n m
@@ -49,10 +48,6 @@ one-kept true code globals fs ks hs es later rest n k m c t w next more p =
 -- the number after these is still to be taken
 pub asked : (P : List Event → ℕ → Type 0) (later rest : List Event) (k m c : ℕ) → P later k → later ≡ Event.Turn c ∷ rest → m ≡ k + 1 → HasAsked (Some c) P rest m
 asked P later rest k m c p next more = (k, subst (λ (xs : List Event). P xs k) next p, more)
-
-pub nothing-done : (b : Bool) (code : Code) (globals : List Value) (fs hs : List FrameView) → b ≡ false → HasPassedOnTop b code globals fs hs → hs ≡ fs
-nothing-done true code globals fs hs f p = cc
-nothing-done false code globals fs hs f p = p
 
 -- ---- the state
 
@@ -164,11 +159,3 @@ module _ (code : Code) (g : ℕ) (s : State) (rises : IsRising s.goroutines) (lo
   pub lone-goes : (o : Option ℕ) (before after : List Event) (given now : ℕ) → HasAsked o (λ es n. HasKeptOn code globals fs hs before es given n) after now → ending (reframed g hs s) ≡ None
   lone-goes None before after given now a = (gone before after given now a.0).1
   lone-goes (Some c) before after given now a = (gone before (Event.Turn c ∷ after) given a.0 a.1).1
-
--- nothing was done yet
-pub asked-first : (o : Option ℕ) (code : Code) (s : State) (before after : List Event) (given now : ℕ) → MatchOption o ((is_turn_next before ≡ false) × (after ≡ before) × (now ≡ given)) (λ c. (before ≡ Event.Turn c ∷ after) × (now ≡ given + 1))
-    → HasAsked o (λ es n. HasGoneOn code s s before es given n) after now
-asked-first None code s before after given now h =
-    (record { taken = []; order = sym h.1; count = omega (arith, h.2); silent = tt; state = refl }, ap is_turn_next h.1 ∙ h.0)
-asked-first (Some c) code s before after given now h =
-    (given, record { taken = []; order = h.0; count = omega arith; silent = tt; state = refl }, h.1)

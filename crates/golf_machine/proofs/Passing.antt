@@ -1,4 +1,6 @@
 -- Turns that touch the innermost frame alone.
+-- For: `Passes` (golf_machine/specs/Within.antt) and `pass_in`, `pass` (src/within.rt)
+-- By: computing, with cases of the frame's mask; no induction
 use Rattle.std.proofs.Common.{◌≡◌, ℕ, ◌-◌, Bool, true, false, List, [], ◌∷◌, length, take, Option, Some, None, refl, sym, ap, ◌∙◌}
 use Rattle.std.specs.Prelude.{slice_get, slice_set, option_and_then}
 use Rattle.golf_theory.specs.Maps.{find, IsRising}
@@ -26,7 +28,7 @@ use Rattle.golf_state.proofs.Tops.{split_last, set_last, top_same}
 use Rattle.golf_machine.proofs.Turns.{frames-are}
 use Rattle.golf_machine.specs.Within.{Becomes, cleared_in, Passes, HasPassed, PassesOnTop, HasPassedOnTop, IsDone, acted, taken, HasTakenTurn}
 
--- where there is no mask each slot stays
+-- if there is no mask each slot stays
 pub no-mask : (fn : Function) (f : FrameView) → None ≡ slice_get fn.live f.at → f ≡ cleared_in fn f
 no-mask fn f m = ap (λ (vs : List Value). record f { slots = vs })
     (sym (all-stay (λ i. true) 0 f.slots (λ i l. refl)) ∙ ap (λ (o : Option ℕ). cleared_slots (stays_in Leaving.No o) f.slots) m)

@@ -1,4 +1,6 @@
 -- A line that is printed.
+-- For: `print` (src/printing.rt)
+-- By: cases of whether there are operands enough; no induction
 use Rattle.std.proofs.Common.{◌≡◌, ℕ, List, [], ◌∷◌, drop, Option, Some, None, sym, ap, ◌∙◌}
 use Rattle.golf_data.specs.declared.value.Value.{Value}
 use Rattle.golf_data.specs.declared.code.Code.{Code}

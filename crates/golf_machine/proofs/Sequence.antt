@@ -1,4 +1,6 @@
 -- Turns that were taken in one go, and one turn more.
+-- For: `HasGoneOn` (golf_machine/specs/Taking.antt) and `take_turns` (src/taking.rt)
+-- By: induction over the list of choices, one for each turn
 use Rattle.std.proofs.Common.{◌≡◌, ℕ, ◌+◌, Bool, true, false, List, [], ◌∷◌, ◌++◌, Option, Some, None, refl, sym, ap, ◌∙◌, arith, subst}
 use Rattle.std.proofs.lemmas.List.{length-append}
 use Rattle.std.specs.Prelude.{Result, Ok, Err, IsErr, OnErr}
@@ -10,9 +12,6 @@ use Rattle.golf_model.specs.Running.{Event}
 use Rattle.golf_machine.specs.Turns.{turned_of}
 use Rattle.golf_machine.specs.Taking.{turn_events, outcome_of, needs_outside, stops_after, steps, GoOn, HasGoneOn, HasCome, HasAsked, HasFailed, is_turn_next}
 use Rattle.golf_machine.specs.declared.turning.Turned.{Turned}
-
-pub none-taken : (code : Code) (s : State) (es : List Event) (n : ℕ) → HasGoneOn code s s es es n n
-none-taken code s es n = record { taken = []; order = refl; count = omega arith; silent = tt; state = refl }
 
 steps-more : (code : Code) (s : State) (cs : List ℕ) (c : ℕ) → steps code s (cs ++ c ∷ []) ≡ step code (steps code s cs) c
 steps-more code s [] c = refl
@@ -78,7 +77,7 @@ pub asked-end : (o : Option ℕ) (code : Code) (old s t : State) (es later fs : 
     → HasGoneOn code old t es fs n m × (is_turn_next fs ≡ false)
 asked-end o code old s t es later fs n k m is v a = subst (λ x. HasAsked x (λ xs j. HasGoneOn code old t es xs n j) fs m) is (asked-after o code old s t es later fs n k m v a)
 
--- memory was wanting for the turn of the last number that was given
+-- memory ran out for the turn of the last number that was given
 pub failed-asked : (code : Code) (old t : State) (es fs : List Event) (n m : ℕ) → (c : ℕ) → HasAsked (Some c) (λ xs j. HasGoneOn code old t es xs n j) fs m → HasFailed code old t es fs n m
 failed-asked code old t es fs n m c a = (record { state = t; number = c; earlier = a.0; went = a.1; one_more = a.2 }, refl)
 

@@ -1,8 +1,10 @@
 -- Operands that are taken from the top.
-use Rattle.std.proofs.Common.{◌≡◌, ℕ, ◌-◌, ◌<◌, ◌≤◌, cond, List, ◌++◌, length, take, drop, Some, None, sym, ap, ◌∙◌, inl, inr, arith}
+-- For: `last_of` (golf_machine/specs/Acts.antt) and `taking` (golf_model/specs/Acting.antt)
+-- By: cases of whether there are operands enough; no induction
+use Rattle.std.proofs.Common.{◌≡◌, ℕ, ◌-◌, ◌<◌, ◌≤◌, cond, List, ◌++◌, length, take, drop, Some, None, sym, ap, ◌∙◌, inl, inr}
 use Rattle.std.specs.Prelude.{reverse}
 use Rattle.std.proofs.lemmas.Bool.{lt-ltb, le-ltb, cases_lt}
-use Rattle.std.proofs.lemmas.List.{reverse-append, reverse-reverse, length-reverse, take-append-drop, length-take-le, length-drop, take_at}
+use Rattle.std.proofs.lemmas.List.{reverse-append, reverse-reverse, length-reverse, take-append-drop, length-take-le}
 use Rattle.golf_data.specs.declared.value.Value.{Value}
 use Rattle.golf_model.specs.Changes.{Change}
 use Rattle.golf_model.specs.Acting.{on_some, taking}
@@ -15,7 +17,7 @@ last_of-short n os l = ap (λ b. cond b None (Some (reverse (take n os)))) (lt-l
 last_of-long : (n : ℕ) (os : List Value) → n ≤ length os → last_of n os ≡ Some (reverse (take n os))
 last_of-long n os l = ap (λ b. cond b None (Some (reverse (take n os)))) (le-ltb (length os) n l)
 
--- taking so many operands acts on the last ones in source order, where there are so many
+-- taking so many operands acts on the last ones in source order, if there are so many
 pub taking-is : (n : ℕ) (os : List Value) (act : List Value → List Value → List Change) → taking n act os ≡ on_some (λ vs. act vs (drop n os)) (last_of n os)
 taking-is n os act = elim (cases_lt (length os) n) [
   | inl l ↦ taking-short n os act l ∙ sym (ap (on_some (λ vs. act vs (drop n os))) (last_of-short n os l))
@@ -30,18 +32,3 @@ taking-is n os act = elim (cases_lt (length os) n) [
       ∙ ap (act args) (reverse-reverse (drop n os))
       ∙ sym (ap (on_some (λ vs. act vs (drop n os))) (last_of-long n os l))
 ]
-
--- the last items of a list are the top operands
-pub last_items-is : (n : ℕ) (xs : List Value) → n ≤ length xs → Some (drop (length xs - n) xs) ≡ last_of n (reverse xs)
-last_items-is n xs l =
-    let m = length xs - n in
-    let parts : reverse xs ≡ reverse (drop m xs) ++ reverse (take m xs) = ap reverse (sym (take-append-drop m xs)) ∙ reverse-append (take m xs) (drop m xs) in
-    let size = length-reverse (drop m xs) in
-    let tail = length-drop m xs in
-    let whole = length-reverse xs in
-    sym (last_of-long n (reverse xs) (omega arith) ∙ ap (λ (ys : List Value). Some (reverse (take n ys))) parts
-    ∙ ap (λ (ys : List Value). Some (reverse ys)) (take_at (reverse (drop m xs)) (reverse (take m xs)) n (omega arith))
-    ∙ ap (λ (ys : List Value). Some ys) (reverse-reverse (drop m xs)))
-
-pub last_items-none : (n : ℕ) (xs : List Value) → length xs < n → None ≡ last_of n (reverse xs)
-last_items-none n xs l = let whole = length-reverse xs in sym (last_of-short n (reverse xs) (omega arith))

@@ -1,4 +1,6 @@
 -- Whose turn it is, and what the turn is.
+-- For: `whose_turn`, `step` (golf_model/specs/Turn.antt) and `turn` (src/turning.rt), `act` (src/stepping.rt)
+-- By: cases of the goroutine's mode and of its first frame; no induction
 use Rattle.std.proofs.Common.{◌≡◌, ℕ, ◌+◌, ◌<◌, ◌%◌, ◌/◌, ◌^◌, Bool, true, not, ◌||◌, ◌==◌, List, [], ◌∷◌, length, get_or, map, Option, Some, None, refl, sym, ap, ◌∙◌, arith}
 use Rattle.std.specs.Prelude.{slice_get, option_map, option_and_then}
 use Rattle.std.proofs.lemmas.Bool.{and_parts}
@@ -74,7 +76,7 @@ module _ (code : Code) (s : State) (n g : ℕ) (turn : whose_turn s n ≡ Some g
   pub wants-is : wants_collection code s n ≡ goroutine_collects code (find g s.goroutines)
   wants-is = ap (λ (o : Option ℕ). goroutine_collects code (option_and_then (λ k. find k s.goroutines) o)) turn
 
-  -- the turn, and what is cleared behind it
+  -- the turn, and what is cleared after it
   pub step-is : (s1 s2 : State) (b : Bool) (count : ℕ) → count ≡ length (runnable s) → s1 ≡ apply_all (turn_of code g (n / count) s (find g s.goroutines)) s → b ≡ goroutine_collects code (find g s.goroutines) → s2 ≡ apply_all (clearing code b (Some g) s1) s1 → s2 ≡ step code s n
   step-is s1 s2 b count e h w is =
       is

@@ -21,11 +21,11 @@ Acts g s = (after : ℕ) × Stands g after s
 abbrev pub HasNoFrame : ℕ → State → Type 0
 HasNoFrame g s = (started : ℕ) × (find g s.goroutines ≡ Some (record { frames = []; mode = Mode.Running; started = started }))
 
--- the top operands, so many, in source order, where there are so many
+-- the top operands, so many, in source order, if there are so many
 abbrev pub last_of : ℕ → List Value → Option (List Value)
 last_of n os = cond (nat_lt (length os) n) None (Some (reverse (take n os)))
 
--- begins the latest deferred call, where there is one
+-- begins the latest deferred call, if there is one
 abbrev pub begins_latest : Code → Actor → List Deferred → List Change
 begins_latest code a [] = []
 begins_latest code a (d ∷ ds) = begins_deferred code a d ds

@@ -1,5 +1,5 @@
 pub mod Acts
-pub mod Groups
+pub mod Families
 pub mod Lightness
 pub mod Objects
 pub mod Operations

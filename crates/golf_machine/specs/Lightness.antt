@@ -5,7 +5,7 @@ use Rattle.golf_data.specs.declared.code.CodeLine.{CodeLine}
 use Rattle.golf_data.specs.declared.goroutine.Leaving.{Leaving}
 use Rattle.golf_model.specs.Turn.{line_at}
 use Rattle.golf_model.specs.Views.{FrameView, GoroutineView}
-use Rattle.golf_machine.specs.Groups.{group_of}
+use Rattle.golf_machine.specs.Families.{family_of}
 use Rattle.golf_machine.specs.declared.performing.Family.{Family}
 
 abbrev pub is_light : Family → Bool
@@ -18,7 +18,7 @@ is_light Family.Calls = false
 
 abbrev pub line_is_light : Option CodeLine → Bool
 line_is_light None = false
-line_is_light (Some l) = is_light (group_of l.instr)
+line_is_light (Some l) = is_light (family_of l.instr)
 
 abbrev pub frame_is_light : Code → FrameView → Leaving → Bool
 frame_is_light code f Leaving.No = line_is_light (line_at code f.function f.at)

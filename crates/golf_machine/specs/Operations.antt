@@ -7,17 +7,17 @@ use Rattle.golf_machine.specs.declared.calculating.Operation.{Operation}
 use Rattle.golf_machine.specs.declared.calculating.Division.{Division}
 use Rattle.golf_machine.specs.declared.calculating.Comparison.{Comparison}
 
--- the top operand, where it is an integer
+-- the top operand, if it is an integer
 abbrev pub int_in : List Value → Option ℤ
 int_in [] = None
 int_in (x ∷ rest) = int_of x
 
--- where it is a truth value
+-- if it is a truth value
 abbrev pub bool_in : List Value → Option Bool
 bool_in [] = None
 bool_in (x ∷ rest) = bool_of x
 
--- the top two, where both are integers
+-- the top two, if both are integers
 abbrev pub ints_in : List Value → Option (ℤ × ℤ)
 ints_in [] = None
 ints_in (y ∷ []) = None

@@ -81,6 +81,6 @@ HasTaken None code old new before after given now = HasGoneOn code old new befor
 HasTaken (Some turned) code old new before after given now =
     (last : HasCome code old before after given now) × (new ≡ step code last.state last.number) × (turned ≡ outcome_of code last.state last.number) × (stops_after code last.state last.number ≡ true)
 
--- memory was wanting for the last turn, and the state is the one before it
+-- memory ran out for the last turn, and the state is the one before it
 abbrev pub HasFailed : Code → State → State → List Event → List Event → ℕ → ℕ → Type 0
 HasFailed code old new before after given now = (last : HasCome code old before after given now) × (new ≡ last.state)

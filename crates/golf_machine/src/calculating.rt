@@ -64,14 +64,14 @@ pub fn bool_in(value: Value) -> Option<bool>
     }
 }
 
-/// The last operand, where it is an integer.
+/// The last operand, if it is an integer.
 pub fn last_int(state: &State, g: GoroutineId) -> Option<i64>
     ensures { result ≡ int_in (operands_of g.0 state.now) }
 {
     int_in(last_operand(state, g)?)
 }
 
-// The last two operands, where both are integers.
+// The last two operands, if both are integers.
 fn last_ints(state: &State, g: GoroutineId) -> Option<(i64, i64)>
     ensures { result ≡ ints_in (operands_of g.0 state.now) }
 {
@@ -94,7 +94,7 @@ pub fn negate(state: &mut State, acting: Acting) -> Result<(), Memory>
     proceed_with(state, acting, acting.after, 1, given)
 }
 
-// The last operand, where it is a truth value.
+// The last operand, if it is a truth value.
 fn last_bool(state: &State, g: GoroutineId) -> Option<bool>
     ensures { result ≡ bool_in (operands_of g.0 state.now) }
 {
@@ -148,7 +148,7 @@ pub fn part_of(division: Division, m: i64, n: i64) -> i64
     }
 }
 
-/// An integer from two, of which the second divides the first; it panics where that is 0.
+/// An integer from two, of which the second divides the first; it panics if that is 0.
 pub fn divide(state: &mut State, acting: Acting, division: Division) -> Result<(), Memory>
     requires { Stands acting.goroutine.0 acting.after state.old }
     ensures ok { OnOk result (state.new ≡ does (divides (division_of division)) acting.goroutine.0 acting.line state.old) }
@@ -231,7 +231,7 @@ pub fn jump(state: &mut State, acting: Acting, target: u32)
     proceed(state, acting, target, 0);
 }
 
-/// Goes on at the target where the last operand is false.
+/// Goes on at the target if the last operand is false.
 pub fn jump_unless(state: &mut State, acting: Acting, target: u32)
     requires { Stands acting.goroutine.0 acting.after state.old }
     ensures { state.new ≡ does (λ a. jumps_unless a target) acting.goroutine.0 acting.line state.old }

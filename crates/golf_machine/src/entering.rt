@@ -37,7 +37,7 @@ fn slots_of(alloc: Global, function: &Function, arguments: &[Value]) -> Result<S
     }
 }
 
-// The first frame of a call of the function of this number, where the code has one.
+// The first frame of a call of the function of this number, if the code has one.
 fn open_frame(
     alloc: Global,
     code: &Code,
@@ -64,7 +64,7 @@ fn open_frame(
     }))
 }
 
-// The last items, so many, in their order, where there are so many.
+// The last items, so many, in their order, if there are so many.
 fn last_items(items: &[Value], count: usize) -> Option<&[Value]>
     ensures { option_map (λ vs. vs.now) result ≡ last_of count (reverse items.now) }
 {
@@ -75,7 +75,7 @@ fn last_items(items: &[Value], count: usize) -> Option<&[Value]>
     Some(last)
 }
 
-/// The last operands of a goroutine, so many, in source order, where there are so many.
+/// The last operands of a goroutine, so many, in source order, if there are so many.
 pub fn last_values(state: &State, g: GoroutineId, count: u32) -> Option<&[Value]>
     ensures { option_map (λ vs. vs.now) result ≡ last_of count (operands_of g.0 state.now) }
 {
@@ -123,13 +123,11 @@ pub fn call(
     enter(state.frames_mut(g), frame, acting.after, count as usize)
 }
 
-// A list of one frame.
+// A list of one frame, with room for no more.
 fn frames_of(alloc: Global, frame: Frame) -> Result<List<Frame>, Memory>
     ensures { IfOk result (λ frames. frames ≡ frame ∷ []) }
 {
-    let mut frames = List::new(alloc);
-    frames.push(frame)?;
-    Ok(frames)
+    Ok(List::from_vec(vec![in alloc; frame]?))
 }
 
 /// Starts a goroutine on a function with the last operands, so many.
@@ -196,7 +194,7 @@ fn last(items: &[Deferred]) -> Option<&Deferred>
     items.last()
 }
 
-/// The latest deferred call of a goroutine's innermost frame, where there is one.
+/// The latest deferred call of a goroutine's innermost frame, if there is one.
 pub fn latest_deferred(state: &State, g: GoroutineId) -> Option<&Deferred>
     ensures { option_map (λ d. d.now) result ≡ slice_get (deferred_of g.0 state.now) 0 }
 {
@@ -204,7 +202,7 @@ pub fn latest_deferred(state: &State, g: GoroutineId) -> Option<&Deferred>
     last(frame.deferred.as_slice())
 }
 
-/// Begins the latest deferred call of a goroutine's innermost frame, where it has one.
+/// Begins the latest deferred call of a goroutine's innermost frame, if it has one.
 pub fn begin_deferred(
     alloc: Global,
     code: &Code,
@@ -230,7 +228,7 @@ pub fn begin_deferred(
     enter_deferred(state.frames_mut(g), frame)
 }
 
-/// The goroutine without a frame takes the first entry of the finaliser queue, where it is
+/// The goroutine without a frame takes the first entry of the finaliser queue, if it is
 /// goroutine 0 and there is one, and begins its function on its object.
 pub fn begin_queued(
     alloc: Global,
@@ -257,7 +255,7 @@ pub fn begin_queued(
     Ok(())
 }
 
-/// The frames of goroutine 1 before the first turn: that of function 0, where the code has one.
+/// The frames of goroutine 1 before the first turn: that of function 0, if the code has one.
 pub fn first_frames(alloc: Global, code: &Code) -> Result<List<Frame>, Memory>
     ensures { IfOk result (λ frames. frame_views frames ≡ option_to_list (call_frame code.now 0 [] true)) }
 {

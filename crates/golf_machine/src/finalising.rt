@@ -35,7 +35,7 @@ fn finalise_at(
     Ok(())
 }
 
-/// The function becomes the finaliser of the struct that the last operand refers to. Where that has
+/// The function becomes the finaliser of the struct that the last operand refers to. If that has
 /// one already, it is a fatal error; it panics on nil.
 pub fn finalise(state: &mut State, acting: Acting, function: u32) -> Result<(), Memory>
     requires { Stands acting.goroutine.0 acting.after state.old }

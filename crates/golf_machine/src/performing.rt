@@ -5,7 +5,7 @@ ghost use Rattle.golf_data.specs.declared.code.Code.{Code};
 ghost use Rattle.golf_model.specs.Turn.{changes};
 ghost use Rattle.golf_state.specs.Doing.{does, Stands};
 ghost use Rattle.golf_state.specs.Outcomes.{Comes};
-ghost use Rattle.golf_machine.specs.Groups.{group_of};
+ghost use Rattle.golf_machine.specs.Families.{family_of};
 ghost use Rattle.golf_machine.specs.Lightness.{is_light};
 ghost use Rattle.golf_machine.specs.declared.performing.Family.TheVariants as family;
 
@@ -47,8 +47,8 @@ enum Family {
 
 // What an instruction is about.
 #[inline(always)]
-fn group_of(instr: &Instr) -> Group
-    ensures { result ≡ group_of instr.now }
+fn family_of(instr: &Instr) -> Family
+    ensures { result ≡ family_of instr.now }
 {
     match instr {
         Instr::Int(_)
@@ -120,9 +120,9 @@ fn group_of(instr: &Instr) -> Group
 /// Whether an instruction is about values of the innermost frame, or of globals.
 #[inline(always)]
 pub fn is_light(instr: &Instr) -> bool
-    ensures { result ≡ is_light (group_of instr.now) }
+    ensures { result ≡ is_light (family_of instr.now) }
 {
-    match group_of(instr) {
+    match family_of(instr) {
         Family::Values => true,
         Family::Calculations => true,
         Family::Structures => false,
@@ -135,7 +135,7 @@ pub fn is_light(instr: &Instr) -> bool
 // Does an instruction that pushes, loads, stores, drops or doubles values.
 fn perform_value(state: &mut State, acting: Acting, instr: &Instr) -> Result<(), Memory>
     requires stands { Stands acting.goroutine.0 acting.after state.old }
-    requires group { group_of instr.now ≡ family.Values }
+    requires family { family_of instr.now ≡ family.Values }
     ensures ok { OnOk result ((code : Code) (choice : ℕ) → state.new ≡ does (λ a. changes code instr.now a choice state.old) acting.goroutine.0 acting.line state.old) }
     ensures err { OnErr result (state.new ≡ state.old) }
 {
@@ -160,7 +160,7 @@ fn perform_value(state: &mut State, acting: Acting, instr: &Instr) -> Result<(),
 // Does an instruction that calculates, compares or jumps.
 fn perform_calculation(state: &mut State, acting: Acting, instr: &Instr) -> Result<(), Memory>
     requires stands { Stands acting.goroutine.0 acting.after state.old }
-    requires group { group_of instr.now ≡ family.Calculations }
+    requires family { family_of instr.now ≡ family.Calculations }
     ensures ok { OnOk result ((code : Code) (choice : ℕ) → state.new ≡ does (λ a. changes code instr.now a choice state.old) acting.goroutine.0 acting.line state.old) }
     ensures err { OnErr result (state.new ≡ state.old) }
 {
@@ -191,7 +191,7 @@ fn perform_structure(
     instr: &Instr,
 ) -> Result<(), Memory>
     requires stands { Stands acting.goroutine.0 acting.after state.old }
-    requires group { group_of instr.now ≡ family.Structures }
+    requires family { family_of instr.now ≡ family.Structures }
     ensures ok { OnOk result ((choice : ℕ) → state.new ≡ does (λ a. changes code.now instr.now a choice state.old) acting.goroutine.0 acting.line state.old) }
     ensures err { OnErr result (state.new ≡ state.old) }
 {
@@ -223,7 +223,7 @@ fn perform_communication(
     choice: u64,
 ) -> Result<Outcome, Memory>
     requires stands { Stands acting.goroutine.0 acting.after state.old }
-    requires group { group_of instr.now ≡ family.Communication }
+    requires family { family_of instr.now ≡ family.Communication }
     ensures ok { IfOk result (λ outcome. (code : Code) → Comes outcome (λ a. changes code instr.now a choice state.old) acting.goroutine.0 acting.line state.old state.new) }
     ensures err { OnErr result (state.new ≡ state.old) }
 {
@@ -256,7 +256,7 @@ fn perform_sharing(
     instr: &Instr,
 ) -> Result<Outcome, Memory>
     requires stands { Stands acting.goroutine.0 acting.after state.old }
-    requires group { group_of instr.now ≡ family.Sharing }
+    requires family { family_of instr.now ≡ family.Sharing }
     requires tickets { state.old.next_ticket + length state.old.goroutines < 2 ^ 64 }
     ensures ok { IfOk result (λ outcome. (code : Code) (choice : ℕ) → Comes outcome (λ a. changes code instr.now a choice state.old) acting.goroutine.0 acting.line state.old state.new) }
     ensures err { OnErr result (state.new ≡ state.old) }
@@ -282,7 +282,7 @@ fn perform_call(
     instr: &Instr,
 ) -> Result<(), Memory>
     requires stands { Stands acting.goroutine.0 acting.after state.old }
-    requires group { group_of instr.now ≡ family.Calls }
+    requires family { family_of instr.now ≡ family.Calls }
     ensures ok { OnOk result ((choice : ℕ) → state.new ≡ does (λ a. changes code.now instr.now a choice state.old) acting.goroutine.0 acting.line state.old) }
     ensures err { OnErr result (state.new ≡ state.old) }
 {
@@ -313,7 +313,7 @@ fn operate(
     choice: u64,
 ) -> Result<(), Memory>
     requires stands { Stands acting.goroutine.0 acting.after state.old }
-    requires group { group_of instr.now ≡ family.Communication }
+    requires family { family_of instr.now ≡ family.Communication }
     ensures ok { OnOk result ((code : Code) → state.new ≡ does (λ a. changes code instr.now a choice state.old) acting.goroutine.0 acting.line state.old) }
     ensures err { OnErr result (state.new ≡ state.old) }
 {
@@ -322,11 +322,11 @@ fn operate(
     Ok(())
 }
 
-// The same on a reader and writer mutex or a condition. Where tickets are wanting, the answer is
+// The same on a reader and writer mutex or a condition. If tickets run out, the answer is
 // `Memory`.
 fn share(alloc: Global, state: &mut State, acting: Acting, instr: &Instr) -> Result<(), Memory>
     requires stands { Stands acting.goroutine.0 acting.after state.old }
-    requires group { group_of instr.now ≡ family.Sharing }
+    requires family { family_of instr.now ≡ family.Sharing }
     ensures ok { OnOk result ((code : Code) (choice : ℕ) → state.new ≡ does (λ a. changes code instr.now a choice state.old) acting.goroutine.0 acting.line state.old) }
     ensures err { OnErr result (state.new ≡ state.old) }
 {
@@ -352,7 +352,7 @@ pub fn perform(
     ensures ok { OnOk result (state.new ≡ does (λ a. changes code.now instr.now a choice state.old) acting.goroutine.0 acting.line state.old) }
     ensures err { OnErr result (state.new ≡ state.old) }
 {
-    match group_of(instr) {
+    match family_of(instr) {
         Family::Values => perform_value(state, acting, instr),
         Family::Calculations => perform_calculation(state, acting, instr),
         Family::Structures => perform_structure(alloc, code, state, acting, instr),

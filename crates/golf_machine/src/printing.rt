@@ -11,7 +11,7 @@ use golf_data::{Code, Value};
 use golf_state::{Acting, State, proceed};
 use std::alloc::Global;
 
-// Adds a value as it is printed, where it has a form.
+// Adds a value as it is printed, if it has a form.
 fn add_value(
     alloc: Global,
     text: &mut List<u8>,
@@ -47,7 +47,7 @@ fn add_value(
     }
 }
 
-/// The line of these values, one space between and a newline behind, where each has a form.
+/// The line of these values, one space between and a newline after, if each has a form.
 pub fn line_of(
     alloc: Global,
     texts: &[List<u8>],

@@ -13,7 +13,7 @@ use crate::entering::begin_queued;
 use crate::leaving::{leave_returning, leave_unwinding};
 use crate::performing::{self, perform};
 use golf_base::{GoroutineId, Memory};
-use golf_data::{Code, Frame, Instr, Leaving, CodeLine};
+use golf_data::{Code, CodeLine, Frame, Instr, Leaving};
 use golf_state::{Acting, State};
 use std::alloc::Global;
 
@@ -26,7 +26,7 @@ fn line_at(code: &Code, function: u32, at: u32) -> Option<&CodeLine>
     function.body.as_slice().get(at as usize)
 }
 
-// The line of the return of a returning frame, which stands behind it.
+// The line of the return of a returning frame, which stands after it.
 fn return_line(code: &Code, frame: &Frame) -> u32
     ensures { result ≡ return_line code.now (frame_view frame.now) }
 {

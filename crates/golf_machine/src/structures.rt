@@ -24,7 +24,7 @@ use std::alloc::Global;
 /// The most elements of a slice, and the greatest capacity of a channel.
 const MOST_ELEMENTS: i64 = 65_536;
 
-// The fields of the struct of this number, where there is one.
+// The fields of the struct of this number, if there is one.
 fn struct_at(state: &State, object: ObjectId) -> Option<&List<Value>>
     ensures { option_map (λ fields. fields.now) result ≡ struct_of (find object.0 state.now.objects) }
 {
@@ -46,7 +46,7 @@ pub fn is_struct(state: &State, object: ObjectId) -> bool
     struct_at(state, object).is_some()
 }
 
-// The elements of the slice of this number, where there is one.
+// The elements of the slice of this number, if there is one.
 fn slice_at(state: &State, object: ObjectId) -> Option<&List<Value>>
     ensures { option_map (λ elements. elements.now) result ≡ slice_of (find object.0 state.now.objects) }
 {
@@ -72,7 +72,7 @@ pub fn zeros_of(alloc: Global, values: &[Value]) -> Result<List<Value>, Memory>
     Ok(zeros)
 }
 
-/// Makes a struct with the zero values of a row of the code's table, where that is there.
+/// Makes a struct with the zero values of a row of the code's table, if that is there.
 pub fn new_struct(
     alloc: Global,
     code: &Code,
@@ -132,7 +132,7 @@ pub fn get_field(state: &mut State, acting: Acting, field: u32) -> Result<(), Me
     }
 }
 
-// The field at a place becomes this value, where the object is a struct that has it.
+// The field at a place becomes this value, if the object is a struct that has it.
 fn change_field(object: &mut Object, field: usize, value: Value)
     ensures { object.new ≡ field_changed field value object.old }
 {
@@ -185,7 +185,7 @@ pub fn set_field(state: &mut State, acting: Acting, field: u32)
 }
 
 /// Makes a slice with as many elements as the last operand says, which have this zero value; it
-/// panics where those are too many or fewer than none.
+/// panics if those are too many or fewer than none.
 pub fn new_slice(
     alloc: Global,
     state: &mut State,
@@ -208,7 +208,7 @@ pub fn new_slice(
     make_over(state, acting, Object::Slice(elements))
 }
 
-/// Makes a channel whose capacity is the last operand; it panics where that is too great or
+/// Makes a channel whose capacity is the last operand; it panics if that is too great or
 /// negative.
 pub fn new_channel(
     alloc: Global,
@@ -265,7 +265,7 @@ pub fn new_condition(state: &mut State, acting: Acting) -> Result<(), Memory>
     Ok(())
 }
 
-// The element at an index, where the slice has it.
+// The element at an index, if the slice has it.
 fn element_at(elements: &[Value], index: i64) -> Option<Value>
     ensures { result ≡ element elements.now index }
 {
@@ -308,7 +308,7 @@ fn get_element_of(state: &mut State, acting: Acting, slice: Value, index: i64) -
 }
 
 /// Leaves the element of the slice that the operand before the last refers to, at the index that is
-/// the last; it panics where the index is out of range. Nil has no elements.
+/// the last; it panics if the index is out of range. Nil has no elements.
 pub fn get_element(state: &mut State, acting: Acting) -> Result<(), Memory>
     requires { Stands acting.goroutine.0 acting.after state.old }
     ensures ok { OnOk result (state.new ≡ does (λ a. gets_element a state.old) acting.goroutine.0 acting.line state.old) }
@@ -323,7 +323,7 @@ pub fn get_element(state: &mut State, acting: Acting) -> Result<(), Memory>
     }
 }
 
-// The element at a place becomes this value, where the object is a slice that has it.
+// The element at a place becomes this value, if the object is a slice that has it.
 fn change_element(object: &mut Object, at: usize, value: Value)
     ensures { object.new ≡ element_changed at value object.old }
 {
@@ -387,7 +387,7 @@ fn set_element_of(
 }
 
 /// Stores the last operand in the slice that the first of the last three refers to, at the index
-/// between; it panics where the index is out of range. Nil has no elements.
+/// between; it panics if the index is out of range. Nil has no elements.
 pub fn set_element(state: &mut State, acting: Acting) -> Result<(), Memory>
     requires { Stands acting.goroutine.0 acting.after state.old }
     ensures ok { OnOk result (state.new ≡ does (λ a. sets_element a state.old) acting.goroutine.0 acting.line state.old) }

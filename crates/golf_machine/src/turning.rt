@@ -25,7 +25,7 @@ use std::alloc::Global;
 pub enum Turned {
     /// The program goes on.
     Went,
-    /// The instruction was a collection, which is to follow; the goroutine stands behind it.
+    /// The instruction was a collection, which is to follow; the goroutine stands after it.
     WantsCollection,
     /// The program has ended.
     Ended(Ending),

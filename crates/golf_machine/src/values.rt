@@ -19,7 +19,7 @@ pub fn push(state: &mut State, acting: Acting, value: Value) -> Result<(), Memor
     proceed_with(state, acting, acting.after, 0, Given::One(value))
 }
 
-/// Pushes a slot, where it is there.
+/// Pushes a slot, if it is there.
 pub fn load(state: &mut State, acting: Acting, slot: u32) -> Result<(), Memory>
     requires { Stands acting.goroutine.0 acting.after state.old }
     ensures ok { OnOk result (state.new ≡ does (λ a. loads a slot) acting.goroutine.0 acting.line state.old) }
@@ -34,7 +34,7 @@ pub fn load(state: &mut State, acting: Acting, slot: u32) -> Result<(), Memory>
     }
 }
 
-/// Stores the last operand in a slot, where both are there.
+/// Stores the last operand in a slot, if both are there.
 pub fn store_slot(state: &mut State, acting: Acting, slot: u32)
     requires { Stands acting.goroutine.0 acting.after state.old }
     ensures { state.new ≡ does (λ a. stores a slot) acting.goroutine.0 acting.line state.old }
@@ -42,7 +42,7 @@ pub fn store_slot(state: &mut State, acting: Acting, slot: u32)
     store(state.frames_mut(acting.goroutine), acting.after, slot);
 }
 
-/// Pushes a global, where it is there.
+/// Pushes a global, if it is there.
 pub fn load_global(state: &mut State, acting: Acting, global: u32) -> Result<(), Memory>
     requires { Stands acting.goroutine.0 acting.after state.old }
     ensures ok { OnOk result (state.new ≡ does (λ a. loads_global a global state.old) acting.goroutine.0 acting.line state.old) }
@@ -54,7 +54,7 @@ pub fn load_global(state: &mut State, acting: Acting, global: u32) -> Result<(),
     }
 }
 
-/// Stores the last operand in a global, where both are there.
+/// Stores the last operand in a global, if both are there.
 pub fn store_global(state: &mut State, acting: Acting, global: u32)
     requires { Stands acting.goroutine.0 acting.after state.old }
     ensures { state.new ≡ does (λ a. stores_global a global state.old) acting.goroutine.0 acting.line state.old }
@@ -69,7 +69,7 @@ pub fn store_global(state: &mut State, acting: Acting, global: u32)
     proceed(state, acting, acting.after, 1);
 }
 
-/// Drops the last operand, where there is one.
+/// Drops the last operand, if there is one.
 pub fn drop_last(state: &mut State, acting: Acting)
     requires { Stands acting.goroutine.0 acting.after state.old }
     ensures { state.new ≡ does (drops) acting.goroutine.0 acting.line state.old }
@@ -79,7 +79,7 @@ pub fn drop_last(state: &mut State, acting: Acting)
     }
 }
 
-/// Doubles the last operand, where there is one.
+/// Doubles the last operand, if there is one.
 pub fn double(state: &mut State, acting: Acting) -> Result<(), Memory>
     requires { Stands acting.goroutine.0 acting.after state.old }
     ensures ok { OnOk result (state.new ≡ does (doubles) acting.goroutine.0 acting.line state.old) }
@@ -91,7 +91,7 @@ pub fn double(state: &mut State, acting: Acting) -> Result<(), Memory>
     }
 }
 
-/// Doubles the last two operands, where there are two.
+/// Doubles the last two operands, if there are two.
 pub fn double_two(state: &mut State, acting: Acting) -> Result<(), Memory>
     requires { Stands acting.goroutine.0 acting.after state.old }
     ensures ok { OnOk result (state.new ≡ does (doubles_two) acting.goroutine.0 acting.line state.old) }
@@ -106,7 +106,7 @@ pub fn double_two(state: &mut State, acting: Acting) -> Result<(), Memory>
     }
 }
 
-/// Goes on behind the instruction.
+/// Goes on after the instruction.
 pub fn skip(state: &mut State, acting: Acting)
     requires { Stands acting.goroutine.0 acting.after state.old }
     ensures { state.new ≡ does (λ a. goes a a.frame.operands) acting.goroutine.0 acting.line state.old }

@@ -19,10 +19,10 @@ use crate::calculating::{
 };
 use crate::stepping::is_light;
 use golf_base::{GoroutineId, List, Memory};
-use golf_data::{Code, Frame, Function, Instr, Leaving, CodeLine, Value};
+use golf_data::{Code, CodeLine, Frame, Function, Instr, Leaving, Value};
 use golf_state::State;
 
-// The last operand, where there is one.
+// The last operand, if there is one.
 #[inline(always)]
 fn last(frame: &Frame) -> Option<Value>
     ensures { result ≡ slice_get (frame_view frame.now).operands 0 }
@@ -30,7 +30,7 @@ fn last(frame: &Frame) -> Option<Value>
     frame.operands.as_slice().last().copied()
 }
 
-// The last two operands, the last one second, where there are two.
+// The last two operands, the last one second, if there are two.
 #[inline(always)]
 fn last_two(frame: &Frame) -> Option<(Value, Value)>
     ensures { result ≡ two_of (frame_view frame.now).operands }
@@ -43,7 +43,7 @@ fn last_two(frame: &Frame) -> Option<(Value, Value)>
     Some((items[count - 2], items[count - 1]))
 }
 
-// The last operand, where it is an integer.
+// The last operand, if it is an integer.
 #[inline(always)]
 fn last_int(frame: &Frame) -> Option<i64>
     ensures { result ≡ int_in (frame_view frame.now).operands }
@@ -51,7 +51,7 @@ fn last_int(frame: &Frame) -> Option<i64>
     int_in(last(frame)?)
 }
 
-// The last operand, where it is a truth value.
+// The last operand, if it is a truth value.
 #[inline(always)]
 fn last_bool(frame: &Frame) -> Option<bool>
     ensures { result ≡ bool_in (frame_view frame.now).operands }
@@ -59,7 +59,7 @@ fn last_bool(frame: &Frame) -> Option<bool>
     bool_in(last(frame)?)
 }
 
-// The last two operands, where both are integers.
+// The last two operands, if both are integers.
 #[inline(always)]
 fn last_ints(frame: &Frame) -> Option<(i64, i64)>
     ensures { result ≡ ints_in (frame_view frame.now).operands }
@@ -106,7 +106,7 @@ fn push(frame: &mut Frame, value: Value) -> Result<bool, Memory>
     Ok(true)
 }
 
-// The value of a slot, where it is there.
+// The value of a slot, if it is there.
 #[inline(always)]
 fn slot_of(frame: &Frame, slot: u32) -> Option<Value>
     ensures { result ≡ slice_get frame.now.slots slot }
@@ -114,7 +114,7 @@ fn slot_of(frame: &Frame, slot: u32) -> Option<Value>
     frame.slots.as_slice().get(slot as usize).copied()
 }
 
-// Pushes a slot, where it is there.
+// Pushes a slot, if it is there.
 #[inline(always)]
 fn load(frame: &mut Frame, slot: u32) -> Result<bool, Memory>
     requires place { frame.old.at + 1 < 2 ^ 32 }
@@ -127,7 +127,7 @@ fn load(frame: &mut Frame, slot: u32) -> Result<bool, Memory>
     }
 }
 
-// Stores the last operand in a slot, where both are there.
+// Stores the last operand in a slot, if both are there.
 #[inline(always)]
 fn store(frame: &mut Frame, slot: u32) -> bool
     requires place { frame.old.at + 1 < 2 ^ 32 }
@@ -144,7 +144,7 @@ fn store(frame: &mut Frame, slot: u32) -> bool
     true
 }
 
-// The value of a global, where it is there.
+// The value of a global, if it is there.
 #[inline(always)]
 fn global_of(globals: &[Value], global: u32) -> Option<Value>
     ensures { result ≡ slice_get globals.now global }
@@ -152,7 +152,7 @@ fn global_of(globals: &[Value], global: u32) -> Option<Value>
     globals.get(global as usize).copied()
 }
 
-// Pushes a global, where it is there.
+// Pushes a global, if it is there.
 #[inline(always)]
 fn load_global(frame: &mut Frame, globals: &[Value], global: u32) -> Result<bool, Memory>
     requires place { frame.old.at + 1 < 2 ^ 32 }
@@ -165,7 +165,7 @@ fn load_global(frame: &mut Frame, globals: &[Value], global: u32) -> Result<bool
     }
 }
 
-// Drops the last operand, where there is one.
+// Drops the last operand, if there is one.
 fn drop_last(frame: &mut Frame) -> bool
     requires place { frame.old.at + 1 < 2 ^ 32 }
     ensures { IsDone result drops (frame_view frame.old) (frame_view frame.new) }
@@ -178,7 +178,7 @@ fn drop_last(frame: &mut Frame) -> bool
     true
 }
 
-// Doubles the last operand, where there is one.
+// Doubles the last operand, if there is one.
 fn double(frame: &mut Frame) -> Result<bool, Memory>
     requires place { frame.old.at + 1 < 2 ^ 32 }
     ensures ok { IfOk result (λ done. IsDone done doubles (frame_view frame.old) (frame_view frame.new)) }
@@ -190,7 +190,7 @@ fn double(frame: &mut Frame) -> Result<bool, Memory>
     }
 }
 
-// Doubles the last two operands, where there are two.
+// Doubles the last two operands, if there are two.
 fn double_two(frame: &mut Frame) -> Result<bool, Memory>
     requires place { frame.old.at + 1 < 2 ^ 32 }
     ensures ok { IfOk result (λ done. IsDone done doubles_two (frame_view frame.old) (frame_view frame.new)) }
@@ -295,7 +295,7 @@ fn jump(frame: &mut Frame, target: u32) -> bool
     true
 }
 
-// Goes on at the target where the last operand is false.
+// Goes on at the target if the last operand is false.
 #[inline(always)]
 fn jump_unless(frame: &mut Frame, target: u32) -> bool
     requires place { frame.old.at + 1 < 2 ^ 32 }
@@ -362,7 +362,7 @@ fn line_in(function: &Function, at: u32) -> Option<&CodeLine>
     function.body.as_slice().get(at as usize)
 }
 
-// The mask of a place of a function, where there is one.
+// The mask of a place of a function, if there is one.
 #[inline(always)]
 fn mask_in(function: &Function, at: u32) -> Option<u64>
     ensures { result ≡ slice_get function.now.live at }

@@ -1,4 +1,6 @@
 -- A place that was taken is scanned, or deferred.
+-- For: `scan_or_defer`, src/marker.rt; `Attends`, specs/Turning.antt
+-- By: one part of what is to be shown after the other; no induction
 use Rattle.std.proofs.Common.{◌≡◌, ℕ, inl, inr, List, [], ◌∷◌, ◌++◌, Bool, length, refl, sym, ◌∙◌, subst}
 use Rattle.golf_theory.specs.Membership.{In}
 use Rattle.golf_theory.proofs.Lists.{In-left}

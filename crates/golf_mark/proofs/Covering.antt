@@ -1,4 +1,6 @@
 -- What each place that was claimed comes to.
+-- For: `IsCovered` and `KnowsWon`, specs/Scanning.antt
+-- By: cases of which list a place is in; no induction
 use Rattle.std.proofs.Common.{◌≡◌, ℕ, ◌⊎◌, inl, inr, List, [], ◌∷◌, ◌++◌, sym, subst}
 use Rattle.golf_theory.specs.Membership.{In}
 use Rattle.golf_theory.proofs.Lists.{In-left, In-right, In-cases}

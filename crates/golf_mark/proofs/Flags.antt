@@ -1,4 +1,6 @@
 -- One more flag is set.
+-- For: `claim`, src/work.rt; `IsWorking`, specs/Working.antt
+-- By: cases of whether a place is the new one, and arithmetic; no induction
 use Rattle.std.proofs.Common.{◌≡◌, ℕ, ◌+◌, ◌<◌, inl, inr, List, [], ◌∷◌, ◌++◌, length, get_or, set, Bool, true, false, sym, ap, subst, arith}
 use Rattle.std.proofs.lemmas.List.{length_push, length-set}
 use Rattle.golf_theory.specs.Membership.{In}

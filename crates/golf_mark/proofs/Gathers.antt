@@ -1,4 +1,6 @@
 -- Taking the markers together, and what follows at the end.
+-- For: `conclude`, src/conclude.rt; `IsGathered`, specs/Gathering.antt
+-- By: induction over the list of markers, and over the list of places that are left
 use Rattle.std.proofs.Common.{◌≡◌, ◌≢◌, ℕ, zero, suc, ◌+◌, ◌<◌, ◌≤◌, ◌⊎◌, List, [], ◌∷◌, ◌++◌, Bool, cond, ne_eqb, length, length-append, refl, sym, ap, ◌∙◌, subst, inl, inr, ⊎_elim, arith}
 use Rattle.std.specs.Prelude.{sum_by}
 use Rattle.std.proofs.lemmas.Bool.{cases_lt}

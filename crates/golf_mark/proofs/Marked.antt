@@ -1,4 +1,6 @@
 -- From the bits of a marking to its flags.
+-- For: `HasMarked`, golf_marks/specs/Flags.antt; `into_marked`, src/work.rt
+-- By: arithmetic of the numbers in a list of bits that is cut; no induction
 use Rattle.std.proofs.Common.{◌≡◌, ℕ, ◌+◌, ◌-◌, ◌<◌, ◌≤◌, List, length, take, drop, Bool, false, sym, ap, ◌∙◌, subst, arith}
 use Rattle.std.specs.Prelude.{◌↔◌}
 use Rattle.std.specs.List.Sorted.{IsStrictlyIncreasing}

@@ -1,4 +1,6 @@
 -- Places that are justified are places of the graph.
+-- For: `Justifies` and `Least`, golf_model/specs/Graph.antt
+-- By: induction over the list of rows, over the list of sleepers, and over how a place is reached
 use Rattle.std.proofs.Common.{ℕ, zero, suc, ◌+◌, ◌<◌, List, [], ◌∷◌, length, arith}
 use Rattle.std.specs.Prelude.{slice_get, unwrap_or, option_map}
 use Rattle.golf_theory.specs.Membership.{In, Every}

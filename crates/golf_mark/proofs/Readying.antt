@@ -1,4 +1,6 @@
 -- The markers before and after their run.
+-- For: `equip` and `deal`, src/deal.rt; `EachRuns`, specs/Turning.antt
+-- By: induction over the list of markers
 use Rattle.std.proofs.Common.{◌≡◌, ◌≢◌, ℕ, zero, suc, ◌+◌, ◌<◌, ◌≤◌, inl, inr, List, [], ◌∷◌, ◌++◌, All, length, set, refl, sym, ap, ◌∙◌, subst, ⊎_elim, arith}
 use Rattle.std.proofs.lemmas.List.Sums.{sum_by-cons, sum_by_push}
 use Rattle.std.proofs.lemmas.List.{length_push}

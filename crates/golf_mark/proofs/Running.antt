@@ -1,4 +1,6 @@
 -- One run after another, and what a turn does to the places that were taken.
+-- For: `step` and `run`, src/marker.rt; `Runs`, specs/Turning.antt
+-- By: cases of what a turn does; for all markers, induction over their list
 use Rattle.std.proofs.Common.{◌≡◌, ℕ, ◌+◌, ◌<◌, ◌⊎◌, List, [], ◌∷◌, ◌++◌, Bool, false, cond, ne_eqb, length, get_or, refl, sym, ap, ◌∙◌, subst, inl, inr, arith}
 use Rattle.std.proofs.lemmas.Bool.{cases_eq}
 use Rattle.std.proofs.lemmas.List.{length_push}
@@ -19,14 +21,8 @@ use Rattle.golf_mark.specs.Scanning.{IsCovered, Wins, with_won}
 use Rattle.golf_mark.specs.Working.{IsScanned}
 use Rattle.golf_mark.proofs.Covering.{own_wins, own_less, covered_same, last_or, covered_scan, covered_share}
 
-pub Keeps-none : (m : Marker) → Keeps m m
-Keeps-none m = record { known = λ p h. h; parts = refl; number = refl }
-
 pub Keeps-trans : (a b c : Marker) → Keeps a b → Keeps b c → Keeps a c
 Keeps-trans a b c f g = record { known = λ p h. g.known p (f.known p h); parts = g.parts ∙ f.parts; number = g.number ∙ f.number }
-
-pub Runs-none : (marks : Marks) (pool : GreyPool) (m : Marker) → IsMarkerOf marks pool m → Runs marks pool m m
-Runs-none marks pool m fits = record { fits = fits; keeps = Keeps-none m; attended = λ t. t }
 
 pub Runs-trans : (marks : Marks) (pool : GreyPool) (a b c : Marker) → Runs marks pool a b → Runs marks pool b c → Runs marks pool a c
 Runs-trans marks pool a b c f g = record { fits = g.fits; keeps = Keeps-trans a b c f.keeps g.keeps; attended = λ t. g.attended (f.attended t) }

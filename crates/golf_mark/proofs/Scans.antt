@@ -1,4 +1,6 @@
 -- A place is scanned once all that it justifies is in the list.
+-- For: `scan`, src/work.rt; `IsScanned`, specs/Working.antt
+-- By: cases of why a place is justified; no induction
 use Rattle.std.proofs.Common.{◌≡◌, ℕ, ◌+◌, ◌<◌, List, subst, sym, arith}
 use Rattle.golf_theory.specs.Membership.{In}
 use Rattle.golf_theory.proofs.Lists.{Every-at}

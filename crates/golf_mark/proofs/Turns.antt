@@ -1,4 +1,6 @@
 -- The turns of a marking that goes through its own list.
+-- For: `mark`, src/alone.rt; `IsUnderWay`, specs/Working.antt
+-- By: induction over how a place is reached from the roots, and over the list of marked places
 use Rattle.std.proofs.Common.{◌≡◌, ℕ, zero, suc, ◌+◌, ◌<◌, ◌≤◌, inl, inr, List, [], ◌∷◌, length, length-append, get_or, Some, None, sym, ap, ◌∙◌, subst, arith, below_more}
 use Rattle.std.specs.Prelude.{slice_get}
 use Rattle.std.proofs.lemmas.List.{get_or_append_left}

@@ -1,4 +1,6 @@
 -- At the end the claimed places are the least closed set.
+-- For: `conclude`, src/conclude.rt; `Least`, golf_model/specs/Graph.antt
+-- By: induction over how a place is reached from the roots
 use Rattle.std.proofs.Common.{◌≡◌, ℕ, ◌<◌, inl, inr, List, [], ◌∷◌, Bool, ap, subst, arith}
 use Rattle.std.specs.Prelude.{◌↔◌}
 use Rattle.std.proofs.lemmas.List.Sums.{sum_by-cons}

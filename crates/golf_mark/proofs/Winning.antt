@@ -1,5 +1,7 @@
 -- One claim after another.
-use Rattle.std.proofs.Common.{◌≡◌, ℕ, ◌+◌, ◌<◌, ◌≤◌, inl, inr, List, [], ◌∷◌, ◌++◌, length, refl, sym, ap, ◌∙◌, subst, append_assoc, append-nil, arith}
+-- For: `Wins`, specs/Scanning.antt; `claim`, src/scanner.rt
+-- By: cases of whether the claim is won; no induction
+use Rattle.std.proofs.Common.{◌≡◌, ℕ, ◌+◌, ◌<◌, ◌≤◌, inl, inr, List, [], ◌∷◌, ◌++◌, length, sym, ap, ◌∙◌, subst, append_assoc, append-nil, arith}
 use Rattle.std.proofs.lemmas.List.{length_push}
 use Rattle.golf_theory.specs.Membership.{In}
 use Rattle.golf_theory.proofs.Lists.{In-left, In-right, In-cases}
@@ -9,9 +11,6 @@ use Rattle.golf_marks.specs.Places.{place_count}
 use Rattle.golf_marks.specs.Seats.{graph_in, claimed, known, IsSeatOf, IsSameSeat}
 use Rattle.golf_mark.specs.declared.scanner.Scanner.{Scanner}
 use Rattle.golf_mark.specs.Scanning.{IsScannerOf, Wins, with_seat}
-
-pub Wins-none : (marks : Marks) (s : Scanner) → IsScannerOf marks s → Wins marks s s
-Wins-none marks s fits = record { fits = fits; known = λ p h. h; parts = refl; won = ([], sym (append-nil (claimed s.seat)), sym (append-nil s.won.items), λ p h. absurd h) }
 
 pub Wins-trans : (marks : Marks) (a b c : Scanner) → Wins marks a b → Wins marks b c → Wins marks a c
 Wins-trans marks a b c f g = record {

@@ -5,6 +5,6 @@ use Rattle.golf_rows.specs.Rows.{row_of}
 use Rattle.golf_model.specs.declared.graph.GraphParts.{GraphParts}
 use Rattle.golf_model.specs.Graph.{sleeper_count, sleeper_waits}
 
--- each node's row has the sleepers that wait on it. Where there is no sleeper there need be no rows
+-- each node's row has the sleepers that wait on it. If there is no sleeper there need be no rows
 pub record IsWaiters (g : GraphParts) (rows : List (List ℕ)) : Type 0 where
   pub members : (n s : ℕ) → In s (row_of rows n) ↔ ((s < sleeper_count g) × In n (sleeper_waits g s))

@@ -56,7 +56,7 @@ pub(crate) struct Marker {
     pub(crate) apart: [u64; 16],
 }
 
-// Scans the last place of its own list. False where that is empty.
+// Scans the last place of its own list. False if that is empty.
 fn scan_own(shared: &Shared, marker: &mut Marker) -> bool
     requires fits { IsMarkerOf shared.now.marks.now shared.now.pool.now marker.old }
     requires graph { graph_in shared.now.marks.now ≡ shared.now.graph.now }
@@ -76,7 +76,7 @@ fn scan_own(shared: &Shared, marker: &mut Marker) -> bool
     true
 }
 
-// Scans a place that was taken. Where it is not known as marked it is deferred to the finishing scan.
+// Scans a place that was taken. If it is not known as marked it is deferred to the finishing scan.
 fn scan_or_defer(shared: &Shared, marker: &mut Marker, place: u32)
     requires fits { IsMarkerOf shared.now.marks.now shared.now.pool.now marker.old }
     requires graph { graph_in shared.now.marks.now ≡ shared.now.graph.now }
@@ -99,7 +99,7 @@ fn scan_or_defer(shared: &Shared, marker: &mut Marker, place: u32)
     marker.deferred.add(place);
 }
 
-// Shares the first place of its own list, where it has more and its deque is short. In most turns it
+// Shares the first place of its own list, if it has more and its deque is short. In most turns it
 // does not look.
 fn share(shared: &Shared, marker: &mut Marker, turn: u64)
     requires { IsMarkerOf shared.now.marks.now shared.now.pool.now marker.old }
@@ -164,7 +164,7 @@ fn seek(shared: &Shared, hand: &mut GreyHand) -> Option<u32>
     Some(place)
 }
 
-// Scans a place, its own or one that it takes, and shares one. False where there is none.
+// Scans a place, its own or one that it takes, and shares one. False if there is none.
 fn step(shared: &Shared, marker: &mut Marker, turn: u64) -> bool
     requires fits { IsMarkerOf shared.now.marks.now shared.now.pool.now marker.old }
     requires graph { graph_in shared.now.marks.now ≡ shared.now.graph.now }

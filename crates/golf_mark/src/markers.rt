@@ -173,7 +173,7 @@ impl Markers {
     /// Marks the least closed set of the graph that `new` saw. It takes no memory.
     ///
     /// One marker marks as `mark_alone` does, in the thread of the caller. Each of several runs in a
-    /// thread of its own; where one cannot be started, its caller does that work itself. In each turn a
+    /// thread of its own; if one cannot be started, its caller does that work itself. In each turn a
     /// marker takes a place and marks all that it justifies; it ends if none comes. The gate is passed
     /// before each turn, the last one included; markers and turns count from 0. What one of several
     /// markers took and could not yet know as marked, and what is left, is scanned at the end, without

@@ -20,7 +20,7 @@ pub(crate) struct Scanner {
     pub(crate) won: Stack,
 }
 
-/// Claims a place. It glances first, since a glance costs less than a claim where others have marked
+/// Claims a place. It glances first, since a glance costs less than a claim if others have marked
 /// the place.
 pub(crate) fn claim(marks: &Marks, scanner: &mut Scanner, place: u32)
     requires fits { IsScannerOf marks.now scanner.old }

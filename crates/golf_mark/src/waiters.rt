@@ -8,7 +8,7 @@ use golf_rows::{add_to_all, empty_rows};
 use std::alloc::Global;
 use std::marker::Model;
 
-/// A list of sleepers for each node of a graph, and none at all where there is no sleeper. A sleeper
+/// A list of sleepers for each node of a graph, and none at all if there is no sleeper. A sleeper
 /// stands in the lists of all nodes that it waits on.
 #[derive(Drop)]
 pub(crate) struct Waiters {

@@ -1,4 +1,6 @@
--- A bit is put into a word.
+-- A bit that is put into a word is set, and no other bit changes.
+-- For: `bit` and `mask`, src/bits.rt; `bit_at` and `marked_in`, golf_marks/specs/Bits.antt.
+-- By: arithmetic; induction over n, the bits of a word that are told.
 use Rattle.std.proofs.Common.{◌≡◌, ◌≢◌, ℕ, ◌+◌, ◌*◌, ◌/◌, ◌%◌, ◌^◌, ◌<◌, ◌≤◌, ◌⊎◌, inl, inr, Bool, cond, zero, suc, List, ◌∷◌, length, set, replicate, refl, sym, ap, ◌∙◌, subst, eq-eqb, ne_eqb, arith}
 use Rattle.std.specs.Prelude.{bit_and, bit_or, slice_index}
 use Rattle.std.proofs.lemmas.Bool.{cases_eq, cases_lt}

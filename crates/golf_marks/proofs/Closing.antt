@@ -1,4 +1,6 @@
--- From the words at the end to flags.
+-- The flags at the end say what was claimed: the words are read, and the seats gathered.
+-- For: `close` and `gather`, src/marks.rt.
+-- By: arithmetic and cases of the seat; no induction.
 use Rattle.std.proofs.Common.{◌≡◌, ℕ, ◌+◌, ◌<◌, ◌≤◌, ◌⊎◌, inl, inr, List, [], ◌∷◌, ◌++◌, length, get_or, false, sym, ap, ◌∙◌, subst, arith}
 use Rattle.std.specs.Prelude.{◌==◌, ◌↔◌}
 use Rattle.std.specs.List.Sorted.{IsStrictlyIncreasing}
@@ -6,7 +8,7 @@ use Rattle.std.proofs.lemmas.Bool.{eqb-true, eq-eqb}
 use Rattle.std.proofs.lemmas.List.Sums.{sum_by_push}
 use Rattle.golf_theory.specs.Membership.{In, Every}
 use Rattle.golf_theory.specs.Counting.{times}
-use Rattle.golf_theory.proofs.Lists.{In-left, In-right, In-cases, Every-left, Every-right, Every-from}
+use Rattle.golf_theory.proofs.Lists.{In-left, In-right, In-cases, Every-left, Every-right}
 use Rattle.golf_theory.proofs.Times.{times-append}
 use Rattle.golf_model.specs.declared.graph.Marked.{Marked}
 use Rattle.golf_marks.specs.declared.marks.Marks.{Marks}
@@ -16,7 +18,7 @@ use Rattle.golf_marks.specs.Flags.{IsSet, HasMarked}
 use Rattle.golf_marks.specs.Seats.{claimed, known, parts, claim_count, part_count, IsSeatOf}
 use Rattle.golf_marks.proofs.Flags.{IsSet-below}
 
--- flags that say which bits are set, where the bits count
+-- flags that say which bits are set, if the bits count
 pub HasMarked-words : (words : List ℕ) (count : ℕ → ℕ) (nodes sleepers : ℕ) (m : Marked)
     → ((p : ℕ) → bit_at words p ≡ count p) → ((p : ℕ) → count p ≤ 1)
     → length m.flags ≡ nodes → ((k : ℕ) → k < nodes → get_or m.flags k false ≡ (bit_at words (0 + k) == 1))
@@ -90,10 +92,3 @@ gathers_next m all old rest s t u g is seat same_parts same_claims same_known =
         | inr i ↦ inr (subst (λ (l : List ℕ). In p l) (sym same_known) (In-left p (known s) (known t) i))
       ];
     }
-
--- no seat that has a part is none of them
-pub empty_parts : (seats : List MarkSeat) → seats ≡ [] → part_count seats ≡ 0
-empty_parts seats is = ap part_count is
-
-pub seat_among : (m : Marks) (all : List MarkSeat) (s : MarkSeat) (p : ℕ) → ((t : MarkSeat) → In t all → In p (known t) → In p (known s)) → Every (λ t. In p (known t) → In p (known s)) all
-seat_among m all s p f = Every-from (λ t. In p (known t) → In p (known s)) all f

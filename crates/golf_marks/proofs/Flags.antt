@@ -1,4 +1,6 @@
 -- Flags, and the numbers of those that are set.
+-- For: `numbers_of`, src/close.rt; `IsSet`, golf_marks/specs/Flags.antt.
+-- By: cases of the place of the flag; no induction.
 use Rattle.std.proofs.Common.{◌≡◌, ℕ, ◌+◌, ◌<◌, ◌⊎◌, inl, inr, List, [], ◌∷◌, ◌++◌, length, get_or, set, Bool, true, false, cond, not, sym, ap, ◌∙◌, subst, arith}
 use Rattle.std.specs.Prelude.{count_by, ◌↔◌}
 use Rattle.std.specs.List.Sorted.{IsStrictlyIncreasing}
@@ -27,9 +29,6 @@ unset_one flags p low off =
     let e = sum_by-set (λ (x : Bool). cond (not x) 1 0) flags p true false low in
     let f = ap (λ (b : Bool). let n : ℕ = cond (not b) 1 0 in n) off in
     omega (arith, e, f)
-
-pub unset_some : (flags : List Bool) (p : ℕ) → p < length flags → get_or flags p false ≡ false → 0 < count_by not flags
-unset_some flags p low off = omega (arith, unset_one flags p low off)
 
 -- a larger number at the end of rising ones
 pub IsStrictlyIncreasing-push : (xs : List ℕ) (n : ℕ) → IsStrictlyIncreasing xs → ((m : ℕ) → In m xs → m < n) → IsStrictlyIncreasing (xs ++ n ∷ [])

@@ -1,4 +1,6 @@
 -- Each step of the mark words keeps their rule.
+-- For: `Holds`, golf_marks/specs/Rule.antt; `put_bit`, `find_bit` and `glance`, src/marks.rt.
+-- By: cases of the step; induction over the list of views only for the view that was set.
 use Rattle.std.proofs.Common.{◌≡◌, ◌≢◌, ℕ, zero, suc, ◌+◌, ◌==◌, ◌<◌, ◌≤◌, List, [], ◌∷◌, ◌++◌, length, set, Bool, cond, refl, sym, ap, ◌∙◌, subst, arith, ⊎_elim, inl, inr, eq-eqb, ne_eqb}
 use Rattle.std.specs.Prelude.{bit_or, replicate, slice_index}
 use Rattle.std.proofs.lemmas.List.{get_or-replicate, get_or_past, get_or_default}
@@ -345,7 +347,7 @@ begins plan some_seat = record {
     first zero v e = subst (Fits (graph_of plan) (replicate (word_count (graph_of plan)) 0)) (some-injective (first_view plan) v e) (record { idle = λ _. refl; ignorant = λ _. refl; graph = λ _. refl; own = λ x c. absurd c; known = λ x c. absurd c })
     first (suc k) v e = absurd (some-ne-none v (sym e))
 
--- where one view has all parts, a bit is set exactly where its place stands in what that view has claimed
+-- if one view has all parts, a bit is set exactly if its place stands in what that view has claimed
 pub closes : (plan : Plan) (s : State (Unit {0}) View) (id : ℕ) (v : View) → Holds plan s → get_elem? s.views id ≡ some v → v.parts ≡ plan.seats → (x : ℕ) → bit_at s.words x ≡ times x v.claimed
 closes plan s id v h at all x = sym (h.claims x)
     ∙ total_alone (λ (u : View). u.parts) (λ (u : View). times x u.claimed) s.views id v at (λ k u there none. ap (times x) ((h.views k u there).idle none)) (h.parts ∙ sym all)

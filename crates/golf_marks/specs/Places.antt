@@ -9,7 +9,7 @@ use Rattle.golf_model.specs.Graph.{node_count, sleeper_count, Justifies}
 abbrev pub place_count : GraphParts → ℕ
 place_count g = node_count g + sleeper_count g
 
--- one word for each 64 places, and one more, so that there is one where there is no place
+-- one word for each 64 places, and one more, so that there is one if there is no place
 abbrev pub word_count : GraphParts → ℕ
 word_count g = place_count g / 64 + 1
 

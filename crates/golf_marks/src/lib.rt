@@ -1,6 +1,6 @@
 //! Mark words: one bit for each place of a graph, which many threads share.
 //!
-//! Between any two steps of any threads each place is claimed at most once, and only where a root or
+//! Between any two steps of any threads each place is claimed at most once, and only if a root or
 //! a marked place justifies it, so that each marked place is in the least closed set; and what a
 //! seat knows as marked stays marked. Steps take no memory and never wait.
 #![tactic(auto)]

@@ -114,8 +114,8 @@ impl Marks {
         bit(found, at)
     }
 
-    /// Marks a place that is a root, or that a known place justifies: true exactly where this step
-    /// set the bit. It is false only where the bit was set before.
+    /// Marks a place that is a root, or that a known place justifies: true exactly if this step
+    /// set the bit. It is false only if the bit was set before.
     pub fn claim(&self, seat: &mut MarkSeat, place: u32) -> bool
         requires seat { IsSeatOf self.now seat.old }
         requires place { place < place_count (graph_in self.now) }

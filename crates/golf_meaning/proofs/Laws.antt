@@ -1,5 +1,7 @@
 -- Code with the same parameters, slots and body agrees with the source as well.
-use Rattle.std.proofs.Common.{◌≡◌, ◌↔◌, ◌⊎◌, inl, inr, ℕ, ◌+◌, ◌-◌, ◌<◌, ◌≤◌, pos, List, [], ◌++◌, length, replicate, refl, sym, ap, subst, ◌∙◌, slice_get, arith}
+-- For: `Agrees` (golf_meaning/specs/Judged.antt) and `check_body`, `check_all` (src/judging.rt)
+-- By: cases of the function that stands at a number; no induction
+use Rattle.std.proofs.Common.{◌≡◌, ◌↔◌, ◌⊎◌, inl, inr, ℕ, ◌+◌, ◌-◌, ◌<◌, pos, List, [], ◌++◌, length, replicate, refl, sym, ap, subst, ◌∙◌, slice_get, arith}
 use Rattle.std.specs.Prelude.{Option, Some, None}
 use Rattle.std.proofs.Math.Nat.{eq-or-lt_of_le}
 use Rattle.golf_syntax_trees.specs.declared.declarations.Decl.{Decl}

@@ -1,4 +1,4 @@
-//! Whether code is that of a typed file, function by function; and where it is, source and code agree, both ways.
+//! Whether code is that of a typed file, function by function; and if it is, source and code agree, both ways.
 //!
 //! - `check_body`: whether a function of a code has the parameters, slots and body that the file's code gives it.
 //! - `check_all`: the code of a file, made once, of which each function and method is judged.

@@ -1,5 +1,7 @@
--- Two meanings by bounds agree.
-use Rattle.std.proofs.Common.{◌≡◌, ℕ, zero, suc, ◌+◌, ◌<◌, ◌≤◌, ◌==◌, Bool, true, false, cond, List, [], ◌∷◌, ◌++◌, Option, Some, None, refl, ap, sym, ◌∙◌, subst, ⊎_elim, slice_get, arith, append_assoc, append-nil, ℤ, int_lt, int_le}
+-- If the code does at each bound what is meant, the two agree, whichever way they are bounded.
+-- For: `exec`, golf_meaning_flat/specs/Flat.antt; the law `both_ways`, src/lib.rt.
+-- By: induction over n, the instructions that may still be done.
+use Rattle.std.proofs.Common.{◌≡◌, ℕ, zero, suc, ◌+◌, ◌≤◌, ◌==◌, Bool, true, false, cond, List, [], ◌∷◌, ◌++◌, Option, Some, None, refl, ap, sym, ◌∙◌, subst, ⊎_elim, slice_get, arith, append_assoc, append-nil, ℤ, int_lt, int_le}
 use Rattle.std.proofs.lemmas.Bool.{cases_lt}
 use Rattle.golf_data.specs.declared.value.Value.{Value}
 use Rattle.golf_data.specs.declared.code.Instr.{Instr}
@@ -7,11 +9,11 @@ use Rattle.golf_data.specs.declared.code.CodeLine.{CodeLine}
 use Rattle.golf_data.specs.declared.code.SelectCase.{SelectCase}
 use Rattle.golf_model.specs.Values.{int_of, bool_of, equality, is_zero}
 use Rattle.golf_model.specs.Calculating.{sum, difference, product, quotient, remainder}
-use Rattle.golf_meaning_flat.specs.Worlds.{Misfit, Operation, Answer, Halt, End, Told, World, Part, halted, bind, asks, asked, done, pushed}
+use Rattle.golf_meaning_flat.specs.Worlds.{Misfit, Operation, Answer, Halt, End, Told, World, Part, bind, asks, asked, done}
 use Rattle.golf_meaning_flat.specs.Doing.{Frame, Act, on_some, one, two, some_from, chosen_by, negated, inverted, ints, computed, divided, compared, equated, Doing, doing}
 use Rattle.golf_meaning_flat.specs.Doing as D
 use Rattle.golf_meaning_flat.specs.Flat.{on_clause, targets, lower, clause_of, picks, tests, Next, ended, does, at_line, exec}
-use Rattle.golf_meaning_flat.specs.Laws.{BeginsWith, IsPrefix, Within, Agree, Enough, Done, NeverUnfit, BothWays}
+use Rattle.golf_meaning_flat.specs.Laws.{BeginsWith, IsPrefix, Within, Done, BothWays}
 
 begins-self : (os : List Operation) → BeginsWith os os
 begins-self os = ([], sym (append-nil os))

@@ -1,5 +1,7 @@
 -- Placed code does what its piece does.
-use Rattle.std.proofs.Common.{◌≡◌, ℕ, zero, suc, ◌+◌, ◌<◌, ◌≤◌, ◌==◌, Bool, true, false, cond, List, [], ◌∷◌, ◌++◌, map, length, Option, Some, None, refl, ap, sym, ◌∙◌, subst, slice_get, arith}
+-- For: `Follows`, golf_meaning_flat/specs/Laws.antt; the law `placed_code_follows`, src/lib.rt.
+-- By: induction over the tree of a piece, and over n, the rounds of a loop that are left.
+use Rattle.std.proofs.Common.{◌≡◌, ℕ, zero, suc, ◌+◌, ◌<◌, ◌≤◌, ◌==◌, Bool, true, false, cond, List, [], ◌∷◌, ◌++◌, map, length, Option, Some, None, refl, ap, ◌∙◌, subst, slice_get, arith}
 use Rattle.std.specs.Option.{option_map}
 use Rattle.golf_data.specs.declared.value.Value.{Value}
 use Rattle.golf_data.specs.declared.code.Instr.{Instr}
@@ -7,10 +9,10 @@ use Rattle.golf_data.specs.declared.code.CodeLine.{CodeLine}
 use Rattle.golf_data.specs.declared.code.SelectCase.{SelectCase}
 use Rattle.golf_code_layout.specs.Piece.{Piece, size, on, target, case_at, placed}
 use Rattle.golf_code_layout.proofs.Sizes.{placed-size}
-use Rattle.golf_code_layout.specs.Depth.{case_taken, cases_taken}
-use Rattle.golf_meaning_flat.specs.Worlds.{Answer, Halt, End, Told, World, Part, bind, asks, pushed}
+use Rattle.golf_data.specs.Effects.{case_taken, cases_taken}
+use Rattle.golf_meaning_flat.specs.Worlds.{Answer, End, World, Part, bind, asks, pushed}
 use Rattle.golf_meaning_flat.specs.Doing.{Frame, Doing, doing, some_from}
-use Rattle.golf_meaning_flat.specs.Flat.{on_clause, relabelled, lower, default_of, clause_of, picks, tests, ended, does, at_line, exec}
+use Rattle.golf_meaning_flat.specs.Flat.{on_clause, relabelled, lower, clause_of, picks, tests, ended, does, at_line, exec}
 use Rattle.golf_meaning_flat.specs.Structured.{Way, from_part, acted, then_way, unless_true, picked, out_of, once_more, rounds, placed_targets, run}
 use Rattle.golf_meaning_flat.specs.Laws.{Stand, Leads, Comes, Enough, Follows, PlacedFollows}
 

@@ -1,13 +1,13 @@
 -- What an instruction does in a frame.
-use Rattle.std.specs.Prelude.{ℕ, zero, suc, ◌+◌, ◌==◌, Bool, true, false, not, List, [], ◌∷◌, Option, Some, None, slice_get, slice_set, ℤ, int_lt, int_le}
+use Rattle.std.specs.Prelude.{ℕ, zero, suc, ◌==◌, Bool, true, false, not, List, [], ◌∷◌, Option, Some, None, slice_get, slice_set, ℤ, int_lt, int_le}
 use Rattle.golf_data.specs.declared.value.Value.{Value}
 use Rattle.golf_data.specs.declared.code.Instr.{Instr}
 use Rattle.golf_data.specs.declared.code.SelectCase.{SelectCase}
 use Rattle.golf_model.specs.Values.{int_of, bool_of, equality, is_zero}
 use Rattle.golf_model.specs.Calculating.{sum, difference, product, quotient, remainder}
 use Rattle.std.specs.Int.{w64, int_wrapping_neg}
-use Rattle.golf_code_layout.specs.Depth.{taken}
-use Rattle.golf_meaning_flat.specs.Worlds.{Answer, Misfit, Halt, World, Part, bind, asks, pushed}
+use Rattle.golf_data.specs.Effects.{taken}
+use Rattle.golf_meaning_flat.specs.Worlds.{Misfit, Halt, World, Part, bind, asks, pushed}
 
 -- a frame, without its place
 pub record Frame : Type 0 where

@@ -1,14 +1,13 @@
 -- The meaning of flat code: at most so many instructions.
-use Rattle.std.specs.Prelude.{ℕ, zero, suc, ◌+◌, ◌==◌, nat_lt, cond, Bool, true, false, List, [], ◌∷◌, map, Option, Some, None, slice_get}
+use Rattle.std.specs.Prelude.{ℕ, zero, suc, ◌+◌, ◌==◌, nat_lt, cond, Bool, List, [], ◌∷◌, map, Option, Some, None, slice_get}
 use Rattle.std.specs.Option.{option_map}
-use Rattle.golf_data.specs.declared.value.Value.{Value}
 use Rattle.golf_data.specs.declared.code.Instr.{Instr}
 use Rattle.golf_data.specs.declared.code.CodeLine.{CodeLine}
 use Rattle.golf_data.specs.declared.code.SelectCase.{SelectCase}
 use Rattle.golf_model.specs.Values.{bool_of}
-use Rattle.golf_code_layout.specs.Depth.{cases_taken}
-use Rattle.golf_meaning_flat.specs.Worlds.{Answer, Misfit, Halt, Told, World, Part, halted, cut_short, bind, asks, pushed}
-use Rattle.golf_meaning_flat.specs.Doing.{Frame, misfit, unfit, goes, on_some, one, some_from, chosen_by, Doing, doing}
+use Rattle.golf_data.specs.Effects.{cases_taken}
+use Rattle.golf_meaning_flat.specs.Worlds.{Misfit, Halt, Told, World, Part, halted, cut_short, bind, asks, pushed}
+use Rattle.golf_meaning_flat.specs.Doing.{Frame, misfit, on_some, one, some_from, Doing, doing}
 
 -- Clauses of a `select`: the place of the clause that begins at a target is how many of the targets are lower.
 

@@ -1,20 +1,19 @@
 -- The code of a function and its source agree.
-use Rattle.std.proofs.Common.{◌≡◌, ℕ, zero, suc, ◌+◌, ◌-◌, ◌≤◌, pos, List, [], ◌∷◌, ◌++◌, length, map, Bool, Option, Some, None, refl, ap, sym, ◌∙◌, subst, slice_get, arith, append_assoc, append-nil, length-append}
+-- For: `functions_agree`, src/lib.rt
+-- By: induction over the list of statements of the body; cases of how the body ends
+use Rattle.std.proofs.Common.{◌≡◌, ℕ, zero, suc, ◌+◌, ◌-◌, ◌≤◌, pos, List, [], ◌∷◌, ◌++◌, length, map, Bool, Option, Some, None, refl, ap, sym, ◌∙◌, subst, slice_get, arith, append_assoc, length-append}
 use Rattle.std.specs.Prelude.{replicate}
 use Rattle.golf_syntax_trees.specs.declared.statements.Stmt.{Stmt}
 use Rattle.golf_syntax_trees.specs.declared.declarations.Func.{Func}
 use Rattle.golf_data.specs.declared.value.Value.{Value}
 use Rattle.golf_data.specs.declared.code.Instr.{Instr}
 use Rattle.golf_data.specs.declared.code.CodeLine.{CodeLine}
-use Rattle.golf_data.specs.declared.code.Function.{Function}
 use Rattle.golf_model.specs.Values.{zero_of}
 use Rattle.golf_check_types.specs.declared.types.GoType.{GoType}
 use Rattle.golf_check_types.specs.declared.locals.Local.{Local}
-use Rattle.golf_check_types.specs.declared.scopes.FileScope.{FileScope}
-use Rattle.golf_check_types.specs.declared.scopes.Scope.{Scope}
 use Rattle.golf_check_types.specs.Statements.{behind}
 use Rattle.golf_check_types.specs.Files.{outside, result_type, body_scope}
-use Rattle.golf_code_layout.specs.Piece.{Piece, all, op, size, placed}
+use Rattle.golf_code_layout.specs.Piece.{all, op, size, placed}
 use Rattle.golf_code_of.specs.declared.making.Around.{Around}
 use Rattle.golf_code_of.specs.declared.tables.Tables.{Tables}
 use Rattle.golf_code_of.specs.Values.{push, zero_value}
@@ -22,21 +21,21 @@ use Rattle.golf_code_of.specs.Statements as L
 use Rattle.golf_code_of.specs.Statements.{Part}
 use Rattle.golf_code_of.specs.Laying.{stmt_part}
 use Rattle.golf_code_of.specs.Files.{body_part, body_laid, last_return, function_of}
-use Rattle.golf_meaning_flat.specs.Worlds.{Answer, Halt, End, Told, World, halted}
+use Rattle.golf_meaning_flat.specs.Worlds.{Halt, End, Told, World, halted}
 use Rattle.golf_meaning_flat.specs.Doing.{Frame}
 use Rattle.golf_meaning_flat.specs.Flat.{exec}
 use Rattle.golf_meaning_flat.specs.Structured.{Way, then_way, run}
-use Rattle.golf_meaning_flat.specs.Laws.{Stand, Enough, Follows, Done, NeverUnfit, Agree}
+use Rattle.golf_meaning_flat.specs.Laws.{Stand, Enough, Follows, Done}
 use Rattle.golf_meaning_flat.proofs.Placing.{placed-follows}
 use Rattle.golf_meaning_flat.proofs.Bounds.{both-ways}
-use Rattle.golf_meaning_source.specs.Does.{frame, Known}
+use Rattle.golf_meaning_source.specs.Does.{frame}
 use Rattle.golf_meaning_statements.specs.Flows.{Course, Flow}
-use Rattle.golf_meaning_statements.specs.Steps.{Step, in_order, parts}
+use Rattle.golf_meaning_statements.specs.Steps.{in_order, parts}
 use Rattle.golf_meaning_statements.specs.Statements.{step}
 use Rattle.golf_meaning_statements.specs.Follows.{EndsAlike, Goes, StatementMeans}
-use Rattle.golf_meaning_statements.proofs.Flowing.{EachMeans, StepMeans, means-order}
+use Rattle.golf_meaning_statements.proofs.Flowing.{EachMeans, means-order}
 use Rattle.golf_meaning_statements.proofs.Stmts.{all-mean}
-use Rattle.golf_meaning_functions.specs.Functions.{named, begins, at_end, told_by, Meaning, CodeMeaning}
+use Rattle.golf_meaning_functions.specs.Functions.{named, begins, at_end, told_by, Meaning}
 use Rattle.golf_meaning_functions.specs.Laws.{FunctionsAgree}
 use Rattle.golf_meaning_functions.proofs.Entering.{body-known}
 

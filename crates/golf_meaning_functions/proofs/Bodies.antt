@@ -1,4 +1,6 @@
 -- Bodies with each kind of statement, against what was worked out by hand.
+-- For: `step`, golf_meaning_statements/specs/Statements.antt
+-- By: computing
 use Rattle.std.specs.Prelude.{◌≡◌, ℕ, pos, negsuc, true, false, List, [], ◌∷◌, Some, None, map, codes}
 use Rattle.std.proofs.Common.{ap}
 use Rattle.golf_syntax_trees.specs.declared.expressions.BinaryOperator.TheVariants as binary

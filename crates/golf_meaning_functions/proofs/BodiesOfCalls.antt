@@ -1,4 +1,6 @@
--- Bodies with calls, `go` and `defer`, against what was worked out by hand. Function f has number 1, and method m number 2.
+-- Bodies with calls, `go` and `defer`, worked out by hand; function f has number 1, and method m number 2.
+-- For: `step`, golf_meaning_statements/specs/Statements.antt
+-- By: computing
 use Rattle.std.specs.Prelude.{◌≡◌, negsuc, true, [], ◌∷◌, Some, codes}
 use Rattle.golf_syntax_trees.specs.declared.expressions.BinaryOperator.TheVariants as binary
 use Rattle.golf_data.specs.declared.value.Value.{Value}

@@ -1,4 +1,6 @@
 -- Bodies with each kind of expression, against what was worked out by hand.
+-- For: `meant`, golf_meaning_source/specs/Meaning.antt
+-- By: computing
 use Rattle.std.specs.Prelude.{◌≡◌, negsuc, [], ◌∷◌, codes}
 use Rattle.golf_syntax_trees.specs.declared.expressions.BinaryOperator.TheVariants as binary
 use Rattle.golf_syntax_trees.specs.declared.expressions.UnaryOperator.TheVariants as unary

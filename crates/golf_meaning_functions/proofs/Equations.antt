@@ -1,4 +1,6 @@
 -- What each kind of expression and of statement means, as an equation.
+-- For: `meant`, golf_meaning_source/specs/Meaning.antt; `step`, golf_meaning_statements/specs/Statements.antt
+-- By: computing; for what is in a literal, induction over the list of elements
 use Rattle.std.proofs.Common.{◌≡◌, ℕ, List, [], ◌∷◌, map, Option, refl, ap, sym, ◌∙◌}
 use Rattle.golf_syntax_trees.specs.declared.types.TypeExpr.{TypeExpr}
 use Rattle.golf_syntax_trees.specs.declared.expressions.UnaryOperator.{UnaryOperator}

@@ -1,5 +1,5 @@
 -- Small meanings, against what was worked out by hand.
-use Rattle.std.specs.Prelude.{◌≡◌, ℕ, pos, true, false, List, [], ◌∷◌, Some, None, codes}
+use Rattle.std.specs.Prelude.{◌≡◌, ℕ, pos, List, [], ◌∷◌, Some, codes}
 use Rattle.std.proofs.Common.{refl, ap, ◌∙◌}
 use Rattle.golf_syntax_trees.specs.declared.expressions.Expr.{Expr, roll-Expr}
 use Rattle.golf_syntax_trees.specs.declared.expressions.Expr.TheOpen as F
@@ -7,12 +7,11 @@ use Rattle.golf_syntax_trees.specs.declared.expressions.Expr.TheFolds.{fold-roll
 use Rattle.golf_syntax_trees.specs.declared.expressions.BinaryOperator.TheVariants as binary
 use Rattle.golf_data.specs.declared.value.Value.{Value}
 use Rattle.golf_data.specs.declared.code.Instr.{Instr}
-use Rattle.golf_data.specs.declared.code.SelectCase.{SelectCase}
 use Rattle.golf_data.specs.declared.code.CaseKind.{CaseKind}
 use Rattle.golf_code_layout.specs.Piece.{Piece, all, op, placed}
 use Rattle.golf_check_types.specs.declared.scopes.Scope.{Scope}
 use Rattle.golf_code_of.specs.declared.tables.Tables.{Tables}
-use Rattle.golf_meaning_flat.specs.Worlds.{Answer, Halt, End, Told, World, Part}
+use Rattle.golf_meaning_flat.specs.Worlds.{Answer, Halt, End, World, Part}
 use Rattle.golf_meaning_flat.specs.Flat.{exec}
 use Rattle.golf_meaning_source.specs.Names.{Env}
 use Rattle.golf_meaning_source.specs.Does.{frame}

@@ -1,4 +1,6 @@
 -- How the small bodies of the examples are written: each tree with what it means, by the equations for its kind.
+-- For: `meant`, golf_meaning_source/specs/Meaning.antt; `step`, golf_meaning_statements/specs/Statements.antt
+-- By: the equations for each kind, and induction over the list of the parts of a tree
 use Rattle.std.specs.Prelude.{◌≡◌, ℕ, List, [], ◌∷◌, Option, Some, None, map}
 use Rattle.std.proofs.Common.{refl, ap, ◌∙◌}
 use Rattle.golf_syntax_trees.specs.declared.types.TypeExpr.{TypeExpr}
@@ -47,7 +49,7 @@ use Rattle.golf_code_of.specs.Loops as O
 use Rattle.golf_code_of.specs.Selects as K
 use Rattle.golf_code_of.proofs.JudgeEquations as j
 use Rattle.golf_code_of.proofs.Examples.Writing.{WrittenType, tables}
-use Rattle.golf_meaning_flat.specs.Worlds.{World, bind}
+use Rattle.golf_meaning_flat.specs.Worlds.{bind}
 use Rattle.golf_meaning_flat.specs.Doing.{computed}
 use Rattle.golf_meaning_source.specs.Names.{Env}
 use Rattle.golf_meaning_source.specs.Operations.{Gives, both, then_do, visible}

@@ -1,5 +1,7 @@
 -- The functions and methods of a file, by their numbers.
-use Rattle.std.proofs.Common.{◌≡◌, ℕ, zero, suc, ◌+◌, ◌<◌, ◌≤◌, Bool, List, [], ◌∷◌, ◌++◌, length, map, Some, None, refl, ap, sym, ◌∙◌, subst, slice_get, arith}
+-- For: `files_agree`, src/lib.rt
+-- By: induction over the list of declarations
+use Rattle.std.proofs.Common.{◌≡◌, ℕ, zero, suc, ◌+◌, ◌<◌, Bool, List, [], ◌∷◌, ◌++◌, length, map, Some, refl, sym, subst, slice_get, arith}
 use Rattle.golf_syntax_trees.specs.declared.declarations.Func.{Func}
 use Rattle.golf_syntax_trees.specs.declared.declarations.Decl.{Decl}
 use Rattle.golf_syntax_trees.specs.declared.declarations.Decl.TheVariants as d
@@ -9,11 +11,11 @@ use Rattle.golf_data.specs.declared.code.Function.{Function}
 use Rattle.golf_check_types.specs.declared.scopes.Scope.{Scope}
 use Rattle.golf_check_types.specs.Files.{outside}
 use Rattle.golf_code_of.specs.declared.tables.Tables.{Tables}
-use Rattle.golf_code_of.specs.Files.{body_laid, function_of, functions_from, made_function, tables_of, giving, code_in, CodeOf}
-use Rattle.golf_meaning_flat.specs.Worlds.{Answer, Told}
+use Rattle.golf_code_of.specs.Files.{body_laid, function_of, functions_from, made_function, tables_of, giving, CodeOf}
+use Rattle.golf_meaning_flat.specs.Worlds.{Answer}
 use Rattle.golf_meaning_flat.specs.Laws.{NeverUnfit, Agree}
 use Rattle.golf_meaning_functions.specs.Functions.{Meaning, CodeMeaning}
-use Rattle.golf_meaning_functions.specs.Files.{function_count, meaning_at, names_of, MeaningOf}
+use Rattle.golf_meaning_functions.specs.Files.{function_count, meaning_at, names_of}
 use Rattle.golf_meaning_functions.specs.Laws.{FilesAgree}
 use Rattle.golf_meaning_functions.proofs.Agreeing.{functions-agree}
 

@@ -1,4 +1,6 @@
 -- Whole functions and methods, and those of a file by their numbers, against what was worked out by hand.
+-- For: `Meaning`, specs/Functions.antt; `MeaningOf`, specs/Files.antt
+-- By: computing; for types of parameters, induction over the list of parameters
 use Rattle.std.specs.Prelude.{◌≡◌, ℕ, suc, true, false, List, [], ◌∷◌, ◌++◌, Option, Some, None, map, flat_map, codes}
 use Rattle.std.proofs.Common.{refl, ap, ◌∙◌}
 use Rattle.golf_syntax_trees.specs.declared.types.TypeExpr.{TypeExpr}

@@ -1,5 +1,5 @@
 -- What a function does with its arguments, as its source says, and as its flat code says.
-use Rattle.std.specs.Prelude.{ℕ, zero, suc, ◌-◌, pos, Bool, List, [], ◌∷◌, ◌++◌, length, replicate, map, Option, Some, None}
+use Rattle.std.specs.Prelude.{ℕ, suc, ◌-◌, pos, List, [], ◌∷◌, ◌++◌, length, replicate, map, Option, Some, None}
 use Rattle.golf_syntax_trees.specs.declared.declarations.Func.{Func}
 use Rattle.golf_data.specs.declared.value.Value.{Value}
 use Rattle.golf_data.specs.declared.code.Function.{Function}
@@ -11,7 +11,6 @@ use Rattle.golf_check_types.specs.Files.{result_type, body_scope}
 use Rattle.golf_code_of.specs.declared.tables.Tables.{Tables}
 use Rattle.golf_code_of.specs.Values.{zero_value}
 use Rattle.golf_meaning_flat.specs.Worlds.{Answer, Misfit, Halt, Told, World, halted}
-use Rattle.golf_meaning_flat.specs.Doing.{Frame}
 use Rattle.golf_meaning_flat.specs.Flat.{exec}
 use Rattle.golf_meaning_source.specs.Names.{Env}
 use Rattle.golf_meaning_statements.specs.Flows.{Course, Flow}

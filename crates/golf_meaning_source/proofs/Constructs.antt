@@ -1,5 +1,7 @@
--- The kinds of expressions.
-use Rattle.std.proofs.Common.{◌≡◌, ℕ, zero, suc, ◌+◌, negsuc, pos, Bool, true, false, cond, List, [], ◌∷◌, ◌++◌, length, map, Option, Some, None, refl, ap, sym, ◌∙◌, subst, slice_get}
+-- The code of each kind of expression does what the expression does, if the code of its parts does.
+-- For: `expressions_mean`, src/lib.rt
+-- By: cases of the kind of expression; induction over lists of elements, of fields and of arguments
+use Rattle.std.proofs.Common.{◌≡◌, ℕ, suc, ◌+◌, negsuc, pos, Bool, true, false, cond, List, [], ◌∷◌, ◌++◌, length, Option, Some, None, refl, ap, sym, subst}
 use Rattle.std.specs.Option.{option_map}
 use Rattle.golf_syntax_trees.specs.declared.expressions.UnaryOperator.{UnaryOperator}
 use Rattle.golf_syntax_trees.specs.declared.expressions.UnaryOperator.TheVariants as unary
@@ -34,13 +36,13 @@ use Rattle.golf_meaning_flat.specs.Worlds.{Halt, World, Part, bind, pushed}
 use Rattle.golf_meaning_flat.specs.Doing.{unfit, negated, inverted, computed, divided, compared, equated}
 use Rattle.golf_meaning_flat.specs.Structured.{Way, run}
 use Rattle.golf_meaning_source.specs.Names.{Env, find}
-use Rattle.golf_meaning_source.specs.Operations.{Gives, gives, both, then_do, in_order, visible, on_one, on_two, if_true}
+use Rattle.golf_meaning_source.specs.Operations.{Gives, gives, both, then_do, visible, on_one, on_two}
 use Rattle.golf_meaning_source.specs.Exprs as X
-use Rattle.golf_meaning_source.specs.Exprs.{Place, found, if_none, read, one_reference, puts_in}
+use Rattle.golf_meaning_source.specs.Exprs.{Place, found, if_none, one_reference, puts_in}
 use Rattle.golf_meaning_source.specs.Does.{frame, Sim, OnTop, Turns, Changed, Tail, Matches, Known}
-use Rattle.golf_meaning_source.proofs.Turning.{bind-assoc, turn-as, turn-none, turn-then, turn-last, turn-over, turn-both, turn-pair, turn-after, turn-after-two, turn-visible, turn-panic, turn-one, turn-calculate, turn-either, over}
+use Rattle.golf_meaning_source.proofs.Turning.{bind-assoc, turn-none, turn-then, turn-last, turn-over, turn-both, turn-after, turn-after-two, turn-visible, turn-panic, turn-one, turn-calculate, turn-either, over}
 use Rattle.golf_meaning_source.proofs.Environments.{last, look-last, Together, together}
-use Rattle.golf_meaning_source.proofs.Places.{turn-skip, turn-step, turn-over-more, matches-only, matches-field, matches-element, matches-global, matches-local, matches-blank}
+use Rattle.golf_meaning_source.proofs.Places.{turn-step, turn-over-more, matches-only, matches-field, matches-global, matches-local, matches-blank}
 
 module _ (slots : List Value) where
   abbrev T : Piece → List Value → Gives → Type 0

@@ -1,12 +1,14 @@
--- Names with their values, and slots.
-use Rattle.std.proofs.Common.{◌≡◌, ℕ, zero, suc, ◌+◌, ◌<◌, ◌≤◌, Bool, true, false, cond, is_some, List, [], ◌∷◌, ◌++◌, length, Option, Some, None, refl, ap, sym, ◌∙◌, subst, slice_get, slice_set, arith}
+-- Names have the values that stand in their slots.
+-- For: `Stored` and `Rising`, specs/Does.antt; `find`, specs/Names.antt
+-- By: induction over the list of locals
+use Rattle.std.proofs.Common.{◌≡◌, ℕ, zero, suc, ◌+◌, ◌<◌, ◌≤◌, Bool, true, false, cond, is_some, List, [], ◌∷◌, length, Option, Some, None, refl, ap, sym, ◌∙◌, subst, slice_get, slice_set, arith}
 use Rattle.std.proofs.lemmas.Option.{slice_get_within}
 use Rattle.std.specs.Str.{bytes_eq}
 use Rattle.golf_data.specs.declared.value.Value.{Value}
 use Rattle.golf_check_types.specs.declared.locals.Local.{Local}
 use Rattle.golf_check_types.specs.Names.{look_from, look}
-use Rattle.golf_meaning_source.specs.Names.{Bound, Env, first_some, here, find, assign}
-use Rattle.golf_meaning_source.specs.Does.{Stored, Rising, Apart, Known}
+use Rattle.golf_meaning_source.specs.Names.{Env, first_some, here, find, assign}
+use Rattle.golf_meaning_source.specs.Does.{Stored, Rising, Apart}
 
 -- the last local with a name
 

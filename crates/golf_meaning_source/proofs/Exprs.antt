@@ -1,4 +1,6 @@
--- The code of every expression does what the expression does: one step for each kind, and an induction.
+-- The code of every expression does what the expression does.
+-- For: `expressions_mean`, src/lib.rt
+-- By: one step for each kind of expression, and an induction over the tree of an expression
 use Rattle.std.proofs.Common.{◌≡◌, ℕ, pos, List, [], ◌∷◌, map, refl, ap, sym, ◌∙◌, subst}
 use Rattle.golf_data.specs.declared.value.Value.{Value}
 use Rattle.golf_data.specs.declared.code.Instr.{Instr}
@@ -7,10 +9,8 @@ use Rattle.golf_syntax_trees.specs.declared.expressions.Element.{Element, roll-E
 use Rattle.golf_syntax_trees.specs.declared.expressions.Expr.TheOpen.{Expr-F, Element-F}
 use Rattle.golf_syntax_trees.specs.declared.expressions.Expr.TheOpen as F
 use Rattle.golf_syntax_trees.specs.declared.expressions.Expr.TheFolds.{fold-Element, fold-roll-Expr, fold-roll-Element, ind-Expr, map-Expr, map-Element}
-use Rattle.golf_check_types.specs.declared.operands.Operand.{Operand}
 use Rattle.golf_check_types.specs.declared.types.Base.{Base}
 use Rattle.golf_check_types.specs.declared.scopes.Scope.{Scope}
-use Rattle.golf_check_types.specs.declared.scopes.FileScope.{FileScope}
 use Rattle.golf_check_types.specs.declared.types.Layer.TheVariants as layer
 use Rattle.golf_check_types.specs.Types.{with_layer}
 use Rattle.golf_check_types.specs.Names.{is_blank}
@@ -29,11 +29,11 @@ use Rattle.golf_code_of.specs.Coding as G
 use Rattle.golf_code_of.specs.Coding.{Coded, CodedPut, coded, coded_step, element_coded_step}
 use Rattle.golf_code_of.proofs.Judgments.{agree}
 use Rattle.golf_meaning_source.specs.Names.{Env}
-use Rattle.golf_meaning_source.specs.Operations.{Gives, gives, then_do}
+use Rattle.golf_meaning_source.specs.Operations.{Gives}
 use Rattle.golf_meaning_source.specs.Exprs as X
 use Rattle.golf_meaning_source.specs.Meaning as M
 use Rattle.golf_meaning_source.specs.Meaning.{Meant, MeantPut, meant, meant_step, element_meant_step, outer}
-use Rattle.golf_meaning_source.specs.Does.{Turns, Matches, Known}
+use Rattle.golf_meaning_source.specs.Does.{Turns, Known}
 use Rattle.golf_meaning_source.specs.Laws.{ExpressionMeans, ExpressionsMean}
 use Rattle.golf_meaning_source.proofs.Turning.{turn-none, turn-after, turn-visible, turn-pair}
 use Rattle.golf_meaning_source.proofs.Places.{matches-only, matches-element}

@@ -1,6 +1,7 @@
--- Left sides: places.
-use Rattle.std.proofs.Common.{◌≡◌, ℕ, zero, suc, ◌+◌, ◌==◌, Bool, true, false, cond, List, [], ◌∷◌, ◌++◌, length, Option, Some, None, refl, ap, sym, ◌∙◌, subst, slice_get, slice_set, arith}
-use Rattle.std.specs.Option.{option_map}
+-- The code of a left side reads and stores its place.
+-- For: `Place`, specs/Exprs.antt; `Matches`, specs/Does.antt
+-- By: cases of the kind of place and of the outcome of its parts; no induction
+use Rattle.std.proofs.Common.{◌≡◌, ℕ, ◌+◌, ◌==◌, Bool, true, false, List, [], ◌∷◌, ◌++◌, length, Option, Some, refl, ap, sym, ◌∙◌, subst, slice_get, slice_set, arith}
 use Rattle.std.proofs.lemmas.Map.Views.{exact_unsigned_eq}
 use Rattle.std.proofs.lemmas.List.{length-set}
 use Rattle.std.proofs.lemmas.Option.{slice_get_within}
@@ -9,18 +10,17 @@ use Rattle.golf_data.specs.declared.code.Instr.{Instr}
 use Rattle.golf_check_types.specs.declared.types.GoType.{GoType}
 use Rattle.golf_check_types.specs.declared.locals.Local.{Local}
 use Rattle.golf_code_layout.specs.Piece.{Piece, all, op, size}
-use Rattle.golf_code_layout.specs.Depth.{taken}
-use Rattle.golf_code_of.specs.Expressions.{Made}
+use Rattle.golf_data.specs.Effects.{taken}
 use Rattle.golf_code_of.specs.Expressions as C
 use Rattle.golf_meaning_flat.specs.Worlds.{World, Part, bind, pushed}
-use Rattle.golf_meaning_flat.specs.Doing.{Frame, unfit, on_some, chosen_by, shows, Doing, doing}
+use Rattle.golf_meaning_flat.specs.Doing.{unfit, on_some, chosen_by, shows, Doing, doing}
 use Rattle.golf_meaning_flat.specs.Structured.{Way, from_part, then_way, run}
-use Rattle.golf_meaning_source.specs.Names.{Env, find, assign}
+use Rattle.golf_meaning_source.specs.Names.{Env, find}
 use Rattle.golf_meaning_source.specs.Operations.{Gives, gives, then_do, answered, visible}
 use Rattle.golf_meaning_source.specs.Exprs.{Place, found, if_none, read, store, assigned}
-use Rattle.golf_meaning_source.specs.Does.{frame, Sim, OnTop, Turns, Stored, Rising, Apart, Changed, Tail, Matches, Known}
-use Rattle.golf_meaning_source.proofs.Turning.{sim-in, bind-assoc, turn-as, turn-none, turn-then, tail-then, tail-over, turn-last, turn-visible, turn-after, over, pushed-append}
-use Rattle.golf_meaning_source.proofs.Environments.{last, Together, together, stored-assign, set-other, apart-last}
+use Rattle.golf_meaning_source.specs.Does.{frame, Sim, OnTop, Turns, Stored, Changed, Tail, Matches, Known}
+use Rattle.golf_meaning_source.proofs.Turning.{sim-in, turn-none, tail-then, tail-over, turn-last, turn-visible, turn-after, over, pushed-append}
+use Rattle.golf_meaning_source.proofs.Environments.{last, stored-assign, set-other, apart-last}
 
 module _ (slots : List Value) where
   abbrev T : Piece → List Value → Gives → Type 0

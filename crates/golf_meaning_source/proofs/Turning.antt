@@ -1,18 +1,20 @@
 -- Code that does what is said, put together.
-use Rattle.std.proofs.Common.{◌≡◌, ℕ, zero, suc, ◌+◌, ◌==◌, ◌&&◌, Bool, true, false, List, [], ◌∷◌, ◌++◌, length, Option, Some, None, refl, ap, sym, ◌∙◌, subst, arith, append_assoc, append-nil}
+-- For: `Turns` and `Tail`, specs/Does.antt
+-- By: cases of the outcome of a part; induction over the list of values on the stack
+use Rattle.std.proofs.Common.{◌≡◌, ℕ, suc, ◌+◌, ◌==◌, ◌&&◌, Bool, true, false, List, [], ◌∷◌, ◌++◌, length, Option, Some, None, refl, ap, sym, ◌∙◌, subst, arith, append-nil}
 use Rattle.std.proofs.lemmas.Map.Views.{exact_unsigned_eq}
 use Rattle.golf_data.specs.declared.value.Value.{Value}
 use Rattle.golf_data.specs.declared.code.Instr.{Instr}
 use Rattle.golf_check_types.specs.declared.types.GoType.{GoType}
 use Rattle.golf_code_layout.specs.Piece.{Piece, all, op, size}
-use Rattle.golf_code_layout.specs.Depth.{taken}
+use Rattle.golf_data.specs.Effects.{taken}
 use Rattle.golf_model.specs.Values.{bool_of}
 use Rattle.golf_code_of.specs.Expressions.{either}
 use Rattle.golf_meaning_flat.specs.Worlds.{Answer, Halt, World, Part, halted, bind, asked, done, pushed}
-use Rattle.golf_meaning_flat.specs.Doing.{Frame, Act, unfit, misfit, goes, on_some, some_from, chosen_by, acts_on_one, acts_on_two, shows, panics, Doing, doing, inverted}
+use Rattle.golf_meaning_flat.specs.Doing.{Frame, unfit, misfit, goes, on_some, some_from, chosen_by, acts_on_one, acts_on_two, shows, panics, Doing, doing}
 use Rattle.golf_meaning_flat.specs.Flat.{tests}
 use Rattle.golf_meaning_flat.specs.Structured.{Way, from_part, acted, then_way, unless_true, out_of, run}
-use Rattle.golf_meaning_source.specs.Operations.{Gives, gives, both, then_do, in_order, all_fit, answered, visible, panicking, on_one, on_two, by_bool, if_true}
+use Rattle.golf_meaning_source.specs.Operations.{Gives, gives, both, then_do, all_fit, answered, visible, panicking, on_one, on_two, by_bool, if_true}
 use Rattle.golf_meaning_source.specs.Does.{frame, Sim, OnTop, Turns, Tail}
 
 pub then-end : (o : Way) → then_way o (λ c w. Way.Through c w) ≡ o

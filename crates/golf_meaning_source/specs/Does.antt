@@ -14,7 +14,7 @@ use Rattle.golf_meaning_source.specs.Exprs.{Place, read, store}
 abbrev pub frame : List Value → List Value → Frame
 frame slots operands = record { slots = slots; operands = operands }
 
--- a way does what a part says: it leads to where this holds, or ends alike; nothing is said if the part is unfit
+-- a way does what a part says: it leads to if this holds, or ends alike; nothing is said if the part is unfit
 abbrev pub Sim : {A : Type 0} → Part A → (A → World → Way → Type 0) → Way → Type 0
 Sim (Part.Gives a w) K o = K a w o
 Sim (Part.Stops (Halt.Returned v) os) K o = o ≡ Way.Ends (halted (Halt.Returned v) os)

@@ -6,7 +6,7 @@ use Rattle.golf_syntax_trees.specs.declared.expressions.BinaryOperator.{BinaryOp
 use Rattle.golf_syntax_trees.specs.declared.expressions.BinaryOperator.TheVariants as binary
 use Rattle.golf_data.specs.declared.value.Value.{Value}
 use Rattle.golf_data.specs.declared.code.Instr.{Instr}
-use Rattle.std.specs.Prelude.{int_lt, int_le, not, ℤ}
+use Rattle.std.specs.Prelude.{int_lt, int_le}
 use Rattle.golf_model.specs.Values.{zero_of}
 use Rattle.golf_model.specs.Calculating.{sum, difference, product, quotient, remainder}
 use Rattle.golf_check_types.specs.declared.types.Base.{Base}
@@ -14,13 +14,12 @@ use Rattle.golf_check_types.specs.declared.types.Base.TheVariants as base
 use Rattle.golf_check_types.specs.declared.types.GoType.{GoType}
 use Rattle.golf_check_types.specs.declared.operands.Operand.{Operand}
 use Rattle.golf_check_types.specs.declared.operands.Operand.TheVariants as operand
-use Rattle.golf_check_types.specs.declared.operands.Where.{Where}
 use Rattle.golf_check_types.specs.declared.operands.Where.TheVariants as place
 use Rattle.golf_check_types.specs.declared.operands.BuiltIn.{BuiltIn}
 use Rattle.golf_check_types.specs.declared.operands.BuiltIn.TheVariants as built_in
 use Rattle.golf_check_types.specs.declared.scopes.FileScope.{FileScope}
 use Rattle.golf_check_types.specs.Types.{plain}
-use Rattle.golf_check_types.specs.Expressions.{Judged, struct_of, field_place}
+use Rattle.golf_check_types.specs.Expressions.{struct_of, field_place}
 use Rattle.golf_check_types.specs.Calls.{sets_finaliser}
 use Rattle.golf_code_of.specs.declared.tables.Tables.{Tables}
 use Rattle.golf_code_of.specs.Values.{constant, makes}

@@ -11,14 +11,13 @@ use Rattle.golf_check_types.specs.Types.{with_layer}
 use Rattle.golf_check_types.specs.Names.{is_blank}
 use Rattle.golf_check_types.specs.Scopes.{or_else, file_operand, predeclared, meaning}
 use Rattle.golf_check_types.specs.Written.{write_at, pointer_to, made_base}
-use Rattle.golf_check_types.specs.Expressions.{value_from, given_by, selected_from, unary_judged, index_judged}
+use Rattle.golf_check_types.specs.Expressions.{value_from, selected_from, unary_judged, index_judged}
 use Rattle.golf_check_types.specs.Calls.{call_judged}
 use Rattle.golf_check_types.specs.Judging.{Judge, Put, judge_step}
 use Rattle.golf_code_of.specs.Table.{text_number}
 use Rattle.golf_code_of.specs.declared.tables.Tables.{Tables}
-use Rattle.golf_meaning_flat.specs.Worlds.{Part}
 use Rattle.golf_meaning_source.specs.Names.{Env}
-use Rattle.golf_meaning_source.specs.Operations.{Gives, gives, both, then_do}
+use Rattle.golf_meaning_source.specs.Operations.{both, then_do}
 use Rattle.golf_meaning_source.specs.Exprs as X
 use Rattle.golf_meaning_source.specs.Exprs.{Does, Place, Argument, only, in_place, constant_gives, int_value}
 

@@ -1,5 +1,5 @@
 -- Operations of a source, and their answers.
-use Rattle.std.specs.Prelude.{ℕ, ◌+◌, ◌==◌, ◌&&◌, Bool, true, false, is_some, List, [], ◌∷◌, ◌++◌, length, Option, Some, None}
+use Rattle.std.specs.Prelude.{◌+◌, ◌==◌, ◌&&◌, Bool, true, false, is_some, List, [], ◌∷◌, ◌++◌, length, Option, Some, None}
 use Rattle.golf_data.specs.declared.value.Value.{Value}
 use Rattle.golf_data.specs.declared.code.Instr.{Instr}
 use Rattle.golf_model.specs.Values.{int_of, bool_of, text_of}
@@ -7,8 +7,8 @@ use Rattle.golf_check_types.specs.declared.types.Layer.{Layer}
 use Rattle.golf_check_types.specs.declared.types.Base.{Base}
 use Rattle.golf_check_types.specs.declared.types.Base.TheVariants as base
 use Rattle.golf_check_types.specs.declared.types.GoType.{GoType}
-use Rattle.golf_code_layout.specs.Depth.{taken}
-use Rattle.golf_meaning_flat.specs.Worlds.{Answer, World, Part, bind, asks}
+use Rattle.golf_data.specs.Effects.{taken}
+use Rattle.golf_meaning_flat.specs.Worlds.{World, Part, bind, asks}
 use Rattle.golf_meaning_flat.specs.Doing.{unfit, misfit, chosen_by}
 
 -- Whether a value is of a type, by its kind.

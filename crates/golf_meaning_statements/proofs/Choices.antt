@@ -1,5 +1,7 @@
 -- The code of a `select` does what the `select` does.
-use Rattle.std.proofs.Common.{◌≡◌, ℕ, zero, suc, ◌+◌, ◌==◌, ◌<◌, ◌≤◌, Bool, true, false, cond, List, [], ◌∷◌, ◌++◌, length, map, take, Option, Some, None, refl, ap, sym, ◌∙◌, subst, ⊎_elim, arith, append_assoc, append-nil, length-append}
+-- For: `select_deed`, golf_meaning_statements/specs/Selecting.antt; `select_part`, golf_code_of/specs/Selects.antt.
+-- By: induction over the list of clauses.
+use Rattle.std.proofs.Common.{◌≡◌, ℕ, zero, suc, ◌+◌, ◌==◌, ◌<◌, ◌≤◌, Bool, true, false, List, [], ◌∷◌, ◌++◌, length, map, Option, refl, ap, sym, ◌∙◌, subst, arith, append-nil, length-append}
 use Rattle.std.specs.Option.{option_map}
 use Rattle.std.proofs.lemmas.Bool.{false≢true}
 use Rattle.std.proofs.lemmas.Map.Views.{exact_unsigned_eq}
@@ -14,7 +16,7 @@ use Rattle.golf_check_types.specs.Scopes.{begun}
 use Rattle.golf_check_types.specs.Statements as W
 use Rattle.golf_check_types.specs.Statements.{Walk, behind}
 use Rattle.golf_code_layout.specs.Piece.{Piece, all, op, size, target}
-use Rattle.golf_code_layout.specs.Depth.{cases_taken}
+use Rattle.golf_data.specs.Effects.{cases_taken}
 use Rattle.golf_code_of.specs.declared.making.Around.{Around}
 use Rattle.golf_code_of.specs.declared.tables.Tables.{Tables}
 use Rattle.golf_code_of.specs.Coding.{piece_at}
@@ -23,20 +25,20 @@ use Rattle.golf_code_of.specs.Statements as L
 use Rattle.golf_code_of.specs.Selects as K
 use Rattle.golf_code_of.specs.Selects.{ClausePart, cases_from, default_from, choice, in_clause, clauses_lay, select_part}
 use Rattle.golf_meaning_flat.specs.Worlds as V
-use Rattle.golf_meaning_flat.specs.Worlds.{Answer, Halt, World, Operation, asks, bind, done, halted, pushed}
+use Rattle.golf_meaning_flat.specs.Worlds.{Answer, Halt, World, Operation, asks, bind, halted, pushed}
 use Rattle.golf_meaning_flat.specs.Doing.{Frame}
 use Rattle.golf_meaning_flat.specs.Flat.{on_clause, relabelled, lower, clause_of, picks}
 use Rattle.golf_meaning_flat.specs.Structured.{Way, then_way, picked, out_of, placed_targets, run}
 use Rattle.golf_meaning_source.specs.Names.{Env}
 use Rattle.golf_meaning_source.specs.Operations as O
-use Rattle.golf_meaning_source.specs.Operations.{Gives, gives, all_fit}
+use Rattle.golf_meaning_source.specs.Operations.{Gives, all_fit}
 use Rattle.golf_meaning_source.specs.Exprs.{store, dropped}
-use Rattle.golf_meaning_source.specs.Does.{frame, Sim, OnTop, Turns, Stored, Rising, Apart, Kept, Changed, Known}
+use Rattle.golf_meaning_source.specs.Does.{frame, Sim, OnTop, Turns, Stored, Rising, Changed, Known}
 use Rattle.golf_meaning_source.proofs.Turning.{takes-all, turn-none, turn-both, turn-pair}
-use Rattle.golf_meaning_statements.specs.Flows.{Course, Flow, on, after, then_flow, cut, guarded, if_fits}
+use Rattle.golf_meaning_statements.specs.Flows.{Course, Flow, on, after, cut, guarded, if_fits}
 use Rattle.golf_meaning_statements.specs.Steps.{Deed, Step, value_at, declared, name_place, defines_pair, in_order, in_block, then_deed, parts}
-use Rattle.golf_meaning_statements.specs.Selecting.{ClauseStep, operands_given, received_types, takes_in, communicates, breaking, case_step, default_step, clause_parts, many, no_default, one_default, out_of_select, chosen, chooses, select_deed}
-use Rattle.golf_meaning_statements.specs.Follows.{Stands, EndsAlike, Goes, StatementMeans}
+use Rattle.golf_meaning_statements.specs.Selecting.{ClauseStep, operands_given, received_types, takes_in, communicates, breaking, case_step, default_step, clause_parts, many, one_default, out_of_select, chosen, chooses, select_deed}
+use Rattle.golf_meaning_statements.specs.Follows.{Goes, StatementMeans}
 use Rattle.golf_meaning_statements.proofs.Ranks.{OneDefault, Rise, rank-is}
 use Rattle.golf_meaning_statements.proofs.Numbers.{one-of, relabel, relabel-default, clause-is}
 use Rattle.golf_meaning_statements.proofs.Flowing.{ends-in, stored-length, rising-append, Exactly, GoesPrefix, goes-prefix, cut-exactly, exactly-goes, exactly-block, goes-on, goes-changed, goes-and, means-order, EachMeans}
@@ -291,7 +293,7 @@ module _ (l : ℕ) (cs : List ClauseStep) (each : EachClause cs) where
   abbrev otherwise : Option ℕ
   otherwise = default_from 0 ps
 
-  -- where the number of a clause is its place
+  -- if the number of a clause is its place
   picks-is : (label : ℕ → ℕ) → OneDefault ps → ((j : ℕ) → 0 ≤ j → j < 0 + length ps → label j ≡ j) → (slots rest vs : List Value) (u : World) → length vs ≡ cases_taken cases
       → picks label cases otherwise (frame slots (pushed vs rest)) u ≡ bind (asks (Instr.Select cases otherwise) vs u) (λ x w. chosen_frame slots rest (clause_of label x.clause cases otherwise) x w)
   picks-is label one h slots rest vs u e =

@@ -1,5 +1,7 @@
--- Conditions.
-use Rattle.std.proofs.Common.{◌≡◌, ℕ, zero, suc, ◌+◌, ◌≤◌, Bool, true, false, List, [], ◌∷◌, ◌++◌, length, Option, Some, None, refl, ap, sym, ◌∙◌, subst, arith, append-nil, length-append, append_assoc}
+-- The code of a condition, an `if` and an `else` does what these do.
+-- For: `if_deed` and `else_deed`, golf_meaning_statements/specs/Steps.antt.
+-- By: cases of the value of the test and of how a part ends; no induction.
+use Rattle.std.proofs.Common.{◌≡◌, ℕ, suc, ◌+◌, List, [], ◌∷◌, ◌++◌, Option, Some, None, refl, ap, sym, ◌∙◌, subst, arith, append-nil, length-append, append_assoc}
 use Rattle.golf_syntax_trees.specs.declared.expressions.Expr.{Expr}
 use Rattle.golf_syntax_trees.specs.declared.statements.Simple.{Simple}
 use Rattle.golf_data.specs.declared.value.Value.{Value}
@@ -8,24 +10,24 @@ use Rattle.golf_check_types.specs.declared.locals.Local.{Local}
 use Rattle.golf_check_types.specs.declared.scopes.Scope.{Scope}
 use Rattle.golf_check_types.specs.Scopes.{begun}
 use Rattle.golf_check_types.specs.Statements as W
-use Rattle.golf_check_types.specs.Statements.{Walk, behind}
+use Rattle.golf_check_types.specs.Statements.{behind}
 use Rattle.golf_code_layout.specs.Piece.{Piece, all, size}
 use Rattle.golf_code_of.specs.declared.making.Around.{Around}
 use Rattle.golf_code_of.specs.declared.tables.Tables.{Tables}
 use Rattle.golf_code_of.specs.Coding.{piece_at}
-use Rattle.golf_code_of.specs.Statements.{Part, Lay, wrapped, within, past}
+use Rattle.golf_code_of.specs.Statements.{Part, within, past}
 use Rattle.golf_code_of.specs.Statements as L
 use Rattle.golf_meaning_flat.specs.Worlds as V
-use Rattle.golf_meaning_flat.specs.Worlds.{Told, World, pushed}
+use Rattle.golf_meaning_flat.specs.Worlds.{World, pushed}
 use Rattle.golf_meaning_flat.specs.Doing.{Frame}
 use Rattle.golf_meaning_flat.specs.Flat.{tests}
 use Rattle.golf_meaning_flat.specs.Structured.{Way, then_way, unless_true, out_of, run}
 use Rattle.golf_meaning_source.specs.Names.{Env}
-use Rattle.golf_meaning_source.specs.Does.{frame, OnTop, Stored, Rising, Kept, Known}
+use Rattle.golf_meaning_source.specs.Does.{frame, OnTop, Stored, Known}
 use Rattle.golf_meaning_source.proofs.Turning.{then-end}
-use Rattle.golf_meaning_statements.specs.Flows.{Course, Flow, after, then_flow, ends_here, or_else, tested}
-use Rattle.golf_meaning_statements.specs.Steps.{value_at, Deed, Step, optional, in_block, block, in_order, after_test, then_step, if_deed, else_deed, parts, nothing}
-use Rattle.golf_meaning_statements.specs.Follows.{Stands, EndsAlike, Goes, StatementMeans}
+use Rattle.golf_meaning_statements.specs.Flows.{Course, Flow, ends_here, or_else, tested}
+use Rattle.golf_meaning_statements.specs.Steps.{value_at, Deed, Step, optional, block, in_order, after_test, then_step, if_deed, else_deed, parts}
+use Rattle.golf_meaning_statements.specs.Follows.{Stands, Goes, StatementMeans}
 use Rattle.golf_meaning_statements.proofs.Flowing.{ends-in, goes-base, goes-after, goes-test, GoesPrefix, goes-prefix, exactly-prefix, exactly-goes, around-same, means-then, means-nothing, means-order, means-block, StepMeans, EachMeans, rising-append}
 use Rattle.golf_meaning_statements.proofs.Simples.{value-turns, means-simple}
 

@@ -1,24 +1,25 @@
--- Statements put together.
-use Rattle.std.proofs.Common.{◌≡◌, ℕ, zero, suc, ◌+◌, ◌<◌, ◌≤◌, Bool, true, false, List, [], ◌∷◌, ◌++◌, length, map, take, Option, Some, None, refl, ap, sym, ◌∙◌, subst, slice_get, arith, append_assoc, append-nil, length-append}
+-- If the code of each part does what the part does, so does that of parts in order and of a block.
+-- For: `Goes`, golf_meaning_statements/specs/Follows.antt; `in_order`, golf_meaning_statements/specs/Steps.antt.
+-- By: induction over the list of statements, and over the list of local variables.
+use Rattle.std.proofs.Common.{◌≡◌, ℕ, suc, ◌+◌, ◌<◌, ◌≤◌, Bool, true, false, List, [], ◌∷◌, ◌++◌, length, take, Option, Some, None, refl, ap, sym, ◌∙◌, subst, arith, append_assoc, append-nil, length-append}
 use Rattle.golf_data.specs.declared.value.Value.{Value}
 use Rattle.golf_check_types.specs.declared.locals.Local.{Local}
-use Rattle.golf_check_types.specs.declared.types.GoType.{GoType}
 use Rattle.golf_check_types.specs.declared.scopes.Scope.{Scope}
 use Rattle.golf_check_types.specs.Scopes.{begun}
 use Rattle.golf_check_types.specs.Statements as W
-use Rattle.golf_check_types.specs.Statements.{Walk, Walked, behind}
+use Rattle.golf_check_types.specs.Statements.{Walk, behind}
 use Rattle.golf_code_layout.specs.Piece.{Piece, size}
 use Rattle.golf_code_of.specs.declared.making.Around.{Around}
-use Rattle.golf_code_of.specs.Statements.{Part, Lay, then_lay, lay_all}
+use Rattle.golf_code_of.specs.Statements.{Part, Lay, then_lay}
 use Rattle.golf_code_of.specs.Statements as L
 use Rattle.golf_meaning_flat.specs.Worlds as V
-use Rattle.golf_meaning_flat.specs.Worlds.{Halt, End, Told, World, Operation, halted, cut_short}
+use Rattle.golf_meaning_flat.specs.Worlds.{Halt, End, Told, World, Operation, halted}
 use Rattle.golf_meaning_flat.specs.Doing.{Frame, on_some}
-use Rattle.golf_meaning_flat.specs.Structured.{Way, then_way, unless_true, out_of, once_more, rounds, run}
+use Rattle.golf_meaning_flat.specs.Structured.{Way, then_way, unless_true, run}
 use Rattle.golf_meaning_source.specs.Names.{Env}
 use Rattle.golf_meaning_source.specs.Does.{frame, Sim, Stored, Rising, Apart, Kept, Changed, Known}
-use Rattle.golf_meaning_statements.specs.Flows.{Course, Flow, on, after, then_flow, cut, ends_here, or_else, unfit_flow, by_test, turned, turns}
-use Rattle.golf_meaning_statements.specs.Steps.{Deed, Step, nothing, then_deed, in_order, in_block, parts}
+use Rattle.golf_meaning_statements.specs.Flows.{Course, Flow, on, after, then_flow, cut, by_test}
+use Rattle.golf_meaning_statements.specs.Steps.{Deed, Step, nothing, in_order, in_block, parts}
 use Rattle.golf_meaning_statements.specs.Follows.{Stands, EndsAlike, Goes, StatementMeans}
 
 -- ends go through what lets them through
@@ -29,12 +30,6 @@ ends-in t (End.Halts (Halt.Returned v)) C o strict h = ap C h ∙ strict
 ends-in t (End.Halts Halt.Divided) C o strict h = ap C h ∙ strict
 ends-in t (End.Halts Halt.Waits) C o strict h = ap C h ∙ strict
 ends-in t End.Short C o strict h = ap C h ∙ strict
-
-pub ends-halted : (h : Halt) (os : List Operation) → EndsAlike (halted h os) (End.Halts h) (Way.Ends (halted h os))
-ends-halted (Halt.Returned v) os = refl
-ends-halted Halt.Divided os = refl
-ends-halted Halt.Waits os = refl
-ends-halted (Halt.Unfit why) os = tt
 
 -- names and slots
 

@@ -1,4 +1,6 @@
--- Loops.
+-- The code of `for` without a range does what the loop does.
+-- For: `forever`, `while` and `stepping`, golf_meaning_statements/specs/Steps.antt.
+-- By: induction over n, the turns that are left.
 use Rattle.std.proofs.Common.{◌≡◌, ℕ, zero, suc, ◌+◌, ◌≤◌, Bool, true, false, List, [], ◌∷◌, ◌++◌, length, Option, Some, None, refl, ap, sym, ◌∙◌, subst, arith, append-nil, length-append}
 use Rattle.golf_syntax_trees.specs.declared.expressions.Expr.{Expr}
 use Rattle.golf_syntax_trees.specs.declared.statements.Simple.{Simple}
@@ -7,7 +9,7 @@ use Rattle.golf_model.specs.Values.{bool_of}
 use Rattle.golf_check_types.specs.declared.locals.Local.{Local}
 use Rattle.golf_check_types.specs.declared.scopes.Scope.{Scope}
 use Rattle.golf_check_types.specs.Statements as W
-use Rattle.golf_check_types.specs.Statements.{Walk, behind}
+use Rattle.golf_check_types.specs.Statements.{behind}
 use Rattle.golf_code_layout.specs.Piece.{Piece, all, size}
 use Rattle.golf_code_of.specs.declared.making.Around.{Around}
 use Rattle.golf_code_of.specs.declared.tables.Tables.{Tables}
@@ -16,7 +18,7 @@ use Rattle.golf_code_of.specs.Statements.{Part, past}
 use Rattle.golf_code_of.specs.Statements as L
 use Rattle.golf_code_of.specs.Loops as O
 use Rattle.golf_meaning_flat.specs.Worlds as V
-use Rattle.golf_meaning_flat.specs.Worlds.{Halt, Told, World, Operation, halted, cut_short, pushed}
+use Rattle.golf_meaning_flat.specs.Worlds.{Halt, World, Operation, halted, pushed}
 use Rattle.golf_meaning_flat.specs.Doing.{Frame, on_some}
 use Rattle.golf_meaning_flat.specs.Flat.{tests}
 use Rattle.golf_meaning_flat.specs.Structured.{Way, then_way, unless_true, out_of, once_more, rounds, run}
@@ -24,7 +26,7 @@ use Rattle.golf_meaning_source.specs.Names.{Env}
 use Rattle.golf_meaning_source.specs.Does.{frame, Sim, OnTop, Stored, Rising, Kept, Changed, Known}
 use Rattle.golf_meaning_source.proofs.Turning.{then-end}
 use Rattle.golf_meaning_statements.specs.Flows.{Course, Flow, on, after, guarded, by_test, tested, turned, turns, then_post}
-use Rattle.golf_meaning_statements.specs.Steps.{value_at, Deed, Step, optional, simple_deals, in_block, block, in_order, after_test, in_loop, forever, while, is_plain, is_plain_kind, after_optional, with_post, stepping, parts}
+use Rattle.golf_meaning_statements.specs.Steps.{value_at, Deed, Step, optional, simple_deals, block, in_order, after_test, in_loop, forever, while, is_plain, after_optional, with_post, stepping, parts}
 use Rattle.golf_meaning_statements.specs.Follows.{Stands, EndsAlike, Goes, StatementMeans}
 use Rattle.golf_meaning_statements.proofs.Flowing.{ends-in, kept-trans, Exactly, exactly-block, means-order, EachMeans, rising-append}
 use Rattle.golf_meaning_statements.proofs.Simples.{value-turns, plain-quiet, plain-tail}

@@ -1,4 +1,6 @@
--- Range over a slice: hidden slots have the slice, its length and the next index.
+-- The code of a range over a slice or a channel does what the range does; hidden slots hold its state.
+-- For: `ranging`, golf_meaning_statements/specs/Steps.antt.
+-- By: induction over n, the turns that are left; cases of the names that are declared or stored to.
 use Rattle.std.proofs.Common.{◌≡◌, ℕ, zero, suc, ◌+◌, ◌<◌, ◌≤◌, pos, Bool, true, false, not, cond, List, [], ◌∷◌, ◌++◌, length, take, Option, Some, None, refl, ap, sym, ◌∙◌, subst, slice_get, slice_set, arith, append-nil, append_assoc, length-append}
 use Rattle.std.specs.Prelude.{int_lt}
 use Rattle.std.proofs.lemmas.List.{length-set}
@@ -29,21 +31,19 @@ use Rattle.golf_code_of.specs.Statements.{Part}
 use Rattle.golf_code_of.specs.Statements as L
 use Rattle.golf_code_of.specs.Loops as O
 use Rattle.golf_meaning_flat.specs.Worlds as V
-use Rattle.golf_meaning_flat.specs.Worlds.{Halt, Told, World, Operation, halted, bind, pushed}
+use Rattle.golf_meaning_flat.specs.Worlds.{Halt, World, Operation, halted, bind, pushed}
 use Rattle.golf_meaning_flat.specs.Doing.{Frame, on_some, computed, compared}
-use Rattle.golf_meaning_flat.specs.Flat.{tests}
 use Rattle.golf_meaning_flat.specs.Structured.{Way, from_part, then_way, unless_true, out_of, once_more, rounds, run}
 use Rattle.golf_meaning_source.specs.Names.{Env}
-use Rattle.golf_meaning_source.specs.Operations.{Gives, gives, visible}
+use Rattle.golf_meaning_source.specs.Operations.{Gives, visible}
 use Rattle.golf_meaning_source.specs.Exprs.{int_value}
-use Rattle.golf_meaning_source.specs.Does.{frame, Sim, OnTop, Turns, Tail, Stored, Rising, Apart, Kept, Known}
-use Rattle.golf_meaning_source.proofs.Turning.{sim-in, turn-visible, turn-last, tail-then, tail-end, then-end}
-use Rattle.golf_meaning_source.proofs.Places.{tail-step, turn-step}
+use Rattle.golf_meaning_source.specs.Does.{frame, Sim, OnTop, Tail, Stored, Rising, Apart, Kept, Known}
+use Rattle.golf_meaning_source.proofs.Turning.{turn-visible, tail-then, tail-end, then-end}
 use Rattle.golf_meaning_source.proofs.Environments.{set-other, set-same, stored-below}
-use Rattle.golf_meaning_statements.specs.Flows.{Course, Flow, on, after, cut, by_test, turned}
-use Rattle.golf_meaning_statements.specs.Steps.{value_at, Deed, Step, bound, declared, in_block, block, in_loop, parts, named_one, element_named, range_named, ranges, measured, range_step, over_slice, channel_named, received_two, receives, channel_step, by_channel, over, ranging, for_deed}
+use Rattle.golf_meaning_statements.specs.Flows.{Course, Flow, after, cut, by_test, turned}
+use Rattle.golf_meaning_statements.specs.Steps.{value_at, Step, bound, declared, block, in_loop, parts, named_one, range_named, ranges, measured, range_step, over_slice, channel_named, received_two, receives, channel_step, by_channel, over, ranging, for_deed}
 use Rattle.golf_meaning_statements.specs.Follows.{Stands, EndsAlike, Goes, StatementMeans}
-use Rattle.golf_meaning_statements.proofs.Flowing.{ends-in, ends-halted, stored-prefix, stored-take, stored-length, rising-append, apart-rising, apart-append, apart-below, kept-trans, goes-after, Exactly, GoesPrefix, goes-prefix, exactly-prefix, exactly-goes, EachMeans}
+use Rattle.golf_meaning_statements.proofs.Flowing.{ends-in, stored-prefix, stored-take, stored-length, rising-append, apart-rising, apart-append, apart-below, goes-after, Exactly, GoesPrefix, exactly-prefix, exactly-goes, EachMeans}
 use Rattle.golf_meaning_statements.proofs.Simples.{value-turns, stored-new, there-is}
 use Rattle.golf_meaning_statements.proofs.Loops.{goes-trans, B, inside, looped, body-exactly}
 

@@ -1,5 +1,7 @@
--- Simple statements, variables, return, break and continue.
-use Rattle.std.proofs.Common.{◌≡◌, ℕ, zero, suc, ◌+◌, ◌<◌, ◌≤◌, pos, Bool, true, false, not, cond, List, [], ◌∷◌, ◌++◌, length, map, take, Option, Some, None, refl, ap, sym, ◌∙◌, subst, slice_get, slice_set, arith, append_assoc, append-nil, length-append}
+-- The code of simple statements, variables, calls begun, return, break and continue does what they do.
+-- For: `simple_deed`, `var_deed` and `return_deed`, golf_meaning_statements/specs/Steps.antt.
+-- By: cases of the kind of statement; induction over the list of arguments of a call that is begun.
+use Rattle.std.proofs.Common.{◌≡◌, ℕ, zero, suc, ◌+◌, ◌<◌, ◌≤◌, pos, Bool, true, false, cond, List, [], ◌∷◌, ◌++◌, length, map, Option, Some, None, refl, ap, sym, ◌∙◌, subst, slice_get, slice_set, arith, append_assoc, append-nil, length-append}
 use Rattle.std.proofs.lemmas.Bool.{false≢true}
 use Rattle.std.proofs.lemmas.List.{length-set}
 use Rattle.golf_syntax_trees.specs.declared.expressions.Expr.{Expr}
@@ -30,27 +32,26 @@ use Rattle.golf_check_types.specs.Statements.{Walk, behind, assigned_name}
 use Rattle.golf_code_layout.specs.Piece.{Piece, all, op, size}
 use Rattle.golf_code_of.specs.declared.tables.Tables.{Tables}
 use Rattle.golf_code_of.specs.Values.{push, zero_value}
-use Rattle.golf_code_of.specs.Expressions.{Made}
 use Rattle.golf_code_of.specs.Calls as K
 use Rattle.golf_code_of.specs.Coding.{code_at, piece_at, argument_at}
 use Rattle.golf_code_of.specs.Statements.{Part, laid}
 use Rattle.golf_code_of.specs.Statements as L
 use Rattle.golf_meaning_flat.specs.Worlds as V
-use Rattle.golf_meaning_flat.specs.Worlds.{Halt, World, bind, halted}
-use Rattle.golf_meaning_flat.specs.Doing.{Doing, doing, on_some, acts_on_two, shows, computed, divided, unfit}
+use Rattle.golf_meaning_flat.specs.Worlds.{Halt, World, bind}
+use Rattle.golf_meaning_flat.specs.Doing.{Doing, doing, on_some, acts_on_two, shows, computed, divided}
 use Rattle.golf_meaning_flat.specs.Structured.{Way, from_part, then_way, run}
-use Rattle.golf_meaning_source.specs.Names.{Bound, Env}
+use Rattle.golf_meaning_source.specs.Names.{Env}
 use Rattle.golf_meaning_source.specs.Operations.{Gives, gives, both, then_do, visible, on_two}
-use Rattle.golf_meaning_source.specs.Exprs.{Does, Place, values_of, if_none, read, store, dropped, int_value}
+use Rattle.golf_meaning_source.specs.Exprs.{values_of, if_none, read, store}
 use Rattle.golf_meaning_source.specs.Does.{frame, Sim, OnTop, Turns, Stored, Rising, Apart, Kept, Changed, Tail, Matches, Known}
-use Rattle.golf_meaning_source.proofs.Turning.{sim-in, bind-assoc, turn-none, turn-both, turn-after-two, turn-visible, turn-calculate, turn-over, tail-then, tail-end, tail-over, over}
-use Rattle.golf_meaning_source.proofs.Places.{turn-over-more, tail-step, stores-visible}
+use Rattle.golf_meaning_source.proofs.Turning.{sim-in, bind-assoc, turn-none, turn-both, turn-after-two, turn-visible, turn-calculate, turn-over, tail-then, tail-end, tail-over}
+use Rattle.golf_meaning_source.proofs.Places.{turn-over-more, stores-visible}
 use Rattle.golf_meaning_source.proofs.Environments.{set-other, set-same, stored-below}
 use Rattle.golf_meaning_source.proofs.Constructs.{matches-name}
 use Rattle.golf_meaning_source.proofs.Exprs.{means}
 use Rattle.golf_meaning_source.specs.Meaning.{outer}
-use Rattle.golf_meaning_statements.specs.Flows.{Course, Flow, on, after, unfit_flow}
-use Rattle.golf_meaning_statements.specs.Steps.{name_place, stores_pair, stores_unless, with_new, defines_pair, does_at, value_at, Deals, declared, bound, drops, update_operation, updates, assigns, one, simple_deals, simple_deed, is_plain_kind, Deed, first_value, var_deed, argument, beginning, begin_deals, begin_deed, returned, return_deed}
+use Rattle.golf_meaning_statements.specs.Flows.{Course, Flow, on}
+use Rattle.golf_meaning_statements.specs.Steps.{name_place, stores_pair, stores_unless, with_new, defines_pair, does_at, value_at, Deals, declared, bound, drops, update_operation, updates, assigns, one, simple_deals, simple_deed, is_plain_kind, first_value, var_deed, argument, beginning, begin_deals, begin_deed, returned, return_deed}
 use Rattle.golf_meaning_statements.specs.Follows.{Stands, Goes, StatementMeans}
 use Rattle.golf_meaning_statements.proofs.Flowing.{goes-on, goes-changed, goes-after, stored-take, apart-below, rising-append}
 

@@ -1,5 +1,7 @@
--- The code of every statement does what the statement does: one step for each kind, and an induction.
-use Rattle.std.proofs.Common.{◌≡◌, ℕ, ◌+◌, ◌≤◌, List, [], ◌∷◌, ◌++◌, length, map, Option, Some, None, refl, ap, sym, ◌∙◌, subst, arith, length-append}
+-- The code of every statement does what the statement does.
+-- For: `step`, golf_meaning_statements/specs/Statements.antt; the law `statements_mean`, src/lib.rt.
+-- By: induction over the tree of a statement, one step for each kind.
+use Rattle.std.proofs.Common.{◌≡◌, ℕ, List, [], ◌∷◌, map, refl, ap, sym, ◌∙◌, subst}
 use Rattle.golf_syntax_trees.specs.declared.statements.Header.{Header}
 use Rattle.golf_syntax_trees.specs.declared.statements.Header.TheVariants as header
 use Rattle.golf_syntax_trees.specs.declared.statements.Stmt.{Stmt, roll-Stmt}
@@ -8,19 +10,16 @@ use Rattle.golf_syntax_trees.specs.declared.statements.Clause.TheOpen.{Stmt-F, C
 use Rattle.golf_syntax_trees.specs.declared.statements.Clause.TheOpen as F
 use Rattle.golf_syntax_trees.specs.declared.statements.Clause.TheFolds.{fold-roll-Stmt, fold-roll-Clause, ind-Stmt, map-Stmt, map-Clause}
 use Rattle.golf_data.specs.declared.code.Instr.{Instr}
-use Rattle.golf_check_types.specs.declared.scopes.Scope.{Scope}
 use Rattle.golf_check_types.specs.Statements as W
-use Rattle.golf_check_types.specs.Statements.{Walk, behind}
 use Rattle.golf_code_of.specs.declared.tables.Tables.{Tables}
 use Rattle.golf_code_of.specs.Statements.{Part}
 use Rattle.golf_code_of.specs.Statements as L
 use Rattle.golf_code_of.specs.Loops as O
 use Rattle.golf_code_of.specs.Selects.{ClausePart, select_part}
 use Rattle.golf_code_of.specs.Laying.{stmt_part, clause_part, stmt_part_step, clause_part_step}
-use Rattle.golf_meaning_source.specs.Does.{Rising}
 use Rattle.golf_meaning_statements.specs.Selecting.{ClauseStep}
 use Rattle.golf_meaning_statements.specs.Statements.{step, clause_step, step_step, clause_step_step, deed_step}
-use Rattle.golf_meaning_statements.specs.Steps.{Step, parts, in_order, in_block, block, forever, while, in_loop, stepping, optional, then_deed, for_deed, header_deed}
+use Rattle.golf_meaning_statements.specs.Steps.{Step, parts, in_order, block, forever, while, in_loop, stepping, optional, then_deed, for_deed}
 use Rattle.golf_meaning_statements.specs.Follows.{StatementMeans}
 use Rattle.golf_meaning_statements.specs.Laws.{StatementsMean}
 use Rattle.golf_meaning_statements.proofs.Flowing.{StepMeans, EachMeans, means-order, means-block, means-then}

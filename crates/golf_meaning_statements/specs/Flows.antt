@@ -1,5 +1,5 @@
 -- How statements leave, and how they are put together.
-use Rattle.std.specs.Prelude.{ℕ, zero, suc, Bool, true, false, List, [], ◌∷◌, length, take, Option, Some, None}
+use Rattle.std.specs.Prelude.{ℕ, zero, suc, Bool, true, false, List, [], ◌∷◌, take, Option, Some, None}
 use Rattle.golf_data.specs.declared.value.Value.{Value}
 use Rattle.golf_model.specs.Values.{bool_of}
 use Rattle.golf_meaning_flat.specs.Worlds.{Misfit, Halt, Told, World, Part, halted, cut_short}

@@ -1,5 +1,5 @@
 -- What it is that the code of a statement does what the statement does.
-use Rattle.std.specs.Prelude.{◌≡◌, ℕ, zero, ◌+◌, ◌≤◌, List, length, take}
+use Rattle.std.specs.Prelude.{◌≡◌, ℕ, ◌≤◌, List, length, take}
 use Rattle.golf_data.specs.declared.value.Value.{Value}
 use Rattle.golf_check_types.specs.declared.locals.Local.{Local}
 use Rattle.golf_check_types.specs.declared.scopes.Scope.{Scope}

@@ -1,6 +1,6 @@
 -- Select statements (Go specification, "Select statements"; profile): the operands of all clauses are evaluated once, in source order, and one
 -- operation chooses a clause. The operation and its answer name a clause by its place in source order, from 0.
-use Rattle.std.specs.Prelude.{ℕ, zero, suc, ◌==◌, ◌&&◌, is_some, cond, Bool, true, false, List, [], ◌∷◌, length, map, Option, Some, None}
+use Rattle.std.specs.Prelude.{ℕ, zero, suc, ◌==◌, ◌&&◌, is_some, cond, Bool, true, List, [], ◌∷◌, length, map, Option}
 use Rattle.golf_syntax_trees.specs.declared.statements.Communication.{Communication}
 use Rattle.golf_syntax_trees.specs.declared.statements.Communication.TheVariants as comm
 use Rattle.golf_data.specs.declared.value.Value.{Value}
@@ -8,7 +8,7 @@ use Rattle.golf_data.specs.declared.code.Instr.{Instr}
 use Rattle.golf_check_types.specs.declared.types.GoType.{GoType}
 use Rattle.golf_check_types.specs.declared.scopes.Scope.{Scope}
 use Rattle.golf_check_types.specs.Statements.{behind, bool_type, carried}
-use Rattle.golf_code_layout.specs.Depth.{cases_taken}
+use Rattle.golf_data.specs.Effects.{cases_taken}
 use Rattle.golf_code_of.specs.declared.tables.Tables.{Tables}
 use Rattle.golf_code_of.specs.Statements.{past}
 use Rattle.golf_code_of.specs.Selects as K

@@ -1,5 +1,4 @@
 -- What statements do: one equation a construct, beside their code (Go specification, "Statements").
-use Rattle.std.specs.Prelude.{ℕ}
 use Rattle.golf_syntax_trees.specs.declared.statements.Stmt.{Stmt}
 use Rattle.golf_syntax_trees.specs.declared.statements.Clause.{Clause}
 use Rattle.golf_syntax_trees.specs.declared.statements.Clause.TheOpen as S

@@ -37,8 +37,8 @@ use Rattle.golf_code_of.specs.Statements as L
 use Rattle.golf_meaning_flat.specs.Worlds as W
 use Rattle.golf_meaning_flat.specs.Worlds.{Halt, World, bind, halted}
 use Rattle.golf_meaning_flat.specs.Doing.{unfit, computed, divided, compared}
-use Rattle.golf_meaning_source.specs.Names.{Bound, Env}
-use Rattle.golf_meaning_source.specs.Operations.{Gives, gives, both, then_do, visible, on_two}
+use Rattle.golf_meaning_source.specs.Names.{Env}
+use Rattle.golf_meaning_source.specs.Operations.{Gives, gives, both, visible, on_two}
 use Rattle.golf_meaning_source.specs.Exprs.{Does, Place, Argument, values_of, if_none, read, store, dropped, int_value, name_does}
 use Rattle.golf_meaning_source.specs.Meaning.{meant, outer}
 use Rattle.golf_meaning_statements.specs.Flows.{Course, Flow, on, after, then_flow, cut, ends_here, or_else, unfit_flow, guarded, by_test, tested, turned, turns, then_post}

@@ -1,4 +1,6 @@
 -- `go` and `defer`: receiver and arguments are evaluated, and a function begins with as many.
+-- For: `begin_deed`, golf_meaning_statements/specs/Steps.antt; `statements_fit`, src/lib.rt
+-- By: induction over the list of arguments; cases of what is called
 use Rattle.std.proofs.Common.{◌≡◌, ℕ, suc, ◌+◌, true, List, [], ◌∷◌, ◌++◌, length, map, Option, Some, None, refl, sym, ap, ◌∙◌, subst, arith}
 use Rattle.std.proofs.lemmas.List.{length-map}
 use Rattle.std.specs.Prelude.{flat_map}
@@ -17,10 +19,10 @@ use Rattle.golf_check_types.specs.Types.{type_given, given}
 use Rattle.golf_check_types.specs.Statements as W
 use Rattle.golf_check_types.specs.Statements.{may_be_begun, done_faults}
 use Rattle.golf_model_typing.specs.Types.{Types}
-use Rattle.golf_code_layout.specs.Depth.{taken}
+use Rattle.golf_data.specs.Effects.{taken}
 use Rattle.golf_code_of.specs.declared.tables.Tables.{Tables}
 use Rattle.golf_code_of.specs.Calls as K
-use Rattle.golf_code_of.specs.Calls.{receiver_base, with_receiver, begun_parameters}
+use Rattle.golf_code_of.specs.Calls.{receiver_base, with_receiver}
 use Rattle.golf_code_of.specs.Coding.{argument_at}
 use Rattle.golf_code_shapes.specs.Sound.{FileFits}
 use Rattle.golf_code_shapes.proofs.Typings.{none-left, none-right, kept}

@@ -1,4 +1,6 @@
 -- Statements one after the other, blocks, conditions and loops.
+-- For: `FlowFits`, specs/Flowing.antt; `statements_fit`, src/lib.rt
+-- By: induction over the list of statements; for one part, by how its flow is put together
 use Rattle.std.proofs.Common.{◌≡◌, ℕ, Bool, true, List, [], ◌∷◌, ◌++◌, length, Option, Some, None, refl, sym, subst, arith, append_assoc, append-nil}
 use Rattle.golf_syntax_trees.specs.declared.expressions.Expr.{Expr}
 use Rattle.golf_data.specs.declared.value.Value.{Value}
@@ -8,7 +10,7 @@ use Rattle.golf_check_types.specs.Scopes.{begun}
 use Rattle.golf_check_types.specs.Expressions.{used}
 use Rattle.golf_check_types.specs.Judging.{judge}
 use Rattle.golf_check_types.specs.Statements as W
-use Rattle.golf_check_types.specs.Statements.{Walk, Walked, behind, result_faults}
+use Rattle.golf_check_types.specs.Statements.{Walk, Walked, behind}
 use Rattle.golf_model_typing.specs.Types.{Types}
 use Rattle.golf_code_of.specs.declared.tables.Tables.{Tables}
 use Rattle.golf_code_of.specs.declared.making.Around.{Around}

@@ -1,9 +1,11 @@
 -- Sound meanings, put together.
+-- For: `Sound` and `Yields`, specs/Sound.antt
+-- By: cases of the outcome of a part and of how many values it gives; no induction
 use Rattle.std.proofs.Common.{◌≡◌, ◌==◌, ◌&&◌, Bool, true, false, List, [], ◌∷◌, ◌++◌, length, Option, Some, refl, sym, subst}
 use Rattle.golf_data.specs.declared.value.Value.{Value}
 use Rattle.golf_data.specs.declared.code.Instr.{Instr}
 use Rattle.golf_check_types.specs.declared.types.GoType.{GoType}
-use Rattle.golf_code_layout.specs.Depth.{taken}
+use Rattle.golf_data.specs.Effects.{taken}
 use Rattle.golf_meaning_flat.specs.Worlds.{Answer, Misfit, Halt, World, Part, bind, asked, done}
 use Rattle.golf_meaning_flat.specs.Doing.{unfit, misfit, chosen_by}
 use Rattle.golf_meaning_source.specs.Operations.{Gives, both, then_do, all_fit, answered, visible}

@@ -1,4 +1,6 @@
 -- What a call gives.
+-- For: `plain_call` and `finaliser_call`, golf_check_types/specs/Calls.antt; `expressions_fit`, src/lib.rt
+-- By: induction over the list of arguments; cases of what is called
 use Rattle.std.proofs.Common.{◌≡◌, ℕ, suc, ◌+◌, false, List, [], ◌∷◌, ◌++◌, map, length, length-append, Option, Some, None, refl, sym, ap, ◌∙◌, subst, arith, negsuc}
 use Rattle.std.proofs.lemmas.Bool.{eqb-true}
 use Rattle.std.specs.Prelude.{flat_map, slice_get}
@@ -23,7 +25,7 @@ use Rattle.golf_code_shapes.specs.Sound.{Callee}
 use Rattle.golf_code_shapes.proofs.Typings.{none-left, none-right, kept}
 use Rattle.golf_meaning_flat.specs.Worlds.{World, Part, bind, asked, done, Answer}
 use Rattle.golf_meaning_flat.specs.Doing.{misfit}
-use Rattle.golf_code_layout.specs.Depth.{taken}
+use Rattle.golf_data.specs.Effects.{taken}
 use Rattle.golf_meaning_source.specs.Names.{Env}
 use Rattle.golf_meaning_source.specs.Operations.{Gives, both, then_do, visible, panicking}
 use Rattle.golf_meaning_source.specs.Exprs.{Place, Argument, left_types, operation, values_of, finaliser, finalising, call}

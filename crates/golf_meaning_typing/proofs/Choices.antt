@@ -1,4 +1,6 @@
 -- `select`: the operands of all clauses, and the clause that is chosen.
+-- For: `select_deed`, golf_meaning_statements/specs/Selecting.antt; `statements_fit`, src/lib.rt
+-- By: induction over the list of clauses; cases of the communication
 use Rattle.std.proofs.Common.{◌≡◌, ℕ, zero, suc, ◌+◌, ◌==◌, true, List, [], ◌∷◌, ◌++◌, length, map, Option, Some, None, refl, sym, ap, ◌∙◌, subst, arith, append_assoc, append-nil}
 use Rattle.std.proofs.lemmas.Bool.{eq-eqb}
 use Rattle.std.specs.Prelude.{is_some}
@@ -18,9 +20,9 @@ use Rattle.golf_check_types.specs.Types.{plain, element}
 use Rattle.golf_check_types.specs.Expressions.{Judged, used, given_by}
 use Rattle.golf_check_types.specs.Judging.{judge}
 use Rattle.golf_check_types.specs.Statements as W
-use Rattle.golf_check_types.specs.Statements.{Walked, behind, received, carried, bool_type, pair, pair_faults, assigned_name, assigned_faults, put_in_faults, takes_value}
+use Rattle.golf_check_types.specs.Statements.{Walked, behind, received, carried, bool_type, pair, pair_faults, assigned_name, assigned_faults, put_in_faults}
 use Rattle.golf_model_typing.specs.Types.{ValueType, Types}
-use Rattle.golf_code_layout.specs.Depth.{case_taken, cases_taken}
+use Rattle.golf_data.specs.Effects.{case_taken, cases_taken}
 use Rattle.golf_code_of.specs.declared.tables.Tables.{Tables}
 use Rattle.golf_code_of.specs.declared.making.Around.{Around}
 use Rattle.golf_code_of.specs.Statements as L
@@ -34,7 +36,7 @@ use Rattle.golf_check_types.proofs.NamesAlone.{judged-by-names}
 use Rattle.golf_meaning_flat.specs.Worlds.{Answer, World, asked, asks, done}
 use Rattle.golf_meaning_source.specs.Names.{Env}
 use Rattle.golf_meaning_source.specs.Operations as O
-use Rattle.golf_meaning_source.specs.Operations.{Gives, all_fit}
+use Rattle.golf_meaning_source.specs.Operations.{all_fit}
 use Rattle.golf_meaning_source.specs.Exprs.{dropped, store}
 use Rattle.golf_meaning_statements.specs.Flows.{Flow, cut}
 use Rattle.golf_meaning_statements.specs.Steps.{Step, declared, in_order, parts, then_deed, name_place, defines_pair, value_at}

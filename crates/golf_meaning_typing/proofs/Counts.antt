@@ -1,4 +1,6 @@
 -- How many values are given, and places of each kind.
+-- For: `Many` and `Placed`, specs/Meets.antt
+-- By: induction over the list of what is given, and over the list of locals
 use Rattle.std.proofs.Common.{◌≡◌, ℕ, ◌+◌, Bool, true, false, cond, List, [], ◌∷◌, ◌++◌, length, length-append, Option, Some, None, refl, sym, subst, arith}
 use Rattle.std.proofs.lemmas.Bool.{eq-eqb, false≢true}
 use Rattle.std.specs.Prelude.{is_some}
@@ -7,7 +9,7 @@ use Rattle.golf_data.specs.declared.value.Value.{Value}
 use Rattle.golf_data.specs.declared.code.Instr.{Instr}
 use Rattle.golf_check_types.specs.declared.types.GoType.{GoType}
 use Rattle.golf_check_types.specs.declared.locals.Local.{Local}
-use Rattle.golf_code_layout.specs.Depth.{taken}
+use Rattle.golf_data.specs.Effects.{taken}
 use Rattle.golf_meaning_flat.specs.Worlds.{World, Part, bind}
 use Rattle.golf_meaning_source.specs.Names.{Env, Bound, find, first_some, here, assign}
 use Rattle.golf_meaning_source.specs.Operations.{Gives, gives, both, then_do, in_order, all_fit, visible}

@@ -1,4 +1,6 @@
--- What every expression that breaks no rule gives is what it is: one step for each kind, and an induction.
+-- What every expression that breaks no rule gives is what it is.
+-- For: `expressions_fit`, src/lib.rt
+-- By: one step for each kind of expression, and an induction over the tree of an expression
 use Rattle.std.proofs.Common.{◌≡◌, ℕ, List, [], ◌∷◌, ◌++◌, map, true, Option, Some, None, refl, sym, ap, ◌∙◌, subst}
 use Rattle.std.proofs.lemmas.Bool.{and_parts}
 use Rattle.std.specs.Prelude.{flat_map, is_some}
@@ -36,7 +38,7 @@ use Rattle.golf_meaning_source.specs.Operations.{Gives, both, then_do}
 use Rattle.golf_meaning_source.specs.Exprs as X
 use Rattle.golf_meaning_source.specs.Exprs.{Place}
 use Rattle.golf_meaning_source.specs.Meaning as M
-use Rattle.golf_meaning_source.specs.Meaning.{Meant, MeantPut, meant, meant_step, element_meant_step, outer}
+use Rattle.golf_meaning_source.specs.Meaning.{Meant, MeantPut, meant, meant_step, element_meant_step}
 use Rattle.golf_meaning_source.proofs.Meanings as A
 use Rattle.golf_meaning_typing.specs.Sound.{One, Yields, YieldsBy, Shown, NamesFit}
 use Rattle.golf_meaning_typing.specs.Meets.{Many}

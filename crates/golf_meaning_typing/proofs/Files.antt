@@ -1,4 +1,6 @@
--- The functions of a whole file.
+-- The functions of a whole file that breaks no rule are unfit by an answer alone.
+-- For: `files_fit`, src/lib.rt
+-- By: induction over the list of declarations
 use Rattle.std.proofs.Common.{◌≡◌, ℕ, zero, suc, ◌+◌, ◌<◌, true, List, [], ◌∷◌, length, map, arith}
 use Rattle.std.proofs.lemmas.Bool.{and_parts}
 use Rattle.std.specs.List.{list_all}

@@ -1,4 +1,6 @@
 -- Flows that fit, put together.
+-- For: `Fitting`, specs/Flowing.antt
+-- By: cases of the outcome of a flow; for a loop, induction over the turns that it may still take
 use Rattle.std.proofs.Common.{◌≡◌, ℕ, zero, suc, Bool, true, false, List, [], ◌∷◌, take, refl, subst, sym}
 use Rattle.golf_data.specs.declared.value.Value.{Value}
 use Rattle.golf_meaning_flat.specs.Worlds.{Misfit, Halt, World, Part}

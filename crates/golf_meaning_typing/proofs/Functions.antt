@@ -1,4 +1,6 @@
 -- The functions of a file that break no rule are unfit by an answer alone.
+-- For: `functions_fit`, src/lib.rt
+-- By: induction over the lists of locals, of parameters and of statements
 use Rattle.std.proofs.Common.{◌≡◌, ℕ, suc, true, false, List, [], ◌∷◌, ◌++◌, map, Option, Some, None, refl, sym, ap, ◌∙◌, subst}
 use Rattle.std.proofs.lemmas.Bool.{and_parts, false≢true}
 use Rattle.golf_syntax_trees.specs.declared.declarations.Receiver.{Receiver}

@@ -1,4 +1,6 @@
 -- What is given, by what the checker says of its type; values in pairs.
+-- For: `YieldsBy` and `Yields`, specs/Sound.antt
+-- By: cases of what is said of the type, and of how many values there are; no induction
 use Rattle.std.proofs.Common.{◌≡◌, true, false, not, ◌&&◌, List, [], ◌∷◌, Some, refl, sym, ◌∙◌, subst}
 use Rattle.std.proofs.lemmas.Bool.{and_parts, false≢true}
 use Rattle.golf_data.specs.declared.value.Value.{Value}

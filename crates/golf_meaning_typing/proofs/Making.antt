@@ -1,4 +1,6 @@
 -- What literals, `make` and `new` give.
+-- For: `expressions_fit`, src/lib.rt; `puts`, golf_meaning_source/specs/Exprs.antt
+-- By: induction over the list of fields or elements of a literal; cases of the type
 use Rattle.std.proofs.Common.{◌≡◌, ℕ, ◌+◌, Bool, true, false, cond, List, [], ◌∷◌, ◌++◌, length, Option, Some, None, refl, sym, subst, arith}
 use Rattle.std.specs.Prelude.{is_some}
 use Rattle.golf_data.specs.declared.value.Value.{Value}
@@ -14,7 +16,7 @@ use Rattle.golf_check_types.specs.declared.scopes.FileScope.{FileScope}
 use Rattle.golf_check_types.specs.Types.{plain, given, has_layer, is_channel, is_any, starts_with}
 use Rattle.golf_check_types.specs.Written.{made_base, pointer_to}
 use Rattle.golf_model_typing.specs.Types.{ValueType}
-use Rattle.golf_code_layout.specs.Depth.{taken}
+use Rattle.golf_data.specs.Effects.{taken}
 use Rattle.golf_code_of.specs.Values.{type_zero}
 use Rattle.golf_check_types.specs.Expressions.{field_place}
 use Rattle.golf_code_shapes.specs.Types.{layers_type, value_type}

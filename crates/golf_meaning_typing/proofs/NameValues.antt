@@ -1,4 +1,6 @@
 -- A name that stands as a value gives one value of its type.
+-- For: `names_give`, src/lib.rt
+-- By: induction over the list of locals; cases of what a name stands for
 use Rattle.std.proofs.Common.{◌≡◌, ℕ, Bool, true, false, cond, List, [], ◌∷◌, Option, Some, None, refl, sym, subst}
 use Rattle.std.specs.Prelude.{codes}
 use Rattle.std.specs.Option.{option_map}

@@ -1,4 +1,6 @@
 -- Names with values of their types, put together and cut.
+-- For: `NamesFit`, specs/Sound.antt; `Begins`, specs/Flowing.antt
+-- By: induction over the list of locals
 use Rattle.std.proofs.Common.{◌≡◌, ℕ, suc, List, [], ◌∷◌, ◌++◌, length, take, Option, refl, sym, ap, subst, append_assoc, append-nil}
 use Rattle.golf_data.specs.declared.value.Value.{Value}
 use Rattle.golf_check_types.specs.declared.types.GoType.{GoType}

@@ -1,4 +1,6 @@
 -- What a name gives is what it is; and what stands as a value gives one.
+-- For: `expressions_fit`, src/lib.rt; `value_faults`, golf_check_types/specs/Expressions.antt
+-- By: cases of what the name stands for; no induction
 use Rattle.std.proofs.Common.{◌≡◌, ℕ, Bool, true, false, cond, List, [], ◌∷◌, Option, Some, None, refl, sym, subst}
 use Rattle.std.specs.Prelude.{codes}
 use Rattle.std.specs.Option.{option_map}

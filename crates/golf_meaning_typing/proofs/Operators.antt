@@ -1,4 +1,6 @@
 -- Operators whose operands break no rule give values of their types.
+-- For: `operators_fit` and `conditions_decide`, src/lib.rt
+-- By: cases of the operator and of the types of its operands; no induction
 use Rattle.std.proofs.Common.{◌≡◌, inl, inr, ℕ, ℤ, Bool, true, false, not, ◌&&◌, ◌||◌, List, [], ◌∷◌, Some, refl, ap, sym, subst}
 use Rattle.std.proofs.lemmas.Bool.{and_parts, or_cases}
 use Rattle.std.specs.Prelude.{int_lt, int_le}
@@ -109,7 +111,7 @@ comparing given_as.Nil given_as.Nil f k holds x y = cc
 comparing given_as.Nil given_as.Unknown f k holds x y = absurd y
 comparing given_as.Unknown h f k holds x y = absurd x
 
--- where the first operand is true the second decides, or else
+-- if the first operand is true the second decides, or else
 choosing : (f k h : Gives) → Yields ValueType.Bool f → Yields ValueType.Bool k → Yields ValueType.Bool h → (w : World) → Sound (One ValueType.Bool) (then_do f (λ vs. if_true vs k h) w)
 choosing f k h yf yk yh = yields-then ValueType.Bool f (λ vs. if_true vs k h) (One ValueType.Bool) yf by
   where

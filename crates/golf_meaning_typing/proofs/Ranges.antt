@@ -1,4 +1,6 @@
--- Loops over a slice and over a channel.
+-- A loop over a slice or a channel that breaks no rule is unfit by an answer alone.
+-- For: `statements_fit`, src/lib.rt
+-- By: induction over the turns that the loop may still take; cases of the names and of the type
 use Rattle.std.proofs.Common.{◌≡◌, ℕ, zero, suc, ℤ, pos, Bool, true, false, cond, not, ◌&&◌, List, [], ◌∷◌, ◌++◌, length, Option, Some, refl, sym, subst, append_assoc}
 use Rattle.std.specs.Prelude.{int_lt}
 use Rattle.golf_syntax_trees.specs.declared.expressions.Expr.{Expr}

@@ -1,4 +1,6 @@
 -- What a selector gives is what it is.
+-- For: `selected_from`, golf_check_types/specs/Expressions.antt; `expressions_fit`, src/lib.rt
+-- By: cases of what is selected from, and of the member; no induction
 use Rattle.std.proofs.Common.{◌≡◌, ℕ, Bool, true, false, cond, List, [], ◌∷◌, Option, Some, None, refl, sym, subst}
 use Rattle.golf_data.specs.declared.code.Instr.{Instr}
 use Rattle.golf_check_types.specs.declared.types.Layer.{Layer}
@@ -133,7 +135,7 @@ module _ (types : Types) (t : Tables) (s : Scope) (env : Env) (fit : NamesFit s.
     of-value : (m : Operand) → (value_faults l m ≡ [] → Me types t s env m (f env) p q → YieldsBy (given m) (f env)) → value_faults l m ≡ [] → (value_member l s.file n (given m)).faults ≡ [] → Me types t s env m (f env) p q → Selects (value_member l s.file n (given m)).meaning f
     of-value m k none rest h = of-given l n (given m) f rest (k none h)
 
-    -- `e.n`, where this is what e is
+    -- `e.n`, if this is what e is
     pub on-selector : (m : Operand) → (selected_from l s.file n m).faults ≡ [] → Me types t s env m (f env) p q → Selects (selected_from l s.file n m).meaning f
     on-selector (operand.Package k) none h = package-name l f (has_type k n) (called_name l (package_member k n)) (λ e. of-package l f (package_member k n) (from-package k n) e h) none
     on-selector (operand.Value e) none h = of-value (operand.Value e) (valued types t s env l (operand.Value e) (f env) p q) (none-left (value_faults l (operand.Value e)) _ none) (none-right (value_faults l (operand.Value e)) _ none) h

@@ -1,4 +1,6 @@
 -- Each kind of simple statement, variables, and loops with steps.
+-- For: `statements_fit`, src/lib.rt
+-- By: cases of the kind of statement; no induction
 use Rattle.std.proofs.Common.{◌≡◌, ℕ, true, not, List, [], ◌∷◌, ◌++◌, Option, Some, None, refl, sym, ap, ◌∙◌, subst}
 use Rattle.std.proofs.lemmas.Bool.{and_parts}
 use Rattle.golf_syntax_trees.specs.declared.expressions.Expr.{Expr}

@@ -1,4 +1,6 @@
 -- Simple statements without two names, variables, and what they store.
+-- For: `simple_deals`, golf_meaning_statements/specs/Steps.antt; `statements_fit`, src/lib.rt
+-- By: cases of the operands; no induction
 use Rattle.std.proofs.Common.{◌≡◌, ℕ, ◌&&◌, true, List, [], ◌∷◌, ◌++◌, length, length-append, Option, Some, None, refl, sym, subst, arith, append-nil}
 use Rattle.std.proofs.lemmas.Bool.{and_parts}
 use Rattle.golf_syntax_trees.specs.declared.expressions.Expr.{Expr}

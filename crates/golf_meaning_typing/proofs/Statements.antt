@@ -1,4 +1,6 @@
--- Every well-formed statement that breaks no rule is unfit by an answer alone: one step for each kind of statement, and an induction.
+-- Every well-formed statement that breaks no rule is unfit by an answer alone.
+-- For: `statements_fit`, src/lib.rt
+-- By: one step for each kind of statement, and an induction over the tree of a statement
 use Rattle.std.proofs.Common.{◌≡◌, ℕ, ◌+◌, Bool, true, false, not, ◌&&◌, cond, List, [], ◌∷◌, map, refl, sym, ap, ◌∙◌, subst, arith}
 use Rattle.std.proofs.lemmas.Bool.{and_parts, leb-true}
 use Rattle.std.specs.Prelude.{nat_le, is_some}
@@ -14,7 +16,6 @@ use Rattle.golf_syntax_trees.specs.declared.statements.Clause.TheFolds.{fold-rol
 use Rattle.golf_syntax_trees.specs.Simple.{header_simple, header_expr, post_simple, all_of, header_good, comm_good}
 use Rattle.golf_syntax_trees.specs.Statements.{StmtForm, ClauseForm, stmts_good, defaults, stmt_form_step, clause_form_step, stmt_form, clause_form}
 use Rattle.golf_check_types.specs.Statements as W
-use Rattle.golf_check_types.specs.Statements.{Walk}
 use Rattle.golf_model_typing.specs.Types.{Types}
 use Rattle.golf_code_of.specs.declared.tables.Tables.{Tables}
 use Rattle.golf_code_of.specs.Statements as L

@@ -1,4 +1,6 @@
 -- The stores of what was received: names that are there, new names, and `_`.
+-- For: `pair_faults`, golf_check_types/specs/Statements.antt; `statements_fit`, src/lib.rt
+-- By: cases of what each name stands for; no induction
 use Rattle.std.proofs.Common.{◌≡◌, ℕ, ◌==◌, Bool, true, false, cond, not, ◌&&◌, ◌||◌, List, [], ◌∷◌, ◌++◌, Option, Some, None, refl, sym, subst, append_assoc, append-nil}
 use Rattle.std.proofs.lemmas.Bool.{and_parts}
 use Rattle.std.proofs.lemmas.Slice.Eq.{bytes_eq-Decides}

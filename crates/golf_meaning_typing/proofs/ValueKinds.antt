@@ -1,4 +1,6 @@
 -- The kinds of values, by what the checker says of their types.
+-- For: `is_of`, specs/Sound.antt; `fits_layers`, golf_meaning_source/specs/Operations.antt
+-- By: cases of the type and of the value; no induction
 use Rattle.std.proofs.Common.{◌≡◌, Bool, true, false, ◌&&◌, List, [], ◌∷◌, Some, ℤ, refl, sym, ◌∙◌}
 use Rattle.std.proofs.lemmas.Bool.{false≢true}
 use Rattle.golf_data.specs.declared.value.Value.{Value}

@@ -1,4 +1,6 @@
 -- What is computed is what is derived: the objects that are reached, the live set and the dead goroutines.
+-- For: `reach` (golf_model/specs/Reaching.antt) and `live_list`, `dead` (golf_model/specs/Living.antt)
+-- By: induction over the list of objects, goroutines or nodes; otherwise the laws of what is reached
 use Rattle.golf_theory.specs.Maps.{find}
 use Rattle.golf_model.specs.Refs.{refs_of_goroutine}
 use Rattle.golf_model.specs.Reaching.{sources}

@@ -1,4 +1,6 @@
 -- Waiters by rising ticket, and the first of them.
+-- For: `first`, `waiters` (golf_model/specs/Waiting.antt) and `waiters_law` (src/laws.rt)
+-- By: induction over the list of goroutines, and over the list of waiters
 use Rattle.std.proofs.Common.{◌≡◌, ℕ, ◌≤◌, true, false, cond, List, [], ◌∷◌, Option, Some, None, ◌⊎◌, inl, inr, refl, ap, ◌∙◌, subst, sym, arith}
 use Rattle.std.specs.Prelude.{nat_lt}
 use Rattle.std.proofs.lemmas.Bool.{ltb-true, ltb-false}

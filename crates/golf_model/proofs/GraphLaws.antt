@@ -1,4 +1,6 @@
 -- The computed least closed set of a graph is the derived one.
+-- For: `Least`, `least_places` (golf_model/specs/Graph.antt) and `least_law` (src/laws.rt)
+-- By: induction over the lists of children and of sleepers; otherwise the laws of what is reached
 use Rattle.std.proofs.Common.{◌≡◌, ℕ, zero, suc, ◌+◌, ◌-◌, ◌≤◌, true, ◌&&◌, List, [], ◌∷◌, inl, inr, subst, sym, arith}
 use Rattle.std.specs.Prelude.{nat_le, slice_get, unwrap_or, option_map}
 use Rattle.std.proofs.lemmas.Bool.{or_cases, or_left, or_right, and_parts, and_from, leb-true, le-leb}

@@ -1,4 +1,6 @@
 -- Without its sleepers a graph still names places that there are.
+-- For: `IsInRange` (golf_model/specs/Graph.antt) and `without_sleepers` (src/graph.rt)
+-- By: arithmetic; no induction
 use Rattle.std.proofs.Common.{ℕ, List, [], arith}
 use Rattle.golf_model.specs.declared.graph.GraphParts.{GraphParts}
 use Rattle.golf_model.specs.Graph.{AreNodes, IsInRange}

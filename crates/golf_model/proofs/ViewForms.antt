@@ -1,4 +1,6 @@
 -- Views of goroutines and frames: what is added at the end of a list stands on top.
+-- For: `frame_views` (golf_model/specs/Views.antt) and `taking` (golf_model/specs/Acting.antt)
+-- By: induction over the list of values that are taken
 use Rattle.std.proofs.Common.{◌≡◌, ℕ, zero, suc, ◌<◌, List, [], ◌∷◌, ◌++◌, map, length, refl, ap, ◌∙◌, sym, arith}
 use Rattle.std.specs.Prelude.{reverse}
 use Rattle.std.proofs.lemmas.List.{reverse-append, reverse-reverse, length-reverse, map-append}

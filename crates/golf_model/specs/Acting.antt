@@ -44,7 +44,7 @@ goes a operands = stands a (next a.frame operands)
 abbrev pub jumps : Actor → ℕ → List Value → List Change
 jumps a target operands = stands a (record a.frame { at = target; operands = operands })
 
--- it goes on with one value more, where there is one; else no rule fits
+-- it goes on with one value more, if there is one; else no rule fits
 abbrev pub leaves : Actor → List Value → Option Value → List Change
 leaves a operands None = []
 leaves a operands (Some v) = goes a (v ∷ operands)
@@ -105,7 +105,7 @@ at_reference a act Value.Unit = []
 at_reference a act Value.Nil = panics a PanicKind.NilPointer
 at_reference a act (Value.Ref o) = act o.0
 
--- the same where nil has a rule of its own
+-- the same if nil has a rule of its own
 abbrev pub at_reference_or : List Change → (ℕ → List Change) → Value → List Change
 at_reference_or nil act (Value.Int n) = []
 at_reference_or nil act (Value.Bool b) = []

@@ -54,7 +54,7 @@ two_ints act operands = taking_two (λ x y rest. on_some (λ m. on_some (λ n. a
 abbrev pub computes : (ℤ → ℤ → ℤ) → Actor → List Change
 computes op a = two_ints (λ m n rest. goes a (Value.Int (op m n) ∷ rest)) a.frame.operands
 
--- the same, where a zero divisor panics
+-- the same, if a zero divisor panics
 abbrev pub divides : (ℤ → ℤ → ℤ) → Actor → List Change
 divides op a = two_ints (λ m n rest. choose (is_zero n) (panics a PanicKind.DivideByZero) (goes a (Value.Int (op m n) ∷ rest))) a.frame.operands
 
@@ -82,6 +82,6 @@ remainder m n = int_rem m n
 abbrev pub equates : Actor → List Change
 equates a = taking_two (λ x y rest. on_some (λ b. goes a (Value.Bool b ∷ rest)) (equality x y)) a.frame.operands
 
--- `b ->`; goes on at the target where b is false
+-- `b ->`; goes on at the target if b is false
 abbrev pub jumps_unless : Actor → ℕ → List Change
 jumps_unless a target = taking_one (λ x rest. on_some (λ b. choose b (goes a rest) (jumps a target rest)) (bool_of x)) a.frame.operands

@@ -50,7 +50,7 @@ set_global i v s = record s { globals = slice_set s.globals i v }
 abbrev pub become : ℕ → GoroutineView → State → State
 become g r s = record s { goroutines = put g r s.goroutines }
 
--- each goroutine that blocks takes the next ticket, also where it waits on nothing (profile)
+-- each goroutine that blocks takes the next ticket, also if it waits on nothing (profile)
 abbrev pub block : ℕ → WaitKind → ℕ → List Wait → GoroutineView → State → State
 block g kind line waits r s =
     record s { goroutines = put g (record r { mode = Mode.Blocked kind line waits s.next_ticket }) s.goroutines; next_ticket = s.next_ticket + 1 }

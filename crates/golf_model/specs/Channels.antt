@@ -18,7 +18,7 @@ use Rattle.golf_model.specs.Acting.{Actor, next, stands, goes, panics, blocks, t
 abbrev pub served : Waiter → List Value → Change
 served w vs = Change.Become w.number (resumed w.wait vs w.goroutine)
 
--- a value is appended where there is room; else the sender blocks
+-- a value is appended if there is room; else the sender blocks
 abbrev pub buffers : Actor → FrameView → ℕ → Value → Channel → List Change
 buffers a after o v c =
     choose (nat_lt (length c.buffer) c.capacity) (Change.Replace o (Object.Chan (record c { buffer = c.buffer ++ v ∷ [] })) ∷ stands a after) (blocks a after WaitKind.Send (send_wait o v None ∷ []))
@@ -51,7 +51,7 @@ abbrev pub sender_served : Option Waiter → List Change
 sender_served None = []
 sender_served (Some w) = served w [] ∷ []
 
--- an empty channel: the first sender's value; else the zero value where it is closed; else the receiver blocks
+-- an empty channel: the first sender's value; else the zero value if it is closed; else the receiver blocks
 abbrev pub receives_unbuffered : Actor → FrameView → Bool → ℕ → Channel → Option Waiter → List Change
 receives_unbuffered a after with_ok o c None =
     choose c.closed (stands a (given after (received with_ok c.zero false))) (blocks a after WaitKind.Receive (receive_wait o None with_ok ∷ []))

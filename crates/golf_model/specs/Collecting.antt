@@ -31,7 +31,7 @@ is_setting _ = false
 abbrev pub sets_finalisers : Code → Bool
 sets_finalisers code = any_of (λ fn. any_of (λ l. is_setting l.instr) fn.body) code.functions
 
--- what keeps a dead goroutine that reaches it: an object with a finaliser, and a live one where the code sets finalisers
+-- what keeps a dead goroutine that reaches it: an object with a finaliser, and a live one if the code sets finalisers
 abbrev pub prevents_removal : State → Bool → ℕ → Bool
 prevents_removal s sets_finalisers o = has_finaliser s o || (sets_finalisers && has_object (live_list s) o)
 
@@ -39,7 +39,7 @@ prevents_removal s sets_finalisers o = has_finaliser s o || (sets_finalisers && 
 abbrev pub keeps : State → Bool → ℕ → Bool
 keeps s sets_finalisers g = any_of (prevents_removal s sets_finalisers) (reach s (refs_of_goroutine (find g s.goroutines)))
 
--- the same as a relation: it reaches an object with a finaliser, or, where the code sets finalisers, a live one
+-- the same as a relation: it reaches an object with a finaliser, or, if the code sets finalisers, a live one
 abbrev pub Keeps : State → Bool → ℕ → Type 0
 Keeps s sets_finalisers g =
     (o : ℕ) × Reach s (refs_of_goroutine (find g s.goroutines)) o × (In o (keys s.finalisers) ⊎ ((sets_finalisers ≡ true) × Live s (Node.AnObject o)))

@@ -41,7 +41,7 @@ abbrev pub first_only : Option Waiter → List Waiter
 first_only None = []
 first_only (Some w) = w ∷ []
 
--- where nobody is passed on the mutex is not looked at; else it is a mutex, or no rule fits
+-- if nobody is passed on the mutex is not looked at; else it is a mutex, or no rule fits
 abbrev pub notifies : Actor → List Value → State → List Waiter → Value → List Change
 notifies a rest s [] m = goes a rest
 notifies a rest s (w ∷ ws) m = at_reference_or [] (λ p. at_mutex (λ locked. goes a rest ++ passes_on p (w ∷ ws)) (find p s.objects)) m

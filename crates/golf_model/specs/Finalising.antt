@@ -20,7 +20,7 @@ abbrev pub finalises : Actor → ℕ → State → List Change
 finalises a f s =
     taking_one (λ p rest. at_reference a (λ o. at_struct (λ fields. finalises_by a rest f o (find o s.finalisers)) (find o s.objects)) p) a.frame.operands
 
--- `p ->`; p's struct loses its finaliser; does nothing where there is none, or where p is nil (profile)
+-- `p ->`; p's struct loses its finaliser; does nothing if there is none, or if p is nil (profile)
 abbrev pub unfinalises : Actor → State → List Change
 unfinalises a s =
     taking_one (λ p rest. at_reference_or (goes a rest) (λ o. at_struct (λ fields. Change.ClearFinaliser o ∷ goes a rest) (find o s.objects)) p) a.frame.operands

@@ -42,7 +42,7 @@ serves_first o gs None r = to_readers o None gs
 serves_first o gs (Some w) None = to_writer o w
 serves_first o gs (Some w) (Some r) = choose (nat_lt (waiter_ticket r) (waiter_ticket w)) (to_readers o (Some (waiter_ticket w)) gs) (to_writer o w)
 
--- a free mutex is handed on; where nobody waits the count is 0
+-- a free mutex is handed on; if nobody waits the count is 0
 abbrev pub serves : ℕ → List (ℕ × GoroutineView) → List Change
 serves o gs = serves_first o gs (first o Side.Write gs) (first o Side.Read gs)
 

@@ -164,7 +164,7 @@ selects_one a rest s xs otherwise (Some x) = proceeds a rest s x
 abbrev pub chosen : ℕ → List Offer → Option Offer
 chosen choice xs = slice_get xs (choice % length xs)
 
--- where a case is on what is neither nil nor a channel, no rule fits
+-- if a case is on what is neither nil nor a channel, no rule fits
 abbrev pub selects_from : Actor → State → ℕ → Option ℕ → Option Taken → List Change
 selects_from a s choice otherwise None = []
 selects_from a s choice otherwise (Some t) = choose (all_on_channels s t.0) (selects_one a t.1 s t.0 otherwise (chosen choice (ready s t.0))) []

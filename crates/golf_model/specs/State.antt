@@ -1,4 +1,4 @@
--- The state of the plain machine, which goroutines can run, how it has ended, and where a run begins. What is marked (profile) is this project's own choice, where Go's documents leave one or say nothing.
+-- The state of the plain machine, which goroutines can run, how it has ended, and where a run begins. What is marked (profile) is this project's own choice, if Go's documents leave one or say nothing.
 use Rattle.std.specs.Prelude.{ℕ, ◌-◌, Bool, true, false, not, ◌&&◌, ◌||◌, pos, List, [], ◌∷◌, ◌++◌, length, replicate, Option, Some, None, option_map, option_to_list, ◌==◌, slice_get}
 use Rattle.golf_theory.specs.Maps.{keys_where}
 use Rattle.golf_data.specs.declared.value.Value.{Value}
@@ -48,7 +48,7 @@ ending_of (Some e) awake = Some e
 ending_of None true = None
 ending_of None false = Some Ending.Asleep
 
--- the recorded ending; else asleep where no goroutine can run; else none (Go specification, "Program execution")
+-- the recorded ending; else asleep if no goroutine can run; else none (Go specification, "Program execution")
 abbrev pub ending : State → Option Ending
 ending s = ending_of s.recorded (not_empty (runnable s))
 
@@ -68,7 +68,7 @@ opened f arguments discards fn = record {
   discards = discards;
 }
 
--- the first frame of a call of the function of this number, where the code has one
+-- the first frame of a call of the function of this number, if the code has one
 abbrev pub call_frame : Code → ℕ → List Value → Bool → Option FrameView
 call_frame code f arguments discards = option_map (opened f arguments discards) (slice_get code.functions f)
 

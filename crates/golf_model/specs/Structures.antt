@@ -55,7 +55,7 @@ abbrev pub makes_channel : Actor → Value → State → List Change
 makes_channel a zero s =
     taking_one (λ x rest. on_some (λ n. choose (is_bad_size n) (panics a PanicKind.ChanSize) (makes a (Object.Chan (new_channel (unsigned_abs n) zero)) rest s)) (int_of x)) a.frame.operands
 
--- the element at an index, which is none where the index is out of range
+-- the element at an index, which is none if the index is out of range
 abbrev pub element : List Value → ℤ → Option Value
 element xs (pos i) = slice_get xs i
 element xs (negsuc i) = None

@@ -169,7 +169,7 @@ goroutine_collects code (Some r) = frames_collect code r.frames
 abbrev pub wants_collection : Code → State → ℕ → Bool
 wants_collection code s c = goroutine_collects code (option_and_then (λ g. find g s.goroutines) (whose_turn s c))
 
--- the state that the changes of the turn of this number leave; where no rule fits it is unchanged
+-- the state that the changes of the turn of this number leave; if no rule fits it is unchanged
 abbrev pub turned : Code → State → ℕ → State
 turned code s c = apply_all (turn_changes code (c / length (runnable s)) s (whose_turn s c)) s
 

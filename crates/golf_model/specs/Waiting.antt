@@ -51,7 +51,7 @@ pub record Waiter : Type 0 where
 abbrev pub waiter_ticket : Waiter → ℕ
 waiter_ticket w = ticket_of w.goroutine.mode
 
--- the goroutine as a waiter, where it is one
+-- the goroutine as a waiter, if it is one
 abbrev pub waiter_of : ℕ → Side → ℕ × GoroutineView → Option Waiter
 waiter_of o side e = option_map (λ w. record { number = e.0; goroutine = e.1; wait = w }) (wait_for o side (waits_of e.1.mode))
 

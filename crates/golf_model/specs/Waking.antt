@@ -17,7 +17,7 @@ fault kind line = record { kind = kind; line = line }
 abbrev pub unwinding : Fault → FrameView → FrameView
 unwinding x f = record f { operands = []; leaving = Leaving.Unwinding x }
 
--- the frame goes on where the wait says, with these values on top of its operands
+-- the frame goes on if the wait says, with these values on top of its operands
 abbrev pub resumed_frame : Wait → List Value → FrameView → FrameView
 resumed_frame w vs f = record f { at = unwrap_or w.target f.at; operands = vs ++ f.operands }
 
@@ -38,7 +38,7 @@ released r = record r { mode = Mode.Running }
 abbrev pub unwound : Fault → GoroutineView → GoroutineView
 unwound x r = record r { frames = on_top (unwinding x) r.frames; mode = Mode.Running }
 
--- what a receive leaves, the top value first: the value, and whether it was sent where that is asked for (Go specification, "Receive operator")
+-- what a receive leaves, the top value first: the value, and whether it was sent if that is asked for (Go specification, "Receive operator")
 abbrev pub received : Bool → Value → Bool → List Value
 received true v sent = Value.Bool sent ∷ v ∷ []
 received false v sent = v ∷ []
@@ -79,7 +79,7 @@ is_below (Some n) t = nat_lt t n
 abbrev pub reads_next : Option ℕ → ℕ → GoroutineView → Option Wait
 reads_next below o r = cond (is_below below (ticket_of r.mode)) (wait_for o Side.Read (waits_of r.mode)) None
 
--- what becomes of a goroutine where all who wait on the object are woken
+-- what becomes of a goroutine if all who wait on the object are woken
 abbrev pub woken_by : Waking → ℕ → GoroutineView → GoroutineView
 woken_by (Waking.Closing zero) o r = closed_on zero (wait_on o (waits_of r.mode)) r
 woken_by Waking.AtZero o r = released_by (wait_for o Side.Group (waits_of r.mode)) r

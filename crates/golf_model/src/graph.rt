@@ -31,7 +31,7 @@ pub struct GraphParts {
     pub sleepers: List<Sleeper>,
 }
 
-/// A graph whose places are the nodes, from 0, and behind them the sleepers.
+/// A graph whose places are the nodes, from 0, and after them the sleepers.
 #[derive(Debug)]
 pub struct Graph {
     parts: GraphParts,

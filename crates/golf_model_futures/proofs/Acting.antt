@@ -1,4 +1,6 @@
 -- The turn of a goroutine of the set: the ways in which it goes are good.
+-- For: `goes`, `blocks`, `at_reference`, golf_model/specs/Acting.antt; `AllGood`, specs/Invariant.antt
+-- By: cases of the value, the object or the option that a way meets; no induction
 use Rattle.std.proofs.Common.{◌≡◌, ℕ, zero, suc, Bool, true, false, List, [], ◌∷◌, Option, Some, None, refl, ℤ}
 use Rattle.golf_theory.specs.Membership.{In, Every}
 use Rattle.golf_theory.specs.Maps.{Entry, find}
@@ -32,7 +34,7 @@ pub record Ground (s : State) (O G : ℕ → Type 0) : Type 0 where
   pub goroutines : (g : ℕ) (r : GoroutineView) → G g → Entry s.goroutines g r → Every O (goroutine_refs r)
   pub awake : (g : ℕ) (r : GoroutineView) (o : ℕ) → Entry s.goroutines g r → In o (waited (waits_of r.mode)) → O o → G g
 
--- where each outcome has a property, a choice of them has it
+-- if each outcome has a property, a choice of them has it
 module _ (P : List Change → Type 0) (none : P []) where
   pub all-on_some : {X : Type 0} (act : X → List Change) (m : Option X) → ((x : X) → m ≡ Some x → P (act x)) → P (on_some act m)
   all-on_some act None h = none

@@ -1,4 +1,6 @@
 -- What a removed goroutine reaches stays apart from all that goes on.
+-- For: `recovery_unseen`, src/lib.rt; `plain_collect`, `removed`, golf_model/specs/Collecting.antt
+-- By: cases of how an object would be a member of the closed set; no induction
 use Rattle.std.proofs.Common.{◌≡◌, ℕ, ◌≤◌, true, false, not, List, [], inl, inr, sym, ap, subst, arith}
 use Rattle.std.proofs.lemmas.Bool.{or_parts, both_ways}
 use Rattle.golf_theory.specs.Membership.{In, is_in}
@@ -23,7 +25,7 @@ use Rattle.golf_model_futures.proofs.DeadStill.{LiveObject}
 use Rattle.golf_model_futures.proofs.Numbering.{object-in, goroutine-in}
 use Rattle.golf_model_futures.proofs.Removing.{GoneOk, reach-step, stays_by}
 
--- where the code sets finalisers
+-- if the code sets finalisers
 module _ (s : State) (n : Numbered s) (gone : List ℕ) (ok : GoneOk s true gone) where
   abbrev pub Gone : ℕ → Type 0
   Gone g = In g gone

@@ -1,4 +1,6 @@
--- A list of changes, one after another.
+-- Lists of good changes, one after another, keep closed sets closed and leave what is outside them.
+-- For: `Closed`, `Confined`, `Sound`, specs/Invariant.antt; `apply_all`, golf_model/specs/Changes.antt
+-- By: induction over the list of changes
 use Rattle.std.proofs.Common.{ℕ, ◌+◌, ◌<◌, List, [], ◌∷◌, inl, inr, sym, subst, arith}
 use Rattle.golf_model.specs.State.{State}
 use Rattle.golf_model.specs.Changes.{Change, apply, apply_all}

@@ -1,4 +1,6 @@
--- What is cleared behind a turn: the goroutine refers to less, and a state that is cut down is cleared like the whole one.
+-- After the clearing of a turn the goroutine refers to less, and a cut state is cleared like the whole one.
+-- For: `clearing`, `clears`, golf_model/specs/Clearing.antt
+-- By: cases of the goroutine, its mode and its frames; no induction
 use Rattle.std.proofs.Common.{◌≡◌, ℕ, Bool, true, false, List, [], ◌∷◌, Option, Some, None, refl, ap, subst}
 use Rattle.golf_theory.specs.Membership.{Every}
 use Rattle.golf_theory.specs.Maps.{find}
@@ -35,7 +37,7 @@ module _ (O G : ℕ → Type 0) (code : Code) (g : ℕ) where
   good-clears None h = tt
   good-clears (Some r) h = good-clears_in r r.mode r.frames refl (h r refl)
 
--- clearing concerns the goroutine alone, and only where it runs
+-- clearing concerns the goroutine alone, and only if it runs
 pub good-clearing : (O G : ℕ → Type 0) (code : Code) (b : Bool) (m : Option ℕ) (t : State) → ((g : ℕ) (r : GoroutineView) → m ≡ Some g → find g t.goroutines ≡ Some r → r.mode ≡ Mode.Running → G g × Every O (goroutine_refs r)) → AllGood O G (clearing code b m t)
 good-clearing O G code true m t h = tt
 good-clearing O G code false None t h = tt

@@ -1,4 +1,6 @@
 -- Closed sets stay closed under each change that is good.
+-- For: `Closed`, `Good`, specs/Invariant.antt; `apply`, golf_model/specs/Changes.antt
+-- By: cases of the change; no induction
 use Rattle.std.proofs.Common.{◌≡◌, ℕ, ◌+◌, ◌≤◌, Bool, true, false, not, List, [], ◌∷◌, ◌++◌, Option, Some, None, ◌⊎◌, inl, inr, refl, sym, subst, arith, ◌==◌, slice_set}
 use Rattle.golf_theory.specs.Membership.{Every}
 use Rattle.golf_theory.specs.Maps.{Entry, find, put, add, insert, only, map_values}

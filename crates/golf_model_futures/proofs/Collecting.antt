@@ -1,4 +1,6 @@
 -- A collection keeps closed sets: the finalised objects that it queues join them.
+-- For: `plain_collect`, golf_model/specs/Collecting.antt; `Closed`, specs/Invariant.antt
+-- By: induction over the lists of entries, of waits and of queued calls
 use Rattle.std.proofs.Common.{◌≡◌, ℕ, Bool, true, false, not, List, [], ◌∷◌, ◌++◌, ◌⊎◌, inl, inr, refl, sym, ap, ◌∙◌, subst}
 use Rattle.std.proofs.lemmas.Bool.{or_left, not-true, both_ways}
 use Rattle.golf_theory.specs.Membership.{In, Every, is_in}
@@ -42,7 +44,7 @@ waited-refs [] o h = absurd h
 waited-refs (w ∷ ws) o (inl e) = inl e
 waited-refs (w ∷ ws) o (inr h) = inr (In-right o (value_refs w.value) (wait_refs ws) (waited-refs ws o h))
 
--- where the search begins is reached
+-- if the search begins is reached
 pub reach-from : (s : State) (xs : List ℕ) (o : ℕ) → In o xs → In o (reach s xs)
 unfolding reach
 reach-from s xs o h = least_closed (is_near s xs) (xs ++ refs_where (λ p. true) s.objects) o (In-left o xs _ h) (or_left (is_in o xs) _ (is_in-from o xs h))

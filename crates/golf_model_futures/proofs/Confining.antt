@@ -1,4 +1,6 @@
 -- A good change leaves as it was what is outside closed sets.
+-- For: `Confined`, `Good`, specs/Invariant.antt; `apply`, golf_model/specs/Changes.antt
+-- By: cases of the change; no induction
 use Rattle.std.proofs.Common.{◌≡◌, ℕ, ◌+◌, Bool, true, false, not, Option, Some, None, sym, subst, arith, ◌==◌}
 use Rattle.std.proofs.lemmas.Bool.{eqb-true, not-false}
 use Rattle.golf_theory.specs.Maps.{find}

@@ -1,4 +1,6 @@
 -- A collection of a cut state is the collection, cut.
+-- For: `plain_collect`, `cut`, golf_model/specs/Collecting.antt
+-- By: induction over the path by which an object is reached
 use Rattle.std.proofs.Common.{◌≡◌, ℕ, Bool, true, not, List, [], ◌++◌, ◌⊎◌, inl, inr, refl, ap}
 use Rattle.std.proofs.lemmas.Bool.{cases_Bool, not-false}
 use Rattle.golf_theory.specs.Membership.{In, is_in}
@@ -32,7 +34,7 @@ pub queue_outside-same : (xs ys : List ℕ) (t : State) → ((o f : ℕ) → Ent
 queue_outside-same xs ys t h = parts t _ _ _ _ (only-same (λ o. is_in o xs) (λ o. is_in o ys) t.finalisers h)
     (ap (λ (fs : List (ℕ × ℕ)). t.queue ++ queued fs) (only-same (λ o. not (is_in o xs)) (λ o. not (is_in o ys)) t.finalisers (λ o f e. ap not (h o f e))))
 
--- where finalised objects are reached alike, the collections agree
+-- if finalised objects are reached alike, the collections agree
 pub cut_collect-by : (stays kept : ℕ → Bool) (t : State) → ((o f : ℕ) → Entry t.finalisers o f → is_in o (reach (cut stays kept t) (sources (cut stays kept t) [])) ≡ is_in o (reach t (sources t []))) → plain_collect (cut stays kept t) ≡ cut stays kept (plain_collect t)
 cut_collect-by stays kept t h = queue_outside-same (reach (cut stays kept t) (sources (cut stays kept t) [])) (reach t (sources t [])) (cut stays kept t) h
 
@@ -77,7 +79,7 @@ module _ (stays kept : ℕ → Bool) (t : State) where
       (In-right o (goroutine_refs_where (λ h. not (is_in h [])) (only stays t.goroutines)) _
       (In-refs_where (has_finaliser t) (only kept t.objects) p o x (Entry-only_old kept t.objects p x s e) (is_in-from p (keys t.finalisers) k) i)))
 
--- where the code sets finalisers
+-- if the code sets finalisers
 module _ (s : State) (n : Numbered s) (gone : List ℕ) (ok : GoneOk s true gone) (kept : ℕ → Bool) (t : State) (O : ℕ → Type 0)
     (f : Flow (λ o. kept o ≡ true) (λ g. stays_by gone g ≡ true) t) (a : Apart s n gone ok O t) where
   -- reached in the cut state and kept, or lost

@@ -1,4 +1,6 @@
 -- A change of a state that is cut down is that change cut down.
+-- For: `cut`, golf_model/specs/Collecting.antt; `KeepsFresh`, specs/Cutting.antt
+-- By: cases of the change, then induction over the list of changes
 use Rattle.std.proofs.Common.{◌≡◌, ℕ, ◌+◌, ◌<◌, ◌≤◌, Bool, true, false, not, List, [], ◌∷◌, Option, Some, None, refl, sym, ap, ◌∙◌, arith, ◌==◌}
 use Rattle.golf_theory.specs.Maps.{find, only}
 use Rattle.golf_theory.proofs.MapCuts.{only-put, only-add, only-swap, only-map_values}

@@ -1,4 +1,6 @@
 -- The live set is closed, so the dead stand still.
+-- For: `dead_are_still`, `live_is_closed`, src/lib.rt
+-- By: cases of what refers to an object and of what wakes a goroutine; no induction
 use Rattle.std.proofs.Common.{ℕ, ◌+◌, ◌<◌, ◌≤◌, List, ◌⊎◌, inl, inr, arith}
 use Rattle.golf_theory.specs.Membership.{In, Every}
 use Rattle.golf_theory.specs.Maps.{Entry}

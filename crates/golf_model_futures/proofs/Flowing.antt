@@ -1,4 +1,6 @@
--- Sets that references do not leave stay so under each change that is good: what refers to members alone goes on doing so.
+-- Sets that references do not leave stay so under each good change, each list of them and each collection.
+-- For: `apply_all`, golf_model/specs/Changes.antt; `plain_collect`, golf_model/specs/Collecting.antt
+-- By: cases of the change, then induction over the list of changes
 use Rattle.std.proofs.Common.{◌≡◌, ℕ, ◌+◌, ◌<◌, ◌≤◌, Bool, true, false, not, List, [], ◌∷◌, ◌++◌, filter, Option, Some, None, ◌⊎◌, inl, inr, refl, sym, subst, arith, ◌==◌, slice_set}
 use Rattle.golf_theory.specs.Membership.{Every, is_in}
 use Rattle.golf_theory.specs.Maps.{Entry, find, put, add, insert, only, keys, map_values}

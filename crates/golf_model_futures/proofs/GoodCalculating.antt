@@ -1,4 +1,6 @@
 -- Values, variables, arithmetic, comparisons and jumps move what their goroutine refers to.
+-- For: `computes`, `loads`, `jumps_unless`, golf_model/specs/Calculating.antt; `AllGood`, specs/Invariant.antt
+-- By: cases of the operands; no induction
 use Rattle.std.proofs.Common.{ℕ, ◌+◌, Bool, not, List, ◌∷◌, slice_get, slice_set, ℤ}
 use Rattle.std.specs.Int.{w64, int_wrapping_neg}
 use Rattle.golf_data.specs.declared.value.Value.{Value}

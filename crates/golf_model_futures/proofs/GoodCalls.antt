@@ -1,4 +1,6 @@
 -- Calls, goroutines, deferred calls, returns and finalisers: they move what their goroutine refers to.
+-- For: `calls`, `returns`, golf_model/specs/Calls.antt; `finalises`, golf_model/specs/Finalising.antt
+-- By: cases of the operands, the frames and the deferred calls; no induction
 use Rattle.std.proofs.Common.{◌≡◌, ℕ, ◌+◌, ◌-◌, Bool, true, false, List, [], ◌∷◌, length, Option, Some, None, refl, subst, slice_get, ◌==◌}
 use Rattle.std.specs.Prelude.{pos, option_map}
 use Rattle.std.proofs.lemmas.Bool.{eqb-true}

@@ -1,4 +1,6 @@
 -- Channels and `select`: they move what their goroutine refers to.
+-- For: `sends`, `receives`, golf_model/specs/Channels.antt; `selects`, golf_model/specs/Selecting.antt
+-- By: cases of the channel and its first waiter; induction over the offers of a `select`
 use Rattle.std.proofs.Common.{◌≡◌, ℕ, ◌%◌, Bool, true, false, List, [], ◌∷◌, ◌++◌, length, Option, Some, None, refl, nat_lt}
 use Rattle.golf_theory.specs.Membership.{Every}
 use Rattle.golf_theory.specs.Maps.{find}

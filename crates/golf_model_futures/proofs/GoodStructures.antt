@@ -1,4 +1,6 @@
 -- Structs, slices and what is made: they move what their goroutine refers to.
+-- For: `gets_field`, `sets_element`, golf_model/specs/Structures.antt; `AllGood`, specs/Invariant.antt
+-- By: cases of the operands and the object; induction over the list of zero values
 use Rattle.std.proofs.Common.{◌≡◌, ℕ, ◌+◌, List, [], ◌∷◌, length, Option, Some, None, ◌⊎◌, inl, inr, refl, slice_get, ℤ}
 use Rattle.std.specs.Prelude.{replicate, unsigned_abs, pos, negsuc}
 use Rattle.golf_theory.specs.Membership.{Every}

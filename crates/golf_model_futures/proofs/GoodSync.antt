@@ -1,4 +1,6 @@
 -- Mutexes, wait groups, reader and writer mutexes and conditions: they move what their goroutine refers to.
+-- For: `locks`, golf_model/specs/Mutexes.antt; `awaits`, golf_model/specs/Conditions.antt
+-- By: cases of the object and its first waiter; induction over the list of waiters
 use Rattle.std.proofs.Common.{◌≡◌, ℕ, Bool, true, false, ◌||◌, List, [], ◌∷◌, Option, Some, None, inl, inr, refl, sym, subst, nat_lt, ℤ}
 use Rattle.std.specs.Prelude.{pos, ◌-ℤ◌, is_some, int_lt, int_le}
 use Rattle.golf_theory.specs.Membership.{In}

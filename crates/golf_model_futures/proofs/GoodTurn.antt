@@ -1,4 +1,6 @@
 -- Each instruction, and each turn, moves what its goroutine refers to.
+-- For: `changes`, `turn_changes`, golf_model/specs/Turn.antt; `Sound`, specs/Invariant.antt
+-- By: cases of the instruction; no induction
 use Rattle.std.proofs.Common.{◌≡◌, ℕ, true, false, cond, List, [], ◌∷◌, Option, Some, None, refl, subst, ◌==◌}
 use Rattle.std.specs.Prelude.{pos, int_lt, int_le}
 use Rattle.std.proofs.lemmas.Bool.{eqb-true}
@@ -112,7 +114,7 @@ module _ (O G F : ℕ → Type 0) (code : Code) (s : State) (c : Ground s O G) w
     sound_changes Instr.ClearFinalizer choice allowed = good (changes code Instr.ClearFinalizer a choice s) (good-unfinalises O G s c a i)
     sound_changes Instr.Panic choice allowed = good _ good-panics_with
 
-  -- a finaliser is set where the code can do so
+  -- a finaliser is set if the code can do so
   abbrev pub Allows : Type 0
   Allows = (f at : ℕ) (l : CodeLine) → line_at code f at ≡ Some l → is_setting l.instr ≡ true → (o : ℕ) → Unfinalised s o → F o
 

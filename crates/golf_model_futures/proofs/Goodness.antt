@@ -1,4 +1,6 @@
 -- Good changes: wider sets, and lists of them.
+-- For: `Good`, `AllGood`, `Sound`, specs/Invariant.antt
+-- By: induction over the list of changes
 use Rattle.std.proofs.Common.{ℕ, List, [], ◌∷◌, ◌++◌, inl}
 use Rattle.golf_theory.specs.Membership.{Every}
 use Rattle.golf_theory.proofs.Lists.{Every-weaker}

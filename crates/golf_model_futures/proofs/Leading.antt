@@ -1,4 +1,6 @@
 -- Every state that moves lead to has its numbers in order.
+-- For: `leads_number`, src/lib.rt; `Leads`, `Numbered`, golf_model/specs/Futures.antt
+-- By: induction over the moves that lead to the state, and over the list of changes
 use Rattle.std.proofs.Common.{◌≡◌, ℕ, ◌+◌, ◌<◌, ◌≤◌, ◌/◌, Bool, true, false, not, List, [], ◌∷◌, ◌++◌, length, filter, Option, Some, None, inl, inr, refl, sym, subst, arith, ◌==◌}
 use Rattle.std.specs.Prelude.{option_to_list}
 use Rattle.golf_theory.specs.Membership.{In, Every, is_in}

@@ -1,4 +1,6 @@
--- The laws, from the lemmas.
+-- The laws of the plain machine, from the lemmas.
+-- For: `dead_are_still`, `turn_laws`, `real_runs_agree`, src/lib.rt
+-- By: the lemmas of the other files; no induction
 use Rattle.golf_model_futures.specs.Invariant.{Nothing, Unfinalised}
 use Rattle.golf_model_futures.specs.Cutting.{Passes}
 use Rattle.golf_model_futures.proofs.Presence.{references-present, stops-whole}

@@ -1,4 +1,6 @@
 -- Collections of a state and of the state without what was removed agree, whether the code sets finalisers or not.
+-- For: `recovery_unseen`, src/lib.rt; `plain_collect`, `cut`, `sets_finalisers`, golf_model/specs/Collecting.antt
+-- By: induction over the moves that lead to the state, and over the list of changes
 use Rattle.std.proofs.Common.{◌≡◌, ℕ, ◌/◌, Bool, true, false, not, ◌&&◌, inl, ◌==◌, List, [], ◌∷◌, length, Option, Some, None, refl, ap, ◌∙◌, subst, slice_get}
 use Rattle.std.specs.Prelude.{option_and_then}
 use Rattle.std.proofs.lemmas.Bool.{both_ways, or_from, false_from_ne_true}
@@ -57,7 +59,7 @@ no_setter code h f at l e = no_setter-at at (slice_get code.functions f) l
 allows-none : (O G : ℕ → Type 0) (code : Code) (s : State) (c : Ground s O G) → sets_finalisers code ≡ false → Allows O G Nothing code s c
 allows-none O G code s c h f at l is t o u = both_ways (is_setting l.instr) (no_setter code h f at l is) t
 
--- where none is set, there is none
+-- if none is set, there is none
 none_after : (O G : ℕ → Type 0) (s : State) (c : Change) → s.finalisers ≡ [] → Good O G Nothing c → (apply c s).finalisers ≡ []
 none_after O G s (Change.SetFinaliser p k) h a = absurd a.1
 none_after O G s (Change.ClearFinaliser p) h a = ap (only (λ q. not (q == p))) h

@@ -1,4 +1,6 @@
 -- Numbers stay in order, and references at most the last object, under each change that is good.
+-- For: `Numbered`, golf_model/specs/Futures.antt; `apply`, golf_model/specs/Changes.antt
+-- By: cases of the change; no induction
 use Rattle.std.proofs.Common.{◌≡◌, ℕ, ◌+◌, ◌<◌, ◌≤◌, Bool, true, false, not, List, ◌++◌, Option, Some, None, inl, inr, refl, sym, subst, arith, ◌==◌, slice_set}
 use Rattle.golf_theory.specs.Maps.{Entry, find, put, add, insert, only, map_values, IsRising, AllBelow}
 use Rattle.golf_theory.proofs.Lists.{Every-weaker}

@@ -1,4 +1,6 @@
 -- In every state of a plain run each reference is one to an object that is there.
+-- For: `references_are_present`, src/lib.rt; `IsWhole`, golf_model/specs/Presence.antt
+-- By: cases of the change, then induction over the list of changes
 use Rattle.std.proofs.Common.{◌≡◌, ℕ, ◌+◌, ◌<◌, ◌≤◌, ◌/◌, Bool, true, false, List, [], ◌∷◌, ◌++◌, length, Option, Some, None, ◌⊎◌, inl, inr, refl, sym, subst, arith}
 use Rattle.std.specs.Prelude.{option_to_list}
 use Rattle.std.proofs.lemmas.Bool.{cases_lt}

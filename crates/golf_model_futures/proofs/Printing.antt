@@ -1,4 +1,6 @@
 -- What was printed before changes nothing: a state with more output goes the same way.
+-- For: `printing_is_apart`, src/lib.rt; `prefixed`, specs/Printing.antt
+-- By: induction over the lists of events, of changes and of offers
 use Rattle.std.proofs.Common.{◌≡◌, ℕ, ◌+◌, ◌/◌, map, filter, Bool, true, false, ◌&&◌, List, [], ◌∷◌, ◌++◌, length, Option, Some, None, refl, ap, ◌∙◌, append_assoc}
 use Rattle.golf_theory.specs.Maps.{find, keys, keys_where}
 use Rattle.golf_theory.specs.Membership.{is_in}
@@ -151,7 +153,7 @@ collect-prefixed w s = ap (λ xs. queue_outside xs (prefixed w s)) (same-reach w
 same-dead : (w : List ℕ) (s : State) → dead (prefixed w s) ≡ dead s
 same-dead w s = ap (λ xs. keys_where (is_dead xs) s.goroutines) (same-live w s)
 
-same-entries : (w : List ℕ) (s : State) (gs : List ℕ) → entries (prefixed w s) gs ≡ entries s gs
+pub same-entries : (w : List ℕ) (s : State) (gs : List ℕ) → entries (prefixed w s) gs ≡ entries s gs
 same-entries w s [] = refl
 same-entries w s (g ∷ gs) = ap (λ es. entry_of g (find g s.goroutines) ++ es) (same-entries w s gs)
 

@@ -1,4 +1,6 @@
 -- A stop of the state without what was removed is reported as that stop of the whole state.
+-- For: `report`, `book_after`, golf_model/specs/Reporting.antt; `real_runs_agree`, src/lib.rt
+-- By: the laws of a cut state; induction over the list of numbers of goroutines
 use Rattle.std.proofs.Common.{◌≡◌, ℕ, ◌+◌, Bool, true, false, not, List, [], ◌∷◌, ◌++◌, map, filter, length, inl, inr, refl, sym, ap, ◌∙◌, subst}
 use Rattle.std.proofs.lemmas.Bool.{not-true, not_from_false}
 use Rattle.golf_theory.specs.Membership.{In, is_in}

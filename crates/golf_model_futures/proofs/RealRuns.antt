@@ -1,4 +1,6 @@
 -- A run whose collections remove goroutines and free objects prints, calls and reports what the plain run does.
+-- For: `real_runs_agree`, src/lib.rt; `real_run`, golf_model/specs/Reporting.antt
+-- By: induction over the list of events
 use Rattle.std.proofs.Common.{◌≡◌, ℕ, Bool, true, false, List, [], ◌∷◌, ◌++◌, refl, sym, ap, ◌∙◌, subst}
 use Rattle.golf_theory.specs.Membership.{is_in, any_of}
 use Rattle.golf_theory.specs.Maps.{only}

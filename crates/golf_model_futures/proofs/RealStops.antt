@@ -1,4 +1,6 @@
--- A real collection of a state that lacks what earlier ones took is one collection of the whole state that takes all of it.
+-- A real collection of a state that earlier ones cut is one collection of the whole state that takes all of it.
+-- For: `real_collect`, `removed`, golf_model/specs/Collecting.antt
+-- By: induction over the path by which an object is reached
 use Rattle.std.proofs.Common.{◌≡◌, ℕ, ◌+◌, Bool, true, false, not, ◌&&◌, ◌||◌, List, ◌++◌, filter, Option, Some, None, inl, inr, refl, sym, ap, ◌∙◌, subst, arith, nat_lt}
 use Rattle.std.proofs.lemmas.Bool.{or_left, or_cases, and_parts, and_from, ltb-true}
 use Rattle.golf_theory.specs.Membership.{In, Every, is_in}

@@ -1,4 +1,6 @@
 -- Recovery cannot be seen.
+-- For: `recovery_unseen`, src/lib.rt
+-- By: the lemmas on cut states; no induction
 use Rattle.std.proofs.Common.{◌≡◌, ℕ, Bool, List, ap, ◌∙◌}
 use Rattle.golf_data.specs.declared.code.Code.{Code}
 use Rattle.golf_model.specs.State.{State}

@@ -1,4 +1,6 @@
 -- What values, lists of values, frames and goroutines refer to.
+-- For: `refs`, golf_model/specs/Values.antt; `frame_refs`, `goroutine_refs`, golf_model/specs/Refs.antt
+-- By: induction over the list of values and over the list of waits
 use Rattle.std.proofs.Common.{◌≡◌, ℕ, zero, suc, ◌+◌, Bool, true, false, cond, List, [], ◌∷◌, ◌++◌, Some, inl, inr, sym, subst, slice_get, slice_set}
 use Rattle.std.specs.Prelude.{replicate, pos}
 use Rattle.golf_theory.specs.Membership.{In, Every}

@@ -1,4 +1,6 @@
 -- What a collection removes and frees: the removed goroutines are dead, and all that is live is retained.
+-- For: `removed`, `retained`, golf_model/specs/Collecting.antt
+-- By: induction over the path by which a node is live
 use Rattle.std.proofs.Common.{◌≡◌, ℕ, ◌+◌, ◌<◌, ◌≤◌, Bool, true, false, not, ◌||◌, List, inl, inr, refl, sym, arith, nat_lt}
 use Rattle.std.proofs.lemmas.Bool.{or_left, or_right, or_cases, not-true, not_from_false, both_ways, lt-ltb, le-ltb, ltb-true, cases_Bool}
 use Rattle.golf_theory.specs.Membership.{In, Every, is_in}
@@ -45,14 +47,14 @@ module _ (s : State) (recover sets_finalisers : Bool) where
   pub gone-dead : (g : ℕ) → In g (removed s recover sets_finalisers) → (r : GoroutineView) × Entry s.goroutines g r × (Live s (Node.AGoroutine g) → ⊥)
   gone-dead g h = let d = dead-sound s g (gone-unkept recover g h).0 in (d.0, d.1, d.3)
 
-  -- nothing that it reaches is finalised, and nothing is live where the code sets finalisers
+  -- nothing that it reaches is finalised, and nothing is live if the code sets finalisers
   pub gone-prevents_removal : (g o : ℕ) → In g (removed s recover sets_finalisers) → In o (reach s (refs_of_goroutine (find g s.goroutines))) → prevents_removal s sets_finalisers o ≡ false
   gone-prevents_removal g o h i = elim (cases_Bool (prevents_removal s sets_finalisers o)) [
     | inl t ↦ absurd (both_ways (keeps s sets_finalisers g) (gone-unkept recover g h).1 (any_of-from (prevents_removal s sets_finalisers) (reach s (refs_of_goroutine (find g s.goroutines))) o i t))
     | inr f ↦ f
   ]
 
--- these goroutines are there and not live; nothing that they reach is finalised, and nothing is live where the code sets finalisers
+-- these goroutines are there and not live; nothing that they reach is finalised, and nothing is live if the code sets finalisers
 pub record GoneOk (s : State) (sets_finalisers : Bool) (gone : List ℕ) : Type 0 where
   pub dead : (g : ℕ) → In g gone → (r : GoroutineView) × Entry s.goroutines g r × (Live s (Node.AGoroutine g) → ⊥)
   pub barred : (g o : ℕ) → In g gone → In o (reach s (refs_of_goroutine (find g s.goroutines))) → prevents_removal s sets_finalisers o ≡ false
@@ -95,7 +97,7 @@ module _ (s : State) (n : Numbered s) (gone : List ℕ) (dead_all : (g : ℕ) �
   source-finalised o p x k e h = In-right o (refs s.globals) _ (In-right o (queue_refs s.queue) _
       (In-right o (goroutine_refs_where (stays_by gone) s.goroutines) _ (In-refs_where (has_finaliser s) s.objects p o x e (is_in-from p (keys s.finalisers) k) h)))
 
-  -- live, and reached where it is an object
+  -- live, and reached if it is an object
   abbrev Found : Node → Type 0
   Found (Node.AnObject o) = In o (reach s (sources s gone))
   Found (Node.AGoroutine g) = Unit {0}

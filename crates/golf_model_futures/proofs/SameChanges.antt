@@ -1,4 +1,6 @@
 -- Each instruction has the same changes in a state that lacks what is cut.
+-- For: `changes`, golf_model/specs/Turn.antt; `cut`, golf_model/specs/Collecting.antt
+-- By: cases of the instruction and its operands; induction over the offers of a `select`
 use Rattle.std.proofs.Common.{◌≡◌, ℕ, ◌%◌, Bool, true, false, ◌&&◌, ◌||◌, List, [], ◌∷◌, ◌++◌, length, Option, Some, None, refl, ap, ◌∙◌, slice_get, nat_lt, ℤ}
 use Rattle.std.specs.Prelude.{pos, ◌+ℤ◌, ◌-ℤ◌, is_some, int_lt, int_le}
 use Rattle.golf_theory.specs.Membership.{Every}

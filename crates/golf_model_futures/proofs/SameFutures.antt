@@ -1,4 +1,6 @@
--- A cut state has the same futures, where what a collection meets is the same.
+-- A cut state has the same futures, if what a collection meets is the same.
+-- For: `futures`, golf_model/specs/Futures.antt; `cut`, golf_model/specs/Collecting.antt
+-- By: induction over the list of events
 use Rattle.std.proofs.Common.{◌≡◌, ℕ, ◌/◌, Bool, true, false, List, [], ◌∷◌, ◌++◌, map, length, Option, inl, inr, refl, sym, ap, ◌∙◌}
 use Rattle.std.specs.Prelude.{is_some}
 use Rattle.golf_theory.specs.Membership.{In, any_of}

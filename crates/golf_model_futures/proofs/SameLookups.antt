@@ -1,4 +1,6 @@
 -- What is looked up from members is the same in a state that lacks what is cut.
+-- For: `first`, `waiters`, golf_model/specs/Waiting.antt; `cut`, golf_model/specs/Collecting.antt
+-- By: induction over the list of goroutines
 use Rattle.std.proofs.Common.{◌≡◌, ℕ, ◌+◌, Bool, true, false, cond, List, [], ◌∷◌, Option, Some, None, inl, inr, refl, sym, ap, ◌∙◌, arith}
 use Rattle.golf_theory.specs.Membership.{In, Every}
 use Rattle.golf_theory.specs.Maps.{Entry, find, only}
@@ -20,7 +22,7 @@ use Rattle.golf_model_futures.proofs.WaitLaws.{IsWaiter, waiter_of-is, wait_for-
 use Rattle.golf_model_futures.proofs.Waking.{reads_next-waited}
 use Rattle.golf_model_futures.proofs.Acting.{Ground}
 
--- the waiters on an object are the same where all of them stay
+-- the waiters on an object are the same if all of them stay
 module _ (stays : ℕ → Bool) (o : ℕ) where
   abbrev pub AllStay : List (ℕ × GoroutineView) → Type 0
   AllStay es = (g : ℕ) (r : GoroutineView) → Entry es g r → In o (waited (waits_of r.mode)) → stays g ≡ true

@@ -1,4 +1,6 @@
 -- What is live, and what is seen at a collection, is the same in a cut state.
+-- For: `Live`, golf_model/specs/Living.antt; `sight`, golf_model/specs/Futures.antt
+-- By: induction over the path by which a node is live
 use Rattle.std.proofs.Common.{◌≡◌, ℕ, Bool, true, not, ◌&&◌, List, [], ◌∷◌, ◌++◌, filter, Option, refl, ap, ◌∙◌}
 use Rattle.golf_theory.specs.Membership.{Every}
 use Rattle.golf_theory.specs.Maps.{Entry, find, only, keys}

@@ -1,4 +1,6 @@
 -- A turn of a state that is cut down is that turn cut down.
+-- For: `step`, `turn_changes`, golf_model/specs/Turn.antt; `cut`, golf_model/specs/Collecting.antt
+-- By: cases of whose turn it is and of the frame on top; no induction
 use Rattle.std.proofs.Common.{◌≡◌, ℕ, ◌%◌, ◌/◌, Bool, true, List, [], ◌∷◌, length, Option, Some, None, refl, ap, ◌∙◌, slice_get}
 use Rattle.std.specs.Prelude.{option_and_then}
 use Rattle.std.proofs.lemmas.Bool.{and_parts}
@@ -83,7 +85,7 @@ module _ (stays kept : ℕ → Bool) (O G : ℕ → Type 0) (s : State) (c : Clo
         ∙ ap (turn_changes code (k / length (runnable s)) (cut stays kept s)) (same-whose_turn k)
         ∙ same-turn (k / length (runnable s)) (whose_turn s k) (turn-member k)
 
-    -- so are the changes of the cut state, and what is cleared behind them
+    -- so are the changes of the cut state, and what is cleared after them
     cut_turned : (k : ℕ) → KeepsFresh stays kept s → turned code (cut stays kept s) k ≡ cut stays kept (turned code s k)
     cut_turned k f =
         let cs = turn_changes code (k / length (runnable s)) s (whose_turn s k) in

@@ -1,4 +1,6 @@
 -- Whatever happens, closed sets stay closed, and what is outside them stands as it stood.
+-- For: `run`, golf_model/specs/Running.antt; `Closed`, specs/Invariant.antt
+-- By: induction over the list of events
 use Rattle.std.proofs.Common.{◌≡◌, ℕ, ◌%◌, Bool, true, false, List, [], ◌∷◌, length, Some, inl, ◌/◌}
 use Rattle.std.proofs.lemmas.Bool.{and_parts}
 use Rattle.golf_theory.specs.Membership.{In}

@@ -1,4 +1,6 @@
--- What turns and collections keep holds in every state of a plain run, and right before each collection; so numbers are in order there, and who is dead stands still.
+-- What turns and collections keep holds at each state of a plain run and each collection; so the dead stand still.
+-- For: `run`, `stops`, golf_model/specs/Running.antt; `reported_are_still`, src/lib.rt
+-- By: induction over the list of events
 use Rattle.std.proofs.Common.{ℕ, Bool, true, false, List, [], ◌∷◌, inl, inr, sym, subst}
 use Rattle.golf_theory.specs.Membership.{In}
 use Rattle.golf_theory.proofs.Lists.{In-cases}

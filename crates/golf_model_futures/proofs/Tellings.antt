@@ -1,4 +1,6 @@
 -- Each report names exactly those whom it finds first.
+-- For: `book_tells_of_each`, src/lib.rt; `report`, golf_model/specs/Reporting.antt
+-- By: induction over the list of states right before collections, and over the list of goroutines
 use Rattle.std.proofs.Common.{◌≡◌, ℕ, Bool, false, not, List, [], ◌∷◌, ◌++◌, map, Option, inl, inr, refl, sym, ap, ◌∙◌}
 use Rattle.golf_theory.specs.Membership.{In, Every, is_in}
 use Rattle.golf_theory.specs.Maps.{Entry, find}

@@ -1,4 +1,6 @@
 -- Waits that are found, and the first waiter.
+-- For: `wait_for`, `first`, `waiters`, golf_model/specs/Waiting.antt
+-- By: induction over the list of waits and over the list of goroutines
 use Rattle.std.proofs.Common.{◌≡◌, ℕ, true, false, cond, List, [], ◌∷◌, Option, Some, None, ◌==◌, ◌⊎◌, ◌&&◌, inl, inr, refl, sym, ap, subst, nat_lt, option_map}
 use Rattle.std.proofs.lemmas.Bool.{eqb-true, and_parts}
 use Rattle.golf_theory.specs.Membership.{In}

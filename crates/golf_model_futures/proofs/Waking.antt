@@ -1,4 +1,6 @@
 -- What becomes of a goroutine that is woken, and that nobody else changes.
+-- For: `woken_by`, golf_model/specs/Waking.antt
+-- By: cases of the waking and of the wait; no induction
 use Rattle.std.proofs.Common.{◌≡◌, ℕ, Bool, true, false, cond, List, [], ◌∷◌, Option, Some, None, ◌⊎◌, inl, inr, refl}
 use Rattle.golf_theory.specs.Membership.{In, Every}
 use Rattle.golf_data.specs.declared.value.Value.{Value}

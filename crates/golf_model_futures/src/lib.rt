@@ -58,7 +58,7 @@ pub fn collections_keep()
     ensures { CollectionsKeep }
 {}
 
-/// A turn keeps closed sets closed, leaves the rest, and goes the same way where the rest is cut.
+/// A turn keeps closed sets closed, leaves the rest, and goes the same way if the rest is cut.
 pub fn turn_laws()
     ensures keep { TurnsKeep }
     ensures same { TurnsCut }

@@ -1,4 +1,6 @@
 -- A turn that asks for a collection ends nothing.
+-- For: `wants_collection`, golf_model/specs/Turn.antt
+-- By: cases of the instruction; no induction
 use Rattle.std.proofs.Common.{◌≡◌, ℕ, ◌/◌, Bool, true, false, not, ◌&&◌, ◌||◌, List, [], ◌∷◌, length, Option, Some, None, refl, sym, ap, subst, ◌∙◌, ◌==◌}
 use Rattle.std.specs.Prelude.{option_and_then}
 use Rattle.golf_theory.specs.Membership.{In}

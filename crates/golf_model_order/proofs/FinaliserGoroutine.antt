@@ -1,4 +1,6 @@
 -- Goroutine 0 is live, and no report names it.
+-- For: `finaliser_goroutine_lives`, src/lib.rt
+-- By: induction over the list of reports
 use Rattle.std.proofs.Common.{ℕ, Bool, not, List, [], ◌∷◌, ◌++◌, inl, inr, subst}
 use Rattle.golf_theory.specs.Membership.{In, is_in}
 use Rattle.golf_theory.proofs.Derivations.{Reached-root}

@@ -1,4 +1,6 @@
 -- Each instruction, and each turn, keeps goroutines in order.
+-- For: `order_is_kept`, src/lib.rt; `turn_changes`, golf_model/specs/Turn.antt
+-- By: cases of the instruction; induction over the lists of offers and of waiters
 use Rattle.std.proofs.Common.{◌≡◌, ℕ, ◌/◌, Bool, true, false, cond, List, [], ◌∷◌, ◌++◌, length, Option, Some, None, refl, sym, ap, subst, ℤ, slice_get, ◌==◌, nat_lt}
 use Rattle.std.specs.Prelude.{pos, slice_set, unsigned_abs, ◌||◌, ◌-ℤ◌, is_some, int_lt, int_le}
 use Rattle.std.proofs.lemmas.Bool.{eqb-false}
@@ -421,7 +423,7 @@ keep_turn code s k n = go (whose_turn s k) refl
     go None e = tt
     go (Some g) e = let r = turn-running s k g e in keep-found code g (k / length (runnable s)) s n r.0 r.1 r.2
 
--- and so does what is cleared behind it
+-- and so does what is cleared after it
 module _ (xs : List (ℕ × Object)) (code : Code) (g : ℕ) where
   keep-clears_in : (r : GoroutineView) (m : Mode) (fs : List FrameView) → r.mode ≡ m → AllKeepOrder xs (clears_in code g r m fs)
   keep-clears_in r Mode.Running [] e = tt

@@ -1,4 +1,6 @@
 -- Changes, turns and collections keep goroutines in order.
+-- For: `order_is_kept`, src/lib.rt; `apply`, golf_model/specs/Changes.antt
+-- By: induction over the list of changes; cases of each change
 use Rattle.std.proofs.Common.{◌≡◌, ℕ, ◌+◌, ◌≤◌, ◌/◌, Bool, true, false, not, List, [], ◌∷◌, length, Option, Some, None, ◌==◌, ◌⊎◌, inl, inr, refl, sym, ap, ◌∙◌, subst, arith}
 use Rattle.std.proofs.lemmas.Bool.{eqb-true, eqb-false}
 use Rattle.golf_theory.specs.Maps.{Entry, IsRising, find, put, add, only, keys, map_values}

@@ -1,4 +1,6 @@
 -- In every state that moves lead to, references are to objects that are there, and goroutines are in order.
+-- For: `leads_whole`, `leads_orderly` and `order_is_kept`, src/lib.rt
+-- By: induction over the moves that lead to the state
 use Rattle.std.proofs.Common.{◌≡◌, ℕ, Bool, true, not, List, [], ◌∷◌, Some, inl, inr, refl, ap, ◌∙◌}
 use Rattle.golf_theory.specs.Maps.{Entry, find, only}
 use Rattle.golf_theory.specs.Membership.{In, Every, is_in}

@@ -1,4 +1,6 @@
 -- The ways in which a turn goes keep goroutines in order.
+-- For: `taking_one` and `on_some`, golf_model/specs/Acting.antt; `order_is_kept`, src/lib.rt
+-- By: induction over n, the operands that are still to be taken; else cases of the values
 use Rattle.std.proofs.Common.{◌≡◌, ℕ, zero, suc, Bool, true, false, List, [], ◌∷◌, Option, Some, None, refl, ℤ}
 use Rattle.golf_theory.specs.Membership.{Every}
 use Rattle.golf_data.specs.declared.value.Value.{Value}
@@ -15,7 +17,7 @@ use Rattle.golf_model.specs.Calculating.{two_ints}
 use Rattle.golf_model_order.specs.Orderly.{HasMutex, AllKeepOrder}
 
 module _ (xs : List (ℕ × Object)) where
-  -- where each outcome keeps order, a choice of them does
+  -- if each outcome keeps order, a choice of them does
   pub on-some : {X : Type 0} (act : X → List Change) (m : Option X) → ((x : X) → AllKeepOrder xs (act x)) → AllKeepOrder xs (on_some act m)
   on-some act None h = tt
   on-some act (Some x) h = h x

@@ -1,4 +1,6 @@
 -- A collection that removes goroutines and frees objects leaves references to objects that are left alone.
+-- For: `collections_keep_whole`, src/lib.rt; `real_collect`, golf_model/specs/Collecting.antt
+-- By: putting the laws of cuts together; no induction
 use Rattle.std.proofs.Common.{◌≡◌, ℕ, Bool, true, List, sym, subst}
 use Rattle.golf_theory.specs.Maps.{keys}
 use Rattle.golf_theory.specs.Membership.{In, Every}

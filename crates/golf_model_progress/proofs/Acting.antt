@@ -1,4 +1,6 @@
 -- The goroutine whose turn it is: the ways in which it goes have changes, and keep types.
+-- For: `Actor` and `taking_one`, golf_model/specs/Acting.antt; `turns_keep_types`, src/lib.rt
+-- By: cases of the values on the stack and of the object; no induction
 use Rattle.std.proofs.Common.{◌≡◌, ℕ, ◌+◌, Bool, true, false, List, [], ◌∷◌, ◌++◌, Option, Some, None, ◌==◌, refl, sym, ap, ◌∙◌, subst, ℤ, slice_get, ◌⊎◌, inl, inr, length}
 use Rattle.golf_theory.specs.Maps.{find}
 use Rattle.golf_theory.specs.Membership.{In, Every}
@@ -31,7 +33,7 @@ pub record Proceeds (types : Typing) (known : List (ℕ × ValueType)) (s : Stat
   pub moves : not_empty cs ≡ true
   pub keeps : ChangesFit types known s cs
 
--- where each outcome has a property, what takes typed operands has it
+-- if each outcome has a property, what takes typed operands has it
 module _ (types : Typing) (known : List (ℕ × ValueType)) (s : State) (P : List Change → Type 0) where
   pub of-choose : (b : Bool) (cs ds : List Change) → P cs → P ds → P (choose b cs ds)
   of-choose true cs ds p q = p
@@ -232,7 +234,7 @@ pub record ActorFits (types : Typing) (known : List (ℕ × ValueType)) (s : Sta
   pub assigned : Every (SlotFits types known (slot_types ft) a.frame.slots) sh.assigned
   pub present : Vals (Present s) a.frame.operands
 
--- where a position is led to, a frame stands there
+-- if a position is led to, a frame stands there
 pub lands : (types : Typing) (known : List (ℕ × ValueType)) (ft : FunctionTypes) (lacking ts : List ValueType) (assigned : List ℕ) (k : ℕ) (vs slots : List Value) → GoesOn ft (lacking ++ ts) assigned k → ValuesFit types.of known vs ts → Every (SlotFits types known (slot_types ft) slots) assigned → Stands types known ft lacking k vs slots
 lands types known ft lacking ts assigned k vs slots l a h = record {
   shape = l.0;
@@ -263,7 +265,7 @@ module _ (types : Typing) (known : List (ℕ × ValueType)) (s : State) (a : Act
     pub proceeds-goes : (vs : List Value) (ts : List ValueType) → ValuesFit types.of known vs ts → GoesOn ft ts sh.assigned (a.frame.at + 1) → Proceeds types known s (goes a vs)
     proceeds-goes vs ts h l = proceeds-jumps (a.frame.at + 1) vs ts h l
 
-    -- the operands, where the shape's are these
+    -- the operands, if the shape's are these
     pub taken : (ts : List ValueType) → sh.operands ≡ ts → ValuesFit types.of known a.frame.operands ts
     taken ts e = subst (ValuesFit types.of known a.frame.operands) e i.held
 

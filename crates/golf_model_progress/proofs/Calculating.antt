@@ -1,4 +1,6 @@
 -- Values, variables, arithmetic, comparisons and jumps: their turns have changes, and keep types.
+-- For: `computes` and `loads`, golf_model/specs/Calculating.antt; `turns_keep_types`, src/lib.rt
+-- By: induction over the list of slots; else cases of the values that are taken
 use Rattle.std.proofs.Common.{◌≡◌, ℕ, zero, suc, ◌+◌, Bool, true, false, not, List, [], ◌∷◌, Option, Some, None, refl, sym, ap, ◌∙◌, subst, ℤ, slice_get, length, arith, ◌==◌, slice_set}
 use Rattle.std.specs.Int.{w64, int_wrapping_neg}
 use Rattle.golf_theory.proofs.Lists.{Every-from, Every-at}

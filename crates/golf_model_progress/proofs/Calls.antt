@@ -1,4 +1,6 @@
 -- Calls, goroutines and returns: their turns have changes, and keep types.
+-- For: `call_frame`, golf_model/specs/State.antt; `returns_to`, golf_model/specs/Calls.antt
+-- By: induction over the types that a function takes, with the values for them
 use Rattle.std.proofs.Common.{◌≡◌, ℕ, zero, suc, ◌+◌, ◌-◌, ◌<◌, Bool, true, false, List, [], ◌∷◌, ◌++◌, Option, Some, None, ◌==◌, refl, sym, ap, ◌∙◌, subst, slice_get, arith, length, pos}
 use Rattle.std.proofs.lemmas.List.{append-nil}
 use Rattle.std.specs.Prelude.{option_to_list, replicate, option_map}

@@ -1,4 +1,6 @@
 -- Sends and receives: their turns have changes, and keep types.
+-- For: `sends` and `receives`, golf_model/specs/Channels.antt; `turns_keep_types`, src/lib.rt
+-- By: cases of the channel and of who waits first; no induction
 use Rattle.std.proofs.Common.{◌≡◌, ℕ, ◌+◌, Bool, true, false, List, [], ◌∷◌, ◌++◌, Option, Some, None, refl, nat_lt, length}
 use Rattle.golf_theory.specs.Membership.{In, Every}
 use Rattle.golf_theory.proofs.Lists.{Every-push, Every-append}
@@ -50,7 +52,7 @@ module _ (types : Typing) (known : List (ℕ × ValueType)) (s : State) (w : Wel
     abbrev Goes : List Change → Type 0
     Goes cs = Proceeds types known s cs
 
-    -- the frame stands behind its instruction, and lacks these
+    -- the frame stands after its instruction, and lacks these
     pub record After (lacking : List ValueType) (f : FrameView) : Type 0 where
       pub base : FrameBase types known ft f.function f.slots f.deferred
       pub stands : LeavingFits types known ft lacking f.at f.operands f.slots f.leaving
@@ -111,7 +113,7 @@ module _ (types : Typing) (known : List (ℕ × ValueType)) (s : State) (w : Wel
         (λ c at hc. proceeds-receives_from f with_ok o c e c.buffer (first o Side.Send s.goroutines) refl b k hc hc.buffer)
 
   module _ (a : Actor) (ft : FunctionTypes) (sh : Shape) (i : ActorFits types known s a ft sh) where
-    -- behind the instruction, with these operands
+    -- after the instruction, with these operands
     behind : (lacking ts : List ValueType) (vs : List Value) → ValuesFit types.of known vs ts → GoesOn ft (lacking ++ ts) sh.assigned (a.frame.at + 1) → After a ft i.holds lacking (next a.frame vs)
     behind lacking ts vs hs l = record { base = i.holds.base; stands = on_no types known s a ft sh i lacking (a.frame.at + 1) vs a.frame.slots (lands types known ft lacking ts sh.assigned (a.frame.at + 1) vs a.frame.slots l hs i.assigned); callers = i.holds.callers }
 

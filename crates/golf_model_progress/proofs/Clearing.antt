@@ -1,4 +1,6 @@
--- What is cleared behind a turn is not asked for, so types are kept.
+-- What is cleared after a turn is not asked for, so types are kept.
+-- For: `clearing`, golf_model/specs/Clearing.antt; `cleared_from`, golf_data/specs/Slots.antt
+-- By: induction over the list of slots
 use Rattle.std.proofs.Common.{◌≡◌, ℕ, zero, suc, ◌+◌, Bool, true, false, cond, List, [], ◌∷◌, Option, Some, None, ◌==◌, refl, sym, ap, ◌∙◌, subst, slice_get, length, pos, arith}
 use Rattle.std.specs.Prelude.{option_and_then}
 use Rattle.golf_theory.specs.Maps.{find}

@@ -1,4 +1,6 @@
 -- Conditions: their turns have changes, and keep types.
+-- For: `awaits` and `signals`, golf_model/specs/Conditions.antt; `turns_keep_types`, src/lib.rt
+-- By: induction over the list of waiters
 use Rattle.std.proofs.Common.{◌≡◌, ℕ, ◌+◌, Bool, true, false, List, [], ◌∷◌, ◌++◌, Option, Some, None, ◌==◌, inl, inr, refl, sym, ap, ◌∙◌, subst}
 use Rattle.std.proofs.lemmas.Bool.{eqb-true, eqb-false}
 use Rattle.golf_theory.specs.Maps.{find, put}

@@ -1,4 +1,6 @@
 -- Finalisers: their turns have changes, and keep types.
+-- For: `finalises` and `unfinalises`, golf_model/specs/Finalising.antt; `turns_keep_types`, src/lib.rt
+-- By: cases of the object; no induction
 use Rattle.std.proofs.Common.{ℕ, List, [], ◌∷◌, Option, Some, None, refl, sym, subst}
 use Rattle.golf_theory.specs.Maps.{find}
 use Rattle.golf_data.specs.declared.value.Value.{Value}

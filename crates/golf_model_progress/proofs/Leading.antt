@@ -1,4 +1,6 @@
 -- Every state that moves lead to from the opening state of a code with shapes is typed, so it is never stuck.
+-- For: `leads_are_typed`, `collections_keep_types` and `never_stuck`, src/lib.rt
+-- By: induction over the moves that lead to the state
 use Rattle.std.proofs.Common.{◌≡◌, ℕ, Bool, not, List, [], ◌∷◌, None, inl, inr, refl}
 use Rattle.golf_theory.specs.Maps.{Entry, find, only}
 use Rattle.golf_theory.specs.Membership.{Every, is_in}

@@ -1,4 +1,6 @@
 -- Mutexes: their turns have changes, and keep types.
+-- For: `locks` and `unlocks`, golf_model/specs/Mutexes.antt; `turns_keep_types`, src/lib.rt
+-- By: cases of the mutex and of who waits first; no induction
 use Rattle.std.proofs.Common.{◌≡◌, ℕ, ◌+◌, Bool, true, false, List, [], ◌∷◌, Option, Some, None, refl}
 use Rattle.golf_data.specs.declared.value.Value.{Value}
 use Rattle.golf_data.specs.declared.code.Instr.{Instr}

@@ -1,4 +1,6 @@
 -- What is printed, and panics with a text: their turns have changes, and keep types.
+-- For: `prints` and `panics_with`, golf_model/specs/Turn.antt; `turns_keep_types`, src/lib.rt
+-- By: induction over the values that are printed, with their types
 use Rattle.std.proofs.Common.{◌≡◌, ℕ, List, [], ◌∷◌, ◌++◌, Option, Some, None, refl, ap, ◌∙◌, subst, arith}
 use Rattle.std.specs.Fmt.{signed_decimal}
 use Rattle.golf_theory.specs.Membership.{Every}

@@ -1,4 +1,6 @@
 -- Wait groups, and reader and writer mutexes: their turns have changes, and keep types.
+-- For: `write_locks` and `read_locks`, golf_model/specs/ReadersWriters.antt; `adds`, golf_model/specs/Mutexes.antt
+-- By: cases of the count and of who waits first; no induction
 use Rattle.std.proofs.Common.{◌≡◌, ℕ, ◌+◌, Bool, true, false, List, [], ◌∷◌, Option, Some, None, ◌||◌, refl, ℤ, pos, nat_lt}
 use Rattle.std.specs.Prelude.{int_lt, int_le, is_some, ◌-ℤ◌}
 use Rattle.golf_theory.specs.Maps.{find}

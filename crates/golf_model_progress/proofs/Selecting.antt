@@ -1,4 +1,6 @@
 -- `select`: its turn has changes, and keeps types.
+-- For: `selects`, golf_model/specs/Selecting.antt; `turns_keep_types`, src/lib.rt
+-- By: induction over the list of cases, and over the list of offers
 use Rattle.std.proofs.Common.{◌≡◌, ℕ, ◌%◌, Bool, true, false, List, [], ◌∷◌, ◌++◌, Option, Some, None, length, inl, inr, refl, sym, ap, ◌∙◌, subst}
 use Rattle.std.proofs.lemmas.Bool.{and_from}
 use Rattle.golf_theory.specs.Maps.{find}

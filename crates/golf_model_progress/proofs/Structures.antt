@@ -1,4 +1,6 @@
 -- Structs, slices and new objects: their turns have changes, and keep types.
+-- For: `makes_struct` and `gets_field`, golf_model/specs/Structures.antt; `turns_keep_types`, src/lib.rt
+-- By: induction over n, the length of a new slice; else cases of the object
 use Rattle.std.proofs.Common.{◌≡◌, ℕ, zero, suc, ◌+◌, List, [], ◌∷◌, Option, Some, None, inl, inr, refl, sym, subst, ℤ, pos, negsuc, slice_get, length}
 use Rattle.std.specs.Prelude.{unsigned_abs, replicate}
 use Rattle.golf_theory.specs.Maps.{add}

@@ -1,4 +1,6 @@
 -- A turn of a typed state has changes, and keeps types.
+-- For: `turns_keep_types`, `start_is_typed` and `typed_states_move_on`, src/lib.rt
+-- By: cases of the instruction; no induction
 use Rattle.std.proofs.Common.{◌≡◌, ℕ, ◌/◌, ◌%◌, Bool, true, false, not, cond, ◌||◌, List, [], ◌∷◌, Option, Some, None, ◌==◌, ◌⊎◌, inl, inr, refl, sym, ap, ◌∙◌, subst, slice_get, arith, length}
 use Rattle.std.specs.Prelude.{pos, int_le, int_lt, option_and_then, option_to_list}
 use Rattle.std.proofs.lemmas.Bool.{and_parts, eq-eqb}

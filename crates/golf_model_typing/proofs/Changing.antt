@@ -1,4 +1,6 @@
 -- Lists of values, and goroutines that are served, released or unwound, stay of their types.
+-- For: `resumed`, `released` and `unwound`, golf_model/specs/Waking.antt.
+-- By: cases of the side of the wait; induction over the list of values.
 use Rattle.std.proofs.Common.{◌≡◌, ℕ, zero, suc, Bool, true, false, List, [], ◌∷◌, ◌++◌, Some, ◌==◌, ◌||◌, refl, ap, subst, slice_get, slice_set}
 use Rattle.std.specs.Prelude.{unwrap_or}
 use Rattle.golf_theory.specs.Maps.{find}

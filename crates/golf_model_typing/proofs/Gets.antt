@@ -1,7 +1,9 @@
--- What stands at a place of a list.
+-- What stands at a place of a list that got longer, or in which a place was set.
+-- For: `slice_get` and `slice_set` of std, in golf_model_progress/proofs/Calls.antt and Calculating.antt.
+-- By: induction over the list.
 use Rattle.std.proofs.Common.{◌≡◌, ℕ, zero, suc, List, [], ◌∷◌, ◌++◌, Some, refl, slice_get, slice_set}
 
--- behind the front of a list stands what stood there
+-- after the front of a list stands what stood there
 pub slice_get-left : {X : Type 0} (xs ys : List X) (i : ℕ) (x : X) → slice_get xs i ≡ Some x → slice_get (xs ++ ys) i ≡ Some x
 slice_get-left [] ys i x h = cc
 slice_get-left (y ∷ xs) ys zero x h = h

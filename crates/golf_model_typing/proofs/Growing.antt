@@ -1,4 +1,6 @@
 -- More objects are known, and what was typed stays typed.
+-- For: `WellTyped` and `GoroutineFits`, golf_model_typing/specs/WellTyped.antt.
+-- By: induction over the list of values, and over the list of frames.
 use Rattle.std.proofs.Common.{ℕ, List, [], ◌∷◌, Option, Some, None}
 use Rattle.std.specs.Prelude.{unwrap_or}
 use Rattle.golf_theory.specs.Membership.{Every}

@@ -1,4 +1,6 @@
 -- Each kind of change that keeps types leaves a typed state, and so does a list of them.
+-- For: `apply`, golf_model/specs/Changes.antt; the law `changes_keep_types`, src/lib.rt.
+-- By: induction over the list of changes; cases of the kind of change.
 use Rattle.std.proofs.Common.{◌≡◌, ℕ, ◌+◌, ◌≤◌, Bool, true, false, not, List, [], ◌∷◌, ◌++◌, Option, Some, None, ◌==◌, ◌||◌, inl, inr, refl, sym, ap, ◌∙◌, subst, arith, slice_set}
 use Rattle.std.proofs.lemmas.Bool.{eqb-true, eqb-false}
 use Rattle.golf_theory.specs.Maps.{Entry, find, put, add, insert, only, map_values}

@@ -1,4 +1,6 @@
 -- A body that fits shapes fits them when they ask for needed slots alone.
+-- For: `live_shapes`, golf_model_typing/specs/NeededSlots.antt; the law `needed_slots_suffice`, src/lib.rt.
+-- By: induction over the list of shapes; cases of the instruction.
 use Rattle.std.proofs.Common.{◌≡◌, ℕ, zero, suc, ◌+◌, Bool, true, false, List, [], ◌∷◌, ◌++◌, Option, Some, None, ◌==◌, filter, map, inl, inr, refl, sym, ap, ◌∙◌, subst, slice_get, arith}
 use Rattle.std.specs.Prelude.{option_to_list}
 use Rattle.std.proofs.lemmas.Bool.{eqb-true, eqb-false}

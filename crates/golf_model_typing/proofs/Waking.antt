@@ -1,4 +1,6 @@
 -- Goroutines that are woken stay typed.
+-- For: `woken_by`, golf_model/specs/Waking.antt.
+-- By: cases of why it is woken and of the wait that is found; no induction.
 use Rattle.std.proofs.Common.{◌≡◌, ℕ, true, false, cond, List, Option, Some, None, refl, sym, ◌∙◌}
 use Rattle.golf_theory.specs.Membership.{In}
 use Rattle.golf_data.specs.declared.value.Value.{Value}

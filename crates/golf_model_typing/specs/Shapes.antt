@@ -21,7 +21,7 @@ abbrev pub pushed : List ValueType → List ValueType → List ValueType
 pushed [] rest = rest
 pushed (t ∷ ts) rest = pushed ts (t ∷ rest)
 
--- it goes on at a position with these operands, where at most these slots are assigned
+-- it goes on at a position with these operands, if at most these slots are assigned
 abbrev pub GoesOn : FunctionTypes → List ValueType → List ℕ → ℕ → Type 0
 GoesOn ft ts assigned k = (next : Shape) × (slice_get ft.shapes k ≡ Some next) × (next.operands ≡ ts) × Every (λ i. In i assigned) next.assigned
 

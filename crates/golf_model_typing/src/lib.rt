@@ -13,8 +13,8 @@ pub fn changes_keep_types()
     ensures { ChangesKeepTypes }
 {}
 
-/// A body that fits shapes fits them too when they ask a slot's type only where the slot is needed:
-/// where a path leads to a load of it, and no store of it is on the path.
+/// A body that fits shapes fits them too when they ask a slot's type only if the slot is needed:
+/// if a path leads to a load of it, and no store of it is on the path.
 pub fn needed_slots_suffice()
     ensures { NeededSlotsSuffice }
 {}

@@ -1,4 +1,6 @@
 -- A file that is refused is no typed one; the code of a typed one is its only code, and has places.
+-- For: `IsNotTyped` (golf_reader/specs/Refusals.antt) and `parsed`, `judge`, `read` (src/reading.rt)
+-- By: cases of the outcome; no induction
 use Rattle.std.proofs.Common.{◌≡◌, ℕ, ◌<◌, ◌^◌, List, length, subst, sym, ap, ◌∙◌}
 use Rattle.std.specs.Prelude.{Result, Ok, Err}
 use Rattle.golf_data.specs.declared.code.Code.{Code}

@@ -6,13 +6,13 @@ ghost use Rattle.golf_reader.specs.Refusals.{Parses, Keeps, WasParsed, WasTyped,
 
 use crate::refusal::Refusal;
 use golf_check::{Checked, check};
+use golf_check_types::TypeFault;
 use golf_code::generate;
 use golf_data::Code;
-use golf_syntax_trees::File;
 use golf_lex::{LexFault, tokens};
-use golf_syntax::{SyntaxFault, parse};
 use golf_lex_tokens::Token;
-use golf_check_types::TypeFault;
+use golf_syntax::{SyntaxFault, parse};
+use golf_syntax_trees::File;
 use std::alloc::Global;
 
 // The tree of the tokens.
@@ -66,8 +66,8 @@ pub fn judge(alloc: Global, bytes: &[u8]) -> Result<Checked, Refusal>
 ///
 /// # Errors
 ///
-/// `Refusal::Memory` comes where memory runs out, which no clause ties to a cause; each other refusal
-/// where the file is so, and nowhere else: a file that has code is refused for none of them.
+/// `Refusal::Memory` comes if memory runs out, which no clause ties to a cause; each other refusal
+/// if the file is so, and nowhere else: a file that has code is refused for none of them.
 pub fn read(alloc: Global, bytes: &[u8]) -> Result<Code, Refusal>
     requires { length bytes.now < 2 ^ 27 }
     ensures answer { WasRead bytes.now result }

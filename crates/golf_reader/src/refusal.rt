@@ -8,13 +8,13 @@ use golf_base::Memory;
 #[derive(Clone, Copy, Debug, PartialEq, Eq)]
 pub enum Refusal {
     /// The bytes do not lex. No text that lexes begins with the bytes up to and including this one, and it
-    /// is the first such; where there is none, `byte` is the length.
+    /// is the first such; if there is none, `byte` is the length.
     Lexical { line: u32, byte: u32 },
     /// The tokens are those of no file: the line of the fault.
     Syntax { line: u32 },
     /// The file parses, and breaks a rule of types: the first broken one, and its line.
     Untyped { line: u32, rule: u32 },
-    /// Memory was wanting.
+    /// Out of memory.
     Memory,
 }
 

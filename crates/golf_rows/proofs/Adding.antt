@@ -1,4 +1,6 @@
 -- Rows that gain members.
+-- For: `add` and `add_to_all`, src/rows.rt; `AddsTo`, golf_rows/specs/Rows.antt.
+-- By: cases of the row; induction over the list of rows for an empty row more.
 use Rattle.std.proofs.Common.{◌≡◌, ℕ, zero, suc, ◌+◌, ◌<◌, ◌⊎◌, inl, inr, List, [], ◌∷◌, ◌++◌, length, get_or, set, take, sym, subst, arith}
 use Rattle.std.proofs.lemmas.Bool.{cases_eq}
 use Rattle.std.proofs.lemmas.List.{get_or-set_same, get_or-set_other, take_more}
@@ -27,9 +29,6 @@ AddsTo-one rows s n low k t = elim (cases_eq k n) [
         λ h. subst (λ (l : List ℕ). In t l) (sym is) (elim h [ inl i ↦ i | inr e ↦ absurd (apart e.1) ]),
       )
 ]
-
-pub AddsTo-none : (Kind : ℕ → Type 0) (s : ℕ) (rows : List (List ℕ)) → ((n : ℕ) → Kind n → ⊥) → AddsTo Kind s rows rows
-AddsTo-none Kind s rows none n t = (λ h. inl h, λ h. elim h [ inl i ↦ i | inr e ↦ absurd (none n e.1) ])
 
 -- two additions, one after the other
 pub AddsTo-more : (A B C : ℕ → Type 0) (s : ℕ) (a b c : List (List ℕ)) → ((n : ℕ) → A n → C n) → ((n : ℕ) → B n → C n) → ((n : ℕ) → C n → A n ⊎ B n) → AddsTo A s a b → AddsTo B s b c → AddsTo C s a c

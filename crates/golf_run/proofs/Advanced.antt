@@ -1,4 +1,6 @@
 -- What turns in one go, and the event after them, come to.
+-- For: `advance` and `go_through`, src/turns.rt
+-- By: cases of the outcome of the turns; no induction
 use Rattle.std.proofs.Common.{◌≡◌, ℕ, ◌+◌, Bool, true, false, List, Option, Some, None, refl, sym, ap, subst, ◌∙◌, inr, arith}
 use Rattle.std.specs.Prelude.{Result, Ok, Err, IsErr, IsErrAnd, is_some}
 use Rattle.std.specs.Io.KnownBytes.{Appends}
@@ -24,7 +26,7 @@ module _ (code : Code) (old : State) (before after : List Event) (n m : ℕ) (go
   abbrev come-of : (h : HasCome code old before after n m) → HasComeTo code old (Event.Turn h.number) before after n m
   come-of h = record { state = h.state; earlier = h.earlier; begins = goes; silent = h.went; count = h.one_more }
 
-  -- memory was wanting for the last turn
+  -- memory ran out for the last turn
   pub wanting-advanced : (r : Result (Option Bool) RunFault) (new : State) (out : Option (List ℕ)) (f : ℕ) → IsErr r → IsErrAnd r (λ x. x ≡ faults.Memory) → HasFailed code old new before after n m → HasAdvanced r code old new before after n m out out f f
   wanting-advanced (Ok x) new out f i a h = cc
   wanting-advanced (Err faults.Write) new out f i a h = cc

@@ -1,4 +1,6 @@
 -- Runs over one list of events after another.
+-- For: `run_by` and `stops_by`, golf_model/specs/Running.antt
+-- By: induction over the first list of events or of states
 use Rattle.std.proofs.Common.{◌≡◌, Bool, true, List, [], ◌∷◌, ◌++◌, refl, ap, sym, ◌∙◌, append_assoc}
 use Rattle.golf_data.specs.declared.code.Code.{Code}
 use Rattle.golf_data.specs.declared.report.Book.{Book}

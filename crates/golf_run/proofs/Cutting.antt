@@ -1,4 +1,6 @@
--- Where the writes of a run were cut, or stopped.
+-- What was written if the writes of a run were cut, or stopped.
+-- For: `WasCut` and `WasStopped`, specs/HasRun.antt; `writes_of`, golf_run_texts/specs/Writes.antt
+-- By: cases of the event, and of the sink that was cut; for lines, induction over their list
 use Rattle.std.proofs.Common.{◌≡◌, ℕ, Bool, true, false, List, [], ◌∷◌, ◌++◌, refl, sym, ap, subst, ◌∙◌, append_assoc, append-nil}
 use Rattle.std.specs.Prelude.{Option, None}
 use Rattle.std.specs.Io.KnownBytes.{Appends}
@@ -20,7 +22,8 @@ use Rattle.golf_run.specs.Told.{told, told_by}
 use Rattle.golf_run.specs.Happening.{turned, prints, says, collects}
 use Rattle.golf_run.specs.HasRun.{Sinks, sinks, GotWrites, WasCut, WasStopped}
 use Rattle.golf_run.specs.UnderWay.{at, told_to, writes_to, collecting, real_at, real_stops_to, real_book_to}
-use Rattle.golf_run.proofs.Writing.{out-append, err-append, lines-out, lines-err, writes-append, writes-out, writes-err}
+use Rattle.golf_run_texts.proofs.Writings.{out-append, err-append}
+use Rattle.golf_run.proofs.Writing.{lines-out, lines-err, writes-append, writes-out, writes-err}
 use Rattle.golf_run.proofs.Printed.{told-prefixed}
 use Rattle.golf_run.proofs.Real.{same-output}
 use Rattle.golf_run.proofs.Goings.{placed, stopped, going}

@@ -1,4 +1,6 @@
--- Where a run stops, and what it has written by then: at its end, all of it.
+-- What a run has written if it stops: at its end, all of it.
+-- For: `go_through`, src/turns.rt; `HasGone`, specs/HasGone.antt
+-- By: cases of the outcome; no induction
 use Rattle.std.proofs.Common.{◌≡◌, ℕ, Bool, true, List, [], ◌∷◌, ◌++◌, length, ◌⊎◌, inl, inr, refl, sym, ap, subst, ◌∙◌, append_assoc, append-nil, arith}
 use Rattle.std.specs.Prelude.{Option, Some, None, Result, Ok, Err, IsErr, IsErrAnd, is_some}
 use Rattle.std.specs.Io.KnownBytes.{Appends}
@@ -32,7 +34,8 @@ use Rattle.golf_run.specs.HasRun.{Sinks, sinks, GotWrites, IsSteady, WasCut, Was
 use Rattle.golf_run.specs.HasGone.{WentThrough, HasGone}
 use Rattle.golf_run.specs.UnderWay.{at, stops_to, reports_to, book_to, told_to, writes_to, real_at, real_stops_to, real_book_to, IsUnderWay}
 use Rattle.golf_run.proofs.Appending.{run-append, stops-append, reports-append, ended-run, ended-stops}
-use Rattle.golf_run.proofs.Writing.{out-append, err-append, ended-writes}
+use Rattle.golf_run_texts.proofs.Writings.{out-append, err-append}
+use Rattle.golf_run.proofs.Writing.{ended-writes}
 use Rattle.golf_run.proofs.Real.{same-ending}
 use Rattle.golf_run.proofs.Leaving.{start-left}
 use Rattle.golf_run.proofs.Cutting.{out-done, err-done, behind, events-split, writes-split, followed_by, writes-next, follows-told, says-out, says-err, out-cut, lines-cut, lines-stopped}
@@ -56,7 +59,7 @@ module _ (code : Code) (options : RunOptions) (done rest : List Event) (split : 
       ∙ ap (λ ps. book_of ps options.recover sets) (stops-append plain_collect code done rest (start code))
       ∙ reports-append options.recover sets (stops_by plain_collect code (start code) done) (stops_by plain_collect code (run code (start code) done) rest) new_book
 
--- the last line tells the turns only where the run has not ended
+-- the last line tells the turns only if the run has not ended
 last-turns : (texts : List (List ℕ)) (turns all : ℕ) (o : Option Ending) → (o ≡ None → turns ≡ all) → last_line texts turns o ≡ last_line texts all o
 last-turns texts turns all (Some e) h = refl
 last-turns texts turns all None h = ap (λ n. last_line texts n None) (h refl)
@@ -166,10 +169,6 @@ pub broken : (r : Result Course RunFault) (code : Code) (options : RunOptions) (
 broken (Ok x) code options old new i a w = cc
 broken (Err faults.Write) code options old new i a w = w
 broken (Err faults.Memory) code options old new i a w = cc
-
--- a run that stops before it begins
-pub never-began : (code : Code) (options : RunOptions) (old : Sinks) → WasStopped (writes_of code options) old old
-never-began code options old = record { done = []; later = writes_of code options; order = refl; got = (Appends-nil old.out, Appends-nil old.err); steady = record { out = refl; err = refl } }
 
 -- the run before its first event
 pub begins : (code : Code) (recover why : Bool) (state : State) (book : Book) (totals : Totals) (out err : Option (List ℕ)) (of ef : ℕ) → state ≡ start code → book ≡ new_book → totals ≡ totals_of []

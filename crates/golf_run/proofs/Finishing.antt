@@ -1,4 +1,6 @@
 -- What a run comes to once all its events came about.
+-- For: `run`, src/running.rt; `survey`, src/surveying.rt
+-- By: cases of the outcome; no induction
 use Rattle.std.proofs.Common.{◌≡◌, ℕ, not, ◌==◌, List, [], ◌∷◌, ◌++◌, refl, sym, ap, subst, ◌∙◌}
 use Rattle.std.specs.Prelude.{Option, Result, Ok, Err, IsErr, IsErrAnd}
 use Rattle.std.specs.Io.KnownBytes.{Appends}
@@ -36,7 +38,7 @@ module _ (course : Course) (code : Code) (options : RunOptions) (old now : Sinks
       e ∙ ap (λ b. status_by b course.ending) (ap (λ (t : Totals). not (t.reported == 0)) w.totals ∙ sym (anyone-counted (reports_of code options)))
       ∙ ap (status_by (anyone_reported (reports_of code options))) w.ends
 
-  -- memory was wanting for the last line
+  -- memory ran out for the last line
   pub line-wanting : (r : Result Status RunFault) → IsErr r → IsErrAnd r (λ e. e ≡ faults.Memory) → HasRun r code options old now
   unfolding writes_of
   line-wanting (Ok x) i a = cc

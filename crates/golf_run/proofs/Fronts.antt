@@ -1,10 +1,13 @@
--- What follows from where the writes of a run were cut: each sink got a front of its text.
-use Rattle.std.proofs.Common.{◌≡◌, ℕ, List, [], ◌∷◌, ◌++◌, inl, inr, sym, ap, ◌∙◌, append_assoc, append-nil}
+-- What follows from where the writes of a run were cut: each sink got a prefix of its text.
+-- For: `GotFronts`, specs/HasRun.antt
+-- By: cases of the sink of the write that was cut; no induction
+use Rattle.std.proofs.Common.{◌≡◌, ℕ, List, [], ◌∷◌, ◌++◌, sym, ap, ◌∙◌, append_assoc, append-nil}
 use Rattle.golf_data.specs.declared.code.Code.{Code}
 use Rattle.golf_run_schedules.specs.declared.options.RunOptions.{RunOptions}
 use Rattle.golf_run_texts.specs.Writes.{Write, out_bytes, err_bytes, writes_of}
-use Rattle.golf_run.specs.HasRun.{Sinks, IsFrontOf, HasFailed, WasCut, WasStopped, GotFronts, HasBroken}
-use Rattle.golf_run.proofs.Writing.{out-append, err-append, out-whole, err-whole}
+use Rattle.golf_run.specs.HasRun.{Sinks, IsFrontOf, WasCut, WasStopped, GotFronts}
+use Rattle.golf_run_texts.proofs.Writings.{out-append, err-append}
+use Rattle.golf_run.proofs.Writing.{out-whole, err-whole}
 
 -- a text that begins so
 abbrev Begins : List ℕ → List ℕ → Type 0
@@ -49,11 +52,3 @@ module _ (code : Code) (options : RunOptions) (old new : Sinks) where
     out = (out_bytes w.done, out_bytes w.later, sym (out-whole code options) ∙ ap out_bytes w.order ∙ out-append w.done w.later, w.got.0);
     err = (err_bytes w.done, err_bytes w.later, sym (err-whole code options) ∙ ap err_bytes w.order ∙ err-append w.done w.later, w.got.1);
   }
-
--- one sink failed, and the other did not
-failed-once : (cut : Write) (old new : Sinks) → HasFailed cut old new → HasBroken old new
-failed-once (Write.ToOut b) old new h = inl h
-failed-once (Write.ToErr b) old new h = inr h
-
-pub cut-broken : (writes : List Write) (old new : Sinks) → WasCut writes old new → HasBroken old new
-cut-broken writes old new w = failed-once w.cut old new w.failed

@@ -1,4 +1,6 @@
 -- A run goes on from one event to the next.
+-- For: `IsUnderWay`, specs/UnderWay.antt
+-- By: cases of the event, and whether a collection follows; no induction
 use Rattle.std.proofs.Common.{◌≡◌, ℕ, ◌+◌, Bool, true, false, List, [], ◌∷◌, ◌++◌, length, length-append, Option, Some, None, refl, sym, ap, subst, ◌∙◌, append-nil, arith}
 use Rattle.std.specs.Prelude.{is_some}
 use Rattle.std.specs.Io.KnownBytes.{Appends}

@@ -1,4 +1,6 @@
 -- Goroutines that were removed do not come back.
+-- For: `HasLeft`, specs/HasLeft.antt
+-- By: cases of whether it was removed before or by this collection; no induction
 use Rattle.std.proofs.Common.{◌≡◌, ℕ, ◌<◌, ◌≤◌, Bool, true, false, List, [], ◌⊎◌, inl, inr, refl, subst, arith}
 use Rattle.std.proofs.lemmas.Bool.{not-true, not_from_false}
 use Rattle.golf_theory.specs.Membership.{In, Every, is_in}

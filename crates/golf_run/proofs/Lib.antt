@@ -2,7 +2,6 @@ mod Appending
 pub mod Writing
 mod Printed
 mod Real
-mod Searching
 mod Leaving
 mod Totalling
 mod Goings

@@ -1,4 +1,6 @@
 -- Lines that are written one by one.
+-- For: `write_told` and `write_entries`, src/telling.rt; `HasWritten`, specs/Lines.antt
+-- By: cases of the outcome of a write; for a loop over entries, induction over their list
 use Rattle.std.proofs.Common.{◌≡◌, ℕ, zero, suc, ◌+◌, ◌<◌, List, [], ◌∷◌, ◌++◌, length, take, drop, get_or, refl, sym, ap, subst, ◌∙◌, append_assoc, append-nil, arith}
 use Rattle.std.specs.Prelude.{Option, Result, Ok, Err, IsErr, IsErrAnd}
 use Rattle.std.specs.Io.KnownBytes.{Appends}

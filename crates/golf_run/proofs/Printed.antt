@@ -1,22 +1,20 @@
 -- What was printed before changes nothing of a collection, with recovery or without.
+-- For: `real_collect`, golf_model/specs/Collecting.antt; `told_by`, specs/Told.antt
+-- By: computing; cases of whether there is recovery
 use Rattle.std.proofs.Common.{◌≡◌, ℕ, ◌+◌, Bool, true, false, List, [], ◌∷◌, ◌++◌, length, map, refl, ap, ◌∙◌}
-use Rattle.golf_theory.specs.Maps.{find}
 use Rattle.golf_data.specs.declared.report.Book.{Book}
 use Rattle.golf_model.specs.State.{State}
 use Rattle.golf_model.specs.Reaching.{reach}
 use Rattle.golf_model.specs.Living.{live_list, live_objects, dead}
 use Rattle.golf_model.specs.Collecting.{real_collect}
-use Rattle.golf_model.specs.Reporting.{entries, entry_of, new_dead, new_gone, all_gone, without, retained_objects, goroutine_id, report, book_after}
+use Rattle.golf_model.specs.Reporting.{entries, new_dead, new_gone, all_gone, without, retained_objects, goroutine_id, report, book_after}
 use Rattle.golf_why.specs.Explaining.{certificate_size, reached_in}
 use Rattle.golf_run_texts.specs.Texts.{certificate_line, reached_line, report_lines}
 use Rattle.golf_run_texts.specs.Output.{why_lines}
 use Rattle.golf_run_texts.specs.Writes.{told_lines}
 use Rattle.golf_model_futures.specs.Printing.{prefixed}
+use Rattle.golf_model_futures.proofs.Printing.{same-entries}
 use Rattle.golf_run.specs.Told.{told, told_by}
-
-same-entries : (w : List ℕ) (s : State) (gs : List ℕ) → entries (prefixed w s) gs ≡ entries s gs
-same-entries w s [] = refl
-same-entries w s (g ∷ gs) = ap (λ es. entry_of g (find g s.goroutines) ++ es) (same-entries w s gs)
 
 module _ (w : List ℕ) (s : State) where
   pub collect-prefixed : (recover sets : Bool) → real_collect (prefixed w s) recover sets ≡ prefixed w (real_collect s recover sets)

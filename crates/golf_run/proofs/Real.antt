@@ -1,4 +1,6 @@
 -- The machine whose collections free and remove, beside the plain one.
+-- For: `real_at` and `at`, specs/UnderWay.antt
+-- By: equations, from the laws of one list of events after another; no induction here
 use Rattle.std.proofs.Common.{◌≡◌, Bool, List, [], ◌∷◌, ◌++◌, sym, ap, ◌∙◌, append-nil}
 use Rattle.golf_data.specs.declared.code.Code.{Code}
 use Rattle.golf_model.specs.State.{State, start, ending}

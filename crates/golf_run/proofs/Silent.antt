@@ -1,4 +1,6 @@
 -- Turns of a run after which the outside is not needed.
+-- For: `go_through`, src/turns.rt; `HasGoneOn`, golf_machine/specs/Taking.antt
+-- By: induction over the list of turns that were taken in one go
 use Rattle.std.proofs.Common.{◌≡◌, ℕ, ◌+◌, Bool, true, false, List, [], ◌∷◌, ◌++◌, length, Option, Some, None, refl, sym, ap, subst, ◌∙◌, ◌⊎◌, inl, inr, arith}
 use Rattle.std.specs.Prelude.{is_some}
 use Rattle.std.specs.Io.KnownBytes.{Appends}

@@ -1,4 +1,6 @@
 -- One event of a run, in the run's own words.
+-- For: `go_through`, src/turns.rt
+-- By: cases of the event; for counts of events, induction over the turns of the schedule
 use Rattle.std.proofs.Common.{◌≡◌, ℕ, zero, suc, ◌+◌, ◌-◌, ◌*◌, ◌^◌, ◌<◌, ◌≤◌, Bool, true, false, List, [], ◌∷◌, ◌++◌, length, length-append, take, Option, None, sym, ap, subst, ◌∙◌, append_assoc, arith}
 use Rattle.std.specs.Io.KnownBytes.{Appends}
 use Rattle.golf_data.specs.declared.code.Code.{Code}

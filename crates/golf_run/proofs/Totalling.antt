@@ -1,4 +1,6 @@
 -- What the reports come to, one after another.
+-- For: `totals_by`, specs/Told.antt; `totals_of`, golf_run_texts/specs/Totals.antt
+-- By: induction over the list of reports
 use Rattle.std.proofs.Common.{◌≡◌, ℕ, ◌+◌, ◌<◌, Bool, true, not, ◌||◌, ◌==◌, List, [], ◌∷◌, ◌++◌, length, length-append, map, refl, sym, ap, ◌∙◌, arith}
 use Rattle.std.proofs.lemmas.Bool.{ne_eqb}
 use Rattle.std.proofs.lemmas.List.{length-map}

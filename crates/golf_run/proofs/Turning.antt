@@ -1,18 +1,15 @@
 -- What a turn tells.
-use Rattle.std.proofs.Common.{◌≡◌, ℕ, Bool, true, false, List, Option, Some, None, ◌⊎◌, inl, inr, refl, sym, ap, ◌∙◌}
-use Rattle.std.specs.Prelude.{Result, Ok, Err, IsErr, IsErrAnd}
-use Rattle.golf_base.specs.Causes.{Rose, WritesFront}
+-- For: `advance`, src/turns.rt
+-- By: cases of what the turn came to; no induction
+use Rattle.std.proofs.Common.{◌≡◌, ℕ, Bool, true, false, Option, Some, None, ◌⊎◌, inl, inr, refl, sym, ap, ◌∙◌}
 use Rattle.golf_data.specs.declared.code.Code.{Code}
 use Rattle.golf_data.specs.declared.goroutine.Ending.{Ending}
 use Rattle.golf_model.specs.State.{State, ending}
 use Rattle.golf_model.specs.Turn.{step, wants_collection}
-use Rattle.golf_model.specs.Running.{Event}
 use Rattle.golf_machine.specs.Turns.{turned_of}
 use Rattle.golf_machine.specs.declared.turning.Turned.{Turned}
 use Rattle.golf_machine.specs.declared.turning.Turned.TheVariants as t
-use Rattle.golf_run.specs.declared.fault.RunFault.{RunFault}
 use Rattle.golf_run.specs.declared.fault.RunFault.TheVariants as faults
-use Rattle.golf_run.specs.Happening.{HasTurned}
 use Rattle.golf_model_order.proofs.Collecting.{collecting-goes}
 
 silent-end : (code : Code) (s : State) (k : ℕ) (b : Bool) (e : Ending) → wants_collection code s k ≡ b → ending s ≡ None → ending (step code s k) ≡ Some e → wants_collection code s k ≡ false
@@ -39,14 +36,3 @@ quiet-turn turned code s after k n is goes h =
 pub other-turn : (turned : Turned) → (turned ≡ t.Went) ⊎ ((x : Ending) × (turned ≡ t.Ended x)) → turned ≡ t.WantsCollection → ⊥
 other-turn turned (inl e) h = let f : t.Went ≡ t.WantsCollection = sym e ∙ h in cc
 other-turn turned (inr (x, e)) h = let f : t.Ended x ≡ t.WantsCollection = sym e ∙ h in cc
-
--- answers that are errors
-pub turn-broken : (r : Result Bool RunFault) (code : Code) (c : ℕ) (s after : State) (out out' : Option (List ℕ)) (f f' : ℕ) → IsErr r → IsErrAnd r (λ x. x ≡ faults.Write) → WritesFront out out' (step code s c).output → Rose f f' → HasTurned r code (Event.Turn c) s after out out' f f'
-turn-broken (Ok x) code c s after out out' f f' i a front rose = cc
-turn-broken (Err faults.Write) code c s after out out' f f' i a front rose = (front, rose)
-turn-broken (Err faults.Memory) code c s after out out' f f' i a front rose = cc
-
-pub turn-wanting : (r : Result Bool RunFault) (code : Code) (c : ℕ) (s after : State) (out : Option (List ℕ)) (f : ℕ) → IsErr r → IsErrAnd r (λ x. x ≡ faults.Memory) → HasTurned r code (Event.Turn c) s after out out f f
-turn-wanting (Ok x) code c s after out f i a = cc
-turn-wanting (Err faults.Write) code c s after out f i a = cc
-turn-wanting (Err faults.Memory) code c s after out f i a = (refl, refl)

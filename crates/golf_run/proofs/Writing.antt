@@ -1,4 +1,6 @@
 -- What the writes of a run come to, sink by sink.
+-- For: `writes_from`, golf_run_texts/specs/Writes.antt; `stops_text`, specs/UnderWay.antt
+-- By: induction over the list of events, and over the list of lines
 use Rattle.std.proofs.Common.{◌≡◌, ℕ, Bool, true, false, List, [], ◌∷◌, ◌++◌, map, refl, sym, ap, ◌∙◌, append_assoc, append-nil}
 use Rattle.golf_data.specs.declared.code.Code.{Code}
 use Rattle.golf_data.specs.declared.report.Book.{Book}
@@ -13,6 +15,7 @@ use Rattle.golf_run_schedules.specs.declared.options.RunOptions.{RunOptions}
 use Rattle.golf_run_texts.specs.Texts.{entry_line, entry_lines, report_line, report_lines, report_text}
 use Rattle.golf_run_texts.specs.Output.{events_of, out_of, last_of, reports_of, real_stops_of, why_lines, joined, collections_text, end_of, err_of}
 use Rattle.golf_run_texts.specs.Writes.{Write, out_bytes, err_bytes, emptied, freeing, books, told_lines, line_writes, prints_in, collection_writes, writes_in, writes_from, event_writes_of, writes_of}
+use Rattle.golf_run_texts.proofs.Writings.{out-append, err-append}
 use Rattle.golf_model_futures.specs.Printing.{prefixed}
 use Rattle.golf_model_futures.proofs.Printing.{step-prefixed}
 use Rattle.golf_model_futures.proofs.RealRuns.{real-runs}
@@ -21,16 +24,6 @@ use Rattle.golf_run.proofs.Appending.{books-append}
 use Rattle.golf_run.proofs.Printed.{collect-prefixed}
 
 -- ---- lists of writes and of lines
-
-pub out-append : (ws vs : List Write) → out_bytes (ws ++ vs) ≡ out_bytes ws ++ out_bytes vs
-out-append [] vs = refl
-out-append (Write.ToOut b ∷ ws) vs = ap (λ t. b ++ t) (out-append ws vs) ∙ sym (append_assoc b (out_bytes ws) (out_bytes vs))
-out-append (Write.ToErr b ∷ ws) vs = out-append ws vs
-
-pub err-append : (ws vs : List Write) → err_bytes (ws ++ vs) ≡ err_bytes ws ++ err_bytes vs
-err-append [] vs = refl
-err-append (Write.ToOut b ∷ ws) vs = err-append ws vs
-err-append (Write.ToErr b ∷ ws) vs = ap (λ t. b ++ t) (err-append ws vs) ∙ sym (append_assoc b (err_bytes ws) (err_bytes vs))
 
 pub lines-out : (ls : List (List ℕ)) → out_bytes (line_writes ls) ≡ []
 lines-out [] = refl

@@ -24,7 +24,7 @@ sinks out out_faults err err_faults = record { out = out; out_faults = out_fault
 abbrev pub GotWrites : List Write → Sinks → Sinks → Type 0
 GotWrites writes old new = Appends old.out new.out (out_bytes writes) × Appends old.err new.err (err_bytes writes)
 
--- a write to the same sink of a front of the bytes
+-- a write to the same sink of a prefix of the bytes
 abbrev pub IsFrontOf : Write → Write → Type 0
 IsFrontOf (Write.ToOut front) (Write.ToOut bytes) = (rest : List ℕ) × (bytes ≡ front ++ rest)
 IsFrontOf (Write.ToErr front) (Write.ToErr bytes) = (rest : List ℕ) × (bytes ≡ front ++ rest)
@@ -41,7 +41,7 @@ pub record IsSteady (old new : Sinks) : Type 0 where
   pub out : new.out_faults ≡ old.out_faults
   pub err : new.err_faults ≡ old.err_faults
 
--- a write failed: those before it are whole, a front of it stands, and behind it nothing was written
+-- a write failed: those before it are whole, a prefix of it stands, and after it nothing was written
 pub record WasCut (writes : List Write) (old new : Sinks) : Type 0 where
   pub done : List Write
   pub cut : Write
@@ -52,7 +52,7 @@ pub record WasCut (writes : List Write) (old new : Sinks) : Type 0 where
   pub got : GotWrites (done ++ front ∷ []) old new
   pub failed : HasFailed cut old new
 
--- the writes stopped between two of them: those before are whole, and behind them nothing was written
+-- the writes stopped between two of them: those before are whole, and after them nothing was written
 pub record WasStopped (writes : List Write) (old new : Sinks) : Type 0 where
   pub done : List Write
   pub later : List Write
@@ -74,7 +74,7 @@ HasRun (Err faults.Memory) code options old new = WasStopped (writes_of code opt
 
 -- ---- what follows from it
 
--- each sink got a front of its text
+-- each sink got a prefix of its text
 pub record GotFronts (code : Code) (options : RunOptions) (old new : Sinks) : Type 0 where
   pub out : WritesFront old.out new.out (out_of code options)
   pub err : WritesFront old.err new.err (err_of code options)

@@ -52,7 +52,7 @@ totalled recover sets book s = totals_by (noted recover sets book s) (told recov
 unfoldable pub collected : Bool → Bool → State → State
 collected recover sets s = real_collect s recover sets
 
--- the lines were written, the book has the report and the state is the one after; or a write failed in the middle of one; or memory was wanting between two of them
+-- the lines were written, the book has the report and the state is the one after; or a write failed in the middle of one; or memory ran out between two of them
 abbrev pub HasTold : Bool → Bool → Bool → Result Totals RunFault → State → State → Book → Book → Option (List ℕ) → Option (List ℕ) → ℕ → ℕ → Type 0
 HasTold recover sets why (Ok totals) s after book book' err err' before now =
     (totals ≡ totalled recover sets book s) × (after ≡ collected recover sets s) × (book' ≡ noted recover sets book s) × Appends err err' (joined (told_by recover sets why book s)) × (now ≡ before)

@@ -8,7 +8,7 @@ use golf_base::{Memory, WriteFault};
 /// Why a run did not go on.
 #[derive(Clone, Copy, Debug, PartialEq, Eq)]
 pub enum RunFault {
-    /// Memory was wanting.
+    /// Out of memory.
     Memory,
     /// A write to one of the sinks failed.
     Write,

@@ -12,8 +12,8 @@ ghost use Rattle.golf_run.specs.Told.{explained_lines, ExplainsIf};
 use crate::fault::RunFault;
 use golf_base::{List, Memory, Sink, write_all};
 use golf_data::{Entry, Report};
-use golf_state::State;
 use golf_run_texts::{certificate_line, entry_line, reached_line, report_line};
+use golf_state::State;
 use golf_why::Explanation;
 use std::alloc::Global;
 

@@ -18,10 +18,10 @@ use crate::telling::{explanation, write_told};
 use golf_base::{Gate, Sink, write_all};
 use golf_data::{Code, Ending, Report};
 use golf_machine::{Turned, start, take_turns};
-use golf_reclaim::{Ledger, CollectOptions, collect, sets_finalisers};
+use golf_reclaim::{CollectOptions, Ledger, collect, sets_finalisers};
 use golf_run_schedules::{Events, RunOptions};
-use golf_state::State;
 use golf_run_texts::Totals;
+use golf_state::State;
 use std::alloc::Global;
 use std::thread::Threads;
 
@@ -50,7 +50,7 @@ fn totals_after(book: &Ledger, report: &Report) -> Totals
 // How the collections of a run go about their work.
 #[derive(Clone, Copy)]
 struct Manner {
-    collecting: Collecting,
+    collecting: CollectOptions,
     // Whether each tells its certificate, and what leads to those that wait and are live.
     why: bool,
 }
@@ -80,7 +80,7 @@ fn tell<R: Threads + Sync, E: Sink, G: Gate + Sync>(
 }
 
 // Takes turns until the outside is needed, and writes what the last one prints; or the collection that
-// comes next. It answers whether a collection follows; nothing where the program has ended, or where nothing
+// comes next. It answers whether a collection follows; nothing if the program has ended, or if nothing
 // is left.
 fn advance<O: Sink>(
     alloc: Global,

@@ -1,4 +1,6 @@
 -- What is still to come, a turn at a time.
+-- For: `next`, src/events.rt; `next_number`, src/schedule.rt; `numbers_left`, specs/Events.antt
+-- By: cases of the schedule, and arithmetic; induction over the list of choices
 use Rattle.std.proofs.lemmas.Option.{slice_get-get_or, slice_get_past}
 use Rattle.std.specs.List.{HoldsAt}
 use Rattle.std.specs.Option.{option_map}
@@ -41,7 +43,7 @@ pub none_left : (schedule : Schedule) (every : Option ℕ) (done turns : ℕ) �
 none_left schedule every done turns below none =
     ap (λ n. turns_from every (done + 1) (numbers_left schedule done n)) (one_left done turns below) ∙ ap (turns_from every (done + 1)) none
 
--- a turn, and what is due behind it
+-- a turn, and what is due after it
 pub turn_left : (before after : Schedule) (every : Option ℕ) (done turns c : ℕ) → done < turns → numbers_left before done (suc (turns - suc done)) ≡ c ∷ numbers_left after (suc done) (turns - suc done)
     → turns_from every (done + 1) (numbers_left before done (turns - done))
     ≡ Event.Turn c ∷ (collection_if (is_due every (done + 1)) ++ turns_from every ((done + 1) + 1) (numbers_left after (done + 1) (turns - (done + 1))))
@@ -50,7 +52,7 @@ turn_left before after every done turns c below next =
     ap (λ n. turns_from every (done + 1) (numbers_left before done n)) (one_left done turns below) ∙ ap (turns_from every (done + 1)) next
     ∙ ap (λ n. Event.Turn c ∷ (collection_if (is_due every (done + 1)) ++ turns_from every ((done + 1) + 1) (numbers_left after n (turns - n)))) same
 
--- the same of all that is to come, where no collection is
+-- the same of all that is to come, if no collection is
 pub events_none : (is_next : Bool) (schedule after : Schedule) (every : Option ℕ) (done turns : ℕ) → is_next ≡ false → done < turns → numbers_left schedule done (suc (turns - suc done)) ≡ [] → after ≡ schedule
     → (collection_if is_next ++ turns_from every (done + 1) (numbers_left schedule done (turns - done)) ≡ []) × (collection_if is_next ++ turns_from every (done + 1) (numbers_left after done (turns - done)) ≡ [])
 events_none is_next schedule after every done turns idle below none same =

@@ -14,7 +14,7 @@ rotation (suc n) k = k ∷ rotation n (k + 1)
 abbrev pub congruent : ℕ → ℕ
 congruent x = (x * 6364136223846793005 + 1442695040888963407) % (2 ^ 64)
 
--- so many numbers behind x, each the upper 31 bits of the next member
+-- so many numbers after x, each the upper 31 bits of the next member
 abbrev pub congruence : ℕ → ℕ → List ℕ
 congruence zero x = []
 congruence (suc n) x = congruent x / (2 ^ 33) ∷ congruence n (congruent x)
@@ -25,7 +25,7 @@ numbers Schedule.Rotate turns = rotation turns 0
 numbers (Schedule.Seed x) turns = congruence turns x
 numbers (Schedule.Choices cs) turns = take turns cs
 
--- a collection is due behind the k-th turn, where one is behind each N-th
+-- a collection is due after the k-th turn, if one is after each N-th
 abbrev pub is_due : Option ℕ → ℕ → Bool
 is_due None k = false
 is_due (Some n) k = not (n == 0) && k % n == 0
@@ -34,7 +34,7 @@ abbrev pub collection_if : Bool → List Event
 collection_if true = Event.Collect ∷ []
 collection_if false = []
 
--- the turns with these numbers, the first of which is the k-th, and the collections behind them
+-- the turns with these numbers, the first of which is the k-th, and the collections after them
 abbrev pub turns_from : Option ℕ → ℕ → List ℕ → List Event
 turns_from every k [] = []
 turns_from every k (c ∷ cs) = Event.Turn c ∷ (collection_if (is_due every k) ++ turns_from every (k + 1) cs)
@@ -59,7 +59,7 @@ turns_of Given.Collect = 0
 
 -- ---- what is still to come
 
--- the numbers for so many turns more, where some were taken; a schedule that is a seed is the last member of its congruence
+-- the numbers for so many turns more, if some were taken; a schedule that is a seed is the last member of its congruence
 abbrev pub numbers_left : Schedule → ℕ → ℕ → List ℕ
 numbers_left Schedule.Rotate done more = rotation more done
 numbers_left (Schedule.Seed x) done more = congruence more x

@@ -24,7 +24,7 @@ pub struct Events {
     is_collection_next: bool,
 }
 
-// Whether a collection is due behind a turn, by its place from 1.
+// Whether a collection is due after a turn, by its place from 1.
 fn is_due(every: Option<u32>, turn: u32) -> bool
     ensures { result ≡ is_due_behind every turn }
 {
@@ -35,8 +35,8 @@ fn is_due(every: Option<u32>, turn: u32) -> bool
 }
 
 impl Events {
-    /// The events of a run of so many turns, or of as many as there are choices where these are
-    /// fewer; with `every`, a collection is added behind each turn whose place from 1 it divides.
+    /// The events of a run of so many turns, or of as many as there are choices if these are
+    /// fewer; with `every`, a collection is added after each turn whose place from 1 it divides.
     pub fn new(schedule: Schedule, turns: u32, every: Option<u32>) -> Events
         ensures left { events_left result ≡ events_of schedule turns every }
         ensures none_done { result.done ≡ 0 }
@@ -57,7 +57,7 @@ impl Events {
         self.done
     }
 
-    /// The next event; none where the turns or the choices are spent.
+    /// The next event; none if the turns or the choices are spent.
     pub fn next(&mut self) -> Option<Event>
         ensures { MatchOption result
             ((events_left self.old ≡ []) × (events_left self.new ≡ []) × (self.new.done ≡ self.old.done))

@@ -1,6 +1,6 @@
-//! The schedules of a run: whose turn each turn is, and behind which turns a collection is added.
+//! The schedules of a run: whose turn each turn is, and after which turns a collection is added.
 //!
-//! - `Schedule`: where the numbers of the turns come from.
+//! - `Schedule`: if the numbers of the turns come from.
 //! - `Events`: the turns and added collections of a run, one after the other.
 //! - `RunOptions`: how a file is run.
 #![tactic(auto)]

@@ -9,7 +9,7 @@ pub struct RunOptions {
     pub schedule: Schedule,
     /// The most turns, from 1 to 10,000,000.
     pub turns: u32,
-    /// A collection is added behind each N-th turn, N from 1 to 10,000,000.
+    /// A collection is added after each N-th turn, N from 1 to 10,000,000.
     pub every: Option<u32>,
     /// How many markers mark in a collection, from 1 to 16.
     pub markers: u32,

@@ -5,7 +5,7 @@ ghost use Rattle.golf_run_schedules.specs.Events.{congruent as congruent_to, num
 
 use golf_base::List;
 
-/// Where the numbers of the turns come from: with `m` goroutines that can run, the turn with number
+/// If the numbers of the turns come from: with `m` goroutines that can run, the turn with number
 /// `c` is that of the one at place `c mod m`.
 #[derive(Debug, Drop)]
 pub enum Schedule {
@@ -26,7 +26,7 @@ fn congruent(x: u64) -> u64
 }
 
 impl Schedule {
-    /// The number of the next turn, where `done` turns were given theirs; none where the choices are
+    /// The number of the next turn, if `done` turns were given theirs; none if the choices are
     /// spent.
     pub(crate) fn next_number(&mut self, done: u32) -> Option<u64>
         ensures { (more : ℕ) → MatchOption result

@@ -1,4 +1,6 @@
 -- Whether a report names a goroutine, report by report.
+-- For: `anyone_reported` (golf_run_texts/specs/Output.antt) and `anyone_reported` (src/runs.rt)
+-- By: induction over the list of reports
 use Rattle.std.proofs.Common.{◌≡◌, ℕ, zero, suc, ◌+◌, ◌<◌, ◌||◌, true, false, List, [], ◌∷◌, length, take, get_or, refl, sym, ap, ap₂, ◌∙◌, arith}
 use Rattle.std.proofs.lemmas.Bool.{or_parts}
 use Rattle.golf_data.specs.declared.report.Entry.{Entry}

@@ -16,7 +16,7 @@ use Rattle.golf_run_texts.specs.Output.{events_of, last_of, end_of}
 use Rattle.golf_run_texts.specs.Texts.{history_line}
 use Rattle.golf_run_texts.specs.Writes.{Write, event_writes_of, writes_of}
 
--- it prints, leaves a goroutine behind, collects and prints again
+-- it prints, leaves a goroutine after, collects and prints again
 abbrev leak : Code
 leak =
     code_with []

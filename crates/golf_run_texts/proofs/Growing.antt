@@ -1,4 +1,6 @@
 -- One text more of those that stand one after another.
+-- For: `add_entries` (src/lines.rt) and `add_reports` (src/runs.rt), `add_more` (src/reasons.rt)
+-- By: induction over the list of items whose texts they are
 use Rattle.std.proofs.Common.{◌≡◌, ℕ, suc, ◌+◌, ◌<◌, List, [], ◌∷◌, ◌++◌, length, take, get_or, ap, ◌∙◌, append_assoc, append-nil, sym, arith}
 use Rattle.std.proofs.Math.Seq.{take-suc}
 

@@ -1,3 +1,4 @@
 mod Growing
+pub mod Writings
 mod Examples
 mod Anyone

@@ -67,7 +67,7 @@ abbrev pub anyone_reported : List Report → Bool
 anyone_reported [] = false
 anyone_reported (r ∷ rs) = names_someone r.reported || anyone_reported rs
 
--- a run that returned is clean where nothing was reported
+-- a run that returned is clean if nothing was reported
 abbrev pub status_by : Bool → Option Ending → Status
 status_by reported (Some Ending.Returned) = cond reported Status.Found Status.Clean
 status_by reported (Some (Ending.Panicked kind g line)) = Status.Crashed

@@ -13,7 +13,7 @@ abbrev pub total_reclaimed : List Report → ℕ
 total_reclaimed [] = 0
 total_reclaimed (r ∷ rs) = r.reclaimed + total_reclaimed rs
 
--- a number of the last of them; where there is none it is the one before
+-- a number of the last of them; if there is none it is the one before
 abbrev pub of_last : (Report → ℕ) → ℕ → List Report → ℕ
 of_last number before [] = before
 of_last number before (r ∷ rs) = of_last number (number r) rs

@@ -61,7 +61,7 @@ module _ (code : Code) where
     collection_writes book [] = []
     collection_writes book (p ∷ ps) = line_writes (told_lines why (report recover sets book p) p) ++ collection_writes (book_after recover sets book p) ps
 
-    -- what an event of the machine that frees writes: what its turn prints, and then what the collection that follows tells; nothing where the program has ended
+    -- what an event of the machine that frees writes: what its turn prints, and then what the collection that follows tells; nothing if the program has ended
     abbrev pub writes_in : Bool → Book → State → Event → List Write
     writes_in true book s e = []
     writes_in false book s e = prints_in s e ++ collection_writes book (stop_in (freeing recover sets) code false s e)

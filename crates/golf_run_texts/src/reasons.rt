@@ -1,6 +1,6 @@
 //! The lines of a certificate, and of goroutines that wait and are live.
 
-ghost use Rattle.std.specs.Prelude.{◌≡◌, ◌++◌, IfOk, OnOk, codes, string_bytes};
+ghost use Rattle.std.specs.Prelude.{◌≡◌, ◌++◌, IfOk, OnOk, string_bytes};
 ghost use Rattle.golf_run_texts.specs.Texts.{
   certificate_line as certificate_bytes,
   member_text as member_bytes,

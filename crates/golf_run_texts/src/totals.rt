@@ -7,7 +7,7 @@ pub struct Totals {
     pub collections: u32,
     /// How many goroutines they reported together.
     pub reported: u64,
-    /// How many dead goroutines stayed behind the last one.
+    /// How many dead goroutines stayed after the last one.
     pub kept: u32,
     /// How many goroutines they removed together.
     pub reclaimed: u64,

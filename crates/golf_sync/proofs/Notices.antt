@@ -1,4 +1,6 @@
 -- Waiters of a condition that are passed on.
+-- For: `notify_by` and `pass_all`, src/conditions.rt; `notified`, specs/Notified.antt
+-- By: induction over the list of goroutines, and over the list of waiters
 use Rattle.std.proofs.Common.{◌≡◌, ℕ, suc, ◌+◌, ◌<◌, ◌≤◌, Bool, true, false, cond, ◌&&◌, List, [], ◌∷◌, length, Option, Some, None, ◌==◌, refl, sym, ap, ◌∙◌, inl, inr, arith}
 use Rattle.std.specs.Prelude.{nat_lt, IsSome, is_some, option_map}
 use Rattle.std.proofs.lemmas.Bool.{eqb-true, eq-eqb}

@@ -1,4 +1,6 @@
 -- Who gets a reader and writer mutex, once the goroutine in its turn has gone on.
+-- For: `write_unlock_at` and `read_unlock_at`, src/readers_writers.rt; `next_in`, specs/Served.antt
+-- By: cases of who waits first, a reader or a writer; no induction
 use Rattle.std.proofs.Common.{◌≡◌, ℕ, true, false, cond, [], Option, Some, None, refl, ap, ◌∙◌}
 use Rattle.std.specs.Prelude.{nat_lt, negsuc}
 use Rattle.golf_data.specs.declared.goroutine.Side.{Side}

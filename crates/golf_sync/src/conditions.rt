@@ -76,8 +76,8 @@ fn await_at(
 }
 
 /// The goroutine in its turn waits on the condition that is its last operand: it unlocks the
-/// condition's mutex as its holder would, and blocks. Where the mutex is unlocked, that is a fatal
-/// error; it panics on nil, and where the mutex is nil.
+/// condition's mutex as its holder would, and blocks. If the mutex is unlocked, that is a fatal
+/// error; it panics on nil, and if the mutex is nil.
 pub fn cond_wait(alloc: Global, state: &mut State, acting: Acting) -> Result<Outcome, Memory>
     requires { Stands acting.goroutine.0 acting.after state.old }
     ensures ok { IfOk result (λ outcome. Comes outcome (λ a. awaits a state.old) acting.goroutine.0 acting.line state.old state.new) }
@@ -144,7 +144,7 @@ fn notify_with(
     Outcome::Done
 }
 
-// Waiters of a condition with this mutex are passed on, where anyone waits: the first one, or all.
+// Waiters of a condition with this mutex are passed on, if anyone waits: the first one, or all.
 fn notify_by(
     state: &mut State,
     acting: Acting,
@@ -201,8 +201,8 @@ fn notify(state: &mut State, acting: Acting, all: bool) -> Outcome
     }
 }
 
-/// The goroutine in its turn passes the first waiter on, where anyone waits on the condition that is
-/// its last operand: where the condition's mutex is unlocked, that becomes locked and the waiter
+/// The goroutine in its turn passes the first waiter on, if anyone waits on the condition that is
+/// its last operand: if the condition's mutex is unlocked, that becomes locked and the waiter
 /// runs; else the waiter waits for the mutex from now on. It panics on nil. It takes no memory.
 pub fn cond_signal(state: &mut State, acting: Acting) -> Outcome
     requires stands { Stands acting.goroutine.0 acting.after state.old }

@@ -91,7 +91,7 @@ fn wait_at(
     Ok(Outcome::Done)
 }
 
-/// The goroutine in its turn waits for the wait group that is its last operand: it goes on where the
+/// The goroutine in its turn waits for the wait group that is its last operand: it goes on if the
 /// counter is 0, and blocks else. It panics on nil.
 pub fn group_wait(alloc: Global, state: &mut State, acting: Acting) -> Result<Outcome, Memory>
     requires { Stands acting.goroutine.0 acting.after state.old }

@@ -38,7 +38,7 @@ fn lock_at(
     Ok(Outcome::Done)
 }
 
-/// The goroutine in its turn locks the mutex that is its last operand; it blocks where that is
+/// The goroutine in its turn locks the mutex that is its last operand; it blocks if that is
 /// locked, and panics on nil.
 #[inline(always)]
 pub fn lock(alloc: Global, state: &mut State, acting: Acting) -> Result<Outcome, Memory>
@@ -59,7 +59,7 @@ pub fn lock(alloc: Global, state: &mut State, acting: Acting) -> Result<Outcome,
     }
 }
 
-/// A mutex stays locked and its first waiter runs; where nobody waits it becomes unlocked. It takes
+/// A mutex stays locked and its first waiter runs; if nobody waits it becomes unlocked. It takes
 /// no memory.
 #[inline(always)]
 pub fn hand_over(state: &mut State, mutex: ObjectId, waiting: Option<Waiting>)

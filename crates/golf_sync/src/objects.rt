@@ -8,7 +8,7 @@ use golf_base::ObjectId;
 use golf_data::{Object, Value};
 use golf_state::State;
 
-/// Whether the mutex of this number is locked, where there is one.
+/// Whether the mutex of this number is locked, if there is one.
 #[inline(always)]
 pub fn mutex_at(state: &State, object: ObjectId) -> Option<bool>
     ensures { result ≡ mutex_of (find object.0 state.now.objects) }
@@ -24,7 +24,7 @@ pub fn mutex_at(state: &State, object: ObjectId) -> Option<bool>
     }
 }
 
-/// The counter of the wait group of this number, where there is one.
+/// The counter of the wait group of this number, if there is one.
 pub fn group_at(state: &State, object: ObjectId) -> Option<i64>
     ensures { result ≡ group_of (find object.0 state.now.objects) }
 {
@@ -39,7 +39,7 @@ pub fn group_at(state: &State, object: ObjectId) -> Option<i64>
     }
 }
 
-/// The count of the reader and writer mutex of this number, where there is one.
+/// The count of the reader and writer mutex of this number, if there is one.
 pub fn rw_at(state: &State, object: ObjectId) -> Option<i64>
     ensures { result ≡ rw_of (find object.0 state.now.objects) }
 {
@@ -54,7 +54,7 @@ pub fn rw_at(state: &State, object: ObjectId) -> Option<i64>
     }
 }
 
-/// The mutex of the condition of this number, where there is one.
+/// The mutex of the condition of this number, if there is one.
 pub fn condition_at(state: &State, object: ObjectId) -> Option<Value>
     ensures { result ≡ condition_of (find object.0 state.now.objects) }
 {

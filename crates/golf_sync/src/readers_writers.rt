@@ -38,7 +38,7 @@ fn readers(state: &State, rw: ObjectId, below: Option<u64>) -> Served
     Served::Readers(state.readers_next(rw, below) as i64, below)
 }
 
-// Whoever waits first gets the mutex, all readers where nobody waits to write.
+// Whoever waits first gets the mutex, all readers if nobody waits to write.
 fn next_served(state: &State, rw: ObjectId) -> Served
     ensures next { result ≡ next_in rw.0 state.now.goroutines (first rw.0 Side.Write state.now.goroutines) (first rw.0 Side.Read state.now.goroutines) }
     ensures blocked { IsBlockedIn state.now (first rw.0 Side.Write state.now.goroutines) }
@@ -107,7 +107,7 @@ fn write_lock_at(
 }
 
 /// The goroutine in its turn locks the reader and writer mutex that is its last operand for writing;
-/// it blocks where anyone holds it, and panics on nil.
+/// it blocks if anyone holds it, and panics on nil.
 pub fn rw_lock(alloc: Global, state: &mut State, acting: Acting) -> Result<Outcome, Memory>
     requires { Stands acting.goroutine.0 acting.after state.old }
     ensures ok { IfOk result (λ outcome. Comes outcome (λ a. write_locks a state.old) acting.goroutine.0 acting.line state.old state.new) }
@@ -144,7 +144,7 @@ fn write_unlock_at(state: &mut State, acting: Acting, rw: ObjectId) -> Outcome
 }
 
 /// The goroutine in its turn unlocks the reader and writer mutex that is its last operand, which a
-/// writer holds: whoever waits first gets it. Where no writer holds it, that is a fatal error, and
+/// writer holds: whoever waits first gets it. If no writer holds it, that is a fatal error, and
 /// it panics on nil. It takes no memory.
 pub fn rw_unlock(state: &mut State, acting: Acting) -> Outcome
     requires { Stands acting.goroutine.0 acting.after state.old }
@@ -197,7 +197,7 @@ fn read_lock_at(
 }
 
 /// The goroutine in its turn locks the reader and writer mutex that is its last operand for reading;
-/// it blocks where a writer holds it or waits for it, and panics on nil. More than 1,073,741,823
+/// it blocks if a writer holds it or waits for it, and panics on nil. More than 1,073,741,823
 /// readers are a fatal error.
 pub fn read_lock(alloc: Global, state: &mut State, acting: Acting) -> Result<Outcome, Memory>
     requires { Stands acting.goroutine.0 acting.after state.old }
@@ -241,7 +241,7 @@ fn read_unlock_at(state: &mut State, acting: Acting, rw: ObjectId) -> Outcome
 }
 
 /// The goroutine in its turn unlocks the reader and writer mutex that is its last operand, which
-/// readers hold: behind the last one whoever waits first gets it. Where no reader holds it, that is
+/// readers hold: after the last one whoever waits first gets it. If no reader holds it, that is
 /// a fatal error, and it panics on nil. It takes no memory.
 pub fn read_unlock(state: &mut State, acting: Acting) -> Outcome
     requires { Stands acting.goroutine.0 acting.after state.old }

@@ -1,4 +1,6 @@
--- An import or a declaration that is printed is read, in front of a semicolon.
+-- An import or a declaration that is printed is read, before a semicolon.
+-- For: `import_at`, src/imports.rt; `decl_at`, src/declarations.rt; the law `declarations_read`, src/laws.rt.
+-- By: cases of the kind of declaration; induction over the list of names that share a type.
 use Rattle.std.proofs.Common.{◌≡◌, inl, inr, ℕ, zero, suc, ◌≤◌, true, ◌&&◌, List, [], ◌∷◌, ◌++◌, length, map, refl, ap, sym, subst, ◌∙◌, append_assoc, arith}
 use Rattle.std.specs.Prelude.{Option, Some, None}
 use Rattle.std.specs.List.{list_all}
@@ -57,7 +59,7 @@ text-opens (t ∷ ts) x e = at t.kind e
     at (kinds.Text bytes) e = refl
     at _ e = cc
 
--- an import behind its word
+-- an import after its word
 pub import-complete : (i : Import) (ts rest : List Token) → Spelt (print_import i) ts rest → (t : Token) × (us : List Token) × (ts ≡ t ∷ us) × (t.kind ≡ kinds.Keyword keywords.Import) × (import_at t.line us ≡ Some (i, rest))
 unfolding import_at
 import-complete (imports.One l p) ts rest h =
@@ -130,7 +132,7 @@ names-read (m ∷ ms) (suc n) done ts rest le h c =
     ∙ names-read ms n (done ++ m ∷ []) b.0 rest (omega arith) b.2 c
     ∙ ap (λ xs. Some (xs, rest)) (append_assoc done (m ∷ []) ms)
 
--- a field is read where no dot follows
+-- a field is read if no dot follows
 field-complete : (x : Field) (ts rest : List Token) → field_good x ≡ true → Spelt (print_field x) ts rest → after punctuations.Dot rest ≡ None → field_at ts ≡ Some (x, rest)
 unfolding field_at names_at
 field-complete x ts rest good h dot =
@@ -187,7 +189,7 @@ receiver-read (Some r) n ws ts rest h =
       s.2,
     )
 
--- a result in front of a block
+-- a result before a block
 result-read : (o : Option TypeExpr) (b : List Stmt) (ts rest : List Token) → all_of (λ t. (type_form t).good) o ≡ true → Spelt (optional print_type o ++ print_block (map print_stmt b)) ts rest → (us : List Token) × (result_by ts (type_at OfType ts) ≡ (o, us)) × Spelt (print_block (map print_stmt b)) us rest
 result-read None b ts rest g h =
     let o = behind-punctuation punctuations.OpenBrace h in
@@ -216,12 +218,12 @@ func-read f us rest good h =
     ∙ ap (func_behind f.line f.receiver f.name f.parameters) t.1
     ∙ then (λ b. Some (d.Func (record { line = f.line; receiver = f.receiver; name = f.name; parameters = f.parameters; result = f.result; body = b.0 }), b.1)) (block_at t.0) (f.body, rest) (block-complete (List Stmt) f.body t.0 rest found k.1 t.2)
 
--- the word of a declaration, and what is read behind it
+-- the word of a declaration, and what is read after it
 declared : {ws : List Word} {ts rest : List Token} (l : ℕ) (k : Keyword) (x : Decl) → Spelt (on_line l (words.keyword k ∷ ws)) ts rest → ((us : List Token) → Spelt ws us rest → decl_from l k us ≡ Some (x, rest)) → decl_at ts ≡ Some (x, rest)
 unfolding decl_at
 declared l k x h goes = let f = first h in ap decl_at f.2 ∙ ap (λ n. decl_kind n f.0.kind f.1) f.4 ∙ ap (λ q. decl_kind l q f.1) f.3 ∙ goes f.1 f.5
 
--- a declaration that is printed is read, in front of a semicolon
+-- a declaration that is printed is read, before a semicolon
 pub decl-complete : (x : Decl) (ts rest behind : List Token) → decl_good x ≡ true → Spelt (print_decl x) ts rest → after punctuations.Semicolon rest ≡ Some behind → decl_at ts ≡ Some (x, rest)
 decl-complete (d.Const l n c) ts rest behind good h e = declared l keywords.Const (d.Const l n c) h (λ us w.
     let a = behind-name n w in

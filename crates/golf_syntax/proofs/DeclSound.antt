@@ -1,4 +1,6 @@
--- What is read is an import, or a declaration.
+-- What is read as an import or a declaration is a good one, and is printed as what was read.
+-- For: `import_at`, src/imports.rt; `decl_at`, src/declarations.rt; the law `declarations_found`, src/laws.rt.
+-- By: cases of the first token; induction over n, the names that may still be read.
 use Rattle.std.proofs.Common.{◌≡◌, ℕ, zero, suc, Bool, true, false, ◌&&◌, cond, List, [], ◌∷◌, ◌++◌, length, map, refl, ap, sym, subst, ◌∙◌, append_assoc}
 use Rattle.std.specs.Prelude.{Option, Some, None, codes}
 use Rattle.std.specs.List.{list_all}
@@ -73,7 +75,7 @@ text-sound (t ∷ ts) x e = at t.kind refl e
     at (kinds.Text bytes) is f = subst (λ (y : List ℕ × List Token). Spelt (text y.0) (t ∷ ts) y.1) (some-same (bytes, ts) x f) (kind-then t _ is nothing)
     at _ is f = cc
 
--- what is read behind the word is an import on its line
+-- what is read after the word is an import on its line
 pub import-sound : (t : Token) (ts : List Token) (x : Import × List Token) → t.kind ≡ kinds.Keyword keywords.Import → import_at t.line ts ≡ Some x → Spelt (print_import x.0) (t ∷ ts) x.1
 unfolding import_at
 import-sound t ts x is e = at (after punctuations.OpenParen ts) refl e
@@ -116,7 +118,7 @@ const-sound (t ∷ ts) x e = at t.kind refl e
     at (kinds.Punctuation m) is f = punctuation m is f
     at (kinds.Keyword k) is f = cc
 
--- more names, behind those that were read before
+-- more names, after those that were read before
 record More (done : List (List ℕ)) (ts : List Token) (x : List (List ℕ) × List Token) : Type 0 where
   others : List (List ℕ)
   are : x.0 ≡ done ++ others

@@ -1,4 +1,6 @@
--- A file is read exactly where a tree prints it; else the first broken segment is found.
+-- A file is read exactly if a tree prints it; else the first broken segment is found.
+-- For: `parse`, src/parser.rt; the law `one_reads`, src/laws.rt.
+-- By: induction over the list of imports, and over the list of declarations.
 use Rattle.std.proofs.Common.{◌≡◌, inl, inr, ℕ, Bool, true, false, ◌&&◌, List, [], ◌∷◌, ◌++◌, map, refl, ap, sym, subst, ◌∙◌}
 use Rattle.std.specs.Prelude.{Option, Some, None, Result, Ok, Err}
 use Rattle.std.specs.List.{list_all}
@@ -22,7 +24,7 @@ use Rattle.golf_syntax.specs.SegmentReading.{import_of, decl_of, is_package}
 use Rattle.golf_syntax.specs.Parses.{Parsed, Accepts, Refuses, NoImport, Imported, Declared, FirstLine}
 use Rattle.golf_syntax.specs.declared.parser.SyntaxFault.{SyntaxFault}
 use Rattle.golf_syntax.specs.declared.parser.SyntaxFault.TheVariants as faults
-use Rattle.golf_syntax.proofs.SegmentLaws.{import-found, import-read, decl-found, decl-read, no-import, no-decl, package-found, package-read, apart}
+use Rattle.golf_syntax.proofs.SegmentLaws.{import-found, import-read, decl-found, decl-read, no-import, no-decl, package-found, apart}
 
 -- no segment is empty
 no-empty-in-front : (t : Token) (b : Bool) (qs ps : List (List Token)) → before_segment b t qs ≡ [] ∷ ps → ⊥
@@ -70,9 +72,6 @@ all-more (y ∷ ys) x h k = let a = both (decl_good y) (list_all decl_good ys) h
 pub import-more : (xs : List Import) (x : Import) (ts left p rest : List Token) → Spells (closed (map print_import xs)) ts left → Cut left p rest → import_of p ≡ Some x → Spells (closed (map print_import (xs ++ x ∷ []))) ts rest
 import-more xs x ts left p rest h c e = one-more Import print_import xs x ts left p rest h c (import-found p x e)
 
-pub imports-over : (xs : List Import) (ts left : List Token) → Spells (closed (map print_import xs)) ts left → left ≡ [] → Imported ts xs left
-imports-over xs ts left h e = record { words = h; over = subst (λ us. NoImport (segments 0 us)) (sym e) tt }
-
 pub imports-end : (xs : List Import) (ts left p rest : List Token) → Spells (closed (map print_import xs)) ts left → Cut left p rest → import_of p ≡ None → Imported ts xs left
 imports-end xs ts left p rest h c e = record { words = h; over = subst NoImport (sym c.segments) (no-import p e) }
 
@@ -81,16 +80,10 @@ pub record Known (ts : List Token) (xs : List Decl) (left : List Token) : Type 0
   pub words : Spells (closed (map print_decl xs)) ts left
   pub good : list_all decl_good xs ≡ true
 
-pub none-known : (ts : List Token) → Known ts [] ts
-none-known ts = record { words = refl; good = refl }
-
 pub decl-more : (xs : List Decl) (x : Decl) (ts left p rest : List Token) → Known ts xs left → Cut left p rest → decl_of p ≡ Some x → Known ts (xs ++ x ∷ []) rest
 decl-more xs x ts left p rest h c e =
     let k = decl-found p x e in
     record { words = one-more Decl print_decl xs x ts left p rest h.words c k.0; good = all-more xs x h.good k.1 }
-
-pub decls-over : (xs : List Decl) (ts left : List Token) → Known ts xs left → left ≡ [] → Declared ts (Ok xs)
-decls-over xs ts left h e = (subst (Spells (closed (map print_decl xs)) ts) e h.words, h.good)
 
 breaks-behind : (xs : List Decl) (ts mid : List Token) (line : ℕ) → Spells (closed (map print_decl xs)) ts mid → list_all decl_good xs ≡ true → BreaksOn true (segments 0 mid) line → BreaksOn true (segments 0 ts) line
 breaks-behind [] ts mid line h good b = subst (λ us. BreaksOn true (segments 0 us) line) (sym h) b
@@ -111,7 +104,7 @@ decls-broken xs ts left p rest line h c e f =
     neither (inl i) = true-no-false i.1
     neither (inr x) = no-decl p e x
 
--- behind imports, the first segment that is no declaration is broken
+-- after imports, the first segment that is no declaration is broken
 not-declared : (ps : List (List Token)) (line : ℕ) → NoImport ps → BreaksOn true ps line → BreaksOn false ps line
 not-declared [] line n b = b
 not-declared (p ∷ ps) line n (inl b) = inl (neither, b.1)
@@ -152,7 +145,7 @@ file-unbroken f (p ∷ ps) line g k (inr e) = imports-unbroken f.imports f.decla
 pub unread : (ts : List Token) (line : ℕ) → FileBreaksOn (segments 0 ts) line → (f : File) → ReadsTokens ts f → ⊥
 unread ts line b f r = file-unbroken f (segments 0 ts) line r.form.good (files-are f ts r.prints) b
 
--- no token costs too much where a tree reads the tokens
+-- no token costs too much if a tree reads the tokens
 costs-none : (b : Bool) (o : Option ℕ) → Costs b o → b ≡ true → o ≡ None
 costs-none true o c e = c
 costs-none false o c e = cc
@@ -183,10 +176,6 @@ broken-on (t ∷ ts) line b = b
 
 broken : (ts : List Token) (line : ℕ) → first_too_complex no_counts ts ≡ None → FileBreaksOn (segments 0 ts) line → Parsed ts (Err (faults.At line))
 broken ts line c b = (unread ts line b, subst (λ o. FaultOn o ts line) (sym c) (broken-on ts line b))
-
-pub no-package : (ts p rest : List Token) (line : ℕ) → first_too_complex no_counts ts ≡ None → Cut ts p rest → is_package p ≡ false → FirstLine p line → Parsed ts (Err (faults.At line))
-no-package ts p rest line c cut other f =
-    broken ts line c (subst (λ ps. FileBreaksOn ps line) (sym cut.segments) (inl (λ k. true-no-false (sym (package-read p k) ∙ other), first-begins ts p rest line cut f)))
 
 no-decls : (ts p rest left : List Token) (is : List Import) (line : ℕ) → first_too_complex no_counts ts ≡ None → Cut ts p rest → is_package p ≡ true → Imported rest is left → Declared left (Err (faults.At line)) → Parsed ts (Err (faults.At line))
 no-decls ts p rest left is line c cut main i b =

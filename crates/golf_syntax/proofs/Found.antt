@@ -1,4 +1,6 @@
--- The laws of what is found and of what is read.
+-- The laws of what is found and of what is read, for imports and declarations.
+-- For: `imports_found`, `imports_read`, `declarations_found` and `declarations_read`, src/laws.rt.
+-- By: computing, from DeclSound.antt and DeclComplete.antt; no induction.
 use Rattle.golf_syntax.specs.Laws.{ImportsFound, ImportsRead, DeclsFound, DeclsRead}
 use Rattle.golf_syntax.proofs.DeclSound.{import-sound, decl-sound}
 use Rattle.golf_syntax.proofs.DeclComplete.{import-complete, decl-complete}

@@ -1,4 +1,6 @@
--- Items are read exactly where they are printed with separators between.
+-- Items are read exactly if they are printed with separators between.
+-- For: `list_at`, golf_syntax/specs/Many.antt.
+-- By: induction over n, the items that may still be read, and over the list of items that are printed.
 use Rattle.std.proofs.Common.{◌≡◌, ◌⊎◌, inl, inr, ℕ, zero, suc, ◌≤◌, Bool, true, List, [], ◌∷◌, ◌++◌, length, map, refl, ap, sym, subst, ◌∙◌, arith, append_assoc}
 use Rattle.std.specs.Prelude.{Option, Some, None}
 use Rattle.std.specs.List.{list_all}
@@ -19,7 +21,7 @@ module _ (A : Type 0) (item : Item A) (print : A → List Word) (good : A → Bo
     pub words : Spelt (print x.0) ts x.1
     pub good_item : good x.0 ≡ true
 
-  -- items in these tokens, up to those behind the closing punctuation mark
+  -- items in these tokens, up to those after the closing punctuation mark
   pub record AreItems (xs : List A) (ts rest : List Token) : Type 0 where
     pub words : Spelt (separated sep (map print xs) ++ words.punctuation close ∷ []) ts rest
     pub goods : list_all good xs ≡ true

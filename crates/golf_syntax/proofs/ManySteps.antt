@@ -1,4 +1,6 @@
 -- Lists of items and of names, read one item on.
+-- For: `many_at`, golf_syntax/specs/Many.antt; `names_at` and `fields_at`, src/fields.rt.
+-- By: induction over n, the items that may still be read.
 use Rattle.std.proofs.Common.{◌≡◌, ℕ, zero, suc, ◌≤◌, ◌<◌, List, [], ◌∷◌, ◌++◌, length, refl, ap, ◌∙◌, arith}
 use Rattle.std.specs.Prelude.{Option, Some, None}
 use Rattle.golf_lex_tokens.specs.declared.token.Token.{Token}
@@ -52,7 +54,7 @@ module _ (A : Type 0) (item : Item A) (sep close : Punctuation) (shrinks : Shrin
   pub many-step : (done : List A) (ts : List Token) → many_at item sep close done ts ≡ (item ts >>= λ x. many_behind close (done ++ x.0 ∷ []) x.1 (many_at item sep close (done ++ x.0 ∷ [])) (after sep x.1))
   many-step done ts = opened done ts ∙ step-found done ts (item ts) refl
 
-  -- nothing, the last item, and one with more behind it
+  -- nothing, the last item, and one with more after it
   pub many-none : (done : List A) (ts : List Token) → item ts ≡ None → many_at item sep close done ts ≡ None
   many-none done ts e = many-step done ts ∙ ap (λ o. o >>= λ x. many_behind close (done ++ x.0 ∷ []) x.1 (many_at item sep close (done ++ x.0 ∷ [])) (after sep x.1)) e
 
@@ -81,7 +83,7 @@ text-shrinks ts x e = spelt-within _ ts x.1 (text-sound ts x e)
 pub field-shrinks : Shrinks field_at
 field-shrinks ts x e = spelt-within _ ts x.1 (field-sound ts x e).words
 
--- names behind commas, behind those that were read before
+-- names after commas, after those that were read before
 unfoldable pub names_from : List (List ℕ) → List Token → Option (List (List ℕ) × List Token)
 names_from done ts = names_in (suc (length ts)) done ts
 

@@ -1,4 +1,6 @@
 -- Bytes lex as one list of tokens, and one tree reads it.
+-- For: the law `one_tree`, src/laws.rt.
+-- By: computing, from the laws that bytes lex once and that one tree reads tokens; no induction.
 use Rattle.std.proofs.Common.{subst}
 use Rattle.golf_syntax_trees.specs.Reads.{ReadsTokens}
 use Rattle.golf_lex.proofs.Scans.{lexes-once}

@@ -1,4 +1,6 @@
--- A segment is read as what it is.
+-- A segment is read as an import, a declaration or the package clause exactly if it is one.
+-- For: `import_of`, `decl_of` and `is_package`, src/parser.rt.
+-- By: cases of the first token; no induction.
 use Rattle.std.proofs.Common.{◌≡◌, ℕ, Bool, true, false, cond, List, [], ◌∷◌, refl, ap, sym, subst, ◌∙◌}
 use Rattle.std.specs.Prelude.{Option, Some, None, codes}
 use Rattle.std.specs.Str.{bytes_eq}
@@ -20,7 +22,7 @@ use Rattle.golf_syntax_trees.specs.Segments.{IsPackage, IsImport, IsDecl}
 use Rattle.golf_syntax_expressions.specs.Plan.{◌>>=◌}
 use Rattle.golf_syntax_expressions.specs.Front.{after, after_keyword, name_at}
 use Rattle.golf_syntax_expressions.proofs.Plans.{bind_some}
-use Rattle.golf_syntax_expressions.proofs.Fronts.{some-same, both, nothing, punctuation-then, keyword-then, name-then, behind-punctuation, behind-keyword, behind-name, ends}
+use Rattle.golf_syntax_expressions.proofs.Fronts.{some-same, both, nothing, punctuation-then, keyword-then, name-then, behind-punctuation, ends}
 use Rattle.golf_syntax_expressions.proofs.ExprFronts.{then}
 use Rattle.golf_syntax_segments.specs.Laws.{Ended}
 use Rattle.golf_syntax_segments.proofs.Spelling.{split, join}
@@ -122,12 +124,6 @@ package-named p (Some n) q f =
 
 pub package-found : (p : List Token) → is_package p ≡ true → IsPackage p
 package-found p e = package-named p (after_keyword keywords.Package p >>= name_at) refl e
-
-pub package-read : (p : List Token) → IsPackage p → is_package p ≡ true
-package-read p h =
-    let a = behind-keyword {ws = words.name (codes "main") ∷ semicolon} {ts = p} {rest = []} keywords.Package (record { are = h }) in
-    let b = behind-name {ws = semicolon} {ts = a.0} {rest = []} (codes "main") a.2 in
-    ap is_main (then name_at (after_keyword keywords.Package p) a.0 a.1 ∙ b.1) ∙ spelt-end b.0 b.2.are
 
 -- no segment is an import and a declaration
 abbrev decl_word : Decl → Keyword

@@ -36,7 +36,7 @@ abbrev pub import_by : ℕ → List Token → Option (List Token) → Option (Im
 import_by l ts None = text_at ts >>= λ p. Some (imports.One l p.0, p.1)
 import_by l ts (Some us) = list_at text_at punctuations.Semicolon punctuations.CloseParen us >>= λ ps. Some (imports.Group l ps.0, ps.1)
 
--- an import behind its word, which stands on this line
+-- an import after its word, which stands on this line
 unfoldable pub import_at : ℕ → List Token → Option (Import × List Token)
 import_at l ts = import_by l ts (after punctuations.OpenParen ts)
 
@@ -90,11 +90,11 @@ result_by ts (Some t) = (Some t.0, t.1)
 abbrev pub func_behind : ℕ → Option Receiver → List ℕ → List Field → Option TypeExpr × List Token → Option (Decl × List Token)
 func_behind l r n ps t = block_at t.1 >>= λ b. Some (d.Func (record { line = l; receiver = r; name = n; parameters = ps; result = t.0; body = b.0 }), b.1)
 
--- a function behind its receiver
+-- a function after its receiver
 abbrev pub func_named : ℕ → Option Receiver → List Token → Option (Decl × List Token)
 func_named l r ts = name_at ts >>= λ n. after punctuations.OpenParen n.1 >>= λ us. list_at field_at punctuations.Comma punctuations.CloseParen us >>= λ ps. func_behind l r n.0 ps.0 (result_by ps.1 (type_at OfType ps.1))
 
--- a function behind its word, which stands on this line
+-- a function after its word, which stands on this line
 unfoldable pub func_at : ℕ → List Token → Option (Decl × List Token)
 func_at l ts = receiver_by ts (after punctuations.OpenParen ts) >>= λ r. func_named l r.0 r.1
 

@@ -12,17 +12,17 @@ use Rattle.golf_syntax_trees.specs.Reads.{ReadsTokens, IsFaultOn}
 use Rattle.golf_syntax.specs.declared.parser.SyntaxFault.{SyntaxFault}
 use Rattle.golf_syntax.specs.declared.parser.SyntaxFault.TheVariants as faults
 
--- The tree that reads the tokens, or the line of the fault where none does; want of memory tells nothing.
+-- The tree that reads the tokens, or the line of the fault if none does; want of memory tells nothing.
 abbrev pub Parsed : List Token → Result File SyntaxFault → Type 0
 Parsed tokens (Ok file) = ReadsTokens tokens file
 Parsed tokens (Err (faults.At line)) = ((file : File) → ReadsTokens tokens file → ⊥) × IsFaultOn tokens line
 Parsed tokens (Err faults.Memory) = Unit {0}
 
--- where a tree reads the tokens, the answer is that tree, unless memory is wanting
+-- if a tree reads the tokens, the answer is that tree, unless memory runs out
 abbrev pub Accepts : List Token → Result File SyntaxFault → Type 0
 Accepts tokens result = (file : File) → ReadsTokens tokens file → (result ≡ Ok file) ⊎ (result ≡ Err faults.Memory)
 
--- where no tree does, the answer is the line of the fault, unless memory is wanting
+-- if no tree does, the answer is the line of the fault, unless memory runs out
 abbrev pub Refuses : List Token → Result File SyntaxFault → Type 0
 Refuses tokens result = ((file : File) → ReadsTokens tokens file → ⊥) → ((line : ℕ) × (result ≡ Err (faults.At line)) × IsFaultOn tokens line) ⊎ (result ≡ Err faults.Memory)
 

@@ -16,11 +16,11 @@ abbrev pub is_last : Option (List Token) → Bool
 is_last (Some []) = true
 is_last _ = false
 
--- a semicolon stands here, and nothing behind it
+-- a semicolon stands here, and nothing after it
 abbrev pub is_end : List Token → Bool
 is_end ts = is_last (after punctuations.Semicolon ts)
 
--- what was found, where the segment ends behind it
+-- what was found, if the segment ends after it
 abbrev pub alone : {A : Type 0} → A × List Token → Option A
 alone x = cond (is_end x.1) (Some x.0) None
 

@@ -5,12 +5,12 @@ ghost use Rattle.golf_syntax_expressions.specs.Front.{seen};
 ghost use Rattle.golf_syntax.specs.DeclReading as decl_spec;
 
 use golf_base::{List, Memory};
+use golf_lex_tokens::{Punctuation, Token, TokenKind};
 use golf_syntax_expressions::copied;
 use golf_syntax_trees::Const;
-use golf_lex_tokens::{Punctuation, Token, TokenKind};
 use std::alloc::Global;
 
-// An integer behind a `-`.
+// An integer after a `-`.
 fn negative_at(alloc: Global, tokens: &[Token]) -> Result<Option<(Const, &[Token])>, Memory>
     ensures value { IfOk result (λ o. seen o ≡ decl_spec.negative_at tokens.now) }
     ensures shorter { IfOk result (λ o. IfSome o (λ x. length x.1.now ≤ length tokens.now)) }

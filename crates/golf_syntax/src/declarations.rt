@@ -11,13 +11,13 @@ ghost use Rattle.golf_syntax.specs.DeclReading.{receiver_by, result_by};
 use crate::constants::const_at;
 use crate::fields::fields_at;
 use golf_base::{List, Memory};
-use golf_syntax_expressions::{after, after_keyword, copied, name_at, type_at};
-use golf_syntax_trees::{Decl, Field, Func, Name, OwnedDecl, OwnedType, Receiver};
-use golf_syntax_statements::{block_at, var_at};
 use golf_lex_tokens::{Keyword, Punctuation, Token, TokenKind};
+use golf_syntax_expressions::{after, after_keyword, copied, name_at, type_at};
+use golf_syntax_statements::{block_at, var_at};
+use golf_syntax_trees::{Decl, Field, Func, Name, OwnedDecl, OwnedType, Receiver};
 use std::alloc::Global;
 
-// A constant behind its word, which stands on this line.
+// A constant after its word, which stands on this line.
 fn const_decl(
     alloc: Global,
     line: u32,
@@ -39,7 +39,7 @@ fn const_decl(
     }
 }
 
-// A struct behind its word, which stands on this line.
+// A struct after its word, which stands on this line.
 fn struct_decl(
     alloc: Global,
     line: u32,
@@ -58,13 +58,18 @@ fn struct_decl(
         return Ok(None)
     };
     let name = copied(alloc, name)?;
-    match fields_at(alloc, Punctuation::Semicolon, Punctuation::CloseBrace, inside)? {
+    match fields_at(
+        alloc,
+        Punctuation::Semicolon,
+        Punctuation::CloseBrace,
+        inside,
+    )? {
         None => Ok(None),
         Some((fields, rest)) => Ok(Some((OwnedDecl::new(Decl::Struct(line, name, fields)), rest))),
     }
 }
 
-// `name *type_name)` behind the parenthesis.
+// `name *type_name)` after the parenthesis.
 fn named_receiver(
     alloc: Global,
     tokens: &[Token],
@@ -89,7 +94,7 @@ fn named_receiver(
     Ok(Some((Some(Receiver { name, type_name }), rest)))
 }
 
-// A receiver, or none where no parenthesis opens.
+// A receiver, or none if no parenthesis opens.
 fn receiver_at(
     alloc: Global,
     tokens: &[Token],
@@ -143,7 +148,7 @@ fn func_behind(
     }
 }
 
-// A function behind its receiver.
+// A function after its receiver.
 fn func_named(
     alloc: Global,
     line: u32,
@@ -166,7 +171,7 @@ fn func_named(
     }
 }
 
-// A function behind its word, which stands on this line.
+// A function after its word, which stands on this line.
 #[tactic(auto, unfolding(crate::specs::DeclReading::func_at))]
 fn func_at(
     alloc: Global,
@@ -182,7 +187,7 @@ fn func_at(
     }
 }
 
-// A variable behind its word, which stands on this line.
+// A variable after its word, which stands on this line.
 fn var_decl(
     alloc: Global,
     line: u32,
@@ -197,7 +202,7 @@ fn var_decl(
     }
 }
 
-// A declaration behind this word, which stands on this line.
+// A declaration after this word, which stands on this line.
 fn decl_from(
     alloc: Global,
     line: u32,

@@ -6,9 +6,9 @@ ghost use Rattle.golf_syntax.specs.Many.{list_at};
 ghost use Rattle.golf_syntax.specs.DeclReading as decl_spec;
 
 use golf_base::{List, Memory};
+use golf_lex_tokens::{Punctuation, Token};
 use golf_syntax_expressions::{after, copied, name_at, type_at};
 use golf_syntax_trees::{Field, Name};
-use golf_lex_tokens::{Punctuation, Token};
 use std::alloc::Global;
 
 // More names, each behind a comma.

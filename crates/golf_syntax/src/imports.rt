@@ -6,9 +6,9 @@ ghost use Rattle.golf_syntax.specs.Many.{list_at};
 ghost use Rattle.golf_syntax.specs.DeclReading as decl_spec;
 
 use golf_base::{List, Memory};
+use golf_lex_tokens::{Punctuation, Token, TokenKind};
 use golf_syntax_expressions::{after, copied};
 use golf_syntax_trees::Import;
-use golf_lex_tokens::{Punctuation, Token, TokenKind};
 use std::alloc::Global;
 
 // The path of an import.
@@ -50,7 +50,7 @@ fn texts_at(alloc: Global, tokens: &[Token]) -> Result<Option<(List<List<u8>>, &
     }
 }
 
-/// The import behind its word, which stands on this line, and what follows it.
+/// The import after its word, which stands on this line, and what follows it.
 #[tactic(auto, unfolding(crate::specs::DeclReading::import_at))]
 pub fn import_at(
     alloc: Global,

@@ -17,7 +17,7 @@ pub fn declarations_found()
     ensures { DeclsFound }
 {}
 
-/// A well-formed declaration that is printed in front of a semicolon is found.
+/// A well-formed declaration that is printed before a semicolon is found.
 pub fn declarations_read()
     ensures { DeclsRead }
 {}

@@ -8,19 +8,19 @@ ghost use Rattle.golf_syntax.specs.Parses.{Accepts, Declared, FirstLine, Importe
 use crate::declarations::decl_at;
 use crate::imports::import_at;
 use golf_base::{List, Memory};
-use golf_syntax_expressions::{after, after_keyword, name_at};
-use golf_syntax_trees::{File, Import, OwnedDecl, OwnedDecls};
-use golf_syntax_segments::{first_too_complex, front_segment};
 use golf_lex_tokens::{Keyword, Punctuation, Token, TokenKind};
+use golf_syntax_expressions::{after, after_keyword, name_at};
+use golf_syntax_segments::{first_too_complex, front_segment};
+use golf_syntax_trees::{File, Import, OwnedDecl, OwnedDecls};
 use std::alloc::Global;
 
 /// Why tokens are no file.
 #[derive(Clone, Copy, Debug, PartialEq, Eq)]
 pub enum SyntaxFault {
-    /// The line of the first token that costs more than 1,000. Where there is none: 1 for no tokens, and else the line on
+    /// The line of the first token that costs more than 1,000. If there is none: 1 for no tokens, and else the line on
     /// which the first broken segment begins.
     At { line: u32 },
-    /// Memory was wanting.
+    /// Out of memory.
     Memory,
 }
 
@@ -34,7 +34,7 @@ impl From<Memory> for SyntaxFault {
     }
 }
 
-// Whether a semicolon stands here, and nothing behind it.
+// Whether a semicolon stands here, and nothing after it.
 fn is_end(tokens: &[Token]) -> bool
     ensures { result ≡ segment_spec.is_end tokens.now }
 {
@@ -57,7 +57,7 @@ fn is_package(segment: &[Token]) -> bool
     }
 }
 
-// The import behind its word, which stands on this line, where the segment ends behind it.
+// The import after its word, which stands on this line, where the segment ends after it.
 fn import_behind(alloc: Global, line: u32, tokens: &[Token]) -> Result<Option<Import>, Memory>
     ensures { IfOk result (λ o. o ≡ import_by_word line (TokenKind.Keyword Keyword.Import) tokens.now) }
 {
@@ -108,7 +108,7 @@ fn first_line(tokens: &[Token]) -> u32
     }
 }
 
-// The imports in front, and the tokens behind them.
+// The imports in front, and the tokens after them.
 fn imports_of(alloc: Global, tokens: &[Token]) -> Result<(List<Import>, &[Token]), Memory>
     ensures { IfOk result (λ x. Imported tokens.now x.0 x.1.now) }
 {
@@ -175,12 +175,12 @@ fn file_of(alloc: Global, tokens: &[Token]) -> Result<File, SyntaxFault>
 ///
 /// # Errors
 ///
-/// `SyntaxFault::At` where no well-formed tree prints the tokens, and `SyntaxFault::Memory` where memory runs out, which
+/// `SyntaxFault::At` if no well-formed tree prints the tokens, and `SyntaxFault::Memory` if memory runs out, which
 /// no clause ties to a cause.
 pub fn parse(alloc: Global, tokens: &[Token]) -> Result<File, SyntaxFault>
     ensures answer { Parsed tokens.now result }
 
-    // Where a tree reads the tokens, the answer is that tree, and where none does, the line of the fault.
+    // If a tree reads the tokens, the answer is that tree, and if none does, the line of the fault.
     ensures accepts { Accepts tokens.now result }
     ensures refuses { Refuses tokens.now result }
 {

@@ -1,4 +1,6 @@
 -- An expression that is printed is read.
+-- For: `expr_at`, golf_syntax_expressions/specs/ExprReading.antt; the law `expressions_read`, src/laws.rt.
+-- By: induction over the tree of an expression, and over the list of its arguments, items or fields.
 use Rattle.std.proofs.Common.{◌≡◌, ℕ, suc, ◌≤◌, ◌<◌, Bool, true, false, not, ◌&&◌, ◌||◌, cond, List, [], ◌∷◌, ◌++◌, map, refl, ap, sym, subst, ◌∙◌, append_assoc, arith}
 use Rattle.std.specs.Prelude.{Option, Some, None, nat_le, nat_lt}
 use Rattle.std.specs.Str.{bytes_eq}
@@ -539,7 +541,7 @@ is_read = shape.each IsRead ElementRead integer text named grouped structed sync
     (λ a n ih. selected a n ih) (λ a b ih jh. indexed a b ih jh) (λ a ys ih. called a ys ih) (λ o a ih. prefixed-read o a ih) (λ o a b ih jh. binary-read o a b ih jh)
     (λ n a ih. (n, a, refl, ih))
 
--- an expression is read where nothing that follows goes on with it
+-- an expression is read if nothing that follows goes on with it
 pub expr-complete : (e : Expr) (header : Bool) (ts rest : List Token) → Stands header e ts rest → Quiet rest → expr_at (Level header 1) ts ≡ Some (e, rest)
 expr-complete e header ts rest s q =
     let hd = quiet-head rest q in

@@ -1,4 +1,6 @@
--- What stands in front of an expression, and behind it.
+-- Which token an expression starts with, and what may come after it.
+-- For: `start_at` and `suffix_at`, src/starts.rt; `binary_at`, src/operators.rt.
+-- By: cases of the first token and of the operator; no induction.
 use Rattle.std.proofs.Common.{◌≡◌, ℕ, ◌≤◌, ◌<◌, Bool, true, false, cond, List, ◌∷◌, refl, ap, ◌∙◌, arith}
 use Rattle.std.specs.Prelude.{Option, Some, None, nat_le}
 use Rattle.std.proofs.lemmas.Bool.Decides.{nat_tests}
@@ -20,7 +22,7 @@ use Rattle.golf_syntax_expressions.specs.Front.{after, after_kind}
 use Rattle.golf_syntax_expressions.specs.Operators.{unary_of, binary_of, punctuation_of, unary_at, binary_at}
 use Rattle.golf_syntax_expressions.specs.Starts.{start_from, start_at, call_behind, call_at, no_field, suffix_by, suffix_at}
 use Rattle.golf_syntax_expressions.specs.ExprReading.{Climb, expr_at}
-use Rattle.golf_syntax_expressions.proofs.Fronts.{Spelt, nothing, punctuation-then, first, not-after}
+use Rattle.golf_syntax_expressions.proofs.Fronts.{Spelt, first, not-after}
 use Rattle.golf_syntax_expressions.proofs.ExprSteps.{climb_by, grown_by, expr-Climb}
 
 pub le-true : (a b : ℕ) → a ≤ b → nat_le a b ≡ true
@@ -58,7 +60,7 @@ head-small ts = at (binary_at ts)
     at None = omega arith
     at (Some o) = (binds-some o.0).1
 
--- nothing that goes on with an expression stands in front
+-- nothing that goes on with an expression come first
 pub record Quiet (ts : List Token) : Type 0 where
   pub suffix : suffix_at ts ≡ None
   pub operator : binary_at ts ≡ None
@@ -81,10 +83,6 @@ quiet {ws} {ts} {rest} k ordinary h =
       suffix = no-suffix ts (not-after punctuations.Dot k (λ us. (ordinary us).0) h) (not-after punctuations.OpenBracket k (λ us. (ordinary us).1) h) (not-after punctuations.OpenParen k (λ us. (ordinary us).2) h);
       operator = b.1 ∙ (ordinary b.0).3;
     }
-
--- a punctuation mark that goes on with no expression
-pub quiet-punctuation : (m : Punctuation) (ts us : List Token) → ((qs : List Token) → (after_kind punctuations.Dot (kinds.Punctuation m) qs ≡ None) × (after_kind punctuations.OpenBracket (kinds.Punctuation m) qs ≡ None) × (after_kind punctuations.OpenParen (kinds.Punctuation m) qs ≡ None) × (binary_behind (kinds.Punctuation m) qs ≡ None)) → after m ts ≡ Some us → Quiet ts
-quiet-punctuation m ts us ordinary e = quiet (kinds.Punctuation m) ordinary (punctuation-then m ts e nothing)
 
 -- a binary operator in front
 operator-is : (o : BinaryOperator) (us : List Token) → binary_behind (kinds.Punctuation (binary_punctuation o)) us ≡ Some (o, us)

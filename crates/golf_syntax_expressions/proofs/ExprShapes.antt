@@ -1,4 +1,6 @@
--- What each kind of expression prints, and its form.
+-- What each kind of expression prints, and its form; and the induction over expressions that this gives.
+-- For: `print_expr` and `form`, golf_syntax_trees/specs/Expressions.antt.
+-- By: computing; `each` is induction over the tree of an expression.
 use Rattle.std.proofs.Common.{◌≡◌, ℕ, Bool, List, map, ap, sym, subst, ◌∙◌}
 use Rattle.golf_syntax_trees.specs.declared.types.TypeExpr.{TypeExpr}
 use Rattle.golf_syntax_trees.specs.declared.expressions.UnaryOperator.{UnaryOperator}

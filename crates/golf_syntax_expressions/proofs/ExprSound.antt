@@ -1,4 +1,6 @@
--- What is read is an expression.
+-- What is read is a good expression, and is printed as the tokens that were read.
+-- For: `expr_at`, golf_syntax_expressions/specs/ExprReading.antt; the law `expressions_found`, src/laws.rt.
+-- By: cases of the mode and of the next token; the induction, over how deep reading goes, is in Plans.antt.
 use Rattle.std.proofs.Common.{◌≡◌, ℕ, suc, ◌+◌, ◌*◌, ◌-◌, ◌≤◌, ◌<◌, Bool, true, false, not, ◌&&◌, ◌||◌, cond, List, [], ◌∷◌, ◌++◌, map, length, refl, ap, sym, subst, ◌∙◌, append_assoc, arith}
 use Rattle.std.specs.Prelude.{Option, Some, None, nat_le, nat_lt}
 use Rattle.std.specs.Str.{bytes_eq}
@@ -320,7 +322,7 @@ record MayGrow (header : Bool) (l : ℕ) (left : Expr) (ts : List Token) : Type 
   clear : (header && (form left).ampersand) ≡ false
   follows : head ts ≤ (form left).top
 
--- a list that was read, behind those that were read before, up to what closes it
+-- a list that was read, after those that were read before, up to what closes it
 record ListRead (close : Punctuation) (done : List Expr) (ts : List Token) (x : List Expr × List Token) : Type 0 where
   first : Expr
   more : List Expr
@@ -339,7 +341,7 @@ record ElementsRead (done : List Element) (ts : List Token) (x : List Element ×
   words : Spelt (separated punctuations.Comma (map print_element (first ∷ more))) ts mid
   closed : after punctuations.CloseBrace mid ≡ Some x.1
 
--- what is read behind something that was read before
+-- what is read after something that was read before
 abbrev Grows : (List Word) → List Token → (Bool → Type 0) → Expr × List Token → Type 0
 Grows ws ts good x = (header : Bool) (before : List Token) → Spelt ws before ts → good header → Spelt (print_expr x.0) before x.1 × Primary header x.0
 

@@ -1,4 +1,6 @@
 -- An expression is read as its plan says.
+-- For: `expr_at` and `expr_plan`, golf_syntax_expressions/specs/ExprReading.antt.
+-- By: cases of the mode and of the next token; the induction, over the size of what is left, is in Plans.antt.
 use Rattle.std.proofs.Common.{◌≡◌, ℕ, suc, ◌+◌, ◌*◌, ◌≤◌, ◌<◌, Bool, true, false, cond, List, [], ◌∷◌, ◌++◌, length, refl, ap, sym, subst, ◌∙◌, arith}
 use Rattle.std.specs.Prelude.{Option, Some, None, nat_le}
 use Rattle.std.specs.Str.{bytes_eq}
@@ -44,7 +46,7 @@ gap (Climb header l left) = 0
 gap (Items close done) = 1
 gap (Elements done) = 1
 
--- a plan behind a list of this length, which leaves so much less
+-- a plan after a list of this length, which leaves so much less
 abbrev Fits : {A : Type 0} → ℕ → ℕ → ℕ → ExprPlan A → Type 0
 Fits bound g all p = Within size gap bound g all p
 

@@ -1,4 +1,6 @@
--- The readers' laws, of what is found and of what is read.
+-- The readers' laws: what is found is printed so, and what is printed is read.
+-- For: `types_found`, `expressions_found`, `simples_read` and the other laws of src/laws.rt.
+-- By: cases of what the reader answers; no induction.
 use Rattle.golf_syntax_expressions.specs.Laws.{EndsExpr, TypesFound, TypesRead, ExpressionsFound, ExpressionsRead, OperandsFound, OperandsRead, SimplesFound, SimplesRead}
 use Rattle.std.proofs.Common.{List}
 use Rattle.golf_lex_tokens.specs.declared.token.Token.{Token}

@@ -1,4 +1,6 @@
--- What stands at the front, spelled out.
+-- Words that stand at the beginning of the tokens: joined, split, and read off one by one.
+-- For: `Spells`, golf_syntax_trees/specs/Words.antt; `after` and `name_at`, src/front.rt.
+-- By: induction over the list of words.
 use Rattle.std.proofs.Common.{◌≡◌, ℕ, suc, Bool, true, false, ◌&&◌, cond, List, [], ◌∷◌, ◌++◌, length, refl, ap, sym, subst, ◌∙◌, rules}
 use Rattle.std.specs.Prelude.{Option, Some, None, MatchOption}
 use denote.Enum.Bare.{same_true, true_same}

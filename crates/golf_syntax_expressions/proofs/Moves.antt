@@ -1,4 +1,6 @@
--- Reading goes on as the plan of an expression says.
+-- Reading goes on as the plan of an expression says, also if outer expressions wait for it.
+-- For: `read` and `resume`, src/expressions.rt; `waited`, golf_syntax_expressions/specs/Moves.antt.
+-- By: induction over the list of expressions that wait; else cases of the next token.
 use Rattle.std.proofs.Common.{◌≡◌, ℕ, ◌+◌, ◌≤◌, ◌<◌, arith, Bool, false, List, [], ◌∷◌, ◌++◌, length, refl, ap, sym, ◌∙◌}
 use Rattle.std.specs.Prelude.{Option, Some, None}
 use Rattle.golf_lex_tokens.specs.declared.token.Token.{Token}
@@ -40,7 +42,7 @@ pub waited-none : (fs : List Pending) → waited fs None ≡ None
 waited-none [] = refl
 waited-none (g ∷ fs) = ap (λ q. q >>= pending_at g) (waited-none fs)
 
--- an expression in brackets, with what stands behind
+-- an expression in brackets, with what stands after
 inside-goes : (close : Punctuation) (wrap : Expr → Expr) (ts : List Token) → (inside_by close wrap ts >>= λ y. suffixed y.0 y.1) ≡ (expr_at (Level false 1) ts >>= λ x. after close x.1 >>= suffixed (wrap x.0))
 inside-goes close wrap ts =
     bind-assoc (expr_at (Level false 1) ts) (λ x. after close x.1 >>= λ us. Some (wrap x.0, us)) (λ y. suffixed y.0 y.1)

@@ -1,4 +1,6 @@
--- Readers that ask only for less find what their plans say.
+-- Readers that ask only for less than they were given find what their plans say.
+-- For: `reads` and `run`, golf_syntax_expressions/specs/Plan.antt.
+-- By: induction over the plan, and over how deep reading may go.
 use Rattle.std.proofs.Common.{◌≡◌, ℕ, zero, suc, ◌+◌, ◌≤◌, ◌<◌, List, length, refl, ap, subst, ◌∙◌, arith}
 use Rattle.std.specs.Prelude.{Option, Some, None, MatchOption}
 use Rattle.golf_syntax_expressions.specs.Plan.{◌>>=◌, Plan, Done, Ask, run, reads, given}

@@ -1,4 +1,6 @@
--- A simple statement is read exactly where it is printed.
+-- A simple statement is read exactly if it is printed there.
+-- For: `kind_at`, src/simple.rt and golf_syntax_expressions/specs/SimpleReading.antt.
+-- By: cases of the kind of statement; by induction over the tree of an expression, it begins no definition.
 use Rattle.std.proofs.Common.{◌≡◌, ℕ, ◌≤◌, Bool, true, false, ◌&&◌, ◌||◌, List, [], ◌∷◌, ◌++◌, map, refl, ap, sym, subst, ◌∙◌}
 use Rattle.std.specs.Prelude.{Option, Some, None, nat_le}
 use Rattle.golf_lex_tokens.specs.declared.token.Token.{Token}
@@ -35,7 +37,7 @@ use Rattle.golf_syntax_expressions.proofs.Plans.{bind_some}
 use Rattle.golf_syntax_expressions.proofs.ExprSound.{IsAtLevel, expr-sound, prefixed-is-sound}
 use Rattle.golf_syntax_expressions.proofs.ExprComplete.{Stands, expr-complete, prefixed-complete}
 
--- where a name is in front, no `:=` and no comma is behind it
+-- if a name is in front, no `:=` and no comma is after it
 abbrev pub NameNotDefining : Option (List ℕ × List Token) → Type 0
 NameNotDefining None = Unit {0}
 NameNotDefining (Some n) = (after punctuations.Define n.1 ≡ None) × (after punctuations.Comma n.1 ≡ None)
@@ -43,7 +45,7 @@ NameNotDefining (Some n) = (after punctuations.Define n.1 ≡ None) × (after pu
 abbrev pub NotDefining : List Token → Type 0
 NotDefining ts = NameNotDefining (name_at ts)
 
--- an expression in front of neither of the two begins no definition
+-- an expression before neither of the two begins no definition
 abbrev pub BeginsNotDefining : Expr → Type 0
 BeginsNotDefining e = (ts rest : List Token) → Spelt (print_expr e) ts rest → after punctuations.Define rest ≡ None → after punctuations.Comma rest ≡ None → NotDefining ts
 
@@ -97,14 +99,14 @@ begins = shape.each BeginsNotDefining (λ x. Unit {0})
     ih ts w.0 w.1 (not-after punctuations.Define (kinds.Punctuation (binary_punctuation o)) (λ us. (no-define o us).0) w.2) (not-after punctuations.Comma (kinds.Punctuation (binary_punctuation o)) (λ us. (no-define o us).1) w.2)))
     (λ n a ih. tt)
 
--- what may stand behind a simple statement
+-- what may stand after a simple statement
 pub record Ends (ts : List Token) : Type 0 where
   pub quiet : Quiet ts
   pub follow : follow_at ts ≡ None
   pub define : after punctuations.Define ts ≡ None
   pub comma : after punctuations.Comma ts ≡ None
 
--- a statement whose first expression is in front of neither of the two
+-- a statement whose first expression is before neither of the two
 by-expression : (header : Bool) (e : Expr) (ts mid : List Token) → Stands header e ts mid → Quiet mid → after punctuations.Define mid ≡ None → after punctuations.Comma mid ≡ None → kind_at header ts ≡ behind_expr header e mid (follow_at mid)
 unfolding kind_at expression_at
 by-expression header e ts mid st q d c = at (name_at ts) (begins e ts mid st.spelt d c) ∙ then (λ x. behind_expr header x.0 x.1 (follow_at x.1)) (expr_at (Level header 1) ts) (e, mid) (expr-complete e header ts mid st q)
@@ -154,7 +156,7 @@ defined header n v ts rest good clear h en =
     ap (kind_by header ts) f.1 ∙ ap (λ o. behind_name header n ts o (after punctuations.Comma f.0)) d.1
     ∙ then (λ v. Some (s.Define n v.0, v.1)) (expr_at (Level header 1) d.0) (v, rest) (expr-complete v header d.0 rest (record { good = good; clear = clear; spelt = d.2 }) en.quiet)
 
--- a second name behind a comma
+-- a second name after a comma
 paired : (header : Bool) (n : List ℕ) (ts us vs : List Token) → name_at ts ≡ Some (n, us) → after punctuations.Define us ≡ None → after punctuations.Comma us ≡ Some vs → kind_at header ts ≡ pair_at header n vs
 unfolding kind_at
 paired header n ts us vs e d c = ap (kind_by header ts) e ∙ ap (λ o. behind_name header n ts o (after punctuations.Comma us)) d ∙ ap (λ o. behind_name header n ts None o) c
@@ -268,7 +270,7 @@ follow-sound (t ∷ ts) x e =
     (kind-then t (kinds.Punctuation (follow_punctuation b.0)) (punctuation-kind t.kind a.0 a.1 ∙ ap kinds.Punctuation (follow-punctuation a.0 b.0 b.1)) nothing)
 
 module _ (header : Bool) where
-  -- a second expression behind a punctuation mark
+  -- a second expression after a punctuation mark
   second-sound : (e : Expr) (m : Punctuation) (wrap : Expr → SimpleKind) (ts mid us : List Token) (x : SimpleKind × List Token) → IsAtLevel header 1 ts (e, mid) → Spelt (words.punctuation m ∷ []) mid us →
       ((v : Expr) → print_simple_kind (wrap v) ≡ print_expr e ++ words.punctuation m ∷ print_expr v) → ((v : Expr) → simple_form (wrap v) ≡ two e v) → second header wrap us ≡ Some x → IsSimple header ts x
   second-sound e m wrap ts mid us x k w p f is =

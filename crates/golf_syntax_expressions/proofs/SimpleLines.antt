@@ -1,4 +1,6 @@
--- A simple statement is read on its line exactly where it is printed there.
+-- A simple statement is read on its line exactly if it is printed there.
+-- For: `simple_at`, src/simple.rt; the laws `simples_found` and `simples_read`, src/laws.rt.
+-- By: cases of the kind of statement; by induction over the tree of an expression, no line is asked of it.
 use Rattle.std.proofs.Common.{◌≡◌, ℕ, Bool, true, false, ◌&&◌, List, [], ◌∷◌, ◌++◌, refl, ap, sym, subst, ◌∙◌}
 use Rattle.std.specs.Prelude.{Some, None}
 use Rattle.golf_lex_tokens.specs.declared.token.Token.{Token}

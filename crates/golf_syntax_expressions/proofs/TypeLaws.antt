@@ -1,4 +1,6 @@
 -- A type that is read is printed so, and a type that is printed is read.
+-- For: `type_at`, golf_syntax_expressions/specs/TypeReading.antt; the laws `types_found` and `types_read`, src/laws.rt.
+-- By: induction over the tree of a type; of what is read, cases of the token and the induction in Plans.antt.
 use Rattle.std.proofs.Common.{◌≡◌, ℕ, suc, Bool, true, false, not, ◌&&◌, cond, List, [], ◌∷◌, length, refl, ap, sym, subst, ◌∙◌}
 use Rattle.std.specs.Prelude.{Option, Some, None}
 use Rattle.std.specs.Str.{bytes_eq}
@@ -23,7 +25,7 @@ use Rattle.golf_syntax_expressions.proofs.Fronts.{some-same, both, found, Spelt,
 use Rattle.golf_syntax_expressions.proofs.TypeShapes as shape
 use Rattle.golf_syntax_expressions.proofs.TypeSteps.{type-starts}
 
--- whether an arrow stands in front
+-- whether an arrow come first
 abbrev ArrowIs : Bool → Option (List Token) → Type 0
 ArrowIs false o = o ≡ None
 ArrowIs true o = (us : List Token) × (o ≡ Some us)
@@ -130,7 +132,7 @@ pub type-sound : (ts : List Token) (x : TypeExpr × List Token) → type_at OfTy
 unfolding type_at
 type-sound ts x e = reads-keeps Token Mode Node type_plan Sound plan-sound (suc (length ts)) OfType ts x e
 
--- a type is read where no dot follows
+-- a type is read if no dot follows
 abbrev IsRead : TypeExpr → Type 0
 IsRead x = (type_form x).good ≡ true → (ts rest : List Token) → Spelt (print_type x) ts rest → after punctuations.Dot rest ≡ None → type_at OfType ts ≡ Some (x, rest)
 

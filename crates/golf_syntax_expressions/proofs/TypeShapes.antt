@@ -1,4 +1,6 @@
--- What each kind of type prints, and its form.
+-- What each kind of type prints, and its form; and the induction over types that this gives.
+-- For: `print_type` and `type_form`, golf_syntax_trees/specs/Types.antt.
+-- By: computing; `each` is induction over the tree of a type.
 use Rattle.std.proofs.Common.{◌≡◌, ℕ, List, ap, sym, subst, ◌∙◌}
 use Rattle.golf_syntax_trees.specs.declared.types.TypeExpr.{TypeExpr, roll-TypeExpr}
 use Rattle.golf_syntax_trees.specs.declared.types.TypeExpr.TheVariants.{Named, rolls-Named, Pointer, rolls-Pointer, SyncPointer, rolls-SyncPointer, Slice, rolls-Slice, Chan, rolls-Chan, SendChan, rolls-SendChan, ReceiveChan, rolls-ReceiveChan, EmptyStruct, rolls-EmptyStruct}

@@ -1,4 +1,6 @@
 -- A type is read as its first token says.
+-- For: `type_at` and `type_plan`, golf_syntax_expressions/specs/TypeReading.antt.
+-- By: cases of the first token; the induction, over the tokens that are left, is in Plans.antt.
 use Rattle.std.proofs.Common.{◌≡◌, ℕ, suc, ◌≤◌, ◌<◌, Bool, true, false, cond, List, [], ◌∷◌, length, refl, ap, ◌∙◌, arith}
 use Rattle.std.specs.Prelude.{Option, Some, None}
 use Rattle.std.specs.Str.{bytes_eq}

@@ -76,7 +76,7 @@ climb_plan header l left ts None = just left ts
 climb_plan header l left ts (Some o) =
     cond (nat_le l (binds o.0)) (Ask (Level header (suc (binds o.0))) o.1 (λ right. Ask (Climb header l (ex.Binary o.0 left right.0)) right.1 found)) (just left ts)
 
--- behind an item: a comma and more, or what closes the list
+-- after an item: a comma and more, or what closes the list
 abbrev pub items_behind : Punctuation → List Expr → List Token → Option (List Token) → ExprPlan (List Expr)
 items_behind close done ts (Some us) = Ask (Items close done) us found
 items_behind close done ts None = given (after close ts) (just done)
@@ -102,7 +102,7 @@ expr_plan (Climb header l left) ts = climb_plan header l left ts (binary_at ts)
 expr_plan (Items close done) ts = Ask (Level false 1) ts (λ x. items_behind close (done ++ x.0 ∷ []) x.1 (after punctuations.Comma x.1))
 expr_plan (Elements done) ts = elements_plan done ts
 
--- a mode asks only for those of lower rank where it has taken no token
+-- a mode asks only for those of lower rank if it has taken no token
 abbrev pub rank : Mode → ℕ
 rank (Finish s) = 5
 rank (Extend base s) = 5

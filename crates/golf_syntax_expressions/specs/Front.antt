@@ -43,6 +43,6 @@ abbrev pub name_at : List Token → Option (List ℕ × List Token)
 name_at [] = None
 name_at (t ∷ ts) = name_of t.kind ts
 
--- what a reader found, with the tokens behind it
+-- what a reader found, with the tokens after it
 abbrev pub seen : {A : Type 0} → Option (A × Bor (List Token)) → Option (A × List Token)
 seen found = option_map (λ x. (x.0, x.1.now)) found

@@ -25,22 +25,22 @@ use Rattle.golf_syntax_expressions.specs.ExprReading.{Suffixes, Prefixed, Level,
 abbrev pub Found : Type 0
 Found = Option (Expr × List Token)
 
--- what is found where this is read next
+-- what is found if this is read next
 abbrev pub goal_at : Goal → List Token → Found
 goal_at (goals.Level header l) ts = expr_at (Level header l) ts
 goal_at (goals.Prefixed header) ts = expr_at (Prefixed header) ts
 goal_at (goals.Suffixes base) ts = expr_at (Suffixes base) ts
 goal_at (goals.Climb header l left) ts = expr_at (Climb header l left) ts
 
--- what is found with all that stands behind an operand
+-- what is found with all that stands after an operand
 abbrev pub suffixed : Expr → List Token → Found
 suffixed base ts = expr_at (Suffixes base) ts
 
--- what is found behind an operand that ends with this punctuation mark
+-- what is found after an operand that ends with this punctuation mark
 abbrev pub closed_at : Punctuation → Expr → List Token → Found
 closed_at close base ts = after close ts >>= suffixed base
 
--- behind an argument, an item or the value of an element: a comma and more, or what closes the list
+-- after an argument, an item or the value of an element: a comma and more, or what closes the list
 abbrev pub argument_at : Expr → List Expr → List Token → Option (List Token) → Found
 argument_at f done ts (Some us) = expr_at (Items punctuations.CloseParen done) us >>= λ y. suffixed (ex.Call f y.0) y.1
 argument_at f done ts None = closed_at punctuations.CloseParen (ex.Call f done) ts
@@ -65,7 +65,7 @@ pending_at (pendings.Prefix o) x = Some (ex.Unary o x.0, x.1)
 pending_at (pendings.Level header l) x = expr_at (Climb header l x.0) x.1
 pending_at (pendings.Operand header l left o) x = expr_at (Climb header l (ex.Binary o left x.0)) x.1
 
--- what is found where reading goes on so
+-- what is found if reading goes on so
 abbrev pub move_at : Move → List Token → Found
 move_at (moves.Found e) ts = Some (e, ts)
 move_at (moves.Seek a) ts = goal_at a ts
@@ -79,7 +79,7 @@ abbrev pub waited : List Pending → Found → Found
 waited [] o = o
 waited (f ∷ fs) o = waited fs o >>= pending_at f
 
--- what is found behind how an operand begins
+-- what is found after how an operand begins
 abbrev pub field_at : List ℕ → List Element → List Token → Found
 field_at n done ts = name_at ts >>= λ m. after punctuations.Colon m.1 >>= λ us. expr_at (Level false 1) us >>= pending_at (pendings.Element n done m.0)
 
@@ -90,7 +90,7 @@ started_at (starts.Sized t) ts = expr_at (Level false 1) ts >>= pending_at (pend
 started_at (starts.Items t) ts = expr_at (Level false 1) ts >>= pending_at (pendings.Item t [])
 started_at (starts.Elements n) ts = field_at n [] ts
 
--- what is found behind an operand and its next suffix
+-- what is found after an operand and its next suffix
 abbrev pub extended_at : Expr → Suffix → List Token → Found
 extended_at base (suffixes.Field n) ts = suffixed (ex.Selector base n) ts
 extended_at base suffixes.Index ts = expr_at (Level false 1) ts >>= pending_at (pendings.Index base)

@@ -10,7 +10,7 @@ pub data Plan (Token Mode : Type 0) (Node : Mode → Type 0) (A : Type 0) : Type
   Done : Option (A × List Token) → Plan Token Mode Node A
   Ask : (m : Mode) → List Token → (Node m × List Token → Plan Token Mode Node A) → Plan Token Mode Node A
 
--- what a plan finds where the asked find what `answer` says
+-- what a plan finds if the asked find what `answer` says
 abbrev pub run : {Token Mode : Type 0} {Node : Mode → Type 0} {A : Type 0} → ((m : Mode) → List Token → Option (Node m × List Token)) → Plan Token Mode Node A → Option (A × List Token)
 run answer (Done found) = found
 run answer (Ask m ts more) = answer m ts >>= λ x. run answer (more x)

@@ -18,7 +18,7 @@ use Rattle.golf_syntax_expressions.specs.ExprReading.{Level, Prefixed, expr_at}
 abbrev pub Found : Type 0
 Found = Option (SimpleKind × List Token)
 
--- what a punctuation mark behind the first expression of a simple statement begins
+-- what a punctuation mark after the first expression of a simple statement begins
 abbrev pub follow_of : Punctuation → Option Follow
 follow_of punctuations.Arrow = Some follows.Sends
 follow_of punctuations.Increment = Some follows.Increments
@@ -54,7 +54,7 @@ behind_expr header e ts (Some f) = followed header e f.0 f.1
 unfoldable pub expression_at : Bool → List Token → Found
 expression_at header ts = expr_at (Level header 1) ts >>= λ e. behind_expr header e.0 e.1 (follow_at e.1)
 
--- `<-channel` behind two names
+-- `<-channel` after two names
 abbrev pub received : Bool → (Expr → SimpleKind) → List Token → Found
 received header wrap ts = after punctuations.Arrow ts >>= λ us. expr_at (Prefixed header) us >>= λ c. Some (wrap c.0, c.1)
 
@@ -62,11 +62,11 @@ abbrev pub behind_names : Bool → List ℕ → List ℕ → List Token → Opti
 behind_names header n m ts (Some us) = received header (s.DefineReceived n m) us
 behind_names header n m ts None = after punctuations.Assign ts >>= received header (s.AssignReceived n m)
 
--- `, ok := <-channel` or `, ok = <-channel` behind a name
+-- `, ok := <-channel` or `, ok = <-channel` after a name
 unfoldable pub pair_at : Bool → List ℕ → List Token → Found
 pair_at header n ts = name_at ts >>= λ m. behind_names header n m.0 m.1 (after punctuations.Define m.1)
 
--- what stands behind a first name: `:=`, a comma, or an expression that begins with it
+-- what stands after a first name: `:=`, a comma, or an expression that begins with it
 abbrev pub behind_name : Bool → List ℕ → List Token → Option (List Token) → Option (List Token) → Found
 behind_name header n ts (Some us) comma = second header (s.Define n) us
 behind_name header n ts None (Some us) = pair_at header n us

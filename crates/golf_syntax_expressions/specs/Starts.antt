@@ -1,4 +1,4 @@
--- How operands begin, and what may stand behind them.
+-- How operands begin, and what may stand after them.
 use Rattle.std.specs.Prelude.{ℕ, Bool, cond, List, [], ◌∷◌, Option, Some, None}
 use Rattle.std.specs.Str.{bytes_eq}
 use Rattle.golf_lex_tokens.specs.declared.token.Token.{Token}
@@ -28,7 +28,7 @@ Started = Option (Start × List Token)
 abbrev pub whole : Expr → List Token → Started
 whole x ts = Some (starts.Whole x, ts)
 
--- `(T)` or `(T,` behind `make`
+-- `(T)` or `(T,` after `make`
 abbrev pub make_behind : TypeExpr → List Token → Option (List Token) → Started
 make_behind t ts (Some us) = Some (starts.Sized t, us)
 make_behind t ts None = after punctuations.CloseParen ts >>= whole (ex.Make t)
@@ -36,7 +36,7 @@ make_behind t ts None = after punctuations.CloseParen ts >>= whole (ex.Make t)
 unfoldable pub make_start : List Token → Started
 make_start ts = after punctuations.OpenParen ts >>= λ us. type_at OfType us >>= λ x. make_behind x.0 x.1 (after punctuations.Comma x.1)
 
--- `(T)` or `(sync.T)` behind `new`
+-- `(T)` or `(sync.T)` after `new`
 abbrev pub new_sync : List ℕ → List Token → Started
 new_sync n ts = cond (bytes_eq n sync) (name_at ts >>= λ m. after punctuations.CloseParen m.1 >>= whole (ex.NewSync m.0)) None
 
@@ -47,11 +47,11 @@ new_behind n ts None = after punctuations.CloseParen ts >>= whole (ex.New n)
 unfoldable pub new_start : List Token → Started
 new_start ts = after punctuations.OpenParen ts >>= λ us. name_at us >>= λ n. new_behind n.0 n.1 (after punctuations.Dot n.1)
 
--- `{}{}` behind `struct`
+-- `{}{}` after `struct`
 unfoldable pub empty_start : List Token → Started
 empty_start ts = after punctuations.OpenBrace ts >>= λ a. after punctuations.CloseBrace a >>= λ b. after punctuations.OpenBrace b >>= λ c. after punctuations.CloseBrace c >>= whole ex.EmptyLiteral
 
--- `]T{` or `]T{}` behind `[`
+-- `]T{` or `]T{}` after `[`
 abbrev pub slice_behind : TypeExpr → List Token → Option (List Token) → Started
 slice_behind t ts (Some us) = whole (ex.SliceLiteral t []) us
 slice_behind t ts None = Some (starts.Items t, ts)
@@ -59,11 +59,11 @@ slice_behind t ts None = Some (starts.Items t, ts)
 unfoldable pub slice_start : List Token → Started
 slice_start ts = after punctuations.CloseBracket ts >>= λ us. type_at OfType us >>= λ x. after punctuations.OpenBrace x.1 >>= λ vs. slice_behind x.0 vs (after punctuations.CloseBrace vs)
 
--- `T{}` behind `&sync.`
+-- `T{}` after `&sync.`
 unfoldable pub sync_start : List ℕ → List Token → Started
 sync_start n ts = cond (bytes_eq n sync) (name_at ts >>= λ m. after punctuations.OpenBrace m.1 >>= λ us. after punctuations.CloseBrace us >>= whole (ex.SyncLiteral m.0)) None
 
--- `T{`, `T{}` or `sync.T{}` behind `&`
+-- `T{`, `T{}` or `sync.T{}` after `&`
 abbrev pub struct_behind : List ℕ → List Token → Option (List Token) → Started
 struct_behind n ts (Some us) = whole (ex.StructLiteral n []) us
 struct_behind n ts None = Some (starts.Elements n, ts)
@@ -117,6 +117,6 @@ abbrev pub suffix_by : List Token → Option (List Token) → Option (Suffix × 
 suffix_by ts (Some us) = name_at us >>= λ n. Some (suffixes.Field n.0, n.1)
 suffix_by ts None = no_field ts (after punctuations.OpenBracket ts)
 
--- what stands behind an operand
+-- what stands after an operand
 unfoldable pub suffix_at : List Token → Option (Suffix × List Token)
 suffix_at ts = suffix_by ts (after punctuations.Dot ts)

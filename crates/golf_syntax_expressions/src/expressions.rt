@@ -14,8 +14,8 @@ use crate::pending::{Goal, Move, Pending};
 use crate::place::{Place, in_header};
 use crate::starts::{Start, Suffix, start_at, suffix_at};
 use golf_base::{List, Memory};
-use golf_syntax_trees::{Name, OwnedElements, OwnedExpr, OwnedExprs, OwnedType};
 use golf_lex_tokens::{Punctuation, Token};
+use golf_syntax_trees::{Name, OwnedElements, OwnedExpr, OwnedExprs, OwnedType};
 use std::alloc::Global;
 
 // An expression inside brackets.
@@ -45,7 +45,7 @@ fn field_move(
     Ok(Some((inside(Pending::Element(name, done, field)), valued)))
 }
 
-// Behind the beginning of an operand.
+// After the beginning of an operand.
 fn start_move(
     alloc: Global,
     start: Start,
@@ -66,7 +66,7 @@ fn start_move(
     }
 }
 
-// Behind one suffix more.
+// After one suffix more.
 fn suffix_move(
     alloc: Global,
     base: OwnedExpr,
@@ -119,7 +119,7 @@ fn prefixed_move(
     }
 }
 
-// What stands behind an operand.
+// What stands after an operand.
 #[tactic(auto, using(crate::proofs::Moves::suffixes_steps))]
 fn suffixes_move(
     alloc: Global,
@@ -177,7 +177,7 @@ fn goal_move(
     }
 }
 
-// Behind an argument: a comma and more, or the closing parenthesis.
+// After an argument: a comma and more, or the closing parenthesis.
 #[tactic(auto, using(crate::proofs::Moves::resume_steps))]
 fn argument_move(
     alloc: Global,
@@ -200,7 +200,7 @@ fn argument_move(
     }
 }
 
-// Behind an item of a slice literal: a comma and more, or the closing brace.
+// After an item of a slice literal: a comma and more, or the closing brace.
 #[tactic(auto, using(crate::proofs::Moves::resume_steps))]
 fn item_move(element: OwnedType, done: OwnedExprs, tokens: &[Token]) -> Option<(Move, &[Token])>
     ensures value { moves_spec.moved result ≡ item_at element done tokens.now (front_spec.after Punctuation.Comma tokens.now) }
@@ -218,7 +218,7 @@ fn item_move(element: OwnedType, done: OwnedExprs, tokens: &[Token]) -> Option<(
     }
 }
 
-// Behind an element of a struct literal: a comma and more, or the closing brace.
+// After an element of a struct literal: a comma and more, or the closing brace.
 #[tactic(auto, using(crate::proofs::Moves::resume_steps))]
 fn element_move(
     alloc: Global,
@@ -241,7 +241,7 @@ fn element_move(
     }
 }
 
-// Behind an expression in brackets that stands for itself: what closes them.
+// After an expression in brackets that stands for itself: what closes them.
 fn closed_move(close: Punctuation, whole: OwnedExpr, tokens: &[Token]) -> Option<(Move, &[Token])>
     ensures value { moves_spec.moved result ≡ closed_at close whole tokens.now }
     ensures less { IfSome result (λ x. weight x.0 + 8 * length x.1.now < 8 * length tokens.now) }
@@ -264,7 +264,11 @@ fn resume(
 {
     match pending {
         Pending::Group => {
-            Ok(closed_move(Punctuation::CloseParen, OwnedExpr::parens(alloc, found)?, tokens))
+            Ok(closed_move(
+                Punctuation::CloseParen,
+                OwnedExpr::parens(alloc, found)?,
+                tokens,
+            ))
         }
         Pending::Sized(made) => {
             Ok(closed_move(
@@ -357,7 +361,7 @@ pub(crate) fn level_at(
     read(alloc, Goal::Level(header, lowest), tokens)
 }
 
-// An operand with the operators in front of it, and what follows it; in a header, where that is true.
+// An operand with the operators before it, and what follows it; in a header, where that is true.
 #[tactic(auto, using(crate::proofs::Moves::shorter_steps))]
 pub(crate) fn prefixed_at(
     alloc: Global,
@@ -382,7 +386,7 @@ pub fn expression_at(
     level_at(alloc, in_header(place), 1, tokens)
 }
 
-/// The operand at the front with the operators in front of it, outside headers, and what follows it.
+/// The operand at the front with the operators before it, outside headers, and what follows it.
 pub fn operand_at(alloc: Global, tokens: &[Token]) -> Result<Option<(OwnedExpr, &[Token])>, Memory>
     ensures value { IfOk result (λ o. seen o ≡ expr_at (Prefixed false) tokens.now) }
     ensures shorter { IfOk result (λ o. IfSome o (λ x. length x.1.now < length tokens.now)) }

@@ -15,7 +15,11 @@ pub fn after(tokens: &[Token], punctuation: Punctuation) -> Option<&[Token]>
     match tokens.split_first() {
         None => None,
         Some((first, rest)) => match &first.kind {
-            TokenKind::Punctuation(found) => if *found == punctuation { Some(rest) } else { None },
+            TokenKind::Punctuation(found) => if *found == punctuation {
+                Some(rest)
+            } else {
+                None
+            },
             _ => None,
         },
     }

@@ -7,7 +7,7 @@ pub fn types_found()
     ensures { TypesFound }
 {}
 
-/// A well-formed type that is printed is found, where no dot follows.
+/// A well-formed type that is printed is found, if no dot follows.
 pub fn types_read()
     ensures { TypesRead }
 {}
@@ -17,7 +17,7 @@ pub fn expressions_found()
     ensures { ExpressionsFound }
 {}
 
-/// A well-formed expression that is printed is found, where nothing goes on with it.
+/// A well-formed expression that is printed is found, if nothing goes on with it.
 pub fn expressions_read()
     ensures { ExpressionsRead }
 {}
@@ -27,7 +27,7 @@ pub fn operands_found()
     ensures { OperandsFound }
 {}
 
-/// Such an operand that is printed is found, where nothing goes on with it.
+/// Such an operand that is printed is found, if nothing goes on with it.
 pub fn operands_read()
     ensures { OperandsRead }
 {}
@@ -37,7 +37,7 @@ pub fn simples_found()
     ensures { SimplesFound }
 {}
 
-/// A well-formed simple statement that is printed is found, where nothing goes on with it.
+/// A well-formed simple statement that is printed is found, if nothing goes on with it.
 pub fn simples_read()
     ensures { SimplesRead }
 {}

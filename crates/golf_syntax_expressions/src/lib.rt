@@ -2,7 +2,7 @@
 //!
 //! Each call finds what the list begins with, and what follows it. `specs/` says what that is by the first tokens;
 //! `laws` says that it is what the grammar prints: what is found is well formed and printed there, and what is printed
-//! is found, where nothing behind it goes on with it.
+//! is found, if nothing after it goes on with it.
 #![tactic(auto)]
 
 mod expressions;

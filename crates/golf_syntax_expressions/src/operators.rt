@@ -6,8 +6,8 @@ ghost use Rattle.golf_syntax_expressions.specs.Front.{seen};
 ghost use Rattle.golf_syntax_expressions.specs.Operators as operators_spec;
 ghost use Rattle.golf_syntax_expressions.specs.Operators.{unary_of, binary_of};
 
-use golf_syntax_trees::{BinaryOperator, UnaryOperator};
 use golf_lex_tokens::{Punctuation, Token, TokenKind};
+use golf_syntax_trees::{BinaryOperator, UnaryOperator};
 
 // How tightly an operator binds.
 pub fn binds(operator: BinaryOperator) -> u8

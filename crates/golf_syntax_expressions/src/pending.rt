@@ -9,15 +9,15 @@ use golf_syntax_trees::{
 pub enum Goal {
     /// an expression whose operators bind at least so tightly; in a header, where the first is true
     Level(bool, u8),
-    /// an operand with the operators in front of it; in a header, where it is true
+    /// an operand with the operators before it; in a header, where it is true
     Prefixed(bool),
-    /// what stands behind an operand
+    /// what stands after an operand
     Suffixes(OwnedExpr),
-    /// operators that bind at least so tightly, behind their left operand
+    /// operators that bind at least so tightly, after their left operand
     Climb(bool, u8, OwnedExpr),
 }
 
-/// What waits for an expression: what stands in front of it.
+/// What waits for an expression: what stands before it.
 #[derive(Drop)]
 pub enum Pending {
     /// `(`

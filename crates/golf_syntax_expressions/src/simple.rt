@@ -10,13 +10,13 @@ use crate::expressions::{level_at, prefixed_at};
 use crate::front::{after, copied, name_at};
 use crate::place::{Place, in_header};
 use golf_base::Memory;
+use golf_lex_tokens::{Punctuation, Token, TokenKind};
 use golf_syntax_trees::{
     Name, OwnedExpr, OwnedSimple, OwnedSimpleKind, Simple, SimpleKind, UpdateOperator,
 };
-use golf_lex_tokens::{Punctuation, Token, TokenKind};
 use std::alloc::Global;
 
-/// What stands behind the first expression of a simple statement.
+/// What stands after the first expression of a simple statement.
 #[derive(Drop)]
 pub enum Follow {
     Sends,
@@ -60,7 +60,7 @@ fn follow_at(tokens: &[Token]) -> Option<(Follow, &[Token])>
     }
 }
 
-// `<- value` behind a channel.
+// `<- value` after a channel.
 fn sent(
     alloc: Global,
     header: bool,
@@ -79,7 +79,7 @@ fn sent(
     }
 }
 
-// `= value` behind a place.
+// `= value` after a place.
 fn assigned(
     alloc: Global,
     header: bool,
@@ -98,7 +98,7 @@ fn assigned(
     }
 }
 
-// `+= value` and its like behind a place.
+// `+= value` and its like after a place.
 fn updated(
     alloc: Global,
     header: bool,
@@ -118,7 +118,7 @@ fn updated(
     }
 }
 
-// What stands behind the first expression.
+// What stands after the first expression.
 fn followed(
     alloc: Global,
     header: bool,
@@ -163,7 +163,7 @@ fn expression_at(
     }
 }
 
-// `<-channel` behind two names and `:=`.
+// `<-channel` after two names and `:=`.
 fn defined_pair(
     alloc: Global,
     header: bool,
@@ -186,7 +186,7 @@ fn defined_pair(
     }
 }
 
-// `<-channel` behind two names and `=`.
+// `<-channel` after two names and `=`.
 fn assigned_pair(
     alloc: Global,
     header: bool,
@@ -209,7 +209,7 @@ fn assigned_pair(
     }
 }
 
-// `, ok := <-channel` or `, ok = <-channel` behind a name and its comma.
+// `, ok := <-channel` or `, ok = <-channel` after a name and its comma.
 #[tactic(auto, unfolding(crate::specs::SimpleReading::pair_at))]
 fn pair_at(
     alloc: Global,
@@ -233,7 +233,7 @@ fn pair_at(
     }
 }
 
-// `:= value` behind a name.
+// `:= value` after a name.
 fn defined(
     alloc: Global,
     header: bool,

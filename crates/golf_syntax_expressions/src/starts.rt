@@ -1,4 +1,4 @@
-//! How operands begin, and what may stand behind them.
+//! How operands begin, and what may stand after them.
 
 ghost use Rattle.std.specs.Prelude.{◌≡◌, ◌<◌, ◌≤◌, length, IfOk, IfSome};
 ghost use Rattle.golf_syntax_expressions.specs.Front.{seen};
@@ -7,8 +7,8 @@ ghost use Rattle.golf_syntax_expressions.specs.Starts as starts_spec;
 use crate::front::{after, copied, name_at};
 use crate::types::type_at;
 use golf_base::{List, Memory};
-use golf_syntax_trees::{Name, OwnedElements, OwnedExpr, OwnedExprs, OwnedType};
 use golf_lex_tokens::{Keyword, Punctuation, Token, TokenKind};
+use golf_syntax_trees::{Name, OwnedElements, OwnedExpr, OwnedExprs, OwnedType};
 use std::alloc::Global;
 
 /// How an operand begins: it stands there whole, or what is inside its brackets follows.
@@ -25,7 +25,7 @@ pub enum Start {
     Elements(Name),
 }
 
-/// What stands behind an operand.
+/// What stands after an operand.
 #[derive(Drop)]
 pub enum Suffix {
     /// `.f`
@@ -38,7 +38,7 @@ pub enum Suffix {
     Arguments,
 }
 
-// `(T)` or `(T,` behind `make`.
+// `(T)` or `(T,` after `make`.
 #[tactic(auto, unfolding(crate::specs::Starts::make_start))]
 fn make_start(alloc: Global, tokens: &[Token]) -> Result<Option<(Start, &[Token])>, Memory>
     ensures value { IfOk result (λ o. seen o ≡ starts_spec.make_start tokens.now) }
@@ -59,7 +59,7 @@ fn make_start(alloc: Global, tokens: &[Token]) -> Result<Option<(Start, &[Token]
     }
 }
 
-// `(T)` or `(sync.T)` behind `new`.
+// `(T)` or `(sync.T)` after `new`.
 #[tactic(auto, unfolding(crate::specs::Starts::new_start))]
 fn new_start(alloc: Global, tokens: &[Token]) -> Result<Option<(Start, &[Token])>, Memory>
     ensures value { IfOk result (λ o. seen o ≡ starts_spec.new_start tokens.now) }
@@ -94,7 +94,7 @@ fn new_start(alloc: Global, tokens: &[Token]) -> Result<Option<(Start, &[Token])
     }
 }
 
-// `{}{}` behind `struct`.
+// `{}{}` after `struct`.
 #[tactic(auto, unfolding(crate::specs::Starts::empty_start))]
 fn empty_start(tokens: &[Token]) -> Option<(Start, &[Token])>
     ensures value { seen result ≡ starts_spec.empty_start tokens.now }
@@ -107,7 +107,7 @@ fn empty_start(tokens: &[Token]) -> Option<(Start, &[Token])>
     Some((Start::Whole(OwnedExpr::empty_literal()), d))
 }
 
-// `]T{` or `]T{}` behind `[`.
+// `]T{` or `]T{}` after `[`.
 #[tactic(auto, unfolding(crate::specs::Starts::slice_start))]
 fn slice_start(alloc: Global, tokens: &[Token]) -> Result<Option<(Start, &[Token])>, Memory>
     ensures value { IfOk result (λ o. seen o ≡ starts_spec.slice_start tokens.now) }
@@ -131,7 +131,7 @@ fn slice_start(alloc: Global, tokens: &[Token]) -> Result<Option<(Start, &[Token
     }
 }
 
-// `T{}` behind `&sync.`.
+// `T{}` after `&sync.`.
 #[tactic(auto, unfolding(crate::specs::Starts::sync_start))]
 fn sync_start<'a>(
     alloc: Global,
@@ -159,7 +159,7 @@ fn sync_start<'a>(
     }
 }
 
-// `T{`, `T{}` or `sync.T{}` behind `&`.
+// `T{`, `T{}` or `sync.T{}` after `&`.
 #[tactic(auto, unfolding(crate::specs::Starts::literal_start))]
 fn literal_start(alloc: Global, tokens: &[Token]) -> Result<Option<(Start, &[Token])>, Memory>
     ensures value { IfOk result (λ o. seen o ≡ starts_spec.literal_start tokens.now) }
@@ -285,7 +285,7 @@ fn call_at(tokens: &[Token]) -> Option<(Suffix, &[Token])>
     }
 }
 
-/// What stands behind an operand.
+/// What stands after an operand.
 #[tactic(auto, unfolding(crate::specs::Starts::suffix_at))]
 pub fn suffix_at(alloc: Global, tokens: &[Token]) -> Result<Option<(Suffix, &[Token])>, Memory>
     ensures value { IfOk result (λ o. seen o ≡ starts_spec.suffix_at tokens.now) }

@@ -8,11 +8,11 @@ ghost use Rattle.golf_syntax_expressions.specs.TypeReading.{OfType};
 
 use crate::front::{after, after_keyword, copied, name_at};
 use golf_base::Memory;
-use golf_syntax_trees::OwnedType;
 use golf_lex_tokens::{Keyword, Punctuation, Token, TokenKind};
+use golf_syntax_trees::OwnedType;
 use std::alloc::Global;
 
-// `n` or `sync.m`, behind a star.
+// `n` or `sync.m`, after a star.
 fn pointer(alloc: Global, tokens: &[Token]) -> Result<Option<(OwnedType, &[Token])>, Memory>
     ensures value { IfOk result (λ o. seen o ≡ type_spec.pointer tokens.now) }
     ensures shorter { IfOk result (λ o. IfSome o (λ x. length x.1.now < length tokens.now)) }
@@ -38,7 +38,7 @@ fn pointer(alloc: Global, tokens: &[Token]) -> Result<Option<(OwnedType, &[Token
     }
 }
 
-// `{}` behind `struct`.
+// `{}` after `struct`.
 fn empty_struct(tokens: &[Token]) -> Option<(OwnedType, &[Token])>
     ensures value { seen result ≡ type_spec.empty_struct tokens.now }
     ensures shorter { IfSome result (λ x. length x.1.now < length tokens.now) }
@@ -119,7 +119,7 @@ fn type_from<'a>(
     }
 }
 
-/// The type at the front of the tokens, and what follows it.
+/// The type at the beginning of the tokens, and what follows it.
 #[cycle(types)]
 #[tactic(auto, using(crate::proofs::TypeSteps::type_steps))]
 pub fn type_at(alloc: Global, tokens: &[Token]) -> Result<Option<(OwnedType, &[Token])>, Memory>

@@ -1,4 +1,6 @@
 -- What statements, imports and declarations print has its brackets in pairs.
+-- For: `print_stmt`, golf_syntax_trees/specs/Statements.antt; `files_are_segments`, src/laws.rt
+-- By: induction over the tree of a statement; for imports and declarations, cases of their parts
 use Rattle.std.proofs.Common.{ℕ, Bool, true, false, List, [], ◌∷◌, ◌++◌, map, refl, sym, subst}
 use Rattle.std.specs.Prelude.{Option, Some, None}
 use Rattle.golf_lex_tokens.specs.declared.token.Punctuation.TheVariants as punctuations

@@ -1,4 +1,6 @@
 -- The tokens that words spell cost what the words do.
+-- For: `first_too_complex`, golf_syntax_trees/specs/Reads.antt
+-- By: induction over the list of words
 use Rattle.std.proofs.Common.{◌≡◌, ℕ, Bool, true, false, cond, List, [], ◌∷◌, map, refl, ap, subst}
 use Rattle.std.specs.Prelude.{Option, Some, None, nat_lt, sum}
 use Rattle.golf_lex_tokens.specs.declared.token.Token.{Token}
@@ -10,7 +12,7 @@ use Rattle.golf_syntax_trees.specs.Reads.{most, is_affordable, first_too_complex
 abbrev kinds_of : List Word → List TokenKind
 kinds_of ws = map (λ w. w.kind) ws
 
--- no token costs too much where none of the words does, and else one does
+-- no token costs too much if none of the words does, and else one does
 abbrev pub Costs : Bool → Option ℕ → Type 0
 Costs true o = o ≡ None
 Costs false o = (line : ℕ) × (o ≡ Some line)

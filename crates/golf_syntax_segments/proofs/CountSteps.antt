@@ -1,4 +1,6 @@
 -- How counts change.
+-- For: `first_too_complex`, src/cost.rt
+-- By: cases of the kind of token, and arithmetic; no induction
 use Rattle.std.proofs.Common.{◌≡◌, ℕ, ◌+◌, ◌≤◌, ◌<◌, true, false, cond, length, get_or, drop, List, [], ◌∷◌, ◌++◌, refl, ap, sym, ◌∙◌, arith}
 use Rattle.std.specs.Prelude.{reverse, sum, nat_lt, Some}
 use Rattle.std.proofs.lemmas.List.{reverse-append, at_drop_more}
@@ -16,7 +18,7 @@ use Rattle.golf_syntax_segments.specs.declared.cost.Role.{Role}
 use Rattle.golf_syntax_segments.specs.declared.cost.Role.TheVariants.{Opens, Closes, Separates, Ordinary}
 use Rattle.golf_syntax_segments.specs.Counts.{role_of_punctuation, role_of}
 
--- the counts behind a token of a role
+-- the counts after a token of a role
 abbrev pub counted_by : Role → List ℕ → List ℕ
 counted_by Opens counts = 0 ∷ one_more counts
 counted_by Closes counts = one_more (closed counts)

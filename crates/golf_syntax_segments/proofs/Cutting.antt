@@ -1,6 +1,7 @@
 -- How a list of tokens is cut.
+-- For: `front_segment`, src/segments.rt
+-- By: induction over the list of tokens
 use Rattle.std.proofs.Common.{◌≡◌, ℕ, zero, suc, ◌+◌, ◌<◌, ◌≤◌, Bool, true, false, cond, List, [], ◌∷◌, length, get_or, take, drop, refl, ap, sym, subst, ◌∙◌, arith, ◌⊎◌, inl, inr}
-use Rattle.std.specs.Prelude.{pred}
 use Rattle.std.proofs.lemmas.List.{at_drop_more, take-append-drop}
 use Rattle.golf_lex_tokens.specs.declared.token.Token.{Token}
 use Rattle.golf_lex_tokens.specs.declared.token.TokenKind.{TokenKind}
@@ -10,7 +11,7 @@ use Rattle.golf_lex_tokens.specs.declared.token.Punctuation.TheVariants as punct
 use Rattle.golf_syntax_trees.specs.Segments.{deeper, depth_behind, ends_segment, in_front, before_segment, segments}
 use Rattle.golf_syntax_segments.specs.Cut.{front_length, Cut}
 
--- where a segment ends no bracket is open
+-- if a segment ends no bracket is open
 ends-punctuation : (m : Punctuation) (depth : ℕ) → ends_segment (kinds.Punctuation m) depth ≡ true → deeper m depth ≡ 0
 ends-punctuation punctuations.Semicolon zero h = refl
 ends-punctuation punctuations.Semicolon (suc depth) h = cc
@@ -20,7 +21,7 @@ pub ends-shallow : (k : TokenKind) (depth : ℕ) → ends_segment k depth ≡ tr
 ends-shallow (kinds.Punctuation m) depth h = ends-punctuation m depth h
 ends-shallow _ depth h = cc
 
--- the first segment, and those behind it
+-- the first segment, and those after it
 abbrev pub Front : ℕ → List Token → Type 0
 Front depth ts = segments depth ts ≡ take (front_length depth ts) ts ∷ segments 0 (drop (front_length depth ts) ts)
 
@@ -46,32 +47,6 @@ on : (depth : ℕ) (ts : List Token) (i : ℕ) (t : Token) → i < length ts →
 on depth ts i t h e =
     at_drop_more (front_length depth) ts i t h
     ∙ ap (λ (q : Token). cond (ends_segment q.kind depth) 1 (suc (front_length (depth_behind q.kind depth) (drop (i + 1) ts)))) (sym e)
-
-pub on-ended : (depth : ℕ) (ts : List Token) (i : ℕ) (t : Token) → i < length ts → t ≡ get_or ts i t → true ≡ ends_segment t.kind depth → front_length depth (drop i ts) ≡ 1
-on-ended depth ts i t h e b = on depth ts i t h e ∙ ap (λ c. cond c 1 (suc (front_length (depth_behind t.kind depth) (drop (i + 1) ts)))) (sym b)
-
-pub on-inside : (depth : ℕ) (ts : List Token) (i : ℕ) (t : Token) → i < length ts → t ≡ get_or ts i t → false ≡ ends_segment t.kind depth →
-    front_length depth (drop i ts) ≡ 1 + front_length (depth_behind t.kind depth) (drop (i + 1) ts)
-on-inside depth ts i t h e b =
-    on depth ts i t h e ∙ ap (λ c. cond c 1 (suc (front_length (depth_behind t.kind depth) (drop (i + 1) ts)))) (sym b) ∙ omega arith
-
-pred-below : (n : ℕ) → pred n ≤ n + 1
-pred-below zero = omega arith
-pred-below (suc n) = omega arith
-
--- no token brings the depth up by more than one
-deeper-by : (m : Punctuation) (depth : ℕ) → deeper m depth ≤ depth + 1
-deeper-by punctuations.OpenParen depth = omega arith
-deeper-by punctuations.OpenBracket depth = omega arith
-deeper-by punctuations.OpenBrace depth = omega arith
-deeper-by punctuations.CloseParen depth = pred-below depth
-deeper-by punctuations.CloseBracket depth = pred-below depth
-deeper-by punctuations.CloseBrace depth = pred-below depth
-deeper-by _ depth = omega arith
-
-pub depth-by : (k : TokenKind) (depth : ℕ) → depth_behind k depth ≤ depth + 1
-depth-by (kinds.Punctuation m) depth = deeper-by m depth
-depth-by _ depth = omega arith
 
 pub front-is : (ts : List Token) → 0 < length ts → Cut ts (take (front_length 0 ts) ts) (drop (front_length 0 ts) ts)
 front-is [] h = absurd (omega (arith, h))

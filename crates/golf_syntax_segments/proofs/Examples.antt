@@ -18,7 +18,7 @@ punctuation m = on 1 (kinds.Punctuation m)
 abbrev named : List ℕ → Token
 named n = on 1 (kinds.Name n)
 
--- the list is cut behind each semicolon outside all brackets
+-- the list is cut after each semicolon outside all brackets
 three_segments : segments 0 (named (codes "x") ∷ punctuation punctuations.Semicolon ∷ punctuation punctuations.OpenBrace ∷ punctuation punctuations.Semicolon ∷ punctuation punctuations.CloseBrace ∷ punctuation punctuations.Semicolon ∷ punctuation punctuations.CloseBrace ∷ [])
     ≡ (named (codes "x") ∷ punctuation punctuations.Semicolon ∷ []) ∷ (punctuation punctuations.OpenBrace ∷ punctuation punctuations.Semicolon ∷ punctuation punctuations.CloseBrace ∷ punctuation punctuations.Semicolon ∷ []) ∷ (punctuation punctuations.CloseBrace ∷ []) ∷ []
 three_segments = refl

@@ -1,4 +1,6 @@
 -- Words whose brackets are in pairs.
+-- For: `files_are_segments`, src/laws.rt; `separated`, golf_syntax_trees/specs/Words.antt
+-- By: induction over how the words are nested, and over lists of parts
 use Rattle.std.proofs.Common.{◌≡◌, ℕ, Bool, true, false, List, [], ◌∷◌, ◌++◌, map, refl, sym, subst, append_assoc}
 use Rattle.std.specs.Prelude.{Option, Some, None}
 use Rattle.golf_lex_tokens.specs.declared.token.TokenKind.{TokenKind}
@@ -35,7 +37,7 @@ abbrev pub is_ordinary : TokenKind → Bool
 is_ordinary (kinds.Punctuation m) = is_ordinary_punctuation m
 is_ordinary _ = true
 
--- the brackets are in pairs, and semicolons stand outside them only where they may
+-- the brackets are in pairs, and semicolons stand outside them only if they may
 pub data Nested : Bool → List Word → Type 0 where
   none : (b : Bool) → Nested b []
   ordinary : (b : Bool) (k : TokenKind) (l : Option ℕ) (ws : List Word) → is_ordinary k ≡ true → Nested b ws → Nested b (record { kind = k; line = l } ∷ ws)

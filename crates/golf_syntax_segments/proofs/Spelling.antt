@@ -1,4 +1,6 @@
 -- How words are spelt, part by part.
+-- For: `Spells`, golf_syntax_trees/specs/Words.antt
+-- By: induction over the list of words
 use Rattle.std.proofs.Common.{◌≡◌, List, [], ◌∷◌, ◌++◌, ap, sym, subst, refl}
 use Rattle.golf_lex_tokens.specs.declared.token.Token.{Token}
 use Rattle.golf_lex_tokens.specs.declared.token.Punctuation.TheVariants as punctuations
@@ -15,7 +17,7 @@ join [] ys ts mid rest h k = subst (λ us. Spells ys us rest) (sym h) k
 join (x ∷ xs) ys [] mid rest h k = absurd h
 join (x ∷ xs) ys (t ∷ ts) mid rest h k = (h.0, join xs ys ts mid rest h.1 k)
 
--- the tokens that spell the words, in front of the others
+-- the tokens that spell the words, before the others
 pub record Parted (ws : List Word) (ts rest : List Token) : Type 0 where
   pub segment : List Token
   pub words : Spells ws segment []
@@ -26,13 +28,13 @@ part [] ts rest h = record { segment = []; words = refl; whole = h }
 part (w ∷ ws) [] rest h = absurd h
 part (w ∷ ws) (t ∷ ts) rest h = let k = part ws ts rest h.1 in record { segment = t ∷ k.segment; words = (h.0, k.words); whole = ap (λ us. t ∷ us) k.whole }
 
--- more tokens behind
+-- more tokens after
 pub longer : (ws : List Word) (ts rest us : List Token) → Spells ws ts rest → Spells ws (ts ++ us) (rest ++ us)
 longer [] ts rest us h = ap (λ vs. vs ++ us) h
 longer (w ∷ ws) [] rest us h = absurd h
 longer (w ∷ ws) (t ∷ ts) rest us h = (h.0, longer ws ts rest us h.1)
 
--- words with a semicolon, in front of other words
+-- words with a semicolon, before other words
 pub closing : (ws vs : List Word) (ts rest : List Token) → Spells (ws ++ punctuation punctuations.Semicolon ∷ vs) ts rest → (mid : List Token) × (Spells (ws ++ punctuation punctuations.Semicolon ∷ []) ts mid) × (Spells vs mid rest)
 closing ws vs ts rest h = let k = split ws (punctuation punctuations.Semicolon ∷ vs) ts rest h in next k.0 k.1 k.2
   where

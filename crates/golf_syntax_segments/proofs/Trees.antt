@@ -1,4 +1,6 @@
 -- What types, expressions, simple statements, headers and communications print has its brackets in pairs.
+-- For: `print_type`, golf_syntax_trees/specs/Types.antt; `print_expr`, golf_syntax_trees/specs/Expressions.antt
+-- By: induction over the tree of a type, and of an expression; for the others, cases of their kind
 use Rattle.std.proofs.Common.{◌≡◌, true, false, List, [], refl, sym, subst}
 use Rattle.std.specs.Prelude.{Option, Some, None}
 use Rattle.golf_syntax_trees.specs.declared.types.TypeExpr.{TypeExpr, roll-TypeExpr}

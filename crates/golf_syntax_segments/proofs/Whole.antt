@@ -1,4 +1,6 @@
--- Words whose brackets are in pairs are one segment with a semicolon behind them.
+-- Words whose brackets are in pairs are one segment with a semicolon after them.
+-- For: `imports_are_segments`, `declarations_are_segments` and `files_are_segments`, src/laws.rt
+-- By: induction over how the words are nested, and over the lists of imports and declarations
 use Rattle.std.proofs.Common.{◌≡◌, ℕ, zero, suc, Bool, true, false, List, [], ◌∷◌, ◌++◌, map, refl, ap, sym, subst, ◌∙◌, arith}
 use Rattle.std.specs.Prelude.{codes}
 use Rattle.golf_lex_tokens.specs.declared.token.Token.{Token}
@@ -18,7 +20,7 @@ use Rattle.golf_syntax_segments.proofs.Nested.{Nested, none, ordinary, semicolon
 use Rattle.golf_syntax_segments.proofs.Spelling.{split, part, closing}
 use Rattle.golf_syntax_segments.proofs.Blocks.{import-nested, decl-nested}
 
--- the tokens that spell the words, put in front of the first segment
+-- the tokens that spell the words, put before the first segment
 abbrev chop : List Word → List Token → List (List Token) → List (List Token)
 chop [] ts ps = ps
 chop (w ∷ ws) [] ps = ps
@@ -68,7 +70,7 @@ on k depth next t ts is ends behind =
     ∙ ap (λ b. before_segment b t (segments (depth_behind k depth) ts)) ends
     ∙ ap (λ d. in_front t (segments d ts)) behind
 
--- the depth at which words may stand: inside brackets, where semicolons may
+-- the depth at which words may stand: inside brackets, if semicolons may
 abbrev Deep : Bool → ℕ → Type 0
 Deep true depth = (outer : ℕ) × (depth ≡ suc outer)
 Deep false depth = Unit {0}

@@ -14,7 +14,7 @@ pub record Cut (ts segment rest : List Token) : Type 0 where
   pub whole : ts ≡ segment ++ rest
   pub segments : segments 0 ts ≡ segment ∷ segments 0 rest
 
--- the first segment is found where there is a token
+-- the first segment is found if there is a token
 abbrev pub CutAt : List Token → Option (Bor (List Token) × Bor (List Token)) → Type 0
 CutAt ts None = ts ≡ []
 CutAt ts (Some x) = Cut ts x.0.now x.1.now

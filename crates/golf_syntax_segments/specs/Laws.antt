@@ -14,7 +14,7 @@ use Rattle.golf_syntax_trees.specs.Reads.{Prints}
 abbrev pub Ended : List Word → List Token → Type 0
 Ended ws p = Spells (ws ++ punctuation punctuations.Semicolon ∷ []) p []
 
--- in front of whatever else, such tokens are the first segment
+-- before whatever else, such tokens are the first segment
 abbrev pub IsSegment : List Word → Type 0
 IsSegment ws = (p rest : List Token) → Ended ws p → segments 0 (p ++ rest) ≡ p ∷ segments 0 rest
 
@@ -24,7 +24,7 @@ ImportsAreSegments = (i : Import) → IsSegment (print_import i)
 abbrev pub DeclsAreSegments : Type 0
 DeclsAreSegments = (d : Decl) → IsSegment (print_decl d)
 
--- a segment for each declaration, and for each import in front of them
+-- a segment for each declaration, and for each import before them
 abbrev pub DeclSegments : List Decl → List (List Token) → Type 0
 DeclSegments [] ps = ps ≡ []
 DeclSegments (d ∷ ds) [] = ⊥

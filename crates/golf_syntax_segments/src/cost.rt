@@ -32,7 +32,8 @@ fn punctuation_role(punctuation: Punctuation) -> Role
 {
     match punctuation {
         Punctuation::OpenParen | Punctuation::OpenBracket | Punctuation::OpenBrace => Role::Opens,
-        Punctuation::CloseParen | Punctuation::CloseBracket | Punctuation::CloseBrace => Role::Closes,
+        Punctuation::CloseParen | Punctuation::CloseBracket | Punctuation::CloseBrace =>
+            Role::Closes,
         Punctuation::Semicolon | Punctuation::Comma => Role::Separates,
         _ => Role::Ordinary,
     }
@@ -47,7 +48,7 @@ fn kind_role(kind: &TokenKind) -> Role
     }
 }
 
-// The counts behind one more token.
+// The counts after one more token.
 #[tactic(auto, using(crate::proofs::CountSteps::count_steps))]
 fn count(counts: Counts, kind: &TokenKind) -> Result<Counts, Memory>
     requires small { counts.total ≤ 1000 }

@@ -2,13 +2,13 @@
 
 ghost use Rattle.golf_syntax_segments.specs.Laws.{DeclsAreSegments, FilesAreSegments, ImportsAreSegments};
 
-/// What an import prints is one segment with the semicolon behind it: brackets are in pairs, and no other semicolon
+/// What an import prints is one segment with the semicolon after it: brackets are in pairs, and no other semicolon
 /// stands outside them.
 pub fn imports_are_segments()
     ensures { ImportsAreSegments }
 {}
 
-/// What a declaration prints is one segment with the semicolon behind it.
+/// What a declaration prints is one segment with the semicolon after it.
 pub fn declarations_are_segments()
     ensures { DeclsAreSegments }
 {}

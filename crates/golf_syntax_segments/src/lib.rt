@@ -1,6 +1,6 @@
 //! What tokens cost, and the segments that a list of tokens is cut into.
 //!
-//! A segment ends behind each semicolon outside all brackets. `laws` says that what an import or a declaration prints,
+//! A segment ends after each semicolon outside all brackets. `laws` says that what an import or a declaration prints,
 //! with its semicolon, is one segment.
 #![tactic(auto)]
 

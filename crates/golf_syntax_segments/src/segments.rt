@@ -7,14 +7,16 @@ ghost use Rattle.golf_syntax_segments.specs.Cut.{CutAt};
 
 use golf_lex_tokens::{Punctuation, Token, TokenKind};
 
-// How many brackets are open behind a punctuation mark.
+// How many brackets are open after a punctuation mark.
 fn deeper(punctuation: Punctuation, depth: usize) -> usize
     requires { depth < 2 ^ 63 }
     ensures value { result ≡ segments_spec.depth_behind (TokenKind.Punctuation punctuation) depth }
 {
     match punctuation {
         Punctuation::OpenParen | Punctuation::OpenBracket | Punctuation::OpenBrace => depth + 1,
-        Punctuation::CloseParen | Punctuation::CloseBracket | Punctuation::CloseBrace => if depth == 0 {
+        Punctuation::CloseParen | Punctuation::CloseBracket | Punctuation::CloseBrace => if depth
+            == 0
+        {
             0
         } else {
             depth - 1
@@ -58,7 +60,7 @@ fn front_length(tokens: &[Token]) -> usize
     count
 }
 
-/// The first segment and what follows it, or nothing where there is no token. A segment has its semicolon; only the last
+/// The first segment and what follows it, or nothing if there is no token. A segment has its semicolon; only the last
 /// one of a list may lack it.
 pub fn front_segment(tokens: &[Token]) -> Option<(&[Token], &[Token])>
     ensures value { CutAt tokens.now result }

@@ -1,4 +1,6 @@
 -- The channel that an expression receives from.
+-- For: `channel_of` (golf_syntax_statements/specs/CommReading.antt) and `comm_of` (src/communications.rt)
+-- By: cases of the kind of the expression and of its operator; no induction
 use Rattle.std.proofs.Common.{◌≡◌, ℕ, List, ap, sym, ◌∙◌, refl}
 use Rattle.std.specs.Prelude.{Some, None}
 use Rattle.golf_syntax_trees.specs.declared.expressions.UnaryOperator.{UnaryOperator}

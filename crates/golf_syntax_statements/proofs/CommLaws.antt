@@ -1,4 +1,6 @@
 -- A communication is read exactly where it is printed.
+-- For: `comm_at` (golf_syntax_statements/specs/CommReading.antt) and `comm_at` (src/communications.rt)
+-- By: cases of the simple statement that is read; induction over the tree of an expression for what it begins with
 use Rattle.std.proofs.Common.{◌≡◌, ℕ, true, false, ◌&&◌, List, [], ◌∷◌, refl, ap, sym, subst, ◌∙◌}
 use Rattle.std.specs.Prelude.{Option, Some, None, nat_le}
 use Rattle.golf_lex_tokens.specs.declared.token.Token.{Token}
@@ -101,7 +103,7 @@ comm-sound ts x e = at (assigned_at ts) refl e
           good = and-true (form b.0.0).good (nat_le 6 (form b.0.0).top) c.good (le-true 6 (form b.0.0).top c.top);
         })
 
--- no `=` stands behind a name in front
+-- no `=` stands after a name in front
 abbrev NameNotAssigning : Option (List ℕ × List Token) → Type 0
 NameNotAssigning None = Unit {0}
 NameNotAssigning (Some n) = after punctuations.Assign n.1 ≡ None

@@ -1,4 +1,6 @@
--- The laws of what is found and of what is read.
+-- The laws of what is found and of what is read, for each kind of text.
+-- For: `VarsFound`, `StatementsRead` (golf_syntax_statements/specs/Laws.antt) and `statements_found` (src/laws.rt)
+-- By: the lemmas of the other files, put together; no induction
 use Rattle.std.proofs.Common.{inl, inr, ap, ◌∙◌, List, []}
 use Rattle.golf_lex_tokens.specs.declared.token.Token.{Token}
 use Rattle.golf_lex_tokens.specs.declared.token.Punctuation.TheVariants as punctuations

@@ -1,4 +1,6 @@
--- The headers of `if` and `for` are read exactly where they are printed.
+-- What is read as a header of `if` or `for` is printed there.
+-- For: `test_at`, `header_at` (golf_syntax_statements/specs/HeaderReading.antt)
+-- By: cases of the punctuation that comes next; no induction
 use Rattle.std.proofs.Common.{◌≡◌, ℕ, Bool, true, false, not, cond, ◌&&◌, List, [], ◌∷◌, ◌++◌, refl, ap, sym, subst, ◌∙◌, append_assoc}
 use Rattle.std.specs.Prelude.{Option, Some, None}
 use Rattle.golf_lex_tokens.specs.declared.token.Token.{Token}
@@ -45,7 +47,7 @@ expression-is : (k : SimpleKind) (e : Expr) → expression_of k ≡ Some e → k
 expression-is (s.Expression a) e h = ap s.Expression (some-same a e h)
 expression-is _ e h = cc
 
--- a well-formed condition of an `if`, with the simple statement in front of it
+-- a well-formed condition of an `if`, with the simple statement before it
 pub record IsTest (ts : List Token) (x : Test × List Token) : Type 0 where
   pub words : Spelt (optional (λ y. print_simple y ++ words.punctuation punctuations.Semicolon ∷ []) x.0.0 ++ print_expr x.0.1) ts x.1
   pub first : all_of header_simple x.0.0 ≡ true

@@ -1,4 +1,6 @@
--- A header that is printed is read, in front of a brace.
+-- A header of `if` or `for` that is printed is read, before a brace.
+-- For: `test_at`, `header_at` (golf_syntax_statements/specs/HeaderReading.antt)
+-- By: cases of the header's form; induction over the tree of an expression for what it begins with
 use Rattle.std.proofs.Common.{◌≡◌, ℕ, Bool, true, false, not, cond, ◌&&◌, List, [], ◌∷◌, ◌++◌, refl, ap, subst, ◌∙◌}
 use Rattle.std.specs.Prelude.{Option, Some, None}
 use Rattle.golf_lex_tokens.specs.declared.token.Token.{Token}
@@ -65,7 +67,7 @@ no-range = shape.each NoRange (λ x. Unit {0})
     (λ o a b ih jh. by-words _ _ (shape.print-Binary o a b) (λ ts rest h. let w = split (print_expr a) _ h in ih ts w.0 w.1))
     (λ n a ih. tt)
 
--- no names of a `range` where no name is in front of `:=` or a comma
+-- no names of a `range` if no name is before `:=` or a comma
 no-range-names : (ts : List Token) → after_keyword keywords.Range ts ≡ None → NotDefining ts → names_at ts ≡ None
 unfolding names_at
 no-range-names ts r p = ap (names_by ts) r ∙ at (name_at ts) p
@@ -74,7 +76,7 @@ no-range-names ts r p = ap (names_by ts) r ∙ at (name_at ts) p
     at None p = refl
     at (Some n) p = ap (λ q. names_behind n.0 q (after punctuations.Comma n.1)) p.0 ∙ ap (λ q. names_behind n.0 None q) p.1
 
--- an expression in front of what is neither of the two
+-- an expression before what is neither of the two
 expr-names : (e : Expr) (ts mid : List Token) → Spelt (print_expr e) ts mid → after punctuations.Define mid ≡ None → after punctuations.Comma mid ≡ None → names_at ts ≡ None
 expr-names e ts mid h d c = no-range-names ts (no-range e ts mid h) (begins e ts mid h d c)
 
@@ -157,7 +159,7 @@ alone-read : (e : Expr) (ts rest : List Token) → header_expr e ≡ true → Sp
 alone-read e [] rest g h st = let u = unlined e in absurd (subst (λ ws. Spelt ws [] rest) u.are h).are
 alone-read e (t ∷ ts) rest g h st = (t.line, simple-read (record { line = t.line; kind = s.Expression e }) (t ∷ ts) rest g (on-line-then (print_expr e) t ts rest h) st)
 
--- a condition that is printed in front of a brace is read
+-- a condition that is printed before a brace is read
 pub test-complete : (x : Test) (ts rest last : List Token) (ws : List Word) → all_of header_simple x.0 ≡ true → header_expr x.1 ≡ true →
     Spelt (optional (λ y. print_simple y ++ words.punctuation punctuations.Semicolon ∷ []) x.0 ++ print_expr x.1) ts rest → Spelt (words.punctuation punctuations.OpenBrace ∷ ws) rest last → test_at ts ≡ Some (x, rest)
 unfolding test_at

@@ -1,4 +1,6 @@
 -- Reading goes on as the plan of a statement says.
+-- For: `move_at`, `waited` (golf_syntax_statements/specs/Moves.antt) and `stmt_move`, `read` (src/statements.rt)
+-- By: induction over the list of what waits for the statement; otherwise cases of the next token
 use Rattle.std.proofs.Common.{◌≡◌, ℕ, ◌+◌, ◌*◌, ◌<◌, arith, subst, length-append, Bool, true, false, cond, List, [], ◌∷◌, ◌++◌, length, refl, ap, sym, ◌∙◌}
 use Rattle.std.specs.Prelude.{Option, Some, None, IfSome}
 use Rattle.std.specs.Borrow.{Bor}
@@ -90,7 +92,7 @@ Next = Option (Move × Bor (List Token))
 pub went-so : (fs gs : List Pending) (o q : Next) (r : Found) → gs ≡ fs → q ≡ o → waited fs (moved o) ≡ r → waited gs (moved q) ≡ r
 went-so fs gs o q r a b e = ap (λ (hs : List Pending). waited hs (moved q)) a ∙ ap (λ (x : Next). waited fs (moved x)) b ∙ e
 
--- nothing is found where a move finds nothing
+-- nothing is found if a move finds nothing
 pub went-nowhere : (fs : List Pending) (q : Next) (r : Found) → q ≡ None → waited fs (moved q) ≡ r → None ≡ r
 went-nowhere fs q r n e = sym (waited-none fs) ∙ ap (λ (x : Next). waited fs (moved x)) (sym n) ∙ e
 
@@ -124,7 +126,7 @@ pub body-begins : (o : Owner) (ts : List Token) → run stmt_at (body ts None (o
 unfolding closed_at
 body-begins o ts = body-goes o [] ts
 
--- the statements of a clause, where another clause begins or a statement
+-- the statements of a clause, if another clause begins or a statement
 pub clause-ends : (s : Select) (h : Head) (done : List Stmt) (ts : List Token) → begins_clause ts ≡ true → clause_at s h done ts ≡ selected (grown s h done) ts
 unfolding clause_at
 clause-ends s h done ts e =
@@ -151,11 +153,11 @@ clause-goes s h done ts e =
     at xs us (Some vs) = bind-assoc (stmt_at (CaseBody xs) vs) (λ x. Some x) (more s h)
     at xs us None = close xs us (after punctuations.CloseBrace us)
 
--- what is found where the clauses of a `select` are read so
+-- what is found if the clauses of a `select` are read so
 abbrev closes : Select → Option (List Clause × List Token) → Found
 closes s o = o >>= λ c. Some (st.Select s.line c.0, c.1)
 
--- a clause behind its head
+-- a clause after its head
 headed-goes : (s : Select) (h : Head) (seen : Bool) (wrap : List Stmt → Clause) → ((b : List Stmt) → grown s h b ≡ record { line = s.line; has_default = seen; clauses = s.clauses ++ wrap b ∷ [] }) →
     (ts : List Token) (q : Option (List Token)) → closes s (run stmt_at (clause_body seen s.clauses wrap ts q)) ≡ headed_by s h ts q
 unfolding selected clause_at
@@ -216,7 +218,7 @@ stmt-first t ts = stmt-is OfStmt (t ∷ ts)
 pub stmt-split : (t : Token) (us ts : List Token) → ts ≡ t ∷ us → run stmt_at (kind_plan t.line t.kind us ts) ≡ stmt_at OfStmt ts
 stmt-split t us ts e = ap (λ (xs : List Token). run stmt_at (kind_plan t.line t.kind us xs)) e ∙ sym (stmt-first t us) ∙ ap (stmt_at OfStmt) (sym e)
 
--- a statement with a body, behind what its head is
+-- a statement with a body, after what its head is
 pub if-goes : (l : ℕ) (ts us : List Token) (x : Test) (o : Owner) → o ≡ owners.If l x.0 x.1 → Some (x, us) ≡ test_at ts → run stmt_at (block us (owned o)) ≡ run stmt_at (if_plan l ts)
 if-goes l ts us x o p q = ap (λ (y : Owner). run stmt_at (block us (owned y))) p ∙ ap (λ o. run stmt_at (given o (λ x. block x.1 (λ b. else_plan l x.0 b.0 b.1 (after_keyword keywords.Else b.1))))) q
 

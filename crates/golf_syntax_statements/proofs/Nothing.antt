@@ -1,4 +1,6 @@
--- Where nothing is read.
+-- Where nothing is read: no expression or simple statement at a stop such as `;` or `}`, no type at `=`.
+-- For: `expr_at` (golf_syntax_expressions/specs/ExprReading.antt)
+-- By: cases of the punctuation; no induction
 use Rattle.std.proofs.Common.{◌≡◌, ℕ, Bool, List, [], ◌∷◌, refl, ap, ◌∙◌}
 use Rattle.std.specs.Prelude.{Some, None}
 use Rattle.golf_lex_tokens.specs.declared.token.Token.{Token}

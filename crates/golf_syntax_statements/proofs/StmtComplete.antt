@@ -1,4 +1,6 @@
 -- A statement that is printed is read.
+-- For: `stmt_at` (golf_syntax_statements/specs/StmtReading.antt) and `read` (src/statements.rt)
+-- By: induction over the tree of a statement, and over the lists of statements and of clauses in it
 use Rattle.std.proofs.Common.{◌≡◌, ◌⊎◌, inl, inr, ℕ, ◌+◌, ◌≤◌, Bool, true, false, cond, ◌&&◌, List, [], ◌∷◌, ◌++◌, map, refl, ap, sym, subst, ◌∙◌, arith, append_assoc}
 use Rattle.std.specs.Prelude.{Option, Some, None, nat_le}
 use Rattle.std.specs.List.{list_all}
@@ -46,7 +48,7 @@ use Rattle.golf_syntax_statements.proofs.CommLaws.{comm-complete}
 use Rattle.golf_syntax_statements.proofs.StmtShapes as shape
 use Rattle.golf_syntax_statements.proofs.StmtSteps.{stmt-is}
 
--- a punctuation mark that ends statements stands in front
+-- a punctuation mark that ends statements come first
 pub record Ended (ts : List Token) : Type 0 where
   pub punctuation : Punctuation
   pub stop : IsStop punctuation
@@ -69,7 +71,7 @@ StmtRead s = (stmt_form s).good ≡ true → (ts rest : List Token) → Spelt (p
 abbrev BranchRead : Stmt → Type 0
 BranchRead s = (stmt_form s).branch ≡ true → (ts rest : List Token) → Spelt (print_stmt s) ts rest → is_branch ts ≡ true
 
--- a statement is read where one that may stand behind `else` begins as such
+-- a statement is read if one that may stand after `else` begins as such
 record IsRead (s : Stmt) : Type 0 where
   reads : StmtRead s
   branch : BranchRead s
@@ -177,7 +179,7 @@ body-read (z ∷ zs) y done ts mid rest good h c =
     ∙ body-read zs z (done ++ y.0 ∷ []) b.0 mid rest g.1 b.2 c
     ∙ ap (λ xs. Some (xs, rest)) (append_assoc done (y.0 ∷ []) (stmts (z ∷ zs)))
 
--- statements behind an opening brace
+-- statements after an opening brace
 braced : (A : Type 0) (ys : Parts) (ts rest : List Token) (more : Goes A) → stmts_good (map stmt_form (stmts ys)) ≡ true →
     Spelt (separated punctuations.Semicolon (map print_stmt (stmts ys)) ++ words.punctuation punctuations.CloseBrace ∷ []) ts rest → run stmt_at (body ts (after punctuations.CloseBrace ts) more) ≡ run stmt_at (more (stmts ys, rest))
 braced A [] ts rest more good h =
@@ -301,7 +303,7 @@ case-first seen done l w h =
       f.5,
     )
 
--- the statements of a clause and the clauses behind them, where those behind are read
+-- the statements of a clause and the clauses after them, where those after are read
 module _ (later : Bool) (done : List Clause) (wrap : List Stmt → Clause) (b : Parts) (good : stmts_good (map stmt_form (stmts b)) ≡ true) where
   last-clause : (us mid rest : List Token) → Spelt (words.punctuation punctuations.Colon ∷ separated punctuations.Semicolon (map print_stmt (stmts b))) us mid → after punctuations.CloseBrace mid ≡ Some rest → run stmt_at (clause_plan later done wrap us) ≡ Some (done ++ wrap (stmts b) ∷ [], rest)
   last-clause us mid rest h c =
@@ -341,7 +343,7 @@ module _ (later : Bool) (done : List Clause) (wrap : List Stmt → Clause) (b : 
           let w = split (print_stmt y.0) (words.punctuation punctuations.Semicolon ∷ closed (map print_stmt (stmts ys))) h in
           no-brace y vs w.0 (both (stmt_form y.0).good (stmts_good (map stmt_form (stmts ys))) good).0 w.1 (ended punctuations.Semicolon semicolon w.2)
 
--- the words behind the opening of a clause
+-- the words after the opening of a clause
 abbrev tail_words : List (List Word) → Cases → List Word
 tail_words body [] = separated punctuations.Semicolon body
 tail_words body (d ∷ ds) = closed body ++ clauses (map print_clause (cases (d ∷ ds)))
@@ -370,7 +372,7 @@ clauses-begin d ds ts rest h = at d.1 (subst (λ ws. Spelt ws ts rest) (clauses-
     at (inl k) g = (case-first true [] k.line keywords.Case (subst (λ (w : ClauseWords). Spelt (w.opening ++ tail_words w.body ds) ts rest) (case-words d.0 k) g)).2
     at (inr k) g = (case-first true [] k.line keywords.Default (subst (λ (w : ClauseWords). Spelt (w.opening ++ tail_words w.body ds) ts rest) (default-words d.0 k) g)).2
 
--- behind the words in front of its colon a clause is read with those behind it
+-- after the words before its colon a clause is read with those after it
 tail : (wrap : List Stmt → Clause) (b : Parts) (later : Bool) (done : List Clause) (cs : Cases) (us mid rest : List Token) → stmts_good (map stmt_form (stmts b)) ≡ true → after punctuations.CloseBrace mid ≡ Some rest →
     ((next : List Token) → Spelt (clauses (map print_clause (cases cs))) next mid → stmt_at (Clauses later (done ++ wrap (stmts b) ∷ [])) next ≡ Some ((done ++ wrap (stmts b) ∷ []) ++ cases cs, rest)) →
     Spelt (words.punctuation punctuations.Colon ∷ tail_words (map print_stmt (stmts b)) cs) us mid → run stmt_at (clause_plan later done wrap us) ≡ Some ((done ++ wrap (stmts b) ∷ []) ++ cases cs, rest)
@@ -565,11 +567,11 @@ is_read = shape.each IsRead ClauseRead
     (λ l c b. inl (record { line = l; comm = c; body = b; is = refl }))
     (λ l b. inr (record { line = l; body = b; is = refl }))
 
--- a statement is read in front of a `;` or a brace
+-- a statement is read before a `;` or a brace
 pub stmt-complete : (s : Stmt) (ts rest : List Token) → (stmt_form s).good ≡ true → Spelt (print_stmt s) ts rest → Ended rest → stmt_at OfStmt ts ≡ Some (s, rest)
 stmt-complete s ts rest good h e = (is_read s).reads good ts rest h e
 
--- so are statements in braces, behind the opening one
+-- so are statements in braces, after the opening one
 pub block-complete : (A : Type 0) (b : List Stmt) (ts rest : List Token) (more : Goes A) → stmts_good (map stmt_form b) ≡ true → Spelt (print_block (map print_stmt b)) ts rest → run stmt_at (block ts more) ≡ run stmt_at (more (b, rest))
 block-complete A b ts rest more good h =
     let same = parts b in

@@ -1,4 +1,6 @@
--- What each kind of statement and clause prints, and its form.
+-- What each kind of statement and clause prints, and its form; and an induction over statements, by their kinds.
+-- For: `print_stmt`, `stmt_form` (golf_syntax_trees/specs/Statements.antt)
+-- By: computing, kind by kind; `each` is the induction over the tree of a statement
 use Rattle.std.proofs.Common.{◌≡◌, ℕ, List, map, ap, sym, subst, ◌∙◌}
 use Rattle.std.specs.Prelude.{Option}
 use Rattle.golf_syntax_trees.specs.declared.expressions.Expr.{Expr}

@@ -1,4 +1,6 @@
--- What is read is a statement.
+-- What is read as a statement is one that is printed there.
+-- For: `stmt_at` (golf_syntax_statements/specs/StmtReading.antt) and `read` (src/statements.rt)
+-- By: cases of the first token, for each step of a plan; the induction over the steps is `reads-keeps`
 use Rattle.std.proofs.Common.{◌≡◌, ◌⊎◌, inl, inr, ℕ, ◌+◌, ◌≤◌, ◌*◌, suc, length, Bool, true, false, cond, ◌&&◌, List, [], ◌∷◌, ◌++◌, map, refl, ap, sym, subst, ◌∙◌, arith, append_assoc}
 use Rattle.std.specs.Prelude.{Option, Some, None, nat_le}
 use Rattle.std.specs.List.{list_all}
@@ -42,13 +44,13 @@ use Rattle.golf_syntax_statements.proofs.HeaderLaws.{test-sound, header-sound}
 use Rattle.golf_syntax_statements.proofs.CommLaws.{comm-sound}
 use Rattle.golf_syntax_statements.proofs.StmtShapes as shape
 
--- a well-formed statement in these tokens, up to those that are left; it may stand behind `else` where they begin so
+-- a well-formed statement in these tokens, up to those that are left; it may stand after `else` if they begin so
 pub record IsStmt (ts : List Token) (x : Stmt × List Token) : Type 0 where
   pub words : Spelt (print_stmt x.0) ts x.1
   pub good : (stmt_form x.0).good ≡ true
   pub branch : is_branch ts ≡ true → (stmt_form x.0).branch ≡ true
 
--- statements that were read, behind those that were read before, up to the brace that closes them
+-- statements that were read, after those that were read before, up to the brace that closes them
 pub record BodyRead (done : List Stmt) (ts : List Token) (x : List Stmt × List Token) : Type 0 where
   pub first : Stmt
   pub more : List Stmt
@@ -58,7 +60,7 @@ pub record BodyRead (done : List Stmt) (ts : List Token) (x : List Stmt × List 
   pub words : Spelt (separated punctuations.Semicolon (map print_stmt (first ∷ more))) ts mid
   pub close : after punctuations.CloseBrace mid ≡ Some x.1
 
--- up to the next clause, with a semicolon behind each
+-- up to the next clause, with a semicolon after each
 record BeforeClause (more : List Stmt) (ts rest : List Token) : Type 0 where
   next : begins_clause rest ≡ true
   words : Spelt (closed (map print_stmt more)) ts rest
@@ -78,7 +80,7 @@ record CaseRead (done : List Stmt) (ts : List Token) (x : List Stmt × List Toke
   good : stmts_good (map stmt_form more) ≡ true
   ended : BeforeClause more ts x.1 ⊎ BeforeBrace more ts x.1
 
--- clauses that were read: none in front of the brace, and else one begins here
+-- clauses that were read: none before the brace, and else one begins here
 abbrev Begun : List Clause → List Token → Type 0
 Begun [] ts = (us : List Token) × (after punctuations.CloseBrace ts ≡ Some us)
 Begun (c ∷ cs) ts = begins_clause ts ≡ true
@@ -104,7 +106,7 @@ record IsBlock (ts : List Token) (x : List Stmt × List Token) : Type 0 where
   words : Spelt (print_block (map print_stmt x.0)) ts x.1
   good : stmts_good (map stmt_form x.0) ≡ true
 
--- behind the opening brace
+-- after the opening brace
 body-keeps : (A : Type 0) (Q : A × List Token → Type 0) (before ts : List Token) → Spelt (words.punctuation punctuations.OpenBrace ∷ []) before ts → (more : Goes A) → ((x : List Stmt × List Token) → IsBlock before x → Keeps Sound Q (more x)) →
     (o : Option (List Token)) → after punctuations.CloseBrace ts ≡ o → Keeps Sound Q (body ts o more)
 body-keeps A Q before ts b more k (Some us) e = k ([], us) (record { words = join b (punctuation-then punctuations.CloseBrace ts e nothing); good = refl })
@@ -151,7 +153,7 @@ module _ (t : Token) (ts : List Token) where
     branch = λ k. ap (λ (y : StmtForm). y.branch) q ∙ b k;
   }
 
-  -- no word but `if` stands behind `else`
+  -- no word but `if` stands after `else`
   no-branch : (k : Keyword) (b : Bool) → t.kind ≡ kinds.Keyword k → is_branch_kind (kinds.Keyword k) ≡ false → is_branch_kind t.kind ≡ true → b ≡ true
   no-branch k b is other begins = absurd (never (sym begins ∙ ap is_branch_kind is ∙ other))
     where
@@ -300,14 +302,14 @@ exclusive (t ∷ ts) us b c = at t.kind b c
         never e = cc
     at _ b c = cc
 
--- what stands behind the colon of a clause
+-- what stands after the colon of a clause
 module _ (seen : Bool) (done : List Clause) (ts : List Token) (l : ℕ) where
-  -- a clause and those behind it
+  -- a clause and those after it
   record Head (wrap : List Stmt → Clause) (opening : List Word) (good default : Bool) : Type 0 where
     words : (b : List Stmt) → print_clause (wrap b) ≡ record { opening = opening; body = map print_stmt b }
     form : (b : List Stmt) → clause_form (wrap b) ≡ record { default = default; good = good && stmts_good (map stmt_form b) }
 
-  -- the words of a clause in front of others, and of the last one
+  -- the words of a clause before others, and of the last one
   front-words : (wrap : List Stmt → Clause) (opening : List Word) (good default : Bool) → Head wrap opening good default → (b : List Stmt) (c : Clause) (cs : List Clause) →
       clauses (map print_clause (wrap b ∷ c ∷ cs)) ≡ opening ++ (closed (map print_stmt b) ++ clauses (map print_clause (c ∷ cs)))
   front-words wrap opening good default k b c cs = ap (λ (w : ClauseWords). w.opening ++ (closed w.body ++ clauses (map print_clause (c ∷ cs)))) (k.words b)
@@ -315,7 +317,7 @@ module _ (seen : Bool) (done : List Clause) (ts : List Token) (l : ℕ) where
   last-words : (wrap : List Stmt → Clause) (opening : List Word) (good default : Bool) → Head wrap opening good default → (b : List Stmt) → clauses (map print_clause (wrap b ∷ [])) ≡ opening ++ separated punctuations.Semicolon (map print_stmt b)
   last-words wrap opening good default k b = ap (λ (w : ClauseWords). w.opening ++ separated punctuations.Semicolon w.body) (k.words b)
 
-  -- a clause with its statements, in front of the clauses that were read behind it
+  -- a clause with its statements, before the clauses that were read after it
   cons : (wrap : List Stmt → Clause) (opening : List Word) (default : Bool) → Head wrap opening true default → (later : Bool) → (cond later 1 0 ≡ cond seen 1 0 + cond default 1 0) → begins_clause ts ≡ true →
       (us rest : List Token) → Spelt opening ts us → (b : List Stmt) → stmts_good (map stmt_form b) ≡ true → BeforeClause b us rest ⊎ ((Spelt (separated punctuations.Semicolon (map print_stmt b)) us rest) × ((vs : List Token) × (after punctuations.CloseBrace rest ≡ Some vs))) →
       (x : List Clause × List Token) → ClausesRead later (done ++ wrap b ∷ []) rest x → ClausesRead seen done ts x

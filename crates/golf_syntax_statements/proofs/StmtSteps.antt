@@ -1,4 +1,6 @@
--- A statement is read as its plan says.
+-- A statement is read as its plan says, and reading it leaves fewer tokens.
+-- For: `stmt_at`, `stmt_plan` (golf_syntax_statements/specs/StmtReading.antt)
+-- By: induction over the list of words that are spelt; otherwise cases of the first token
 use Rattle.std.proofs.Common.{◌≡◌, ℕ, suc, ◌+◌, ◌*◌, ◌≤◌, ◌<◌, Bool, true, false, cond, List, [], ◌∷◌, ◌++◌, length, refl, ap, subst, arith}
 use Rattle.std.specs.Prelude.{Option, Some, None}
 use Rattle.golf_lex_tokens.specs.declared.token.Token.{Token}

@@ -1,4 +1,6 @@
 -- A variable is read exactly where it is printed.
+-- For: `var_at` (golf_syntax_statements/specs/VarReading.antt) and `var_at` (src/variables.rt)
+-- By: cases of the content, with or without a type; no induction
 use Rattle.std.proofs.Common.{◌≡◌, true, false, List, ◌∷◌, refl, ap, subst, ◌∙◌}
 use Rattle.std.specs.Prelude.{Option, Some, None}
 use Rattle.golf_lex_tokens.specs.declared.token.Token.{Token}
@@ -55,7 +57,7 @@ content-sound ts x e = at (type_at OfType ts) refl e
     at None q f = untyped-sound ts x f
     at (Some t) q f = typed-sound ts t.0 t.1 x (type-sound ts t q) (after punctuations.Assign t.1) refl f
 
--- what is read behind the word is a variable on its line
+-- what is read after the word is a variable on its line
 pub record IsVar (t : Token) (ts : List Token) (x : Var × List Token) : Type 0 where
   pub words : Spelt (print_var x.0) (t ∷ ts) x.1
   pub good : content_good x.0.content ≡ true
@@ -69,7 +71,7 @@ var-sound t ts x is e =
     subst (IsVar t ts) (some-same (record { line = t.line; name = a.0.0; content = b.0.0 }, b.0.1) x b.2)
     (record { words = on-line-then _ t ts b.0.1 (kind-then t _ is (name-then a.0.0 ts a.1 k.words)); good = k.good })
 
--- a variable that is printed is read, in front of what ends statements
+-- a variable that is printed is read, before what ends statements
 pub content-complete : (c : VarContent) (ts rest : List Token) → content_good c ≡ true → Spelt (print_content c) ts rest → Stops rest → content_at ts ≡ Some (c, rest)
 unfolding content_at
 content-complete (content.Zero t) ts rest good h s = ap (content_by ts) (type-complete t good ts rest h s.dot) ∙ ap (typed_by t rest) s.assign

@@ -22,7 +22,7 @@ abbrev pub expression_of : SimpleKind → Option Expr
 expression_of (s.Expression e) = Some e
 expression_of _ = None
 
--- a condition, with the simple statement in front of it
+-- a condition, with the simple statement before it
 abbrev pub Test : Type 0
 Test = Option Simple × Expr
 
@@ -34,7 +34,7 @@ test_by x ts None = expression_of x.kind >>= λ e. Some ((None, e), ts)
 unfoldable pub test_at : List Token → Option (Test × List Token)
 test_at ts = simple_at true ts >>= λ x. test_by x.0 x.1 (after punctuations.Semicolon x.1)
 
--- the names in front of a `range`, behind the first one
+-- the names before a `range`, after the first one
 abbrev pub two_names : List ℕ → List Token → Option (RangeNames × List Token)
 two_names n ts = name_at ts >>= λ m. after punctuations.Define m.1 >>= λ us. after_keyword keywords.Range us >>= λ vs. Some (names.Two n m.0, vs)
 
@@ -47,7 +47,7 @@ abbrev pub names_by : List Token → Option (List Token) → Option (RangeNames 
 names_by ts (Some us) = Some (names.Neither, us)
 names_by ts None = name_at ts >>= λ n. names_behind n.0 (after punctuations.Define n.1) (after punctuations.Comma n.1)
 
--- the names in front of a `range`, up to that word
+-- the names before a `range`, up to that word
 unfoldable pub names_at : List Token → Option (RangeNames × List Token)
 names_at ts = names_by ts (after_keyword keywords.Range ts)
 
@@ -66,7 +66,7 @@ abbrev pub steps_by : Option Simple → List Token → Option (Expr × List Toke
 steps_by first ts None = post_at first None ts
 steps_by first ts (Some e) = post_at first (Some e.0) e.1
 
--- a three-part header, behind its first semicolon
+-- a three-part header, after its first semicolon
 unfoldable pub steps_at : Option Simple → List Token → Found
 steps_at first ts = steps_by first ts (expr_at (Level true 1) ts)
 

@@ -38,7 +38,7 @@ owned (owners.For l h) b = just (st.For l h b.0) b.1
 unfoldable pub closed_at : Owner → List Stmt × List Token → Found
 closed_at o b = run stmt_at (owned o b)
 
--- behind a statement in braces
+-- after a statement in braces
 abbrev pub body_at : Owner → List Stmt → List Token → Option (List Token) → Found
 body_at o done ts (Some us) = stmt_at (Body done) us >>= closed_at o
 body_at o done ts None = after punctuations.CloseBrace ts >>= λ us. closed_at o (done, us)
@@ -60,16 +60,16 @@ grown s h b = record { line = s.line; has_default = defaults s.has_default h.com
 unfoldable pub selected : Select → List Token → Found
 selected s ts = stmt_at (Clauses s.has_default s.clauses) ts >>= λ c. Some (st.Select s.line c.0, c.1)
 
--- the statements of a clause from here on, and the clauses behind them
+-- the statements of a clause from here on, and the clauses after them
 unfoldable pub clause_at : Select → Head → List Stmt → List Token → Found
 clause_at s h done ts = stmt_at (CaseBody done) ts >>= λ b. selected (grown s h b.0) b.1
 
--- behind a statement of a clause
+-- after a statement of a clause
 abbrev pub case_at : Select → Head → List Stmt → List Token → Option (List Token) → Found
 case_at s h done ts (Some us) = clause_at s h done us
 case_at s h done ts None = after punctuations.CloseBrace ts >>= λ us. selected (grown s h done) ts
 
--- behind the colon of a clause, which may be the last token but the closing brace
+-- after the colon of a clause, which may be the last token but the closing brace
 abbrev pub headed_by : Select → Head → List Token → Option (List Token) → Found
 headed_by s h ts (Some us) = selected (grown s h []) ts
 headed_by s h ts None = clause_at s h [] ts
@@ -77,7 +77,7 @@ headed_by s h ts None = clause_at s h [] ts
 unfoldable pub headed_at : Select → Head → List Token → Found
 headed_at s h ts = headed_by s h ts (after punctuations.CloseBrace ts)
 
--- behind the head of a clause: its colon
+-- after the head of a clause: its colon
 abbrev pub colon_at : Select → Head → List Token → Found
 colon_at s h ts = after punctuations.Colon ts >>= headed_at s h
 
@@ -94,7 +94,7 @@ pending_at (pendings.Body o done) x = body_at o (done ++ x.0 ∷ []) x.1 (after 
 pending_at (pendings.Else l i e b) x = Some (st.IfElse l i e b x.0, x.1)
 pending_at (pendings.Clause s h done) x = case_at s h (done ++ x.0 ∷ []) x.1 (after punctuations.Semicolon x.1)
 
--- what is found where reading goes on so
+-- what is found if reading goes on so
 abbrev pub move_at : Move → List Token → Found
 move_at (moves.Found s) ts = Some (s, ts)
 move_at moves.Seek ts = stmt_at OfStmt ts

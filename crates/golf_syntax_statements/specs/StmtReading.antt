@@ -23,7 +23,7 @@ use Rattle.golf_syntax_statements.specs.HeaderReading.{Test, test_at, header_at}
 use Rattle.golf_syntax_statements.specs.CommReading.{comm_at}
 
 -- What is read: a statement; statements with semicolons between, up to the brace that closes them; the clauses of a `select`, up to
--- its brace, behind a `default` or not; the statements of a clause. The lists hold what was read before.
+-- its brace, after a `default` or not; the statements of a clause. The lists hold what was read before.
 pub data Mode : Type 0 where
   OfStmt : Mode
   Body : List Stmt → Mode
@@ -48,7 +48,7 @@ found x = Done (Some x)
 abbrev pub Goes : Type 0 → Type 0
 Goes A = List Stmt × List Token → StmtPlan A
 
--- statements in braces, behind the opening one
+-- statements in braces, after the opening one
 abbrev pub body : {A : Type 0} → List Token → Option (List Token) → Goes A → StmtPlan A
 body ts (Some us) more = more ([], us)
 body ts None more = Ask (Body []) ts more
@@ -71,7 +71,7 @@ abbrev pub returned : ℕ → List Token → Option (Expr × List Token) → Opt
 returned l ts None = Some (st.Return l None, ts)
 returned l ts (Some e) = Some (st.Return l (Some e.0), e.1)
 
--- a statement that may stand behind `else`
+-- a statement that may stand after `else`
 abbrev pub is_branch_kind : TokenKind → Bool
 is_branch_kind (kinds.Keyword keywords.If) = true
 is_branch_kind (kinds.Punctuation punctuations.OpenBrace) = true
@@ -119,12 +119,12 @@ abbrev pub one_plan : List Token → StmtPlan Stmt
 one_plan [] = Done None
 one_plan (t ∷ ts) = kind_plan t.line t.kind ts (t ∷ ts)
 
--- behind a statement in braces: a semicolon and more, or the brace that closes them
+-- after a statement in braces: a semicolon and more, or the brace that closes them
 abbrev pub body_behind : List Stmt → List Token → Option (List Token) → StmtPlan (List Stmt)
 body_behind done ts (Some us) = Ask (Body done) us found
 body_behind done ts None = given (after punctuations.CloseBrace ts) (just done)
 
--- behind a statement of a clause: a semicolon and more, or the brace that closes the `select`, which stays
+-- after a statement of a clause: a semicolon and more, or the brace that closes the `select`, which stays
 abbrev pub case_behind : List Stmt → List Token → Option (List Token) → StmtPlan (List Stmt)
 case_behind done ts (Some us) = Ask (CaseBody done) us found
 case_behind done ts None = given (after punctuations.CloseBrace ts) (λ us. just done ts)
@@ -142,7 +142,7 @@ begins_clause (t ∷ ts) = begins_kind t.kind
 abbrev pub case_plan : List Stmt → List Token → StmtPlan (List Stmt)
 case_plan done ts = cond (begins_clause ts) (just done ts) (Ask OfStmt ts (λ s. case_behind (done ++ s.0 ∷ []) s.1 (after punctuations.Semicolon s.1)))
 
--- the statements of a clause, behind its colon, and the clauses behind them
+-- the statements of a clause, after its colon, and the clauses after them
 abbrev pub clause_body : Bool → List Clause → (List Stmt → Clause) → List Token → Option (List Token) → StmtPlan (List Clause)
 clause_body seen done wrap ts (Some us) = Ask (Clauses seen (done ++ wrap [] ∷ [])) ts found
 clause_body seen done wrap ts None = Ask (CaseBody []) ts (λ b. Ask (Clauses seen (done ++ wrap b.0 ∷ [])) b.1 found)
@@ -167,7 +167,7 @@ stmt_plan (Body done) ts = Ask OfStmt ts (λ s. body_behind (done ++ s.0 ∷ [])
 stmt_plan (Clauses seen done) ts = clauses_plan seen done ts
 stmt_plan (CaseBody done) ts = case_plan done ts
 
--- a mode asks only for those of lower rank where it has taken no token
+-- a mode asks only for those of lower rank if it has taken no token
 abbrev pub rank : Mode → ℕ
 rank OfStmt = 0
 rank (Body done) = 1

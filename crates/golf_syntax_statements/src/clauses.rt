@@ -9,9 +9,9 @@ ghost use Rattle.golf_syntax_statements.specs.Moves.{selected, clause_at, case_a
 use crate::communications::comm_at;
 use crate::pending::{Head, OwnedMove, OwnedPending, Select};
 use golf_base::Memory;
+use golf_lex_tokens::{Keyword, Punctuation, Token, TokenKind};
 use golf_syntax_expressions::after;
 use golf_syntax_trees::OwnedStmts;
-use golf_lex_tokens::{Keyword, Punctuation, Token, TokenKind};
 use std::alloc::Global;
 
 // Whether a clause begins here.
@@ -183,7 +183,10 @@ fn kind_clause<'a>(
     match kind {
         TokenKind::Keyword(keyword) => keyword_clause(alloc, select, line, *keyword, behind),
         TokenKind::Punctuation(punctuation) => match punctuation {
-            Punctuation::CloseBrace => Ok(Some((OwnedMove::found(alloc, select.whole(alloc)?)?, behind))),
+            Punctuation::CloseBrace => Ok(Some((
+                OwnedMove::found(alloc, select.whole(alloc)?)?,
+                behind,
+            ))),
             _ => Ok(None),
         },
         TokenKind::Name(_) | TokenKind::Integer(_) | TokenKind::Text(_) => Ok(None),

@@ -6,12 +6,12 @@ ghost use Rattle.golf_syntax_statements.specs.CommReading as comm_spec;
 ghost use Rattle.golf_syntax_statements.specs.CommReading.{assigned_seen, comm_by};
 
 use golf_base::Memory;
+use golf_lex_tokens::{Punctuation, Token};
 use golf_syntax_expressions::{Place, after, copied, name_at, operand_at, simple_at};
 use golf_syntax_trees::{
     Communication, Expr, Name, OwnedCommunication, OwnedExpr, OwnedSimpleKind, SimpleKind,
     UnaryOperator,
 };
-use golf_lex_tokens::{Punctuation, Token};
 use std::alloc::Global;
 
 // The channel that an expression receives from.

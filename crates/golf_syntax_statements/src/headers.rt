@@ -8,14 +8,16 @@ ghost use Rattle.golf_syntax_statements.specs.HeaderReading as header_spec;
 ghost use Rattle.golf_syntax_statements.specs.HeaderReading.{test_by, first_by};
 
 use golf_base::Memory;
-use golf_syntax_expressions::{Place, after, after_keyword, copied, expression_at, name_at, simple_at};
+use golf_lex_tokens::{Keyword, Punctuation, Token};
+use golf_syntax_expressions::{
+    Place, after, after_keyword, copied, expression_at, name_at, simple_at,
+};
 use golf_syntax_trees::{
     Header, Name, OwnedExpr, OwnedHeader, OwnedSimple, OwnedSimpleKind, RangeNames, SimpleKind,
 };
-use golf_lex_tokens::{Keyword, Punctuation, Token};
 use std::alloc::Global;
 
-/// A condition, with the simple statement in front of it.
+/// A condition, with the simple statement before it.
 type Test = (Option<OwnedSimple>, OwnedExpr);
 
 // The expression that a simple statement is.
@@ -72,7 +74,7 @@ fn test_behind(
     }
 }
 
-/// The header of an `if`: its condition, with the simple statement in front of it.
+/// The header of an `if`: its condition, with the simple statement before it.
 #[tactic(auto, unfolding(crate::specs::HeaderReading::test_at))]
 pub fn test_at(alloc: Global, tokens: &[Token]) -> Result<Option<(Test, &[Token])>, Memory>
     ensures value { IfOk result (λ o. seen o ≡ header_spec.test_at tokens.now) }
@@ -84,7 +86,7 @@ pub fn test_at(alloc: Global, tokens: &[Token]) -> Result<Option<(Test, &[Token]
     }
 }
 
-// The second of two names in front of a `range`.
+// The second of two names before a `range`.
 fn two_names(
     alloc: Global,
     first: Name,
@@ -105,7 +107,7 @@ fn two_names(
     Ok(Some((RangeNames::Two(first, copied(alloc, second)?), rest)))
 }
 
-// The names in front of a `range`, and what follows that word.
+// The names before a `range`, and what follows that word.
 #[tactic(auto, unfolding(crate::specs::HeaderReading::names_at))]
 fn names_at(alloc: Global, tokens: &[Token]) -> Result<Option<(RangeNames, &[Token])>, Memory>
     ensures value { IfOk result (λ o. seen o ≡ header_spec.names_at tokens.now) }

@@ -12,12 +12,12 @@ pub fn variables_read()
     ensures { VarsRead }
 {}
 
-/// A condition of an `if` that is found, with the simple statement in front of it, is well formed, and printed there.
+/// A condition of an `if` that is found, with the simple statement before it, is well formed, and printed there.
 pub fn tests_found()
     ensures { TestsFound }
 {}
 
-/// A well-formed condition that is printed in front of a body is found.
+/// A well-formed condition that is printed before a body is found.
 pub fn tests_read()
     ensures { TestsRead }
 {}
@@ -27,7 +27,7 @@ pub fn headers_found()
     ensures { HeadersFound }
 {}
 
-/// A well-formed header that is printed in front of a body is found.
+/// A well-formed header that is printed before a body is found.
 pub fn headers_read()
     ensures { HeadersRead }
 {}
@@ -37,7 +37,7 @@ pub fn communications_found()
     ensures { CommsFound }
 {}
 
-/// A well-formed communication that is printed in front of a colon is found.
+/// A well-formed communication that is printed before a colon is found.
 pub fn communications_read()
     ensures { CommsRead }
 {}

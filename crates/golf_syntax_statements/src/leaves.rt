@@ -11,9 +11,9 @@ ghost use Rattle.golf_syntax_statements.specs.Moves.{weight};
 use crate::pending::OwnedMove;
 use crate::variables::var_at;
 use golf_base::Memory;
+use golf_lex_tokens::{Keyword, Token};
 use golf_syntax_expressions::{Place, expression_at, operand_at, simple_at};
 use golf_syntax_trees::{Expr, OwnedExpr, OwnedExprs, OwnedStmt, Stmt};
-use golf_lex_tokens::{Keyword, Token};
 use std::alloc::Global;
 
 // The callee and the arguments of a call.

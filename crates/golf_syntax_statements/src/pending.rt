@@ -6,11 +6,11 @@ ghost use Rattle.golf_syntax_statements.specs.Moves.{closed_at, pending_at, weig
 
 use crate::statements::{else_move, resume_body, resume_clause, resume_else};
 use golf_base::{Boxed, Memory};
+use golf_lex_tokens::Token;
 use golf_syntax_trees::{
     Clause, OwnedClauses, OwnedCommunication, OwnedExpr, OwnedHeader, OwnedSimple, OwnedStmt,
     OwnedStmts, Stmt,
 };
-use golf_lex_tokens::Token;
 use std::alloc::Global;
 use std::marker::Model;
 
@@ -37,7 +37,7 @@ pub struct Head {
     pub communication: Option<OwnedCommunication>,
 }
 
-/// What waits for a statement: what stands in front of it.
+/// What waits for a statement: what stands before it.
 #[derive(Drop)]
 pub enum Pending {
     /// `owner { s; ..;`

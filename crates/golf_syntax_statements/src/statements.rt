@@ -15,11 +15,11 @@ use crate::headers::{header_at, test_at};
 use crate::leaves::{defer_at, go_at, return_at, simple_statement_at, variable_at};
 use crate::pending::{Head, Move, OwnedMove, OwnedPending, Owner, Select};
 use golf_base::{List, Memory};
+use golf_lex_tokens::{Keyword, Punctuation, Token, TokenKind};
 use golf_syntax_expressions::{after, after_keyword};
 use golf_syntax_trees::{
     OwnedClauses, OwnedExpr, OwnedHeader, OwnedSimple, OwnedStmt, OwnedStmts, Stmt,
 };
-use golf_lex_tokens::{Keyword, Punctuation, Token, TokenKind};
 use std::alloc::Global;
 
 // Whether a statement begins here that may stand after `else`.

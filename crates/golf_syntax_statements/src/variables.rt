@@ -7,9 +7,9 @@ ghost use Rattle.golf_syntax_statements.specs.VarReading as var_spec;
 ghost use Rattle.golf_syntax_statements.specs.VarReading.{typed_by};
 
 use golf_base::Memory;
+use golf_lex_tokens::{Punctuation, Token};
 use golf_syntax_expressions::{Place, after, copied, expression_at, name_at, type_at};
 use golf_syntax_trees::{OwnedType, OwnedVar, OwnedVarContent, Var, VarContent};
-use golf_lex_tokens::{Punctuation, Token};
 use std::alloc::Global;
 
 // After a type: a value, or nothing.

@@ -1,4 +1,4 @@
--- Which file reads a list of tokens, and where the fault is where none does.
+-- Which file reads a list of tokens, and where the fault is if none does.
 use Rattle.std.specs.Prelude.{◌≡◌, ℕ, Bool, true, false, cond, nat_lt, List, [], ◌∷◌, map, sum, Option, Some, None}
 use Rattle.std.specs.List.{list_all}
 use Rattle.golf_lex_tokens.specs.declared.token.Token.{Token}
@@ -18,7 +18,7 @@ most = 1000
 abbrev pub no_counts : List ℕ
 no_counts = 0 ∷ []
 
--- no token costs more, behind these counts
+-- no token costs more, after these counts
 abbrev pub is_affordable : List ℕ → List TokenKind → Bool
 is_affordable counts [] = true
 is_affordable counts (k ∷ ks) = cond (nat_lt most (sum (counted k counts))) false (is_affordable (counted k counts) ks)
@@ -47,7 +47,7 @@ pub record Reads (bytes : List ℕ) (p : File) : Type 0 where
   pub lexes : Lexes bytes tokens
   pub reads : ReadsTokens tokens p
 
--- the line of a fault where no token costs too much
+-- the line of a fault if no token costs too much
 abbrev pub BrokenOn : List Token → ℕ → Type 0
 BrokenOn [] line = line ≡ 1
 BrokenOn (t ∷ ts) line = FileBreaksOn (segments 0 (t ∷ ts)) line

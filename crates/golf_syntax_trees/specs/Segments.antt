@@ -10,7 +10,7 @@ use Rattle.golf_syntax_trees.specs.declared.declarations.Decl.{Decl}
 use Rattle.golf_syntax_trees.specs.Words.{punctuation, Spells}
 use Rattle.golf_syntax_trees.specs.Declarations.{package_words, print_import, print_decl, decl_good}
 
--- how many brackets are open behind a punctuation mark: a closing one that closes nothing counts for nothing
+-- how many brackets are open after a punctuation mark: a closing one that closes nothing counts for nothing
 abbrev pub deeper : Punctuation → ℕ → ℕ
 deeper punctuations.OpenParen depth = suc depth
 deeper punctuations.OpenBracket depth = suc depth
@@ -37,7 +37,7 @@ abbrev pub before_segment : Bool → Token → List (List Token) → List (List 
 before_segment true t ps = (t ∷ []) ∷ ps
 before_segment false t ps = in_front t ps
 
--- the list, cut behind each semicolon outside all brackets
+-- the list, cut after each semicolon outside all brackets
 abbrev pub segments : ℕ → List Token → List (List Token)
 segments depth [] = []
 segments depth (t ∷ ts) = before_segment (ends_segment t.kind depth) t (segments (depth_behind t.kind depth) ts)
@@ -59,7 +59,7 @@ pub record IsDecl (p : List Token) : Type 0 where
   pub words : Spells (print_decl tree ++ punctuation punctuations.Semicolon ∷ []) p []
   pub good : decl_good tree ≡ true
 
--- a segment is an import in front of all declarations, or a declaration
+-- a segment is an import before all declarations, or a declaration
 abbrev pub IsWhole : Bool → List Token → Type 0
 IsWhole declared p = (IsImport p × (declared ≡ false)) ⊎ IsDecl p
 

@@ -24,7 +24,7 @@ pub record ClauseWords : Type 0 where
   pub opening : List Word
   pub body : List (List Word)
 
--- Clauses: each statement has a semicolon behind it, but for one right before the brace that ends them all.
+-- Clauses: each statement has a semicolon after it, but for one right before the brace that ends them all.
 abbrev pub clauses : List ClauseWords → List Word
 clauses [] = []
 clauses (c ∷ []) = c.opening ++ separated punctuations.Semicolon c.body
@@ -60,7 +60,7 @@ print_stmt = fold-Stmt ClauseWords (List Word) print_clause_step print_stmt_step
 abbrev pub print_clause : Clause → ClauseWords
 print_clause = fold-Clause ClauseWords (List Word) print_clause_step print_stmt_step
 
--- Whether a statement may stand behind `else`. Whether it is well formed.
+-- Whether a statement may stand after `else`. Whether it is well formed.
 pub record StmtForm : Type 0 where
   pub branch : Bool
   pub good : Bool

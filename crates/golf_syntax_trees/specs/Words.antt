@@ -29,7 +29,7 @@ abbrev pub on_line : ℕ → List Word → List Word
 on_line l [] = []
 on_line l (w ∷ ws) = record { kind = w.kind; line = Some l } ∷ ws
 
--- texts behind separators, each with its own
+-- texts after separators, each with its own
 abbrev pub behind : Punctuation → List (List Word) → List Word
 behind m [] = []
 behind m (x ∷ xs) = punctuation m ∷ (x ++ behind m xs)
@@ -39,7 +39,7 @@ abbrev pub separated : Punctuation → List (List Word) → List Word
 separated m [] = []
 separated m (x ∷ xs) = x ++ behind m xs
 
--- texts with a semicolon behind each
+-- texts with a semicolon after each
 abbrev pub closed : List (List Word) → List Word
 closed [] = []
 closed (x ∷ xs) = x ++ punctuation punctuations.Semicolon ∷ closed xs

@@ -4,7 +4,7 @@ use crate::owned::OwnedType;
 use crate::types::{Name, TypeExpr};
 use golf_base::{Boxed, List};
 
-/// An operator in front of its operand.
+/// An operator before its operand.
 #[derive(Clone, Copy, Debug, PartialEq, Eq)]
 pub enum UnaryOperator {
     Negate,

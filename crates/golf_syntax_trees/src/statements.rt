@@ -74,7 +74,7 @@ pub enum Header {
     Range(RangeNames, OwnedExpr),
 }
 
-/// The names in front of `:= range`.
+/// The names before `:= range`.
 #[derive(Drop)]
 pub enum RangeNames {
     Neither,

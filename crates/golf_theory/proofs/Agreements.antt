@@ -1,4 +1,6 @@
 -- What each operation on a map leaves as it was.
+-- For: `AgreeOutside`, specs/Agreement.antt
+-- By: putting the laws of entries together; no induction
 use Rattle.std.proofs.Common.{◌≡◌, ℕ, Bool, false, List, inl, inr, sym, ◌∙◌, subst}
 use Rattle.std.proofs.lemmas.Bool.{cases_Bool}
 use Rattle.golf_theory.specs.Maps.{Entry, put, add, insert, only, map_values}

@@ -1,4 +1,6 @@
--- What is derived: it is closed under the rule, each property that the rule keeps holds of it, and it grows with the rule.
+-- What is derived is closed under the rule, has each property that the rule keeps, and grows with the rule.
+-- For: `Derived`, specs/Derivation.antt; `Reached`, specs/Reached.antt
+-- By: induction over the derivation, a list in which each entry follows from those after it
 use Rattle.std.proofs.Common.{◌⊎◌, List, [], ◌∷◌, ◌++◌, map, inl, inr, refl, sym, subst}
 use Rattle.golf_theory.specs.Membership.{In, Every}
 use Rattle.golf_theory.specs.Derivation.{IsDerivation, Derived}

@@ -1,8 +1,10 @@
--- One more entry at its place.
+-- What is found and the order of keys in a map with one more entry, which is inserted at its place.
+-- For: `insert`, specs/Maps.antt
+-- By: induction over the list of entries
 use Rattle.std.proofs.Common.{◌≡◌, ℕ, suc, ◌<◌, ◌≤◌, Bool, true, false, cond, List, [], ◌∷◌, Some, None, ◌==◌, ◌⊎◌, inl, inr, refl, sym, ap, ◌∙◌, arith, nat_lt}
 use Rattle.std.proofs.lemmas.Bool.{eq-eqb, ne_eqb, ltb-true, ltb-false, le-ltb, cases_eq}
 use Rattle.golf_theory.specs.Maps.{Entry, find, insert, only, Rises, AllBelow}
-use Rattle.golf_theory.proofs.MapOrder.{Rises-less}
+use Rattle.golf_theory.proofs.MapOrder.{Rises-only}
 
 apart : (m k : ℕ) → k ≤ m → (k == m) ≡ false → suc k ≤ m
 apart m k h u = elim (cases_eq k m) [ inl e ↦ cc (eq-eqb k m e) | inr n ↦ omega arith ]
@@ -79,14 +81,7 @@ module _ {X : Type 0} where
   insert-first j g v [] l r = refl
   insert-first j g v (e ∷ es) l r = ap (λ b. cond b (e ∷ insert g v es) ((g, v) ∷ e ∷ es)) (le-ltb e.0 g (omega arith))
 
-  only-rises : (j : ℕ) (p : ℕ → Bool) (es : List (ℕ × X)) → Rises j es → Rises j (only p es)
-  only-rises j p [] r = tt
-  only-rises j p (e ∷ es) r = elim (p e.0) as (λ b. Rises j (cond b (e ∷ only p es) (only p es))) [
-    | true ↦ (r.0, only-rises (suc e.0) p es r.1)
-    | false ↦ Rises-less j (suc e.0) (only p es) (omega arith) (only-rises (suc e.0) p es r.1)
-  ]
-
-  -- a cut and an insertion, in either order, where keys rise
+  -- a cut and an insertion, in either order, if keys rise
   pub only-insert : (p : ℕ → Bool) (j g : ℕ) (v : X) (es : List (ℕ × X)) → p g ≡ true → Rises j es → only p (insert g v es) ≡ insert g v (only p es)
   only-insert p j g v [] t r = ap (λ b. cond b ((g, v) ∷ []) []) t
   only-insert p j g v (e ∷ es) t r =
@@ -100,6 +95,6 @@ module _ {X : Type 0} where
             ap (λ b. cond b ((g, v) ∷ only p (e ∷ es)) (only p (e ∷ es))) t
             ∙ elim (p e.0) as (λ c. (g, v) ∷ cond c (e ∷ only p es) (only p es) ≡ insert g v (cond c (e ∷ only p es) (only p es))) [
               | true ↦ sym (ap (λ b. cond b (e ∷ insert g v (only p es)) ((g, v) ∷ e ∷ only p es)) u)
-              | false ↦ sym (insert-first (suc e.0) g v (only p es) (omega arith) (only-rises (suc e.0) p es r.1))
+              | false ↦ sym (insert-first (suc e.0) g v (only p es) (omega arith) (Rises-only (suc e.0) p es r.1))
             ]
       ] refl

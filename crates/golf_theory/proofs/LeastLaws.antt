@@ -1,10 +1,11 @@
--- The computed least set: it is closed under its rule, each member follows from those behind it, and it is what the rule derives.
+-- The computed least set is closed under its rule, each member follows from those after it, and it is what is derived.
+-- For: `least`, specs/Least.antt; `least_law`, src/lib.rt
+-- By: induction over the members that are computed, and over n, the rounds that are left
 use Rattle.std.proofs.Common.{◌≡◌, ℕ, zero, suc, ◌≤◌, Bool, true, false, cond, List, [], ◌∷◌, length, Option, Some, None, ◌⊎◌, inl, inr, refl, sym, ap, ◌∙◌, subst, arith}
-use Rattle.golf_theory.specs.Membership.{In, is_in}
+use Rattle.golf_theory.specs.Membership.{In}
 use Rattle.golf_theory.specs.Least.{pick, with_rest, next_of, grown, least}
 use Rattle.golf_theory.specs.Derivation.{IsDerivation, Derived}
 use Rattle.golf_theory.proofs.Derivations.{Derived-all, Derived-in, Derived-wider}
-use Rattle.golf_theory.proofs.Tests.{is_in-same}
 
 module _ {X : Type 0} where
   -- what a pick says
@@ -69,7 +70,7 @@ module _ {X : Type 0} where
     pub least_closed : (candidates : List X) (x : X) → In x candidates → rule (least rule candidates) x ≡ true → In x (least rule candidates)
     least_closed candidates = closed_among (length candidates) [] candidates (omega arith)
 
-    -- each by the ones behind it
+    -- each by the ones after it
     abbrev pub InTurn : List X → List X → Type 0
     InTurn candidates [] = Unit {0}
     InTurn candidates (x ∷ xs) = (rule xs x ≡ true) × In x candidates × InTurn candidates xs
@@ -109,7 +110,7 @@ module _ {X : Type 0} where
     pub Derived-least : (candidates : List X) (x : X) → In x (least rule candidates) → Derived Gives x
     Derived-least candidates x i = Derived-in Gives (least rule candidates) (least_derivation candidates) x i
 
-    -- what is derived is a member, where the candidates cover the rule
+    -- what is derived is a member, if the candidates cover the rule
     pub least-Derived : (candidates : List X) → Monotone → Covers candidates → (x : X) → Derived Gives x → In x (least rule candidates)
     least-Derived candidates more covers x d = Derived-all Gives (λ y. In y (least rule candidates))
         (λ earlier y all t. let u = more earlier (least rule candidates) y all t in least_closed candidates y (covers (least rule candidates) y (least_candidates candidates) u) u) x d
@@ -143,8 +144,3 @@ module _ {X : Type 0} where
 
   pub least_same : (rule other : List X → X → Bool) (candidates : List X) → ((xs : List X) (x : X) → rule xs x ≡ other xs x) → least rule candidates ≡ least other candidates
   least_same rule other candidates h = grown-same rule other h (length candidates) [] candidates
-
--- of numbers, the test of membership is the same whatever the candidates
-pub is_in-least : (rule : List ℕ → ℕ → Bool) (candidates others : List ℕ) → Monotone rule → Covers rule candidates → Covers rule others → (x : ℕ) → is_in x (least rule candidates) ≡ is_in x (least rule others)
-is_in-least rule candidates others more covers covers' x =
-    is_in-same x (least rule candidates) (least rule others) (least_any rule candidates others more covers' x) (least_any rule others candidates more covers x)

@@ -1,4 +1,6 @@
 -- Members of lists, and what each member has.
+-- For: `In` and `Every`, specs/Membership.antt
+-- By: induction over the list
 use Rattle.std.proofs.Common.{◌≡◌, ℕ, zero, suc, ◌<◌, Bool, true, false, cond, List, [], ◌∷◌, ◌++◌, map, take, drop, length, get_or, Some, ◌⊎◌, inl, inr, refl, sym, ap, ◌∙◌, subst, arith, slice_set, slice_get, filter, Contains}
 use Rattle.golf_theory.specs.Membership.{In, Every}
 

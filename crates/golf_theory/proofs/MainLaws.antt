@@ -1,4 +1,6 @@
 -- The main laws, from the lemmas.
+-- For: `map_laws`, `order_laws` and `least_law`, src/lib.rt
+-- By: putting the lemmas together; no induction
 use Rattle.std.proofs.Common.{◌≡◌, true, arith}
 use Rattle.golf_theory.specs.Membership.{In}
 use Rattle.golf_theory.specs.Laws.{FindPut, FindAdd, FindOnly, OnlyGoes, KeysPass, EntriesFound, KeysRise, ReachedLeast, LeastDerived, Counted, MembersCount}

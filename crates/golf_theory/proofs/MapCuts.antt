@@ -1,4 +1,6 @@
--- A cut, a change, an addition and a map over all values, in either order.
+-- A cut of a map, a map over all its values, a change and an addition are the same in either order.
+-- For: `only` and `map_values`, specs/Maps.antt; `cut_laws`, src/lib.rt
+-- By: induction over the list of entries
 use Rattle.std.proofs.Common.{◌≡◌, ℕ, Bool, true, false, cond, ◌&&◌, List, [], ◌∷◌, ◌==◌, inl, inr, refl, sym, ap, ◌∙◌}
 use Rattle.std.proofs.lemmas.Bool.{eqb-true, ne_eqb}
 use Rattle.golf_theory.specs.Maps.{Entry, put, add, only, map_values}

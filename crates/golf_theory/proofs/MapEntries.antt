@@ -1,4 +1,6 @@
 -- The entries of a map after each operation, and before it.
+-- For: `Entry`, specs/Maps.antt; `order_laws`, src/lib.rt
+-- By: induction over the list of entries
 use Rattle.std.proofs.Common.{◌≡◌, ℕ, Bool, true, false, cond, List, [], ◌∷◌, Some, ◌==◌, ◌⊎◌, inl, inr, refl, sym, ap, ◌∙◌, subst}
 use Rattle.std.proofs.lemmas.Bool.{eqb-true, eq-eqb, ne_eqb}
 use Rattle.golf_theory.specs.Membership.{In, Every}

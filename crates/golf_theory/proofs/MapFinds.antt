@@ -1,4 +1,6 @@
--- What is found after each operation.
+-- What is found in a map after each operation.
+-- For: `find`, specs/Maps.antt; `map_laws`, src/lib.rt
+-- By: induction over the list of entries
 use Rattle.std.proofs.Common.{◌≡◌, ℕ, suc, ◌<◌, ◌≤◌, Bool, true, false, cond, List, [], ◌∷◌, Option, Some, None, ◌==◌, ◌⊎◌, inl, inr, refl, sym, ap, ◌∙◌, arith}
 use Rattle.std.proofs.lemmas.Bool.{eqb-true, eqb-false, eq-eqb, ne_eqb}
 use Rattle.golf_theory.specs.Maps.{Entry, find, put, add, only, map_values, Rises, IsRising, AllBelow}

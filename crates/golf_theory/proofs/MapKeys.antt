@@ -1,4 +1,6 @@
--- The keys after each operation.
+-- The keys of a map after each operation, and those whose values have a property.
+-- For: `keys` and `keys_where`, specs/Maps.antt
+-- By: induction over the list of entries
 use Rattle.std.proofs.Common.{◌≡◌, ℕ, Bool, true, false, cond, not, List, [], ◌∷◌, ◌++◌, filter, ◌==◌, inl, inr, refl, sym, ap, ◌∙◌}
 use Rattle.std.proofs.lemmas.Bool.{eqb-true, eqb-false, eq-eqb, ne_eqb}
 use Rattle.golf_theory.specs.Maps.{Entry, put, add, only, keys_where, keys, map_values}

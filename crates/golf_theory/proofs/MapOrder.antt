@@ -1,4 +1,6 @@
 -- The order of keys is kept by each operation.
+-- For: `Rises` and `AllBelow`, specs/Maps.antt; `order_laws`, src/lib.rt
+-- By: induction over the list of entries
 use Rattle.std.proofs.Common.{ℕ, suc, ◌<◌, ◌≤◌, Bool, true, false, cond, List, [], ◌∷◌, inl, inr, refl, arith}
 use Rattle.golf_theory.specs.Maps.{Entry, put, add, only, map_values, Rises, AllBelow}
 

@@ -1,27 +1,12 @@
 -- Numbers in rising lists, and the entries of a list of places.
-use Rattle.std.proofs.Common.{◌≡◌, ℕ, zero, suc, ◌+◌, ◌<◌, ◌≤◌, Bool, true, false, cond, not, List, [], ◌∷◌, ◌++◌, length, take, drop, get_or, Option, Some, None, ◌==◌, refl, sym, ap, ◌∙◌, arith, slice_get, slice_set, append_assoc}
+-- For: `entries` and `placed`, specs/Stored.antt
+-- By: induction over the list of places, and over the list of entries
+use Rattle.std.proofs.Common.{◌≡◌, ℕ, zero, suc, ◌+◌, ◌<◌, ◌≤◌, Bool, true, false, cond, not, List, [], ◌∷◌, ◌++◌, length, Option, Some, None, ◌==◌, refl, sym, ap, ◌∙◌, arith, slice_get, slice_set}
 use Rattle.std.proofs.lemmas.Bool.{eqb-true, eq-eqb, ne_eqb, le-ltb, lt-ltb}
-use Rattle.std.proofs.lemmas.List.{take_more, drop_more}
 use Rattle.golf_theory.specs.Maps.{find, put, add, only, keys_where, Rises}
 use Rattle.golf_theory.specs.Stored.{entries, placed}
 use Rattle.golf_theory.proofs.MapFinds.{find_below}
 use Rattle.golf_theory.proofs.MapOrder.{Rises-less}
-
--- one step of the search for the place
-pub placed_more : (g : ℕ) (xs : List ℕ) (i : ℕ) → i < length xs → get_or xs i 0 ≤ g
-    → placed g xs ≡ take i xs ++ placed g (drop i xs) → placed g xs ≡ take (i + 1) xs ++ placed g (drop (i + 1) xs)
-placed_more g xs i l h e =
-    e ∙ ap (λ (r : List ℕ). take i xs ++ placed g r) (drop_more xs i 0 l)
-    ∙ ap (λ b. take i xs ++ cond b (g ∷ get_or xs i 0 ∷ drop (i + 1) xs) (get_or xs i 0 ∷ placed g (drop (i + 1) xs))) (le-ltb g (get_or xs i 0) h)
-    ∙ sym (append_assoc (take i xs) (get_or xs i 0 ∷ []) (placed g (drop (i + 1) xs)))
-    ∙ ap (λ (r : List ℕ). r ++ placed g (drop (i + 1) xs)) (sym (take_more xs i 0 l))
-
--- the place is found at a larger number
-pub placed_here : (g : ℕ) (xs : List ℕ) (i : ℕ) → i < length xs → g < get_or xs i 0 → placed g (drop i xs) ≡ g ∷ drop i xs
-placed_here g xs i l h =
-    ap (placed g) (drop_more xs i 0 l)
-    ∙ ap (λ b. cond b (g ∷ get_or xs i 0 ∷ drop (i + 1) xs) (get_or xs i 0 ∷ placed g (drop (i + 1) xs))) (lt-ltb g (get_or xs i 0) h)
-    ∙ ap (λ (r : List ℕ). g ∷ r) (sym (drop_more xs i 0 l))
 
 pub Rises-entries : {X : Type 0} (k : ℕ) (xs : List (Option X)) → Rises k (entries k xs)
 Rises-entries k [] = tt

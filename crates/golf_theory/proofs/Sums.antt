@@ -1,4 +1,6 @@
 -- Sums of weights over a list, and over it after a change of one place.
+-- For: `sum_by`, std/specs/Prelude.antt
+-- By: induction over the list that is summed
 use Rattle.std.proofs.Common.{◌≡◌, ℕ, zero, suc, ◌+◌, ◌<◌, ◌≤◌, List, [], ◌∷◌, length, get_or, set, refl, sym, ap, arith}
 use Rattle.std.specs.Prelude.{sum_by}
 use Rattle.std.proofs.lemmas.List.Sums.{sum_by-cons}
@@ -16,12 +18,12 @@ total_at f [] id v e = absurd (some-ne-none v (sym e))
 total_at f (x ∷ xs) zero v e = omega (arith, sum_by-cons f x xs, ap f (some-injective x v e))
 total_at f (x ∷ xs) (suc k) v e = omega (arith, sum_by-cons f x xs, total_at f xs k v e)
 
--- where each has nothing, the whole is nothing
+-- if each has nothing, the whole is nothing
 pub total_none : {V : Type 0} (g : V → ℕ) (us : List V) → ((k : ℕ) (u : V) → get_elem? us k ≡ some u → g u ≡ 0) → sum_by g us ≡ 0
 total_none g [] h = refl
 total_none g (u ∷ us) h = omega (arith, sum_by-cons g u us, h zero u refl, total_none g us (λ k y at. h (suc k) y at))
 
--- where one has the whole, the others have nothing
+-- if one has the whole, the others have nothing
 pub total_alone : {V : Type 0} (f g : V → ℕ) (views : List V) (id : ℕ) (v : V) → get_elem? views id ≡ some v → ((k : ℕ) (u : V) → get_elem? views k ≡ some u → f u ≡ 0 → g u ≡ 0) → sum_by f views ≡ f v → sum_by g views ≡ g v
 total_alone f g [] id v e idle all = absurd (some-ne-none v (sym e))
 total_alone f g (x ∷ xs) zero v e idle all = omega (arith, sum_by-cons g x xs, ap g (some-injective x v e), total_none g xs (λ k u at. idle (suc k) u at (omega (arith, total_at f xs k u at, sum_by-cons f x xs, ap f (some-injective x v e)))))
@@ -51,7 +53,3 @@ pub at_index : {A : Type 0} (l : List A) (i : ℕ) (a : A) → i < length l → 
 at_index [] i a h e = absurd (omega arith)
 at_index (x ∷ xs) zero a h e = ap some (sym e)
 at_index (x ∷ xs) (suc i) a h e = at_index xs i a (omega arith) e
-
-pub one_all : {X : Type 0} (P : X → Type 0) (x : X) → P x → (k : ℕ) (d : X) → k < 1 → P (get_or (x ∷ []) k d)
-one_all P x p zero d h = p
-one_all P x p (suc k) d h = absurd (omega arith)

@@ -1,8 +1,10 @@
 -- Tests of lists, and the facts that they decide.
-use Rattle.std.proofs.Common.{◌≡◌, ℕ, Bool, true, false, List, [], ◌∷◌, ◌++◌, filter, ◌==◌, ◌⊎◌, ◌||◌, ◌&&◌, inl, inr, refl, sym, ap, ◌∙◌}
+-- For: `is_in`, `any_of` and `all_of`, specs/Membership.antt
+-- By: induction over the list that is tested
+use Rattle.std.proofs.Common.{◌≡◌, ℕ, Bool, true, false, List, [], ◌∷◌, ◌++◌, ◌==◌, ◌⊎◌, ◌||◌, ◌&&◌, inl, inr, refl, sym, ap, ◌∙◌}
 use Rattle.std.proofs.lemmas.Bool.{eqb-true, eq-eqb, or_cases, or_left, or_right, and_parts, and_from, false_from_ne_true, both_ways, cases_Bool}
 use Rattle.golf_theory.specs.Membership.{In, Every, is_in, any_of, all_of}
-use Rattle.golf_theory.proofs.Lists.{In-cases, In-left, In-right, In-filter, In-filter_old}
+use Rattle.golf_theory.proofs.Lists.{In-cases, In-left, In-right}
 
 pub is_in-from : (x : ℕ) (xs : List ℕ) → In x xs → is_in x xs ≡ true
 is_in-from x [] h = absurd h
@@ -37,9 +39,6 @@ pub is_in-append : (x : ℕ) (xs ys : List ℕ) → is_in x (xs ++ ys) ≡ (is_i
 is_in-append x xs ys = same_test (is_in x (xs ++ ys)) (is_in x xs || is_in x ys)
     (λ t. elim (In-cases x xs ys (In-from x (xs ++ ys) t)) [ inl a ↦ or_left (is_in x xs) _ (is_in-from x xs a) | inr a ↦ or_right (is_in x xs) _ (is_in-from x ys a) ])
     (λ t. is_in-from x (xs ++ ys) (elim (or_cases (is_in x xs) (is_in x ys) t) [ inl a ↦ In-left x xs ys (In-from x xs a) | inr a ↦ In-right x xs ys (In-from x ys a) ]))
-
-pub is_in-filter : (p : ℕ → Bool) (x : ℕ) (xs : List ℕ) → p x ≡ true → is_in x (filter p xs) ≡ is_in x xs
-is_in-filter p x xs t = is_in-same x (filter p xs) xs (λ i. (In-filter p x xs i).0) (λ i. In-filter_old p x xs t i)
 
 module _ {X : Type 0} (test : X → Bool) where
   pub any_of-from : (xs : List X) (x : X) → In x xs → test x ≡ true → any_of test xs ≡ true

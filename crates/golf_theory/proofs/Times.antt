@@ -1,11 +1,13 @@
--- How often a number stands in a list.
+-- How often a number stands in a list, and that no list is longer than the sum of such counts.
+-- For: `times`, specs/Counting.antt; `counting_laws`, src/lib.rt
+-- By: induction over the list, and over the list of counts
 use Rattle.std.proofs.Common.{◌≡◌, ℕ, zero, suc, ◌+◌, ◌-◌, ◌<◌, ◌≤◌, List, [], ◌∷◌, ◌++◌, length, get_or, set, Bool, cond, eqb, eq-eqb, ne_eqb, refl, sym, ap, subst, arith, inl, inr}
 use Rattle.std.specs.Prelude.{sum}
 use Rattle.std.proofs.lemmas.Bool.{cases_lt, cases_eq}
 use Rattle.std.proofs.lemmas.List.{get_or-set_same, get_or-set_other, get_or_past}
 use Rattle.std.proofs.lemmas.List.Sums.{sum_by-cons, sum_by-append, sum_by_push, sum_by-set}
 use Rattle.golf_theory.specs.Membership.{In}
-use Rattle.golf_theory.specs.Counting.{times, rows_times}
+use Rattle.golf_theory.specs.Counting.{times}
 
 -- the weight of one number
 abbrev one : ℕ → ℕ → ℕ
@@ -74,7 +76,3 @@ length-counted (x ∷ xs) words h =
 pub sum-bits : (words : List ℕ) → ((x : ℕ) → get_or words x 0 ≤ 1) → sum words ≤ length words
 sum-bits [] h = omega arith
 sum-bits (w ∷ ws) h = omega (arith, sum_by-cons (λ (y : ℕ). y) w ws, h zero, sum-bits ws (λ x. h (suc x)))
-
--- in rows
-pub rows_times-append : (x : ℕ) (rows more : List (List ℕ)) → rows_times x (rows ++ more) ≡ rows_times x rows + rows_times x more
-rows_times-append x rows more = sum_by-append (λ (row : List ℕ). times x row) rows more

@@ -2,7 +2,7 @@
 use Rattle.std.specs.Prelude.{List, [], ◌∷◌}
 
 module _ {A : Type 0} (Follows : List A → A → Type 0) where
-  -- each entry follows from those behind it
+  -- each entry follows from those after it
   abbrev pub IsDerivation : List A → Type 0
   IsDerivation [] = Unit {0}
   IsDerivation (x ∷ earlier) = Follows earlier x × IsDerivation earlier

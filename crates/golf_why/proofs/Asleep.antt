@@ -1,4 +1,6 @@
 -- How sleepers are blocked, one after another.
+-- For: `asleep`, src/explanation.rt
+-- By: induction over the list of sleepers
 use Rattle.std.proofs.Common.{◌≡◌, ℕ, zero, suc, ◌+◌, List, [], ◌∷◌, ◌++◌, map, take, sym, ap, ◌∙◌, arith}
 use Rattle.std.specs.Prelude.{Option, Some, option_map, slice_get}
 use Rattle.golf_theory.specs.Maps.{find}

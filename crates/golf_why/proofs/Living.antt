@@ -1,4 +1,6 @@
 -- The sleepers of which something is told are the live ones.
+-- For: `live_are_told`, src/laws.rt
+-- By: cases of the mode of a goroutine; induction over the list of goroutines
 use Rattle.std.proofs.Common.{◌≡◌, ℕ, zero, suc, ◌+◌, Bool, true, not, ◌||◌, ◌==◌, List, [], ◌∷◌, map, length, Some, None, inl, inr, refl, sym, ap, subst, ◌∙◌}
 use Rattle.std.specs.Prelude.{slice_get, unwrap_or}
 use Rattle.std.proofs.lemmas.List.{length-map}

@@ -1,4 +1,6 @@
 -- What is told of a sleeper that has a reason.
+-- For: `reached`, src/explanation.rt; `reached_at`, specs/Explaining.antt
+-- By: cases of the reason; induction over the list of entries
 use Rattle.std.proofs.Common.{◌≡◌, ℕ, zero, suc, List, [], ◌∷◌, ◌++◌, get_or, Some, None, refl, sym, ap, ◌∙◌}
 use Rattle.std.specs.Prelude.{Option, slice_get, unwrap_or}
 use Rattle.golf_data.specs.declared.report.Entry.{Entry}

@@ -1,4 +1,6 @@
 -- What justified links place is there.
+-- For: `before_last`, src/members.rt; `IsWithin`, specs/Members.antt
+-- By: cases of the link; induction over the list of links
 use Rattle.std.proofs.Common.{◌≡◌, ℕ, zero, suc, ◌-◌, ◌<◌, List, [], ◌∷◌, map, length, take, get_or, Some, refl, sym, ap, subst, ◌∙◌, arith}
 use Rattle.std.specs.Prelude.{slice_get}
 use Rattle.std.proofs.lemmas.List.{length-map, take-map}

@@ -1,7 +1,7 @@
 //! What a reason names.
 
-ghost use Rattle.std.specs.Prelude.{◌≡◌, ◌-◌, ◌<◌, ◌≤◌, IfOk, length, map, take};
-ghost use Rattle.golf_model.specs.Graph.{node_count, sleeper_count};
+ghost use Rattle.std.specs.Prelude.{◌≡◌, ◌-◌, ◌<◌, IfOk};
+ghost use Rattle.golf_model.specs.Graph.{node_count};
 ghost use Rattle.golf_cert.specs.Links.{placed_by, places_of, AreJustified};
 ghost use Rattle.golf_why.specs.Members.{member_at, members_before, IsWithin};
 

@@ -1,4 +1,6 @@
 -- A turn that asks for a collection, and how it is taken back.
+-- For: `turn_and_collect`, src/turning.rt; `wants_collection`, golf_model/specs/Turn.antt
+-- By: cases of the frame on top and of its next instruction; no induction
 use Rattle.std.proofs.Common.{◌≡◌, ℕ, ◌+◌, ◌/◌, Bool, true, false, List, [], ◌∷◌, length, Option, Some, None, refl, sym, ap, ◌∙◌}
 use Rattle.std.specs.Prelude.{option_and_then}
 use Rattle.golf_theory.specs.Maps.{find, IsRising}

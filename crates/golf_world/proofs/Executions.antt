@@ -1,4 +1,6 @@
 -- Histories that grow by an entry: the state, the reports and the book after them.
+-- For: `new`, `take_turn`, src/execution.rt; `IsExecution`, specs/History.antt
+-- By: induction over the list of entries, and over the list of states right before collections
 use Rattle.std.proofs.Common.{◌≡◌, ℕ, zero, suc, ◌%◌, ◌<◌, ◌⊎◌, inl, inr, Bool, true, false, List, [], ◌∷◌, ◌++◌, length, take, map, get_or, Option, Some, None, slice_get, refl, sym, ap, ◌∙◌, subst, arith, length-append, append-nil, append_assoc}
 use Rattle.std.specs.Prelude.{is_some, option_to_list}
 use Rattle.std.proofs.lemmas.List.{length-map}

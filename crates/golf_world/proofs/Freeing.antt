@@ -1,4 +1,6 @@
 -- Who can run after some events does not depend on whether collections free and remove.
+-- For: `real_run`, golf_model/specs/Reporting.antt; `runnable`, golf_model/specs/State.antt
+-- By: induction over the list of events
 use Rattle.std.proofs.Common.{◌≡◌, ℕ, Bool, true, false, List, [], ◌∷◌, ◌++◌, refl, sym, ap, ◌∙◌, subst}
 use Rattle.golf_theory.specs.Membership.{is_in}
 use Rattle.golf_theory.specs.Maps.{only}

@@ -1,4 +1,6 @@
 -- Lists: prefixes, members by place, and the entries of a pass.
+-- For: `step`, src/guarded.rt; `own`, specs/History.antt
+-- By: induction over the list of entries, and over the list in which the member is
 use Rattle.std.proofs.Common.{◌≡◌, ◌≢◌, ℕ, zero, suc, ◌+◌, ◌==◌, ◌⊎◌, inl, inr, Bool, true, false, cond, List, [], ◌∷◌, ◌++◌, length, set, refl, sym, ap, ◌∙◌, subst, arith, eq-eqb, ne_eqb, append_assoc}
 use Rattle.std.proofs.lemmas.List.{append-nil}
 use mathlib.Core.Option.{some, some-injective, some-ne-none}

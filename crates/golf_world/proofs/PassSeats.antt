@@ -1,4 +1,6 @@
 -- Passes that are split off, and joined again.
+-- For: `split_passes`, `join_passes`, src/passes.rt; `close`, src/world.rt
+-- By: induction over k, the passes that are idle, and over the list of new passes
 use Rattle.std.proofs.Common.{◌≡◌, ℕ, zero, suc, ◌+◌, ◌-◌, ◌==◌, ◌<◌, ◌⊎◌, inl, inr, Bool, true, cond, not, List, [], ◌∷◌, ◌++◌, length, filter, Some, slice_get, refl, sym, ap, ◌∙◌, subst, arith, ne_eqb}
 use mathlib.Core.Option.{some}
 use mathlib.Core.List.{IsPrefix}
@@ -9,7 +11,7 @@ use Rattle.golf_theory.proofs.Lists.{In-cases, Every-from, Every-at}
 use Rattle.golf_world.specs.declared.history.HistoryEntry.{HistoryEntry}
 use Rattle.golf_world.specs.declared.rule.PassEntries.{PassEntries}
 use Rattle.golf_world.specs.declared.rule.View.{View}
-use Rattle.golf_world.specs.Rule.{pass_entries, view_of, keeper_view, pass_view, idle_passes, left_view, right_view, both_views, Holds}
+use Rattle.golf_world.specs.Rule.{pass_entries, view_of, pass_view, idle_passes, left_view, both_views, Holds}
 use Rattle.golf_world.specs.History.{own}
 use Rattle.golf_world.specs.Steps.{Pass, IsNewPass, IsPassIn}
 
@@ -33,12 +35,6 @@ keeper_from-next n passes less =
 pub keeper_from-left : (n passes : ℕ) (v : View) → n < passes → v ≡ keeper_from n passes → left_view v ≡ keeper_from (n + 1) passes
 keeper_from-left n passes v less e = ap left_view (e ∙ keeper_from-next n passes less) ∙ ap (λ hs. view_of passes true hs [] []) (others_stay n (n + 1) (passes - (n + 1)) (omega arith))
 
-pub keeper_from-right : (n passes : ℕ) (v : View) → n < passes → v ≡ keeper_from n passes → right_view v ≡ pass_view passes n [] []
-keeper_from-right n passes v less e = ap right_view (e ∙ keeper_from-next n passes less)
-
-pub keeper_from-all : (n passes : ℕ) → n ≡ passes → keeper_from n passes ≡ keeper_view passes []
-keeper_from-all n passes e = let h : passes - n ≡ 0 = omega arith in ap (λ (k : ℕ). view_of passes true (idle_passes n k) [] []) h
-
 -- a list of new passes, one longer
 pub new_push : (ps : List Pass) (n : ℕ) (p : Pass) → n ≡ length ps → IsNewPass n p → ((k : ℕ) (q : Pass) → slice_get ps k ≡ Some q → IsNewPass k q) → (k : ℕ) (q : Pass) → slice_get (ps ++ p ∷ []) k ≡ Some q → IsNewPass k q
 new_push ps n p here new old k q at = elim (get_push ps p q k at) [
@@ -61,12 +57,6 @@ pub record HasJoined (passes : ℕ) (h : List HistoryEntry) (all left : List Pas
   pub view : me ≡ (view_of passes true me.0.held h me.0.earlier, [])
   pub each : (p : Pass) → In p all → In p left ⊎ Knows me.0 p
 
-pub joins_first : (passes : ℕ) (h : List HistoryEntry) (all : List Pass) (me : Me (Unit {0}) View) → me ≡ (keeper_view passes h, []) → HasJoined passes h all all me
-joins_first passes h all me e = record {
-  view = e ∙ sym (λ i. (view_of passes true (e i).0.held h (e i).0.earlier, []));
-  each = λ p i. inl i;
-}
-
 pub joins_next : (passes : ℕ) (h : List HistoryEntry) (all before left : List Pass) (p : Pass) (me now o : Me (Unit {0}) View) → HasJoined passes h all before me → before ≡ left ++ p ∷ [] → o ≡ (pass_view passes p.number p.mine p.seen, []) → now ≡ (both_views me.0 o.0, me.1) → HasJoined passes h all left now
 joins_next passes h all before left p me now o g e f made =
     let shape : now ≡ (view_of passes true (pass_entries p.number p.mine ∷ me.0.held) h (p.seen ∷ me.0.earlier), []) = made ∙ (λ i. (both_views (g.view i).0 (f i).0, (g.view i).1)) in
@@ -84,7 +74,7 @@ joins_next passes h all before left p me now o g e f made =
 pub joins_all : (passes : ℕ) (h : List HistoryEntry) (all : List Pass) (me : Me (Unit {0}) View) → HasJoined passes h all [] me → Every (Knows me.0) all
 joins_all passes h all me g = Every-from (Knows me.0) all (λ p i. elim (g.each p i) [ inl e ↦ absurd e | inr k ↦ k ])
 
--- what the rule says of the passes, where the keeper has taken them in
+-- what the rule says of the passes, if the keeper has taken them in
 pub closes : (passes : ℕ) (es h : List HistoryEntry) (s : State (Unit {0}) View) (id : ℕ) (v : View) (all : List Pass) → Holds passes s → get_elem? s.views id ≡ some v → v.keeps ≡ true → v.seen ≡ h → es ≡ h → Every (Knows v) all → Every (IsPassIn es) all
 closes passes es h s id v all holds at keeps seen same knows =
     let f = holds.views id v at in

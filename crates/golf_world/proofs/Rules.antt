@@ -1,4 +1,6 @@
 -- Each step of a world's table keeps its rule.
+-- For: `split_passes`, `join_passes`, src/passes.rt; `append`, `look`, src/seats.rt
+-- By: cases of the step; induction over the list of held passes, and over n, those that are idle
 use Rattle.std.proofs.Common.{◌≡◌, ◌≢◌, ℕ, zero, suc, ◌+◌, ◌%◌, ◌^◌, ◌==◌, ◌<◌, ◌≤◌, ◌⊎◌, inl, inr, Bool, true, false, true≢false, cond, not, List, [], ◌∷◌, ◌++◌, length, filter, set, refl, sym, ap, ◌∙◌, subst, arith, ⊎_elim, eq-eqb, ne_eqb}
 use Rattle.std.specs.Prelude.{slice_index}
 use Rattle.std.proofs.Math.ListN.{length-set}

@@ -1,4 +1,6 @@
 -- The ways in which a turn goes start one goroutine at most.
+-- For: `Few`, specs/Spawning.antt; `goes`, `blocks`, golf_model/specs/Acting.antt
+-- By: cases of what a way meets; induction over n, the operands that are taken
 use Rattle.std.proofs.Common.{◌≡◌, ℕ, zero, suc, Bool, true, false, List, [], ◌∷◌, Option, Some, None, refl, ℤ}
 use Rattle.golf_data.specs.declared.value.Value.{Value}
 use Rattle.golf_data.specs.declared.value.Object.{Object}

@@ -1,6 +1,8 @@
 -- Each instruction, and each turn, starts one goroutine at most.
-use Rattle.std.proofs.Common.{◌≡◌, ℕ, suc, ◌+◌, ◌≤◌, ◌/◌, not, arith, length-append, Bool, true, false, cond, List, [], ◌∷◌, ◌++◌, length, Option, Some, None, refl, sym, ap, subst, ℤ, slice_get, ◌==◌, nat_lt}
-use Rattle.std.specs.Prelude.{pos, slice_set, unsigned_abs, ◌||◌, ◌-ℤ◌, is_some, int_lt, int_le}
+-- For: `take_turn`, src/execution.rt; `Few`, `Quiet`, specs/Spawning.antt
+-- By: cases of the instruction; induction over the list of changes, and over the list of goroutines
+use Rattle.std.proofs.Common.{◌≡◌, ℕ, suc, ◌+◌, ◌≤◌, ◌/◌, not, arith, length-append, Bool, true, false, cond, List, [], ◌∷◌, ◌++◌, length, Option, Some, None, refl, ap, ℤ, slice_get, ◌==◌, nat_lt}
+use Rattle.std.specs.Prelude.{pos, ◌||◌, ◌-ℤ◌, is_some, int_lt, int_le}
 use Rattle.golf_theory.specs.Maps.{find, put, only, map_values, keys_where}
 use Rattle.golf_theory.specs.Membership.{is_in}
 use Rattle.golf_data.specs.declared.value.Value.{Value}
@@ -28,10 +30,10 @@ use Rattle.golf_model.specs.Collecting.{removed, real_collect}
 use Rattle.golf_model.specs.Acting.{Actor, with_frames, next, choose, at_reference, at_mutex}
 use Rattle.golf_model.specs.Calculating.{stores, stores_global, computes, divides, compares, jumps_unless, sum, difference, product, quotient, remainder}
 use Rattle.golf_model.specs.Structures.{gets_field, sets_field, is_bad_size, makes_slice, makes_channel, within, element, gets_element, sets_element, length_of, measures}
-use Rattle.golf_model.specs.Channels.{sends_to, sends_on, sends, sent_by, sender_served, receives_unbuffered, receives_from, receives_on, receives, closes}
-use Rattle.golf_model.specs.Selecting.{Offer, Taken, offers_of, all_on_channels, ready, proceeds_by, wait_of, case_waits, offered_waits, select_kind, selects_none, selects_one, chosen, selects_from}
+use Rattle.golf_model.specs.Channels.{sends_to, sends_on, sends, sender_served, receives_unbuffered, receives_from, receives_on, receives, closes}
+use Rattle.golf_model.specs.Selecting.{Offer, Taken, offers_of, all_on_channels, ready, proceeds_by, offered_waits, select_kind, selects_none, selects_one, chosen, selects_from}
 use Rattle.golf_model.specs.Mutexes.{blocks_on, locks_by, locks, hands_over, unlocks_by, unlocks, counts, adds, waits}
-use Rattle.golf_model.specs.ReadersWriters.{counted, serves_first, serves, write_locks, write_unlocks, most_readers, read_locks, read_leaves, read_unlocks}
+use Rattle.golf_model.specs.ReadersWriters.{serves_first, serves, write_locks, write_unlocks, most_readers, read_locks, read_leaves, read_unlocks}
 use Rattle.golf_model.specs.Conditions.{makes_condition, gets_mutex, awaits_by, awaits, passes_on, first_only, notifies, signals, broadcasts}
 use Rattle.golf_model.specs.Calls.{is_full, enters, calls, spawns, ends, returns_to, unwinds_to, returns_by, begins_deferred, leaves_returning, leaves_unwinding}
 use Rattle.golf_model.specs.Finalising.{finalises_by, finalises, unfinalises, begins_queued}

@@ -1,6 +1,6 @@
 //! The program that passes step: its state, its book of reports, and the history of its turns.
 
-ghost use Rattle.std.specs.Prelude.{◌≡◌, ◌<◌, ◌≤◌, ◌++◌, ◌^◌, [], IfOk, OnErr, None, length, option_to_list};
+ghost use Rattle.std.specs.Prelude.{◌≡◌, ◌<◌, ◌≤◌, ◌++◌, [], IfOk, OnErr, None, length, option_to_list};
 ghost use Rattle.golf_data.specs.Places.{HasPlaces};
 ghost use Rattle.golf_model.specs.State.{ending as ending_of, runnable, start as start_of};
 ghost use Rattle.golf_world.specs.History.{number_at};

@@ -12,7 +12,7 @@ ghost use Rattle.golf_world.specs.Steps.{HasAdvanced, place_in};
 use golf_base::{GoroutineId, Memory, OpenGate};
 use golf_data::{Code, Report};
 use golf_machine::{Turned, turn};
-use golf_reclaim::{Ledger, CollectOptions, collect, sets_finalisers};
+use golf_reclaim::{CollectOptions, Ledger, collect, sets_finalisers};
 use golf_state::{State, advance};
 use std::alloc::Global;
 use std::thread::Threads;

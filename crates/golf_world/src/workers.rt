@@ -108,7 +108,7 @@ fn is_done(state: &State, entries: &[HistoryEntry]) -> bool
 }
 
 /// Runs the program from its start by so many threads, 1 to 16, until it has ended or has taken 100,000
-/// turns. Each passes the gate before each of its steps. Where no thread can be made, its steps are
+/// turns. Each passes the gate before each of its steps. If no thread can be made, its steps are
 /// taken by another one.
 pub fn run_threads<R: Threads + Wait + Sync, G: Gate + Sync>(
     rt: &R,

@@ -1,12 +1,11 @@
 //! A program that callers' threads step.
 
-ghost use Rattle.std.specs.Prelude.{◌≡◌, ◌<◌, ◌≤◌, [], ◌∷◌, IfOk, OnErr, length, Some, slice_get, true, ℕ};
+ghost use Rattle.std.specs.Prelude.{◌≡◌, ◌<◌, ◌≤◌, IfOk, OnErr, length, Some, slice_get, ℕ};
 ghost use mathlib.Core.List.{IsPrefix};
-ghost use Rattle.golf_theory.specs.Membership.{Every, In};
+ghost use Rattle.golf_theory.specs.Membership.{Every};
 ghost use Rattle.golf_data.specs.Places.{HasPlaces};
 ghost use Rattle.golf_model.specs.State.{start as start_of};
 ghost use Rattle.golf_world.specs.History.{after, reports_after, IsHistory};
-ghost use Rattle.golf_world.specs.Rule.{first_view, pass_entries, keeper_view};
 ghost use Rattle.golf_world.specs.Names.{table_name, pass_count};
 ghost use Rattle.golf_world.specs.Steps.{Pass, HasStepped, HasFailed, ComesExactly, IsNewPass, IsPassIn};
 
@@ -69,7 +68,7 @@ impl<W: WorldName> World<W> {
     }
 
     /// A step of the program by this pass, while no other pass takes one: of the m goroutines that can run, in rising
-    /// order, the one at the place `(p + t) % m` takes a turn, where p is the number of the pass and t the number of
+    /// order, the one at the place `(p + t) % m` takes a turn, if p is the number of the pass and t the number of
     /// entries. A collection that its instruction asks for follows at once, with one marker, without recovery. Nothing
     /// is done if the program has ended or the history has its 100,000 entries.
     ///

@@ -1,4 +1,4 @@
--- The code of calls as statements and behind `go` and `defer`, against code that was written by hand.
+-- The code of calls as statements and after `go` and `defer`, against code that was written by hand.
 use Rattle.std.specs.Prelude.{◌≡◌, pos, negsuc, [], ◌∷◌, codes}
 use Rattle.golf_data.specs.declared.code.Instr.{Instr}
 use Rattle.golf_check_types.specs.Scopes.{meaning, type_name, value_name, call_name, package_name, member, is_here, is_reserved, may_be_declared}

@@ -181,7 +181,7 @@ all-same (x ∷ xs) = ap (λ p. p ∷ map (stmt_part tables) (trees xs)) x.same 
 abbrev pub block : ℕ → List StmtSample → StmtSample
 block l xs = record { tree = st.Block l (trees xs); value = C.block (parts xs); same = s.part-Block tables l (trees xs) ∙ ap (λ ps. C.block ps) (all-same xs) }
 
--- a test, and what stands behind it
+-- a test, and what stands after it
 abbrev tested_of : ℕ → Part → Judge → Coded → Part
 tested_of l x j c = record {
   walk = λ s. W.both (W.judges (used l (j l s) ++ broken l 8 (has_base base.Bool (given_by (j l s)))) (facts_of (j l s))) (x.walk s);
@@ -318,7 +318,7 @@ pub record ClauseSample : Type 0 where
   pub value : ClausePart
   pub same : clause_part tables tree ≡ value
 
--- a clause that communicates so, with this kind, these operands and this code behind the choice
+-- a clause that communicates so, with this kind, these operands and this code after the choice
 abbrev clause_of : ℕ → CaseKind → (ℕ → W.Walk) → (ℕ → Scope → Piece) → (ℕ → Scope → Piece) → List Part → ClausePart
 clause_of k kind w operands takes body = record {
   walk = λ l. W.counted (W.in_block (W.then (w l) (W.breaking (W.in_order (map (λ (x : Part). x.walk) body)))));

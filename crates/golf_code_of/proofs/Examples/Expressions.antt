@@ -54,7 +54,7 @@ pub at_least : pushed (binary operator.AtLeast (name (codes "n")) (integer (code
 unfolding meaning type_name value_name call_name package_name text_number named_base made_base sync_base member fmt_member runtime_member sync_member condition_member condition_method mutex_method group_method read_method write_method field_type
 at_least = works_out (binary operator.AtLeast (name (codes "n")) (integer (codes "1")))
 
--- b && !b: the second operand only where the first is true
+-- b && !b: the second operand only if the first is true
 pub conjunction : pushed (binary operator.And (name (codes "b")) (unary sign.Not (name (codes "b")))) ≡
     alone (Instr.Load 3 ∷ Instr.JumpIfNot 5 ∷ Instr.Load 3 ∷ Instr.Not ∷ Instr.Jump 6 ∷ Instr.Bool false ∷ [])
 unfolding meaning type_name value_name call_name package_name text_number named_base made_base sync_base member fmt_member runtime_member sync_member condition_member condition_method mutex_method group_method read_method write_method field_type

@@ -16,7 +16,7 @@ use Rattle.golf_code_of.specs.Texts.{texts_of}
 use Rattle.golf_code_of.specs.Files.{CodeOf, made_function, last_return}
 use Rattle.golf_code_of.proofs.Examples.Writing.{plain, layered, line}
 
--- the empty text comes first, and each other one where it appears first
+-- the empty text comes first, and each other one if it appears first
 pub each_text_once : table_of (codes "b" ∷ [] ∷ codes "a" ∷ codes "b" ∷ []) ≡ [] ∷ codes "b" ∷ codes "a" ∷ []
 each_text_once = refl
 
@@ -42,7 +42,7 @@ pub made_for_add : made_function [] (record { operation = built_in.Add; paramete
 unfolding depth live needed
 made_for_add = refl
 
--- a body ends with a return, of the zero value where there is a result
+-- a body ends with a return, of the zero value if there is a result
 pub ends_without_result : placed (last_return 7 None) 0 [] ≡ line 7 (Instr.Return ∷ []) []
 ends_without_result = refl
 

@@ -42,7 +42,7 @@ pub declared : code (does (define 1 (codes "y") (name (codes "n"))) ∷ var_zero
 unfolding meaning type_name value_name call_name package_name text_number named_base made_base sync_base member fmt_member runtime_member sync_member condition_member condition_method mutex_method group_method read_method write_method field_type is_here is_reserved may_be_declared assigned_name kept_faults pair_differs put_in_faults range_names_differ
 declared = works_out (does (define 1 (codes "y") (name (codes "n"))) ∷ var_zero 2 (codes "z") (named (codes "string")) ∷ var_typed 3 (codes "u") (chan_of (named (codes "int"))) (name (codes "nil")) ∷ var_untyped 4 (codes "v") (name (codes "y")) ∷ does (send 5 (name (codes "c")) (name (codes "v"))) ∷ [])
 
--- v, ok := <-c; w, ok := <-c, where ok is there already; n, _ = <-c; `ok` stands on top
+-- v, ok := <-c; w, ok := <-c, if ok is there already; n, _ = <-c; `ok` stands on top
 pub received : code (does (define_received 1 (codes "v") (codes "ok") (name (codes "c"))) ∷ does (define_received 2 (codes "w") (codes "ok") (name (codes "c"))) ∷ does (assign_received 3 (codes "n") (codes "_") (name (codes "c"))) ∷ []) ≡
     line 1 (Instr.Load 0 ∷ Instr.ReceiveOk ∷ Instr.Store 10 ∷ Instr.Store 9 ∷ []) (line 2 (Instr.Load 0 ∷ Instr.ReceiveOk ∷ Instr.Store 10 ∷ Instr.Store 11 ∷ []) (line 3 (Instr.Load 0 ∷ Instr.ReceiveOk ∷ Instr.Drop ∷ Instr.Store 2 ∷ []) []))
 unfolding meaning type_name value_name call_name package_name text_number named_base made_base sync_base member fmt_member runtime_member sync_member condition_member condition_method mutex_method group_method read_method write_method field_type is_here is_reserved may_be_declared assigned_name kept_faults pair_differs put_in_faults range_names_differ

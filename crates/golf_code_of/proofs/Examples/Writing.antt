@@ -208,7 +208,7 @@ new_sync n = record { tree = ex.NewSync n; value = coded_step tables (F.NewSync 
 abbrev pub empty_literal : Sample
 empty_literal = record { tree = ex.EmptyLiteral; value = coded_step tables F.EmptyLiteral; same = e.coded-EmptyLiteral tables }
 
--- where a written type is known
+-- if a written type is known
 abbrev pub slice_code : Write → List Coded → Coded
 slice_code x cs = record {
   judge = λ l s. T.slice_literal l (x l s) (with_layer layer.Slice (x l s).type) (map (λ j. j l s) (map (λ (c : Coded). c.judge) cs));

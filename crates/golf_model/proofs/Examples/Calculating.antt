@@ -145,7 +145,7 @@ pub texts : (after (printing (Instr.Text 1 ∷ Instr.Text 0 ∷ Instr.Int (negsu
 unfolding digits
 texts = refl
 
--- a jump is taken where the value is false
+-- a jump is taken if the value is false
 pub jump_if_not : (after (straight (Instr.Bool true ∷ Instr.JumpIfNot 5 ∷ Instr.Bool false ∷ Instr.JumpIfNot 6 ∷ Instr.Return ∷ Instr.Return ∷ push 4 ∷ Instr.Print 1 ∷ [])) (lowest 6)).output ≡ 52 ∷ 10 ∷ []
 unfolding digits
 jump_if_not = refl

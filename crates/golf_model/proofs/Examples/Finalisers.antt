@@ -94,7 +94,7 @@ nil_is_cleared = refl
 pub set_on_nil : ending (after (straight (Instr.Nil ∷ Instr.SetFinalizer 0 ∷ [])) (lowest 3)) ≡ Some (panicked PanicKind.NilPointer 1 2)
 set_on_nil = refl
 
--- a second finaliser is a fatal error, but not where the first was cleared
+-- a second finaliser is a fatal error, but not if the first was cleared
 abbrev twice : List Instr → Code
 twice more = straight (Instr.NewStruct 0 ∷ Instr.Dup ∷ Instr.SetFinalizer 0 ∷ more)
 

@@ -50,7 +50,7 @@ buffered =
 pub buffered_sender_goes_on : runnable (after buffered (lowest 5 ++ (second 6 ++ lowest 2))) ≡ 1 ∷ 2 ∷ []
 buffered_sender_goes_on = refl
 
--- where one finaliser is cleared the other one stays
+-- if one finaliser is cleared the other one stays
 pub other_finaliser_stays : (after (straight (Instr.NewStruct 0 ∷ Instr.SetFinalizer 0 ∷ Instr.NewStruct 0 ∷ Instr.Dup ∷ Instr.SetFinalizer 0 ∷ Instr.ClearFinalizer ∷ [])) (lowest 6)).finalisers ≡ (1, 0) ∷ []
 other_finaliser_stays = refl
 
@@ -66,7 +66,7 @@ pub main_is_reported : reports main_blocks (lowest 5) false ≡ record { number 
 unfolding reach live_list
 main_is_reported = refl
 
--- where the code sets no finaliser, a dead goroutine that holds a live object is taken back
+-- if the code sets no finaliser, a dead goroutine that holds a live object is taken back
 abbrev sharing : Code
 sharing =
     code_with (Value.Nil ∷ [])

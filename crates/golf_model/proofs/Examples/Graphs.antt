@@ -1,4 +1,4 @@
--- Least closed sets of small graphs. A node's place is its number here; the sleepers come behind the nodes.
+-- Least closed sets of small graphs. A node's place is its number here; the sleepers come after the nodes.
 use Rattle.std.specs.Prelude.{◌≡◌, ℕ, false, List, [], ◌∷◌, ◌++◌, filter, map, refl}
 use Rattle.golf_theory.specs.Membership.{is_in}
 use Rattle.golf_model.specs.declared.graph.GraphParts.{GraphParts}

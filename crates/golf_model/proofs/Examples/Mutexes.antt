@@ -113,7 +113,7 @@ wait_without_lock = refl
 pub wait_without_mutex : ending (after (straight (Instr.Nil ∷ Instr.NewCond ∷ Instr.CondWait ∷ [])) (lowest 4)) ≡ Some (panicked PanicKind.NilPointer 1 3)
 wait_without_mutex = refl
 
--- where nobody waits a signal does nothing, with a mutex or without
+-- if nobody waits a signal does nothing, with a mutex or without
 pub nobody_to_signal : map (λ i. ending (after (straight (Instr.Nil ∷ Instr.NewCond ∷ i ∷ Instr.Return ∷ [])) (lowest 4))) (Instr.CondSignal ∷ Instr.CondBroadcast ∷ []) ≡ replicate 2 (Some Ending.Returned)
 nobody_to_signal = refl
 
@@ -189,7 +189,7 @@ writer_still_waits = refl
 pub last_reader_hands_it_on : find 1 (after reading (one_unlocks ++ lowest 2)).objects ≡ Some (Object.Rw (negsuc 0))
 last_reader_hands_it_on = refl
 
--- where no writer waits, all readers are served; where nobody waits, it is free
+-- if no writer waits, all readers are served; if nobody waits, it is free
 pub all_readers_are_served : find 1 (after shared (lowest 13 ++ (second 2 ++ (third 2 ++ lowest 2)))).objects ≡ Some (Object.Rw (pos 2))
 all_readers_are_served = refl
 
@@ -202,7 +202,7 @@ free_again = refl
 pub free_of_readers : find 1 (after (straight (Instr.NewRw ∷ Instr.Dup ∷ Instr.ReadLock ∷ Instr.ReadUnlock ∷ [])) (lowest 4)).objects ≡ Some (Object.Rw (pos 0))
 free_of_readers = refl
 
--- a writer's unlock without a writer is a fatal error, also where readers hold it
+-- a writer's unlock without a writer is a fatal error, also if readers hold it
 pub writer_unlock_of_unlocked : ending (after (straight (Instr.NewRw ∷ Instr.RwUnlock ∷ [])) (lowest 2)) ≡ Some (panicked PanicKind.UnlockUnlockedRw 1 2)
 writer_unlock_of_unlocked = refl
 

@@ -68,7 +68,7 @@ later_panic_counts = refl
 pub panic_with_text : ending (after (record (straight (Instr.Text 1 ∷ Instr.Panic ∷ [])) { texts = [] ∷ (104 ∷ 105 ∷ []) ∷ [] }) (lowest 3)) ≡ Some (panicked (PanicKind.Custom 1) 1 2)
 panic_with_text = refl
 
--- nil where an object is wanted panics
+-- nil if an object is wanted panics
 pub nil_pointers : map (λ i. ending (after (straight (Instr.Nil ∷ i ∷ [])) (lowest 3)))
     (Instr.Field 0 ∷ Instr.Lock ∷ Instr.Unlock ∷ Instr.GroupWait ∷ Instr.RwLock ∷ Instr.RwUnlock ∷ Instr.ReadLock ∷ Instr.ReadUnlock ∷ Instr.CondMutex ∷ Instr.CondWait ∷ Instr.CondSignal ∷ Instr.CondBroadcast ∷ Instr.SetFinalizer 0 ∷ [])
     ≡ replicate 13 (Some (panicked PanicKind.NilPointer 1 2))

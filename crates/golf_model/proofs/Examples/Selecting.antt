@@ -43,7 +43,7 @@ pub ready_cases_alone : (after one (lowest 10 ++ (1 ∷ lowest 1))).output ≡ 4
 unfolding digits
 ready_cases_alone = refl
 
--- `default` runs where no case is ready
+-- `default` runs if no case is ready
 abbrev default : Code
 default = code_with [] (function 0 0 1 (Instr.Nil ∷ push 5 ∷ Instr.Select (case CaseKind.Send 3 ∷ []) (Some 4) ∷ Instr.Return ∷ push 3 ∷ Instr.Print 1 ∷ Instr.Return ∷ []) ∷ [])
 

@@ -1,4 +1,4 @@
--- Where no rule fits: the turn has no changes, and the state stays.
+-- If no rule fits: the turn has no changes, and the state stays.
 use Rattle.std.specs.Prelude.{◌≡◌, List, [], ◌∷◌, ◌++◌, length, map, replicate, Some, None, refl, true, false}
 use Rattle.golf_data.specs.declared.code.Code.{Code}
 use Rattle.golf_data.specs.declared.code.CaseKind.{CaseKind}
@@ -22,17 +22,17 @@ missing_operands = refl
 pub one_operand_missing : map (then (push 1 ∷ [])) (Instr.Add ∷ Instr.Eq ∷ Instr.Dup2 ∷ Instr.Send ∷ Instr.SetField 0 ∷ Instr.Print 2 ∷ Instr.GroupAdd ∷ []) ≡ replicate 7 []
 one_operand_missing = refl
 
--- integers and truth values where the other is wanted, or two kinds compared
+-- integers and truth values if the other is wanted, or two kinds compared
 pub mixed_operands : map (then (push 1 ∷ Instr.Bool true ∷ []))
     (Instr.Add ∷ Instr.Sub ∷ Instr.Mul ∷ Instr.Div ∷ Instr.Rem ∷ Instr.Less ∷ Instr.AtMost ∷ Instr.Eq ∷ Instr.Neg ∷ Instr.NewSlice (number 0) ∷ Instr.NewChan (number 0) ∷ Instr.Panic ∷ []) ≡ replicate 12 []
 mixed_operands = refl
 
--- an integer where an object or a truth value is wanted
+-- an integer if an object or a truth value is wanted
 pub integer_alone : map (then (push 1 ∷ []))
     (Instr.Not ∷ Instr.JumpIfNot 0 ∷ Instr.Field 0 ∷ Instr.Len ∷ Instr.Receive ∷ Instr.ReceiveOk ∷ Instr.Close ∷ Instr.Lock ∷ Instr.Unlock ∷ Instr.GroupWait ∷ Instr.RwLock ∷ Instr.RwUnlock ∷ Instr.ReadLock ∷ Instr.ReadUnlock ∷ Instr.NewCond ∷ Instr.CondMutex ∷ Instr.CondWait ∷ Instr.CondSignal ∷ Instr.CondBroadcast ∷ Instr.SetFinalizer 0 ∷ Instr.ClearFinalizer ∷ Instr.Panic ∷ []) ≡ replicate 22 []
 integer_alone = refl
 
--- a wait group where another object is wanted
+-- a wait group if another object is wanted
 pub group_alone : map (then (Instr.NewGroup ∷ []))
     (Instr.Field 0 ∷ Instr.Len ∷ Instr.Receive ∷ Instr.ReceiveOk ∷ Instr.Close ∷ Instr.Lock ∷ Instr.Unlock ∷ Instr.RwLock ∷ Instr.RwUnlock ∷ Instr.ReadLock ∷ Instr.ReadUnlock ∷ Instr.NewCond ∷ Instr.CondMutex ∷ Instr.CondWait ∷ Instr.CondSignal ∷ Instr.CondBroadcast ∷ Instr.SetFinalizer 0 ∷ Instr.ClearFinalizer ∷ Instr.Print 1 ∷ []) ≡ replicate 19 []
 group_alone = refl

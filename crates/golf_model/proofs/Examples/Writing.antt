@@ -50,7 +50,7 @@ straight body = code_with (Value.Nil ∷ []) (function 0 2 1 body ∷ [])
 abbrev pub case : CaseKind → ℕ → SelectCase
 case kind target = record { kind = kind; target = target }
 
--- turns with these numbers; where two can run, 0 is the one with the lower number
+-- turns with these numbers; if two can run, 0 is the one with the lower number
 abbrev pub turns : List ℕ → List Event
 turns cs = map Event.Turn cs
 
@@ -80,6 +80,6 @@ mode_of g s = option_map (λ r. r.mode) (find g s.goroutines)
 abbrev pub reports : Code → List ℕ → Bool → List Report
 reports code cs recover = book_of (stops code (turns cs)) recover (sets_finalisers code)
 
--- a report's numbers, where nothing was reported
+-- a report's numbers, if nothing was reported
 abbrev pub quiet : ℕ → ℕ → ℕ → Report
 quiet k marked objects = record { number = k; marked = marked; reported = []; kept = 0; reclaimed = 0; objects = objects }

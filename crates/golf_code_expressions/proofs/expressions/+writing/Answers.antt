@@ -1,4 +1,4 @@
-use Rattle.std.proofs.Common.{◌≡◌, subst}
+use Rattle.std.proofs.Common.{subst}
 use Rattle.golf_code_layout.specs.Piece.{Piece}
 use Rattle.golf_code_facts.specs.Facts.{next_is, skip}
 use Rattle.golf_code_facts.specs.Expressions.{taking}

@@ -2,7 +2,7 @@ use Rattle.std.proofs.Common.{◌≡◌, ◌≤◌, ◌++◌, length, take, drop
 use Rattle.golf_heap.specs.Objects.{kept}
 use Rattle.golf_heap.proofs.places.close_up.Given as goal
 
--- the kept items of those looked at stand in front
+-- the kept items of those looked at come first
 abbrev pub invariant-loop-at : goal.invariant-loop-at
 invariant-loop-at g l = record {
   within : l.count ≤ l.at;

@@ -6,7 +6,7 @@ use Rattle.golf_data.specs.Slots.{cleared_slots}
 use Rattle.golf_data.proofs.Clears.{all-stay}
 use Rattle.golf_machine.proofs.entering.slots_of.Goals as goal
 
--- where there is no mask each slot stays
+-- if there is no mask each slot stays
 unmasked : (live : List ℕ) (vs : List Value) → None ≡ slice_get live 0 → vs ≡ cleared_slots (stays_under (slice_get live 0)) vs
 unmasked live vs e = sym (all-stay (λ i. true) 0 vs (λ i l. refl)) ∙ ap (λ (o : Option ℕ). cleared_slots (stays_under o) vs) e
 

@@ -1,5 +1,3 @@
-use Rattle.std.proofs.Common.{◌≡◌, ◌↔◌}
-use Rattle.golf_meaning.specs.Judged.{AreSameTo, AllAreCodeOf}
 use Rattle.golf_meaning.proofs.Laws.{all-same, all-agree}
 use Rattle.golf_meaning.proofs.judging.check_all.Goals as goal
 

@@ -2,7 +2,7 @@ use Rattle.std.proofs.Common.{length}
 use Rattle.golf_syntax.proofs.FileLaws.{Known}
 use Rattle.golf_syntax.proofs.parser.declarations_of.Given as goal
 
--- the declarations so far are printed in front of what is left
+-- the declarations so far are printed before what is left
 abbrev pub invariant-segments : goal.invariant-segments
 invariant-segments l = Known l.fn.tokens l.declarations l.left
 

@@ -3,7 +3,7 @@ use Rattle.golf_syntax_trees.specs.Words.{closed, Spells}
 use Rattle.golf_syntax_trees.specs.Declarations.{print_import}
 use Rattle.golf_syntax.proofs.parser.imports_of.Given as goal
 
--- the imports so far are printed in front of what is left
+-- the imports so far are printed before what is left
 abbrev pub invariant-segments : goal.invariant-segments
 invariant-segments l = Spells (closed (map print_import l.imports)) l.fn.tokens l.left
 

@@ -1,5 +1,5 @@
 use Rattle.golf_command_sample.proofs.Joins.{whole}
-use Rattle.golf_command_sample.proofs.file.generate.Goals as goal
+use Rattle.golf_command_sample.proofs.file.sample_file.Goals as goal
 
 pub returns : goal.returns
 returns c =
