@@ -1,6 +1,6 @@
 //! A vector of which contracts also see how many items it can take without memory.
 
-ghost use Rattle.std.specs.Prelude.{◌≡◌, [], ◌∷◌, ◌++◌, ◌+◌, ◌-◌, ◌<◌, ◌≤◌, ◌↔◌, length, remove, slice_get, take, IsTrue, MatchOption, OnOk, OnErr};
+ghost use Rattle.std.specs.Prelude.{◌≡◌, [], ◌∷◌, ◌++◌, ◌+◌, ◌-◌, ◌<◌, ◌≤◌, ◌↔◌, length, remove, slice_get, take, IsTrue, MatchOption, OnOk, OnErr, IfOk};
 ghost use Rattle.std.specs.Borrow.{Lends, sem, Array};
 ghost use Rattle.golf_base.specs.contracts.room.Room.{the_row};
 ghost use Rattle.golf_base.specs.Roomy.{with_overwritten};
@@ -38,6 +38,16 @@ impl<T> Room<T> {
         Room {
             inner: Vec::new(alloc),
         }
+    }
+
+    /// No items, and room for exactly so many.
+    pub fn with_room(alloc: Global, count: usize) -> Result<Room<T>, Memory>
+        ensures items { IfOk result (λ room. room.items ≡ []) }
+        ensures spare { IfOk result (λ room. count ≤ room.spare) }
+    {
+        Ok(Room {
+            inner: Vec::with_capacity(alloc, count)?,
+        })
     }
 
     pub fn len(&self) -> usize

@@ -1,6 +1,6 @@
 -- A turn of the finishing scan.
 -- For: `settle`, src/finish.rt; `IsCovered`, specs/Scanning.antt
--- By: cases of if a place stands; arithmetic of what is left to do; no induction
+-- By: cases of where a place stands; arithmetic of what is left to do; no induction
 use Rattle.std.proofs.Common.{◌≡◌, ℕ, ◌+◌, ◌-◌, ◌*◌, ◌<◌, ◌≤◌, inl, inr, List, [], ◌∷◌, ◌++◌, Bool, length, length-append, sym, ap, ◌∙◌, subst, arith}
 use Rattle.std.proofs.lemmas.Bool.{cases_eq}
 use Rattle.std.proofs.lemmas.List.{length_push}

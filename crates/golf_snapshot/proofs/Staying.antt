@@ -1,4 +1,6 @@
 -- The goroutines that stay, one after another, and what the nodes with a finaliser refer to.
+-- For: `add_others`, `add_finalised_rows` and `source_nodes`, src/retained.rt.
+-- By: induction over the list of entries, and over flags and rows.
 use Rattle.std.proofs.Common.{◌≡◌, ℕ, zero, suc, ◌+◌, ◌<◌, Bool, true, false, not, cond, List, [], ◌∷◌, ◌++◌, length, map, filter, take, Option, Some, None, inl, inr, refl, sym, ap, subst, ◌∙◌, arith, slice_get, append_assoc, append-nil, length-append}
 use Rattle.std.specs.Prelude.{option_map, unwrap_or}
 use Rattle.std.proofs.lemmas.Bool.{cases_Bool}

@@ -1,5 +1,5 @@
 -- Lists and maps, one place or one number after another.
--- For: `add_awake` and `sleepers`, src/goroutines.rt; `numbers` and `children`, src/nodes.rt.
+-- For: `add_awake`, src/goroutines.rt; `add_others`, src/retained.rt; `numbers` and `children`, src/nodes.rt.
 -- By: induction over the list of entries.
 use Rattle.std.proofs.Common.{◌≡◌, ℕ, zero, suc, ◌+◌, ◌<◌, ◌≤◌, true, false, ◌||◌, cond, List, [], ◌∷◌, ◌++◌, length, map, take, get_or, Option, Some, ◌==◌, refl, sym, ap, ◌∙◌, arith, slice_get, append_assoc, append-nil}
 use Rattle.std.specs.Prelude.{is_some, option_map}
