@@ -10,7 +10,7 @@ use Rattle.golf_theory.specs.Membership.{In}
 use Rattle.golf_theory.proofs.Lists.{Every-at, In-left, In-right, In-cases}
 use Rattle.golf_rows.specs.Rows.{row_of, AddsTo}
 use Rattle.golf_model.specs.declared.graph.GraphParts.{GraphParts}
-use Rattle.golf_model.specs.declared.graph.Sleeper.{Sleeper}
+use Rattle.golf_model.specs.Sleepers.{Sleeper}
 use Rattle.golf_model.specs.Graph.{node_count, sleeper_count, children_of, sleeper_waits, sleeper_references, Justifies, IsInRange}
 use Rattle.golf_cert.specs.declared.links.Link.{Link}
 use Rattle.golf_cert.specs.declared.links.Link.TheVariants.{Root, Child, Woken, Held}

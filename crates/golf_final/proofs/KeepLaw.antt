@@ -22,7 +22,7 @@ use Rattle.golf_model.specs.Graph.{children_of, sleeper_references, sleeper_coun
 use Rattle.golf_model.specs.Presence.{Present, IsWhole}
 use Rattle.golf_model.specs.Futures.{Numbered}
 use Rattle.golf_model.specs.declared.graph.Marked.{Marked}
-use Rattle.golf_model.specs.declared.graph.Sleeper.{Sleeper}
+use Rattle.golf_model.specs.Sleepers.{Sleeper}
 use Rattle.golf_marks.specs.Flags.{IsSet}
 use Rattle.golf_mark.specs.Marking.{MarksLeast}
 use Rattle.golf_heap.specs.Objects.{rank}

@@ -7,7 +7,7 @@ use Rattle.golf_theory.specs.Membership.{In}
 use Rattle.golf_theory.proofs.Lists.{Every-at}
 use Rattle.golf_theory.proofs.Derivations.{Reached-root, Reached-step, Reached-least}
 use Rattle.golf_model.specs.declared.graph.GraphParts.{GraphParts}
-use Rattle.golf_model.specs.declared.graph.Sleeper.{Sleeper}
+use Rattle.golf_model.specs.Sleepers.{Sleeper}
 use Rattle.golf_model.specs.declared.graph.Marked.{Marked}
 use Rattle.golf_model.specs.Graph.{node_count, children_of, sleeper_waits, sleeper_references, Justifies, Least, IsInRange}
 use Rattle.golf_marks.specs.Flags.{IsSet}

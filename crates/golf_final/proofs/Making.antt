@@ -8,7 +8,7 @@ use Rattle.golf_theory.specs.Membership.{In, Every}
 use Rattle.golf_theory.proofs.Lists.{Every-from}
 use Rattle.golf_base.specs.declared.ids.ObjectId.{ObjectId}
 use Rattle.golf_model.specs.declared.graph.GraphParts.{GraphParts}
-use Rattle.golf_model.specs.declared.graph.Sleeper.{Sleeper}
+use Rattle.golf_model.specs.Sleepers.{Sleeper}
 use Rattle.golf_model.specs.Graph.{node_count, children_of, AreNodes, IsInRange}
 use Rattle.golf_rows.specs.Rows.{row_of, IsInverseBelow}
 use Rattle.golf_final.specs.Keeping.{Prevents}

@@ -2,28 +2,15 @@
 
 ghost use Rattle.std.specs.Prelude.{◌≡◌, ◌<◌, ◌↔◌, ℕ, IfOk, OnOk, IsTrue, length};
 ghost use Rattle.golf_theory.specs.Membership.{In};
-ghost use Rattle.golf_model.specs.Graph.{IsInRange, children_of, node_count, sleeper_count};
+ghost use Rattle.golf_model.specs.Graph.{IsInRange, node_count, sleeper_count};
 ghost use Rattle.golf_marks.specs.Flags.{IsSet};
-ghost use Rattle.golf_rows.specs.Rows.{IsInverseBelow};
 ghost use Rattle.golf_final.specs.Keeping.{HasKept, Prevents};
 ghost use Rattle.golf_final.specs.Backward.{IsBackward, HasNumbers};
 
 use golf_base::{List, Memory, ObjectId, OpenGate};
 use golf_mark::mark_alone;
-use golf_model::{Graph, GraphParts, Marked};
-use golf_rows::{add_to_all, empty_rows};
+use golf_model::{Graph, GraphParts, Marked, Sleepers};
 use std::alloc::Global;
-
-// For each node the nodes that have it as a child.
-fn parents(alloc: Global, graph: &Graph) -> Result<List<List<u32>>, Memory>
-    ensures { IfOk result (IsInverseBelow (node_count graph.now) (node_count graph.now) (children_of graph.now)) }
-{
-    let mut rows = empty_rows(alloc, graph.nodes())?;
-    for node in 0..graph.nodes() {
-        add_to_all(&mut rows, node, graph.children(node))?;
-    }
-    Ok(rows)
-}
 
 /// Whether a flag is set; there is none past the last one.
 pub(crate) fn is_set(flags: &[bool], at: u32) -> bool
@@ -84,7 +71,7 @@ fn backward(
     ensures backward { IfOk result (IsBackward graph.now flags.now sets_finalisers) }
     ensures in_range { OnOk result (IsInRange graph.now) }
 {
-    let children = parents(alloc, graph)?;
+    let children = graph.parents(alloc)?;
     let roots = preventing(alloc, graph, flags, sets_finalisers)?;
     let numbers = count_up(alloc, graph.nodes())?;
     let mut finalised = List::new(alloc);
@@ -94,7 +81,7 @@ fn backward(
         children,
         finalised,
         roots,
-        sleepers: List::new(alloc),
+        sleepers: Sleepers::new(alloc),
     }))
 }
 

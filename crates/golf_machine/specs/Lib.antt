@@ -1,6 +1,5 @@
 pub mod Acts
 pub mod Families
-pub mod Lightness
 pub mod Objects
 pub mod Operations
 pub mod Taking

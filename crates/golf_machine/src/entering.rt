@@ -51,8 +51,7 @@ fn open_frame(
         return Ok(None);
     };
     let slots = slots_of(alloc, function, arguments)?;
-    let mut operands = Room::new(alloc);
-    operands.reserve(function.depth as usize)?;
+    let operands = Room::with_room(alloc, (function.depth as usize).max(2))?;
     Ok(Some(Frame {
         function: number,
         at: 0,

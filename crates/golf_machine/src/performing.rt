@@ -6,7 +6,6 @@ ghost use Rattle.golf_model.specs.Turn.{changes};
 ghost use Rattle.golf_state.specs.Doing.{does, Stands};
 ghost use Rattle.golf_state.specs.Outcomes.{Comes};
 ghost use Rattle.golf_machine.specs.Families.{family_of};
-ghost use Rattle.golf_machine.specs.Lightness.{is_light};
 ghost use Rattle.golf_machine.specs.declared.performing.Family.TheVariants as family;
 
 use crate::calculating::{
@@ -114,21 +113,6 @@ fn family_of(instr: &Instr) -> Family
         | Instr::SetFinalizer(_)
         | Instr::ClearFinalizer
         | Instr::Panic => Family::Calls,
-    }
-}
-
-/// Whether an instruction is about values of the innermost frame, or of globals.
-#[inline(always)]
-pub fn is_light(instr: &Instr) -> bool
-    ensures { result ≡ is_light (family_of instr.now) }
-{
-    match family_of(instr) {
-        Family::Values => true,
-        Family::Calculations => true,
-        Family::Structures => false,
-        Family::Communication => false,
-        Family::Sharing => false,
-        Family::Calls => false,
     }
 }
 

@@ -7,11 +7,10 @@ ghost use Rattle.golf_model.specs.Changes.{apply_all};
 ghost use Rattle.golf_model.specs.Views.{frame_view};
 ghost use Rattle.golf_model.specs.Turn.{line_at, return_line, turn_of, is_collection, goroutine_collects};
 ghost use Rattle.golf_state.specs.Doing.{Runs};
-ghost use Rattle.golf_machine.specs.Lightness.{goroutine_is_light};
 
 use crate::entering::begin_queued;
 use crate::leaving::{leave_returning, leave_unwinding};
-use crate::performing::{self, perform};
+use crate::performing::perform;
 use golf_base::{GoroutineId, Memory};
 use golf_data::{Code, CodeLine, Frame, Instr, Leaving};
 use golf_state::{Acting, State};
@@ -33,24 +32,6 @@ fn return_line(code: &Code, frame: &Frame) -> u32
     match line_at(code, frame.function, frame.at.saturating_sub(1)) {
         Some(line) => line.line,
         None => 0,
-    }
-}
-
-/// Whether the instruction of a goroutine's turn is about values of its innermost frame, or of globals.
-#[inline(always)]
-pub fn is_light(code: &Code, state: &State, g: GoroutineId) -> bool
-    ensures { result ≡ goroutine_is_light code.now (find g.0 state.now.goroutines) }
-{
-    match state.frame(g) {
-        Some(frame) => match frame.leaving {
-            Leaving::No => match line_at(code, frame.function, frame.at) {
-                Some(line) => performing::is_light(&line.instr),
-                None => false,
-            },
-            Leaving::Returning(_) => false,
-            Leaving::Unwinding(_) => false,
-        },
-        None => false,
     }
 }
 

@@ -17,7 +17,6 @@ ghost use Rattle.golf_machine.specs.Within.{IsDone, cleared_in, HasPassed, HasPa
 use crate::calculating::{
     Comparison, Division, Operation, are_equal, bool_in, holds, int_in, part_of, result_of,
 };
-use crate::stepping::is_light;
 use golf_base::{GoroutineId, List, Memory};
 use golf_data::{Code, CodeLine, Frame, Function, Instr, Leaving, Value};
 use golf_state::State;
@@ -434,9 +433,6 @@ pub(crate) fn pass(code: &Code, state: &mut State, g: GoroutineId) -> Result<boo
     ensures ok { IfOk result (λ done. HasTakenTurn done code.now g.0 state.old state.new) }
     ensures err { OnErr result (state.new ≡ state.old) }
 {
-    if !is_light(code, state, g) {
-        return Ok(false);
-    }
     let (frames, globals) = state.frames_and_globals(g);
     let done = pass_on_top(code, globals, frames)?;
     Ok(done)

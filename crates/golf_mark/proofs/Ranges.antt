@@ -7,7 +7,7 @@ use Rattle.golf_theory.specs.Membership.{In, Every}
 use Rattle.golf_theory.proofs.Lists.{Every-at}
 use Rattle.golf_theory.proofs.Derivations.{Reached-least}
 use Rattle.golf_model.specs.declared.graph.GraphParts.{GraphParts}
-use Rattle.golf_model.specs.declared.graph.Sleeper.{Sleeper}
+use Rattle.golf_model.specs.Sleepers.{Sleeper}
 use Rattle.golf_model.specs.Graph.{node_count, sleeper_count, children_of, sleeper_waits, sleeper_references, Justifies, Least, AreNodes, IsInRange}
 
 -- the list of a row, and of a sleeper, has what each such list has

@@ -2,9 +2,9 @@
 
 ghost use Rattle.std.specs.Prelude.{◌≡◌, IfOk};
 
-use golf_base::{List, Memory};
+use golf_base::Memory;
 use golf_model::Graph;
-use golf_rows::{add_to_all, empty_rows};
+use golf_rows::FlatRows;
 use std::alloc::Global;
 use std::marker::Model;
 
@@ -12,7 +12,7 @@ use std::marker::Model;
 /// stands in the lists of all nodes that it waits on.
 #[derive(Drop)]
 pub(crate) struct Waiters {
-    rows: List<List<u32>>,
+    rows: FlatRows,
 }
 
 impl Model for Waiters {
@@ -32,23 +32,22 @@ impl Waiters {
     {
         if graph.sleepers() == 0 {
             return Ok(Waiters {
-                rows: List::new(alloc),
+                rows: FlatRows::new(alloc),
             });
         }
-        let mut rows = empty_rows(alloc, graph.nodes())?;
-        for sleeper in 0..graph.sleepers() {
-            add_to_all(&mut rows, sleeper, graph.waits(sleeper))?;
-        }
-        Ok(Waiters { rows })
+        Ok(Waiters {
+            rows: graph.waiters(alloc)?,
+        })
     }
 
     /// The sleepers that wait on a node.
     pub(crate) fn of(&self, node: u32) -> &[u32]
         ensures { result.now ≡ row_of self.now node }
     {
-        match self.rows.as_slice().get(node as usize) {
-            Some(row) => row.as_slice(),
-            None => &[],
+        if (node as usize) < self.rows.len() {
+            self.rows.row(node as usize)
+        } else {
+            &[]
         }
     }
 }

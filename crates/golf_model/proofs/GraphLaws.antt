@@ -11,7 +11,7 @@ use Rattle.golf_theory.proofs.LeastLaws.{Monotone, Covers, decided-sound, decide
 use Rattle.golf_theory.proofs.Lists.{In-left, In-right}
 use Rattle.golf_theory.proofs.Tests.{is_in-from, In-from, any_of-from, from_any_of}
 use Rattle.golf_model.specs.declared.graph.GraphParts.{GraphParts}
-use Rattle.golf_model.specs.declared.graph.Sleeper.{Sleeper}
+use Rattle.golf_model.specs.Sleepers.{Sleeper}
 use Rattle.golf_model.specs.Graph.{node_count, children_of, sleeper_waits, sleeper_references, Justifies, Least, justifies, is_justified_next, places_from, all_children, all_references, named_places, least_places}
 
 -- ---- one step

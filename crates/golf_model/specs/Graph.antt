@@ -6,7 +6,7 @@ use Rattle.golf_theory.specs.Least.{least}
 use Rattle.golf_base.specs.declared.ids.ObjectId.{ObjectId}
 use Rattle.golf_base.specs.declared.ids.GoroutineId.{GoroutineId}
 use Rattle.golf_model.specs.declared.graph.GraphParts.{GraphParts}
-use Rattle.golf_model.specs.declared.graph.Sleeper.{Sleeper}
+use Rattle.golf_model.specs.Sleepers.{Sleeper}
 
 -- places below it are nodes, the others sleepers
 abbrev pub node_count : GraphParts → ℕ

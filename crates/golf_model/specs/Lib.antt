@@ -24,5 +24,6 @@ pub mod Running
 pub mod Reporting
 pub mod Presence
 pub mod Futures
+pub mod Sleepers
 pub mod Graph
 pub mod Laws

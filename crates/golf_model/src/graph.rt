@@ -1,21 +1,14 @@
 //! The dense graph that a collection marks.
 
-ghost use Rattle.std.specs.Prelude.{◌≡◌, ◌<◌, [], slice_get, Some};
+ghost use Rattle.std.specs.Prelude.{◌≡◌, ◌<◌, [], slice_get, Some, IfOk};
+ghost use Rattle.golf_rows.specs.Rows.{IsInverseBelow};
 ghost use Rattle.golf_model.specs.Graph.{IsInRange, AreNodes, node_count, sleeper_count, children_of, goroutine_at, sleeper_waits, sleeper_references};
 
-use golf_base::{GoroutineId, List, ObjectId};
+use crate::sleepers::Sleepers;
+use golf_base::{GoroutineId, List, Memory, ObjectId};
+use golf_rows::{FlatRows, inverse};
 use std::alloc::Global;
 use std::marker::Model;
-
-/// A blocked goroutine that may be awakened.
-#[derive(Debug, Drop)]
-pub struct Sleeper {
-    pub goroutine: GoroutineId,
-    /// The nodes that it waits on.
-    pub waits: List<u32>,
-    /// The nodes that it refers to.
-    pub references: List<u32>,
-}
 
 /// What a graph is made of. A node is an object, by its place.
 #[derive(Debug)]
@@ -23,12 +16,12 @@ pub struct GraphParts {
     /// For each node its object's number, rising.
     pub numbers: List<ObjectId>,
     /// For each node the nodes that it refers to.
-    pub children: List<List<u32>>,
+    pub children: FlatRows,
     /// For each node whether its object has a finaliser.
     pub finalised: List<bool>,
     /// The nodes that are marked at once.
     pub roots: List<u32>,
-    pub sleepers: List<Sleeper>,
+    pub sleepers: Sleepers,
 }
 
 /// A graph whose places are the nodes, from 0, and after them the sleepers.
@@ -62,7 +55,7 @@ impl Graph {
         requires { AreNodes self roots }
         ensures { result ≡ record self { roots = roots; sleepers = [] } }
     {
-        let none = List::new(alloc);
+        let none = Sleepers::new(alloc);
         self.parts.roots = roots;
         self.parts.sleepers = none;
         self
@@ -88,7 +81,7 @@ impl Graph {
         requires { node < node_count self.now }
         ensures { result.now ≡ children_of self.now node }
     {
-        self.parts.children.as_slice()[node as usize].as_slice()
+        self.parts.children.row(node as usize)
     }
 
     /// The nodes that are marked at once.
@@ -119,7 +112,7 @@ impl Graph {
         requires { sleeper < sleeper_count self.now }
         ensures { goroutine_at self.now sleeper ≡ Some result }
     {
-        self.parts.sleepers.as_slice()[sleeper as usize].goroutine
+        self.parts.sleepers.goroutine(sleeper as usize)
     }
 
     /// The nodes that this sleeper waits on.
@@ -127,9 +120,27 @@ impl Graph {
         requires { sleeper < sleeper_count self.now }
         ensures { result.now ≡ sleeper_waits self.now sleeper }
     {
-        self.parts.sleepers.as_slice()[sleeper as usize]
-            .waits
-            .as_slice()
+        self.parts.sleepers.waits(sleeper as usize)
+    }
+
+    /// For each node the sleepers that wait on it, rising.
+    ///
+    /// `Memory` also comes if all sleepers together wait on 2^32 nodes or more.
+    pub fn waiters(&self, alloc: Global) -> Result<FlatRows, Memory>
+        ensures { IfOk result (IsInverseBelow (sleeper_count self.now) (node_count self.now) (sleeper_waits self.now)) }
+    {
+        let rows = inverse(alloc, self.parts.sleepers.all_waits(), self.nodes())?;
+        Ok(rows)
+    }
+
+    /// For each node the nodes that refer to it, rising.
+    ///
+    /// `Memory` also comes if all nodes together refer to 2^32 nodes or more.
+    pub fn parents(&self, alloc: Global) -> Result<FlatRows, Memory>
+        ensures { IfOk result (IsInverseBelow (node_count self.now) (node_count self.now) (children_of self.now)) }
+    {
+        let rows = inverse(alloc, &self.parts.children, self.nodes())?;
+        Ok(rows)
     }
 
     /// The nodes that this sleeper refers to.
@@ -137,9 +148,7 @@ impl Graph {
         requires { sleeper < sleeper_count self.now }
         ensures { result.now ≡ sleeper_references self.now sleeper }
     {
-        self.parts.sleepers.as_slice()[sleeper as usize]
-            .references
-            .as_slice()
+        self.parts.sleepers.references(sleeper as usize)
     }
 }
 

@@ -4,6 +4,8 @@
 
 mod graph;
 mod laws;
+mod sleepers;
 
-pub use graph::{Graph, GraphParts, Marked, Sleeper};
+pub use graph::{Graph, GraphParts, Marked};
 pub use laws::{collection_law, dead_law, least_law, live_law, reach_law, waiters_law};
+pub use sleepers::Sleepers;

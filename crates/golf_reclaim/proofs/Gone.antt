@@ -15,7 +15,7 @@ use Rattle.golf_model.specs.Futures.{Numbered}
 use Rattle.golf_model.specs.Presence.{IsWhole}
 use Rattle.golf_model.specs.Reporting.{numbers}
 use Rattle.golf_model.specs.declared.graph.Marked.{Marked}
-use Rattle.golf_model.specs.declared.graph.Sleeper.{Sleeper}
+use Rattle.golf_model.specs.Sleepers.{Sleeper}
 use Rattle.golf_model.proofs.Agreeing.{live_list-sound, live_list-complete, has_goroutine-sound, has_goroutine-complete, keeps-sound, keeps-complete}
 use Rattle.golf_heap.specs.Objects.{left_out}
 use Rattle.golf_heap.proofs.Flagged.{left_out-filter}

@@ -23,7 +23,7 @@ use Rattle.golf_model.specs.Refs.{has_finaliser}
 use Rattle.golf_model.specs.Reporting.{numbers, retained_objects}
 use Rattle.golf_model.specs.State.{State, is_running}
 use Rattle.golf_model.specs.declared.graph.Marked.{Marked}
-use Rattle.golf_model.specs.declared.graph.Sleeper.{Sleeper}
+use Rattle.golf_model.specs.Sleepers.{Sleeper}
 use Rattle.golf_model.proofs.Agreeing.{live_list-sound, live_list-complete, has_object-sound, has_object-complete, has_goroutine-sound, has_goroutine-complete, reach-sound, reach-complete}
 use Rattle.golf_snapshot.specs.Parts.{row_of, is_awake, sleeping, sleeper_of, live_parts, retained_parts}
 use Rattle.golf_snapshot.proofs.LiveComplete.{live-graph}

@@ -82,3 +82,13 @@ AddsTo-next s i nodes a b c low f g =
       | inr j ↦ elim j [ inl e ↦ inr e | inr none ↦ absurd none ]
     ])
     f g
+
+-- the same, of rows that are told in another way
+pub IsInverseBelow-same : (bound count : ℕ) (named other : ℕ → List ℕ) (rows : List (List ℕ)) → ((n : ℕ) → named n ≡ other n) → IsInverseBelow bound count named rows → IsInverseBelow bound count other rows
+IsInverseBelow-same bound count named other rows same w = record {
+  row_count = w.row_count;
+  members = λ n s. (
+    λ h. let m = (w.members n s).0 h in (m.0, subst (λ (l : List ℕ). In n l) (same s) m.1),
+    λ h. (w.members n s).1 (h.0, subst (λ (l : List ℕ). In n l) (sym (same s)) h.1),
+  );
+}

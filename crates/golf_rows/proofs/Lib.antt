@@ -1,1 +1,4 @@
 pub mod Adding
+pub mod Places
+pub mod Counting
+pub mod Filling

@@ -19,7 +19,7 @@ use Rattle.golf_model.specs.Graph.{AreNodes, NumbersRise, IsInRange}
 use Rattle.golf_model.specs.Presence.{Present, IsWhole}
 use Rattle.golf_model.specs.Futures.{Numbered}
 use Rattle.golf_model.specs.declared.graph.GraphParts.{GraphParts}
-use Rattle.golf_model.specs.declared.graph.Sleeper.{Sleeper}
+use Rattle.golf_model.specs.Sleepers.{Sleeper}
 use Rattle.golf_heap.specs.Objects.{rank}
 use Rattle.golf_snapshot.specs.Parts.{ranks, number_of, row_of, live_roots, sleeping, sleeper_of, parts_of, live_parts}
 use Rattle.golf_snapshot.proofs.LiveSound.{rank-entry, root-live, waited-refs}

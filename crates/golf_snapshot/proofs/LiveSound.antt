@@ -22,7 +22,7 @@ use Rattle.golf_model.specs.Living.{Node, LiveRoot, LiveStep, Live}
 use Rattle.golf_model.specs.Graph.{Justifies, Least, children_of, sleeper_waits, sleeper_references, sleeper_place}
 use Rattle.golf_model.specs.Presence.{Present, IsWhole}
 use Rattle.golf_model.specs.Futures.{Numbered}
-use Rattle.golf_model.specs.declared.graph.Sleeper.{Sleeper}
+use Rattle.golf_model.specs.Sleepers.{Sleeper}
 use Rattle.golf_model.proofs.Agreeing.{refs_where-sound}
 use Rattle.golf_theory.proofs.Tests.{In-from}
 use Rattle.golf_heap.specs.Objects.{rank}

@@ -10,7 +10,7 @@ use Rattle.golf_model.specs.State.{State, is_running}
 use Rattle.golf_model.specs.Refs.{object_refs, goroutine_refs, waited, queue_refs, refs_if, refs_where, has_finaliser}
 use Rattle.golf_model.specs.Reaching.{sources}
 use Rattle.golf_model.specs.declared.graph.GraphParts.{GraphParts}
-use Rattle.golf_model.specs.declared.graph.Sleeper.{Sleeper}
+use Rattle.golf_model.specs.Sleepers.{Sleeper}
 
 -- the nodes of these objects
 abbrev pub ranks : List (ℕ × Object) → List ℕ → List ℕ

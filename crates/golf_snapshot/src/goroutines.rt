@@ -11,7 +11,7 @@ use crate::references::{add_goroutine, add_waited, waits_of};
 use golf_base::{GoroutineId, List, Memory};
 use golf_data::{Goroutine, Mode, Queued};
 use golf_heap::Heap;
-use golf_model::Sleeper;
+use golf_model::Sleepers;
 use golf_state::State;
 use std::alloc::Global;
 
@@ -31,11 +31,11 @@ pub(crate) fn add_awake(
     alloc: Global,
     state: &State,
     nodes: &mut List<u32>,
-) -> Result<List<Sleeper>, Memory>
+) -> Result<Sleepers, Memory>
     ensures nodes { OnOk result (nodes.new ≡ nodes.old ++ ranks state.now.objects (awake_refs state.now.goroutines)) }
     ensures sleepers { IfOk result (λ sleepers. sleepers ≡ map (sleeper_of state.now.objects) (sleeping state.now)) }
 {
-    let mut sleepers = List::new(alloc);
+    let mut sleepers = Sleepers::new(alloc);
     for g in state.goroutines() {
         add_one(alloc, state, nodes, &mut sleepers, *g)?;
     }
@@ -47,7 +47,7 @@ fn add_one(
     alloc: Global,
     state: &State,
     nodes: &mut List<u32>,
-    sleepers: &mut List<Sleeper>,
+    sleepers: &mut Sleepers,
     g: GoroutineId,
 ) -> Result<(), Memory>
     ensures nodes { OnOk result (nodes.new
@@ -81,33 +81,15 @@ fn is_awake(g: GoroutineId, goroutine: &Goroutine) -> bool
 fn add_sleeper(
     alloc: Global,
     heap: &Heap,
-    sleepers: &mut List<Sleeper>,
+    sleepers: &mut Sleepers,
     g: GoroutineId,
     goroutine: &Goroutine,
 ) -> Result<(), Memory>
     ensures { OnOk result (sleepers.new ≡ sleepers.old ++ sleeper_of heap.now.objects (g.0, goroutine_view goroutine.now) ∷ []) }
 {
-    let sleeper = sleeper_of(alloc, heap, g, goroutine)?;
-    sleepers.push(sleeper)?;
-    Ok(())
-}
-
-// A goroutine as a sleeper.
-fn sleeper_of(
-    alloc: Global,
-    heap: &Heap,
-    g: GoroutineId,
-    goroutine: &Goroutine,
-) -> Result<Sleeper, Memory>
-    ensures { IfOk result (λ sleeper. sleeper ≡ sleeper_of heap.now.objects (g.0, goroutine_view goroutine.now)) }
-{
     let mut waits = List::new(alloc);
     add_waited(heap, &mut waits, waits_of(&goroutine.mode))?;
     let mut references = List::new(alloc);
     add_goroutine(heap, &mut references, goroutine)?;
-    Ok(Sleeper {
-        goroutine: g,
-        waits,
-        references,
-    })
+    sleepers.push(g, waits.as_slice(), references.as_slice())
 }

@@ -9,7 +9,7 @@ use crate::goroutines::{add_awake, add_queue};
 use crate::nodes::{add_finalised, children, finalised, numbers};
 use crate::references::add_values;
 use golf_base::{List, Memory};
-use golf_model::{Graph, GraphParts, Sleeper};
+use golf_model::{Graph, GraphParts, Sleepers};
 use golf_state::State;
 use std::alloc::Global;
 
@@ -28,7 +28,7 @@ pub fn live_graph(alloc: Global, state: &State) -> Result<Graph, Memory>
 }
 
 // The nodes of the objects that are live at once, and the sleepers.
-fn live_places(alloc: Global, state: &State) -> Result<(List<u32>, List<Sleeper>), Memory>
+fn live_places(alloc: Global, state: &State) -> Result<(List<u32>, Sleepers), Memory>
     requires { Numbered state.now }
     ensures roots { IfOk result (λ places. places.0 ≡ ranks state.now.objects (live_roots state.now)) }
     ensures sleepers { IfOk result (λ places. places.1 ≡ map (sleeper_of state.now.objects) (sleeping state.now)) }
@@ -46,7 +46,7 @@ fn parts_of(
     alloc: Global,
     state: &State,
     roots: List<u32>,
-    sleepers: List<Sleeper>,
+    sleepers: Sleepers,
 ) -> Result<GraphParts, Memory>
     ensures parts { IfOk result (λ parts. parts ≡ record (parts_of state.now [] sleepers) { roots = roots }) }
     ensures few { IfOk result (λ parts. length state.now.objects + length sleepers < 2 ^ 32) }

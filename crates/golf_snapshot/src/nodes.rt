@@ -10,6 +10,7 @@ use crate::references::{add_value, add_values};
 use golf_base::{List, Memory, ObjectId};
 use golf_data::Object;
 use golf_heap::Heap;
+use golf_rows::FlatRows;
 use golf_state::State;
 use std::alloc::Global;
 
@@ -25,24 +26,24 @@ pub(crate) fn numbers(alloc: Global, heap: &Heap) -> Result<List<ObjectId>, Memo
 }
 
 /// For each node the nodes that it refers to.
-pub(crate) fn children(alloc: Global, heap: &Heap) -> Result<List<List<u32>>, Memory>
+pub(crate) fn children(alloc: Global, heap: &Heap) -> Result<FlatRows, Memory>
     ensures { IfOk result (λ rows. rows ≡ map (row_of heap.now.objects) heap.now.objects) }
 {
-    let mut rows = List::new(alloc);
+    let mut rows = FlatRows::new(alloc);
+    let mut row = List::new(alloc);
     for rank in 0..heap.count() {
-        let row = row(alloc, heap, heap.at(rank))?;
-        rows.push(row)?;
+        fill_row(heap, &mut row, heap.at(rank))?;
+        rows.push(row.as_slice())?;
     }
     Ok(rows)
 }
 
-// The nodes that the object of this number refers to.
-fn row(alloc: Global, heap: &Heap, id: ObjectId) -> Result<List<u32>, Memory>
-    ensures { IfOk result (λ row. row ≡ ranks heap.now.objects (refs_at (find id.0 heap.now.objects))) }
+// Fills a row with the nodes that the object of this number refers to, in place of what it had.
+fn fill_row(heap: &Heap, row: &mut List<u32>, id: ObjectId) -> Result<(), Memory>
+    ensures { OnOk result (row.new ≡ ranks heap.now.objects (refs_at (find id.0 heap.now.objects))) }
 {
-    let mut nodes = List::new(alloc);
-    add_object_at(heap, &mut nodes, id)?;
-    Ok(nodes)
+    row.clear();
+    add_object_at(heap, row, id)
 }
 
 /// For each node whether its object has a finaliser.

@@ -8,7 +8,8 @@ ghost use Rattle.golf_marks.specs.Seats.{graph_in, seat_count, IsSeatOf, IsSameS
 
 use golf_base::{GoroutineId, List, Memory, ObjectId};
 use golf_marks::{MarkSeat, Marks};
-use golf_model::{Graph, GraphParts, Sleeper};
+use golf_model::{Graph, GraphParts, Sleepers};
+use golf_rows::FlatRows;
 use std::alloc::Global;
 use std::test::Fail;
 
@@ -22,21 +23,17 @@ fn two_roots(alloc: Global) -> Result<GraphParts, Memory>
     let mut numbers = List::new(alloc);
     numbers.push(ObjectId(1))?;
     numbers.push(ObjectId(2))?;
-    let mut children = List::new(alloc);
-    children.push(List::new(alloc))?;
-    children.push(List::new(alloc))?;
+    let mut children = FlatRows::new(alloc);
+    children.push(&[])?;
+    children.push(&[])?;
     let mut finalised = List::new(alloc);
     finalised.push(false)?;
     finalised.push(false)?;
     let mut roots = List::new(alloc);
     roots.push(0)?;
     roots.push(1)?;
-    let mut sleepers = List::new(alloc);
-    sleepers.push(Sleeper {
-        goroutine: GoroutineId(2),
-        waits: List::new(alloc),
-        references: List::new(alloc),
-    })?;
+    let mut sleepers = Sleepers::new(alloc);
+    sleepers.push(GoroutineId(2), &[], &[])?;
     Ok(GraphParts {
         numbers,
         children,

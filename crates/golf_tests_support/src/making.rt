@@ -4,7 +4,8 @@ ghost use Rattle.std.specs.Prelude.{◌≡◌, ◌<◌, IfOk};
 ghost use Rattle.golf_theory.specs.Membership.{Every};
 
 use golf_base::{GoroutineId, List, Memory, ObjectId};
-use golf_model::{Graph, GraphParts, Sleeper};
+use golf_model::{Graph, GraphParts, Sleepers};
+use golf_rows::FlatRows;
 use std::alloc::{AllocError, Global};
 use std::marker::Model;
 
@@ -60,10 +61,10 @@ impl GraphMaker {
             count,
             parts: GraphParts {
                 numbers: List::new(alloc),
-                children: List::new(alloc),
+                children: FlatRows::new(alloc),
                 finalised: List::new(alloc),
                 roots: List::new(alloc),
-                sleepers: List::new(alloc),
+                sleepers: Sleepers::new(alloc),
             },
         }
     }
@@ -79,7 +80,7 @@ impl GraphMaker {
         let children = nodes_of(alloc, count, children)?;
         let number = ObjectId(parts.children.len() as u32);
         parts.numbers.push(number)?;
-        parts.children.push(children)?;
+        parts.children.push(children.as_slice())?;
         parts.finalised.push(false)?;
         Ok(GraphMaker { count, parts })
     }
@@ -106,12 +107,11 @@ impl GraphMaker {
         ensures { IfOk result (λ maker. maker ≡ with_sleeper self waits.now references.now) }
     {
         let GraphMaker { count, mut parts } = self;
-        let sleeper = Sleeper {
-            goroutine: GoroutineId(0),
-            waits: nodes_of(alloc, count, waits)?,
-            references: nodes_of(alloc, count, references)?,
-        };
-        parts.sleepers.push(sleeper)?;
+        let waits = nodes_of(alloc, count, waits)?;
+        let references = nodes_of(alloc, count, references)?;
+        parts
+            .sleepers
+            .push(GoroutineId(0), waits.as_slice(), references.as_slice())?;
         Ok(GraphMaker { count, parts })
     }
 

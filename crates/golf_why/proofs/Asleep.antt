@@ -6,7 +6,7 @@ use Rattle.std.specs.Prelude.{Option, Some, option_map, slice_get}
 use Rattle.golf_theory.specs.Maps.{find}
 use Rattle.golf_base.specs.declared.ids.GoroutineId.{GoroutineId}
 use Rattle.golf_data.specs.declared.report.Entry.{Entry}
-use Rattle.golf_model.specs.declared.graph.Sleeper.{Sleeper}
+use Rattle.golf_model.specs.Sleepers.{Sleeper}
 use Rattle.golf_model.specs.State.{State}
 use Rattle.golf_model.specs.Reporting.{entry_of}
 

@@ -1,5 +1,5 @@
 -- Examples that refuse what the others let through.
-use Rattle.std.specs.Prelude.{◌≡◌, ℕ, Bool, true, false, List, [], ◌∷◌, ◌++◌, map, replicate, Some, None, option_map, refl, negsuc}
+use Rattle.std.specs.Prelude.{◌≡◌, ℕ, true, false, List, [], ◌∷◌, ◌++◌, map, replicate, Some, None, option_map, refl, negsuc}
 use Rattle.std.specs.Fmt.{digits}
 use Rattle.golf_theory.specs.Maps.{find}
 use Rattle.golf_data.specs.declared.value.Value.{Value}

@@ -1,6 +1,6 @@
 use Rattle.std.proofs.Common.{Bool, List, map, subst, ap, ◌∙◌}
 use Rattle.golf_model.specs.declared.graph.GraphParts.{GraphParts}
-use Rattle.golf_model.specs.declared.graph.Sleeper.{Sleeper}
+use Rattle.golf_model.specs.Sleepers.{Sleeper}
 use Rattle.golf_model.specs.Reporting.{numbers}
 use Rattle.golf_mark.specs.Marking.{MarksLeast}
 use Rattle.golf_heap.specs.Objects.{left_out}

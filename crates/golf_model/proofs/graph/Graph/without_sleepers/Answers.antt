@@ -1,7 +1,7 @@
 use Rattle.std.proofs.Common.{List, [], ap, subst, sym, ◌∙◌}
 use Rattle.golf_model.specs.Graph.{AreNodes, IsInRange}
 use Rattle.golf_model.specs.declared.graph.GraphParts.{GraphParts}
-use Rattle.golf_model.specs.declared.graph.Sleeper.{Sleeper}
+use Rattle.golf_model.specs.Sleepers.{Sleeper}
 use Rattle.golf_model.proofs.GraphRanges.{without-in_range}
 use Rattle.golf_model.proofs.graph.Graph.without_sleepers.Goals as goal
 
