@@ -4,15 +4,17 @@
 use Rattle.std.proofs.Common.{◌≡◌, ℕ, List, [], ◌∷◌, ◌++◌, map, refl, sym, ap, subst, ◌∙◌}
 use Rattle.golf_syntax_trees.specs.declared.statements.Stmt.{Stmt, roll-Stmt}
 use Rattle.golf_syntax_trees.specs.declared.statements.Clause.{Clause, roll-Clause}
-use Rattle.golf_syntax_trees.specs.declared.statements.Clause.TheOpen.{Stmt-F, Clause-F}
+use Rattle.golf_syntax_trees.specs.declared.statements.Clause.TheOpen.{Stmt-F}
 use Rattle.golf_syntax_trees.specs.declared.statements.Clause.TheOpen as F
-use Rattle.golf_syntax_trees.specs.declared.statements.Clause.TheFolds.{fold-roll-Stmt, fold-roll-Clause, ind-Stmt, map-Stmt, map-Clause}
+use Rattle.golf_syntax_trees.specs.declared.statements.Clause.TheFolds.{fold-roll-Stmt, fold-roll-Clause, map-Stmt, map-Clause}
+use Rattle.golf_syntax_induction.proofs.Statements.{KnownClause, KnownStmt, bare_clauses, bare_stmts, ClauseLayer, StmtLayer, bare_clause, bare_stmt, every-stmt}
 use Rattle.golf_data.specs.declared.code.Instr.{Instr}
 use Rattle.golf_check_types.specs.Statements.{Walk}
 use Rattle.golf_code_of.specs.declared.tables.Tables.{Tables}
-use Rattle.golf_code_of.specs.Statements.{Part, in_order, block, then_part, optional, behind_test}
-use Rattle.golf_code_of.specs.Selects.{ClausePart, select_part}
-use Rattle.golf_code_of.specs.Laying.{stmt_part, clause_part, stmt_part_step, clause_part_step}
+use Rattle.golf_code_of.specs.Statements.{in_order, block, then_part, optional, behind_test}
+use Rattle.golf_code_of.specs.Selects.{select_part}
+use Rattle.golf_code_of.specs.Laying.{stmt_part, clause_part}
+use Rattle.golf_code_of.proofs.StmtCodes.{part_layer, clause_layer, part-rolls, clause-rolls}
 use Rattle.golf_code_of.proofs.Walks.{walks-agree}
 use Rattle.golf_code_facts.specs.Statements.{LayBy, in_order as in_order_by, optional_by, after_test, then_lay}
 use Rattle.golf_code_facts.specs.Selects.{ClauseBy, select_lay}
@@ -33,53 +35,38 @@ module _ (t : Tables) where
   abbrev P : Stmt → Type 0
   P x = Follows (stmt_part t x) (stmt_by t x)
 
-  abbrev S : Type 0
-  S = (x : Stmt) × P x
-
-  abbrev C : Type 0
-  C = (c : Clause) × Q c
-
-  abbrev trees : List S → List Stmt
-  trees xs = map (λ (p : S). p.0) xs
-
   -- statements one after the other
-  bodies : (xs : List S) → Follows (in_order (map (stmt_part t) (trees xs))) (in_order_by (map (stmt_by t) (trees xs)))
+  bodies : (xs : List (KnownStmt P)) → Follows (in_order (map (stmt_part t) (bare_stmts P xs))) (in_order_by (map (stmt_by t) (bare_stmts P xs)))
   bodies [] = record { code = λ a s rest. refl }
   bodies (x ∷ xs) = record {
     code = λ a s rest.
-        (on_then (stmt_part t x.0) (in_order (map (stmt_part t) (trees xs))) (stmt_by t x.0) (in_order_by (map (stmt_by t) (trees xs))) x.1 (bodies xs)).code a s rest;
+        (on_then (stmt_part t x.0) (in_order (map (stmt_part t) (bare_stmts P xs))) (stmt_by t x.0) (in_order_by (map (stmt_by t) (bare_stmts P xs))) x.1 (bodies xs)).code a s rest;
   }
 
-  abbrev each : C → EachClause
+  abbrev each : KnownClause Q → EachClause
   each c = record { part = clause_part t c.0; by = clause_by t c.0; follows = c.1 }
 
-  parts-are : (cs : List C) → parts (map each cs) ≡ map (clause_part t) (map (λ (p : C). p.0) cs)
+  parts-are : (cs : List (KnownClause Q)) → parts (map each cs) ≡ map (clause_part t) (bare_clauses Q cs)
   parts-are [] = refl
   parts-are (c ∷ cs) = ap (λ ps. clause_part t c.0 ∷ ps) (parts-are cs)
 
-  lays-are : (cs : List C) → lays (map each cs) ≡ map (clause_by t) (map (λ (p : C). p.0) cs)
+  lays-are : (cs : List (KnownClause Q)) → lays (map each cs) ≡ map (clause_by t) (bare_clauses Q cs)
   lays-are [] = refl
   lays-are (c ∷ cs) = ap (λ ps. clause_by t c.0 ∷ ps) (lays-are cs)
 
   -- a condition, and the body after it
-  on_branch : (l : ℕ) (first : Option Simple) (test : Expr) (body : List S)
-      → Follows (then_part t l first test (map (stmt_part t) (trees body))) (then_lay t l first test (map (stmt_by t) (trees body)))
+  on_branch : (l : ℕ) (first : Option Simple) (test : Expr) (body : List (KnownStmt P))
+      → Follows (then_part t l first test (map (stmt_part t) (bare_stmts P body))) (then_lay t l first test (map (stmt_by t) (bare_stmts P body)))
   on_branch l first test body =
-      let xs = map (stmt_part t) (trees body) in
-      let ks = map (stmt_by t) (trees body) in
+      let xs = map (stmt_part t) (bare_stmts P body) in
+      let ks = map (stmt_by t) (bare_stmts P body) in
       on_after (optional t first) (behind_test t l test (block xs)) (optional_piece t first) (optional_by t first) (after_test t l test (in_order_by ks))
       (on_optional t first) (optional-lay t first) (on_test (block xs) (in_order_by ks) (on_block (in_order xs) (in_order_by ks) (bodies body)) t l test)
-
-  abbrev part-of : Stmt-F Clause Stmt → Part
-  part-of z = stmt_part_step t (map-Stmt Clause Stmt ClausePart Part (clause_part t) (stmt_part t) z)
 
   abbrev lay-of : Stmt-F Clause Stmt → LayBy
   lay-of z = stmt_by_step t (map-Stmt Clause Stmt ClauseBy LayBy (clause_by t) (stmt_by t) z)
 
-  abbrev bare : Stmt-F C S → Stmt-F Clause Stmt
-  bare y = map-Stmt C S Clause Stmt (λ p. p.0) (λ p. p.0) y
-
-  at : (y : Stmt-F C S) → Follows (part-of (bare y)) (lay-of (bare y))
+  at : (y : StmtLayer Q P) → Follows (part_layer t (bare_stmt Q P y)) (lay-of (bare_stmt Q P y))
   at (F.Var v) = on_piece _ _ _ (on_var t v.line v.name v.content)
   at (F.Simple x) = on_piece _ _ _ (on_simple t x.line x.kind)
   at (F.Go l f xs) = on_begin t l Instr.Go f xs
@@ -91,29 +78,26 @@ module _ (t : Tables) where
   at (F.If l first test body) = on_block _ _ (on_end _ _ (on_branch l first test body))
   at (F.IfElse l first test body otherwise) = on_block _ _ (on_or_else _ _ _ _ (on_branch l first test body) otherwise.1 l)
   at (F.For l h body) = on_for t l _ _ (bodies body) h
-  at (F.Select l cs) = subst (λ ps. Follows (select_part l ps) (select_lay l (map (clause_by t) (map (λ (p : C). p.0) cs)))) (parts-are cs) (subst (λ ks. Follows (select_part l (parts (map each cs))) (select_lay l ks)) (lays-are cs) (on_select l (map each cs)))
+  at (F.Select l cs) = subst (λ ps. Follows (select_part l ps) (select_lay l (map (clause_by t) (bare_clauses Q cs)))) (parts-are cs) (subst (λ ks. Follows (select_part l (parts (map each cs))) (select_lay l ks)) (lays-are cs) (on_select l (map each cs)))
 
-  abbrev bare-clause : Clause-F C S → Clause-F Clause Stmt
-  bare-clause y = map-Clause C S Clause Stmt (λ p. p.0) (λ p. p.0) y
-
-  at-clause : (y : Clause-F C S) → ClauseFollows (clause_part_step t (map-Clause Clause Stmt ClausePart Part (clause_part t) (stmt_part t) (bare-clause y))) (clause_by_step t (map-Clause Clause Stmt ClauseBy LayBy (clause_by t) (stmt_by t) (bare-clause y)))
+  at-clause : (y : ClauseLayer Q P) → ClauseFollows (clause_layer t (bare_clause Q P y)) (clause_by_step t (map-Clause Clause Stmt ClauseBy LayBy (clause_by t) (stmt_by t) (bare_clause Q P y)))
   at-clause (F.Case k c body) = on_case _ _ (bodies body) t k c
   at-clause (F.Default k body) = on_default _ _ (bodies body) k
 
-  rolled : (y : Stmt-F C S) → P (roll-Stmt (bare y))
-  unfolding stmt_part clause_part stmt_by clause_by
+  rolled : (y : StmtLayer Q P) → P (roll-Stmt (bare_stmt Q P y))
+  unfolding stmt_by clause_by
   rolled y =
-      subst (λ p. Follows p (stmt_by t (roll-Stmt (bare y)))) (sym (fold-roll-Stmt ClausePart Part (clause_part_step t) (stmt_part_step t) (bare y)))
-      (subst (λ k. Follows (part-of (bare y)) k) (sym (fold-roll-Stmt ClauseBy LayBy (clause_by_step t) (stmt_by_step t) (bare y))) (at y))
+      subst (λ p. Follows p (stmt_by t (roll-Stmt (bare_stmt Q P y)))) (sym (part-rolls t (bare_stmt Q P y)))
+      (subst (λ k. Follows (part_layer t (bare_stmt Q P y)) k) (sym (fold-roll-Stmt ClauseBy LayBy (clause_by_step t) (stmt_by_step t) (bare_stmt Q P y))) (at y))
 
-  clause-rolled : (y : Clause-F C S) → Q (roll-Clause (bare-clause y))
-  unfolding stmt_part clause_part stmt_by clause_by
+  clause-rolled : (y : ClauseLayer Q P) → Q (roll-Clause (bare_clause Q P y))
+  unfolding stmt_by clause_by
   clause-rolled y =
-      subst (λ p. ClauseFollows p (clause_by t (roll-Clause (bare-clause y)))) (sym (fold-roll-Clause ClausePart Part (clause_part_step t) (stmt_part_step t) (bare-clause y)))
-      (subst (λ k. ClauseFollows (clause_part_step t (map-Clause Clause Stmt ClausePart Part (clause_part t) (stmt_part t) (bare-clause y))) k) (sym (fold-roll-Clause ClauseBy LayBy (clause_by_step t) (stmt_by_step t) (bare-clause y))) (at-clause y))
+      subst (λ p. ClauseFollows p (clause_by t (roll-Clause (bare_clause Q P y)))) (sym (clause-rolls t (bare_clause Q P y)))
+      (subst (λ k. ClauseFollows (clause_layer t (bare_clause Q P y)) k) (sym (fold-roll-Clause ClauseBy LayBy (clause_by_step t) (stmt_by_step t) (bare_clause Q P y))) (at-clause y))
 
   pub statement : (x : Stmt) → P x
-  statement = ind-Stmt Q P (λ x y is. subst (λ z. Q (roll-Clause z)) is (clause-rolled y)) (λ x y is. subst (λ z. P (roll-Stmt z)) is (rolled y))
+  statement = every-stmt Q P clause-rolled rolled
 
   -- the statements of a body
   pub body : (xs : List Stmt) → Follows (in_order (map (stmt_part t) xs)) (in_order_by (map (stmt_by t) xs))

@@ -1,85 +1,17 @@
 -- What code takes an expression for is what the checker takes it for.
 -- For: `JudgmentsAgree` (golf_code_of/specs/Laws.antt) and `judgments_agree` (src/lib.rt)
--- By: induction over the tree of an expression
-use Rattle.std.proofs.Common.{◌≡◌, ℕ, List, [], ◌∷◌, map, refl, sym, ap, ◌∙◌, subst}
-use Rattle.golf_syntax_trees.specs.declared.expressions.Expr.{Expr, roll-Expr}
-use Rattle.golf_syntax_trees.specs.declared.expressions.Element.{Element, roll-Element}
-use Rattle.golf_syntax_trees.specs.declared.expressions.Expr.TheOpen.{Expr-F, Element-F}
-use Rattle.golf_syntax_trees.specs.declared.expressions.Expr.TheOpen as F
-use Rattle.golf_syntax_trees.specs.declared.expressions.Expr.TheFolds.{fold-Element, fold-roll-Expr, fold-roll-Element, ind-Expr, map-Expr, map-Element}
+-- By: the steps of both, since the code carries along what the checker takes an expression for
+use Rattle.std.proofs.Common.{◌≡◌, refl}
+use Rattle.golf_syntax_trees.specs.declared.expressions.Expr.{Expr}
+use Rattle.golf_syntax_induction.proofs.Expressions.{carried}
 use Rattle.golf_check_types.specs.Judging.{Judge, Put, judge, judge_step, element_step}
 use Rattle.golf_code_of.specs.declared.tables.Tables.{Tables}
 use Rattle.golf_code_of.specs.Coding.{Coded, CodedPut, put_judge, coded, coded_step, element_coded_step}
 use Rattle.golf_code_of.specs.Laws.{JudgmentsAgree}
 
-module _ (t : Tables) where
-  abbrev element_judge : Element → Put
-  element_judge = fold-Element Judge Put judge_step element_step
-
-  abbrev element_coded : Element → CodedPut
-  element_coded = fold-Element Coded CodedPut (coded_step t) element_coded_step
-
-  abbrev P : Expr → Type 0
-  P e = (coded t e).judge ≡ judge e
-
-  abbrev Q : Element → Type 0
-  Q x = put_judge (element_coded x) ≡ element_judge x
-
-  abbrev Part : Type 0
-  Part = Expr-F ((e : Expr) × P e) ((x : Element) × Q x)
-
-  abbrev bare : Part → Expr-F Expr Element
-  bare y = map-Expr ((e : Expr) × P e) ((x : Element) × Q x) Expr Element (λ p. p.0) (λ p. p.0) y
-
-  abbrev judged : Expr-F Expr Element → Judge
-  judged y = judge_step (map-Expr Expr Element Judge Put judge element_judge y)
-
-  abbrev beside : Expr-F Expr Element → Judge
-  beside y = judge_step (map-Expr Coded CodedPut Judge Put (λ x. x.judge) put_judge (map-Expr Expr Element Coded CodedPut (coded t) element_coded y))
-
-  all-judged : (xs : List ((e : Expr) × P e)) → map (λ (x : Coded). x.judge) (map (coded t) (map (λ (p : (e : Expr) × P e). p.0) xs)) ≡ map judge (map (λ (p : (e : Expr) × P e). p.0) xs)
-  all-judged [] = refl
-  all-judged (x ∷ xs) = ap (λ j. j ∷ map (λ (c : Coded). c.judge) (map (coded t) (map (λ (p : (e : Expr) × P e). p.0) xs))) x.1 ∙ ap (λ js. judge x.0 ∷ js) (all-judged xs)
-
-  all-put : (xs : List ((x : Element) × Q x)) → map put_judge (map element_coded (map (λ (p : (x : Element) × Q x). p.0) xs)) ≡ map element_judge (map (λ (p : (x : Element) × Q x). p.0) xs)
-  all-put [] = refl
-  all-put (x ∷ xs) = ap (λ j. j ∷ map put_judge (map element_coded (map (λ (p : (x : Element) × Q x). p.0) xs))) x.1 ∙ ap (λ js. element_judge x.0 ∷ js) (all-put xs)
-
-  same : (y : Part) → beside (bare y) ≡ judged (bare y)
-  same (F.Integer digits) = refl
-  same (F.Text bytes) = refl
-  same (F.Name n) = refl
-  same (F.Parens e) = ap (λ j. judge_step (F.Parens j)) e.1
-  same (F.StructLiteral n xs) = ap (λ js. judge_step (F.StructLiteral n js)) (all-put xs)
-  same (F.SyncLiteral n) = refl
-  same (F.SliceLiteral of_type xs) = ap (λ js. judge_step (F.SliceLiteral of_type js)) (all-judged xs)
-  same F.EmptyLiteral = refl
-  same (F.Make of_type) = refl
-  same (F.MakeSized of_type e) = ap (λ j. judge_step (F.MakeSized of_type j)) e.1
-  same (F.New n) = refl
-  same (F.NewSync n) = refl
-  same (F.Selector e n) = ap (λ j. judge_step (F.Selector j n)) e.1
-  same (F.Index a i) = ap (λ j. judge_step (F.Index j (coded t i.0).judge)) a.1 ∙ ap (λ j. judge_step (F.Index (judge a.0) j)) i.1
-  same (F.Call f xs) = ap (λ j. judge_step (F.Call j (map (λ (x : Coded). x.judge) (map (coded t) (map (λ (p : (e : Expr) × P e). p.0) xs))))) f.1 ∙ ap (λ js. judge_step (F.Call (judge f.0) js)) (all-judged xs)
-  same (F.Unary o e) = ap (λ j. judge_step (F.Unary o j)) e.1
-  same (F.Binary o a b) = ap (λ j. judge_step (F.Binary o j (coded t b.0).judge)) a.1 ∙ ap (λ j. judge_step (F.Binary o (judge a.0) j)) b.1
-
-  rolled : (y : Part) → P (roll-Expr (bare y))
-  unfolding coded judge
-  rolled y = ap (λ (c : Coded). c.judge) (fold-roll-Expr Coded CodedPut (coded_step t) element_coded_step (bare y)) ∙ same y ∙ sym (fold-roll-Expr Judge Put judge_step element_step (bare y))
-
-  -- an element and its value
-  element-rolled : (y : Element-F ((e : Expr) × P e) ((x : Element) × Q x)) → Q (roll-Element (map-Element ((e : Expr) × P e) ((x : Element) × Q x) Expr Element (λ p. p.0) (λ p. p.0) y))
-  unfolding coded judge
-  element-rolled y =
-      let z = map-Element ((e : Expr) × P e) ((x : Element) × Q x) Expr Element (λ p. p.0) (λ p. p.0) y in
-      ap put_judge (fold-roll-Element Coded CodedPut (coded_step t) element_coded_step z) ∙ ap (λ j. put_of y.field j) y.value.1 ∙ sym (fold-roll-Element Judge Put judge_step element_step z)
-    where
-      put_of : List ℕ → Judge → Put
-      put_of n j = record { name = n; judge = j }
-
-  pub agree : (e : Expr) → P e
-  agree = ind-Expr P Q (λ x y is. subst (λ z. P (roll-Expr z)) is (rolled y)) (λ x y is. subst (λ z. Q (roll-Element z)) is (element-rolled y))
+pub agree : (t : Tables) (e : Expr) → (coded t e).judge ≡ judge e
+unfolding coded judge
+agree t = carried Coded CodedPut (coded_step t) element_coded_step Judge Put judge_step element_step (λ x. x.judge) put_judge (λ y. refl) (λ y. refl)
 
 pub judgments-agree : JudgmentsAgree
 judgments-agree t e = agree t e

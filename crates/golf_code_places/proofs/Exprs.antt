@@ -4,10 +4,10 @@
 use Rattle.std.proofs.Common.{◌≡◌, ℕ, ◌*◌, ◌≤◌, List, [], ◌∷◌, ◌++◌, length, map, refl, sym, ap, subst, arith, length-append}
 use Rattle.golf_lex_tokens.specs.declared.token.Punctuation.TheVariants as punctuations
 use Rattle.golf_syntax_trees.specs.declared.expressions.Expr.{Expr, roll-Expr}
-use Rattle.golf_syntax_trees.specs.declared.expressions.Element.{Element, roll-Element}
-use Rattle.golf_syntax_trees.specs.declared.expressions.Expr.TheOpen.{Expr-F, Element-F}
+use Rattle.golf_syntax_trees.specs.declared.expressions.Element.{Element}
 use Rattle.golf_syntax_trees.specs.declared.expressions.Expr.TheOpen as F
-use Rattle.golf_syntax_trees.specs.declared.expressions.Expr.TheFolds.{fold-Element, fold-roll-Expr, fold-roll-Element, ind-Expr, map-Expr, map-Element}
+use Rattle.golf_syntax_trees.specs.declared.expressions.Expr.TheFolds.{fold-roll-Expr, map-Expr}
+use Rattle.golf_syntax_induction.proofs.Expressions.{KnownExpr, KnownElement, bare_exprs, bare_elements, ExprLayer, bare_expr, every-expr, fold-element}
 use Rattle.golf_syntax_trees.specs.Words.{Word, punctuation, separated, name as word_name}
 use Rattle.golf_syntax_trees.specs.Types.{print_type}
 use Rattle.golf_syntax_trees.specs.Expressions.{binary_punctuation, print_step, print_element_step, print_expr, print_element}
@@ -20,7 +20,8 @@ use Rattle.golf_check_types.specs.Expressions.{named, selected_from}
 use Rattle.golf_code_layout.specs.Piece.{Piece, size, all}
 use Rattle.golf_code_of.specs.declared.tables.Tables.{Tables}
 use Rattle.golf_code_of.specs.Calls.{Argument}
-use Rattle.golf_code_of.specs.Coding.{Coded, CodedPut, coded, coded_step, element_coded_step, code_step, argument}
+use Rattle.golf_code_of.specs.Coding.{Coded, CodedPut, coded, argument}
+use Rattle.golf_code_of.proofs.ExprCodes.{element_coded, element-coded-is, coded_layer, coded-rolls}
 use Rattle.golf_code_places.proofs.Words.{total, separated-length}
 use Rattle.golf_code_places.proofs.Small.{Small, alone, on-name, Beside, all-small, on-struct-literal, on-slice-literal, on-new-sync, on-selector, on-index, on-unary, on-binary, on-call}
 
@@ -28,58 +29,39 @@ module _ (t : Tables) where
   abbrev P : Expr → Type 0
   P e = (l : ℕ) (s : Scope) → Small (length (print_expr e)) ((coded t e).code l s)
 
-  abbrev Q : Element → Type 0
-  Q x = P x.value
-
-  abbrev E : Type 0
-  E = (e : Expr) × P e
-
-  abbrev D : Type 0
-  D = (x : Element) × Q x
-
-  abbrev element_coded : Element → CodedPut
-  element_coded = fold-Element Coded CodedPut (coded_step t) element_coded_step
-
-  abbrev bare : Expr-F E D → Expr-F Expr Element
-  bare y = map-Expr E D Expr Element (λ p. p.0) (λ p. p.0) y
-
-  element-coded-is : (x : Element) → element_coded x ≡ record { name = x.field; value = coded t x.value }
-  unfolding coded
-  element-coded-is x = fold-roll-Element Coded CodedPut (coded_step t) element_coded_step (record { field = x.field; value = x.value })
-
   element-print-is : (x : Element) → print_element x ≡ print_element_step (record { field = x.field; value = print_expr x.value })
-  element-print-is x = fold-roll-Element (List Word) (List Word) print_step print_element_step (record { field = x.field; value = x.value })
+  element-print-is = fold-element (List Word) (List Word) print_step print_element_step
 
   module _ (l : ℕ) (s : Scope) where
-    abbrev words : List E → List (List Word)
-    words xs = map print_expr (map (λ (p : E). p.0) xs)
+    abbrev words : List (KnownExpr P) → List (List Word)
+    words xs = map print_expr (bare_exprs P xs)
 
-    abbrev pieces : List E → List Piece
-    pieces xs = map (λ (c : Coded). (c.code l s).piece) (map (coded t) (map (λ (p : E). p.0) xs))
+    abbrev pieces : List (KnownExpr P) → List Piece
+    pieces xs = map (λ (c : Coded). (c.code l s).piece) (map (coded t) (bare_exprs P xs))
 
-    beside : (xs : List E) → Beside (pieces xs) (words xs)
+    beside : (xs : List (KnownExpr P)) → Beside (pieces xs) (words xs)
     beside [] = tt
     beside (x ∷ xs) = ((x.1 l s).piece, beside xs)
 
-    pushed-are : (xs : List E) → map (λ (a : Argument). a.piece) (map (argument l s) (map (coded t) (map (λ (p : E). p.0) xs))) ≡ pieces xs
+    pushed-are : (xs : List (KnownExpr P)) → map (λ (a : Argument). a.piece) (map (argument l s) (map (coded t) (bare_exprs P xs))) ≡ pieces xs
     pushed-are [] = refl
     pushed-are (x ∷ xs) = ap (λ ps. ((coded t x.0).code l s).piece ∷ ps) (pushed-are xs)
 
-    abbrev element-words : List D → List (List Word)
-    element-words xs = map print_element (map (λ (p : D). p.0) xs)
+    abbrev element-words : List (KnownElement P) → List (List Word)
+    element-words xs = map print_element (bare_elements P xs)
 
-    abbrev element-pieces : List D → List Piece
-    element-pieces xs = map (λ (c : CodedPut). (c.value.code l s).piece) (map element_coded (map (λ (p : D). p.0) xs))
+    abbrev element-pieces : List (KnownElement P) → List Piece
+    element-pieces xs = map (λ (c : CodedPut). (c.value.code l s).piece) (map (element_coded t) (bare_elements P xs))
 
-    element-beside : (xs : List D) → Beside (element-pieces xs) (element-words xs)
+    element-beside : (xs : List (KnownElement P)) → Beside (element-pieces xs) (element-words xs)
     element-beside [] = tt
     element-beside (x ∷ xs) =
         let one = (x.1 l s).piece in
         let print = ap length (element-print-is x.0) in
-        let code = ap (λ (c : CodedPut). size (c.value.code l s).piece) (element-coded-is x.0) in
+        let code = ap (λ (c : CodedPut). size (c.value.code l s).piece) (element-coded-is t x.0) in
         (omega (arith, one, print, code), element-beside xs)
 
-    at : (y : Expr-F E D) → Small (length (print_step (map-Expr Expr Element (List Word) (List Word) print_expr print_element (bare y)))) (code_step t (map-Expr Expr Element Coded CodedPut (coded t) element_coded (bare y)) l s)
+    at : (y : ExprLayer P) → Small (length (print_step (map-Expr Expr Element (List Word) (List Word) print_expr print_element (bare_expr P y)))) ((coded_layer t (bare_expr P y)).code l s)
     at (F.Integer digits) = alone _ _ (omega arith)
     at (F.Text bytes) = alone _ _ (omega arith)
     at (F.Name n) = on-name l t (named l s n).meaning
@@ -122,14 +104,10 @@ module _ (t : Tables) where
         let whole = length-append (print_expr a.0) (punctuation (binary_punctuation o) ∷ print_expr b.0) in
         on-binary l o ((coded t a.0).code l s) ((coded t b.0).code l s) _ _ _ (a.1 l s) (b.1 l s) (omega (arith, whole))
 
-  rolled : (y : Expr-F E D) → P (roll-Expr (bare y))
-  unfolding coded
+  rolled : (y : ExprLayer P) → P (roll-Expr (bare_expr P y))
   rolled y l s =
-      subst (λ ws. Small (length ws) ((coded t (roll-Expr (bare y))).code l s)) (sym (fold-roll-Expr (List Word) (List Word) print_step print_element_step (bare y)))
-      (subst (λ (c : Coded). Small (length (print_step (map-Expr Expr Element (List Word) (List Word) print_expr print_element (bare y)))) (c.code l s)) (sym (fold-roll-Expr Coded CodedPut (coded_step t) element_coded_step (bare y))) (at l s y))
-
-  element-rolled : (y : Element-F E D) → Q (roll-Element (map-Element E D Expr Element (λ p. p.0) (λ p. p.0) y))
-  element-rolled y = y.value.1
+      subst (λ ws. Small (length ws) ((coded t (roll-Expr (bare_expr P y))).code l s)) (sym (fold-roll-Expr (List Word) (List Word) print_step print_element_step (bare_expr P y)))
+      (subst (λ (c : Coded). Small (length (print_step (map-Expr Expr Element (List Word) (List Word) print_expr print_element (bare_expr P y)))) (c.code l s)) (sym (coded-rolls t (bare_expr P y))) (at l s y))
 
   pub expr-small : (e : Expr) → P e
-  expr-small = ind-Expr P Q (λ x y is. subst (λ z. P (roll-Expr z)) is (rolled y)) (λ x y is. subst (λ z. Q (roll-Element z)) is (element-rolled y))
+  expr-small = every-expr P rolled

@@ -12,9 +12,9 @@ use Rattle.golf_syntax_trees.specs.declared.statements.Header.{Header}
 use Rattle.golf_syntax_trees.specs.declared.statements.Header.TheVariants as header
 use Rattle.golf_syntax_trees.specs.declared.statements.Stmt.{Stmt, roll-Stmt}
 use Rattle.golf_syntax_trees.specs.declared.statements.Clause.{Clause, roll-Clause}
-use Rattle.golf_syntax_trees.specs.declared.statements.Clause.TheOpen.{Stmt-F, Clause-F}
 use Rattle.golf_syntax_trees.specs.declared.statements.Clause.TheOpen as F
-use Rattle.golf_syntax_trees.specs.declared.statements.Clause.TheFolds.{fold-roll-Stmt, fold-roll-Clause, ind-Stmt, map-Stmt, map-Clause}
+use Rattle.golf_syntax_trees.specs.declared.statements.Clause.TheFolds.{fold-roll-Stmt, fold-roll-Clause, map-Stmt, map-Clause}
+use Rattle.golf_syntax_induction.proofs.Statements.{KnownClause, KnownStmt, bare_clauses, bare_stmts, ClauseLayer, StmtLayer, bare_clause, bare_stmt, every-stmt}
 use Rattle.golf_syntax_trees.specs.Words.{Word, punctuation, keyword, separated}
 use Rattle.golf_syntax_trees.specs.Expressions.{parens, print_expr}
 use Rattle.golf_syntax_trees.specs.Simple.{print_simple, print_range_names, print_header, print_comm}
@@ -25,8 +25,8 @@ use Rattle.golf_check_types.specs.Scopes.{begun}
 use Rattle.golf_code_of.specs.declared.tables.Tables.{Tables}
 use Rattle.golf_code_of.specs.Statements.{Part, block, in_order, in_block, optional, behind_test, then}
 use Rattle.golf_code_of.specs.Loops.{header_part, in_loop, stepping}
-use Rattle.golf_code_of.specs.Selects.{ClausePart}
-use Rattle.golf_code_of.specs.Laying.{stmt_part, clause_part, stmt_part_step, clause_part_step}
+use Rattle.golf_code_of.specs.Laying.{stmt_part, clause_part}
+use Rattle.golf_code_of.proofs.StmtCodes.{part_layer, clause_layer, part-rolls, clause-rolls}
 use Rattle.golf_code_places.proofs.Words.{total, line-length, separated-length, separated-total, clause_total, clauses-length}
 use Rattle.golf_code_places.proofs.Light.{Light, EachLight, light-then, light-order, light-block, light-var, light-return, light-returns, light-begin, light-simple, optional_words, light-optional, light-test, light-ends, light-or-else}
 use Rattle.golf_code_places.proofs.Loops.{light-loop, light-forever, light-while, test_words, light-stepping, light-range}
@@ -70,37 +70,31 @@ module _ (t : Tables) where
   abbrev P : Stmt → Type 0
   P x = Light (length (print_stmt x)) (stmt_part t x)
 
-  abbrev S : Type 0
-  S = (x : Stmt) × P x
+  abbrev parts : List (KnownStmt P) → List Part
+  parts xs = map (stmt_part t) (bare_stmts P xs)
 
-  abbrev K : Type 0
-  K = (c : Clause) × Q c
+  abbrev texts : List (KnownStmt P) → List (List Word)
+  texts xs = map print_stmt (bare_stmts P xs)
 
-  abbrev parts : List S → List Part
-  parts xs = map (stmt_part t) (map (λ (p : S). p.0) xs)
-
-  abbrev texts : List S → List (List Word)
-  texts xs = map print_stmt (map (λ (p : S). p.0) xs)
-
-  each : (xs : List S) → EachLight (parts xs) (texts xs)
+  each : (xs : List (KnownStmt P)) → EachLight (parts xs) (texts xs)
   each [] = tt
   each (x ∷ xs) = (x.1, each xs)
 
-  order : (xs : List S) → Light (total (texts xs)) (in_order (parts xs))
+  order : (xs : List (KnownStmt P)) → Light (total (texts xs)) (in_order (parts xs))
   order xs = light-order (parts xs) (texts xs) (each xs)
 
-  body : (xs : List S) → Light (total (texts xs)) (block (parts xs))
+  body : (xs : List (KnownStmt P)) → Light (total (texts xs)) (block (parts xs))
   body xs = light-block (parts xs) (texts xs) (each xs)
 
-  abbrev clause-words : List K → List ClauseWords
-  clause-words cs = map print_clause (map (λ (p : K). p.0) cs)
+  abbrev clause-words : List (KnownClause Q) → List ClauseWords
+  clause-words cs = map print_clause (bare_clauses Q cs)
 
-  clauses : (cs : List K) → EachClauseLight (map (clause_part t) (map (λ (p : K). p.0) cs)) (clause-words cs)
+  clauses : (cs : List (KnownClause Q)) → EachClauseLight (map (clause_part t) (bare_clauses Q cs)) (clause-words cs)
   clauses [] = tt
   clauses (c ∷ cs) = (c.1, clauses cs)
 
   -- a loop, whose words are those of the header and of the body, and one more
-  loop : (l : ℕ) (h : Header) (xs : List S) (k : ℕ) → length (print_header h) + total (texts xs) + 3 ≤ k → Light k (in_block (header_part t l h (parts xs)))
+  loop : (l : ℕ) (h : Header) (xs : List (KnownStmt P)) (k : ℕ) → length (print_header h) + total (texts xs) + 3 ≤ k → Light k (in_block (header_part t l h (parts xs)))
   loop l header.Forever xs k more a s = light-forever l (in_loop 1 0 (block (parts xs))) (total (texts xs)) k (light-loop 1 0 (block (parts xs)) _ (body xs)) (omega (arith, more)) a (begun s)
   loop l (header.While e) xs k more a s = light-while t l e (in_loop 1 0 (block (parts xs))) (total (texts xs)) k (light-loop 1 0 (block (parts xs)) _ (body xs)) (omega (arith, more)) a (begun s)
   loop l (header.Steps first test post) xs k more a s =
@@ -117,25 +111,19 @@ module _ (t : Tables) where
       let w = length-append (print_range_names names) (keyword keywords.Range ∷ print_expr e) in
       light-range t l names e (parts xs) (total (texts xs)) k (body xs) (omega (arith, w, more)) a (begun s)
 
-  abbrev bare : Stmt-F K S → Stmt-F Clause Stmt
-  bare y = map-Stmt K S Clause Stmt (λ p. p.0) (λ p. p.0) y
-
-  abbrev bare-clause : Clause-F K S → Clause-F Clause Stmt
-  bare-clause y = map-Clause K S Clause Stmt (λ p. p.0) (λ p. p.0) y
-
   -- an `if` up to the end of its body
-  abbrev front : ℕ → Option Simple → Expr → List S → Part
+  abbrev front : ℕ → Option Simple → Expr → List (KnownStmt P) → Part
   front l first test xs = then (optional t first) (behind_test t l test (block (parts xs)))
 
-  abbrev front-words : Option Simple → Expr → List S → ℕ
+  abbrev front-words : Option Simple → Expr → List (KnownStmt P) → ℕ
   front-words first test xs = optional_words first + (length (print_expr test) + total (texts xs))
 
-  head : (l : ℕ) (first : Option Simple) (test : Expr) (xs : List S) → Light (front-words first test xs) (front l first test xs)
+  head : (l : ℕ) (first : Option Simple) (test : Expr) (xs : List (KnownStmt P)) → Light (front-words first test xs) (front l first test xs)
   head l first test xs =
       light-then (optional t first) (behind_test t l test (block (parts xs))) (optional_words first) (length (print_expr test) + total (texts xs)) _
       (light-optional t first _ (omega arith)) (light-test t l test (block (parts xs)) (total (texts xs)) _ (body xs) (omega arith)) (omega arith)
 
-  at : (y : Stmt-F K S) → Light (length (print_stmt_step (map-Stmt Clause Stmt ClauseWords (List Word) print_clause print_stmt (bare y)))) (stmt_part_step t (map-Stmt Clause Stmt ClausePart Part (clause_part t) (stmt_part t) (bare y)))
+  at : (y : StmtLayer Q P) → Light (length (print_stmt_step (map-Stmt Clause Stmt ClauseWords (List Word) print_clause print_stmt (bare_stmt Q P y)))) (part_layer t (bare_stmt Q P y))
   at (F.Var v) = light-var t v.line v.name v.content _ (omega arith)
   at (F.Simple x) = light-simple t x
   at (F.Go l f xs) = light-begin t l Instr.Go f xs _ (let w = call-words f xs in omega (arith, w))
@@ -170,23 +158,21 @@ module _ (t : Tables) where
   at (F.Select l cs) =
       let few = clauses-length (clause-words cs) in
       let inner = length-append (words.clauses (clause-words cs)) (punctuation punctuations.CloseBrace ∷ []) in
-      light-select l (map (clause_part t) (map (λ (p : K). p.0) cs)) (clause-words cs) _ (clauses cs) (omega (arith, few, inner))
+      light-select l (map (clause_part t) (bare_clauses Q cs)) (clause-words cs) _ (clauses cs) (omega (arith, few, inner))
 
-  clause-at : (y : Clause-F K S) → ClauseLight (clause_total (print_clause_step (map-Clause Clause Stmt ClauseWords (List Word) print_clause print_stmt (bare-clause y)))) (clause_part_step t (map-Clause Clause Stmt ClausePart Part (clause_part t) (stmt_part t) (bare-clause y)))
+  clause-at : (y : ClauseLayer Q P) → ClauseLight (clause_total (print_clause_step (map-Clause Clause Stmt ClauseWords (List Word) print_clause print_stmt (bare_clause Q P y)))) (clause_layer t (bare_clause Q P y))
   clause-at (F.Case k c xs) = light-case t k c (parts xs) (total (texts xs)) _ (order xs) (let w = length-append (print_comm c) (punctuation punctuations.Colon ∷ []) in omega (arith, w))
   clause-at (F.Default k xs) = light-default k (parts xs) (total (texts xs)) _ (order xs) (omega arith)
 
-  rolled : (y : Stmt-F K S) → P (roll-Stmt (bare y))
-  unfolding stmt_part clause_part
+  rolled : (y : StmtLayer Q P) → P (roll-Stmt (bare_stmt Q P y))
   rolled y =
-      subst (λ ws. Light (length ws) (stmt_part t (roll-Stmt (bare y)))) (sym (fold-roll-Stmt ClauseWords (List Word) print_clause_step print_stmt_step (bare y)))
-      (subst (Light (length (print_stmt_step (map-Stmt Clause Stmt ClauseWords (List Word) print_clause print_stmt (bare y))))) (sym (fold-roll-Stmt ClausePart Part (clause_part_step t) (stmt_part_step t) (bare y))) (at y))
+      subst (λ ws. Light (length ws) (stmt_part t (roll-Stmt (bare_stmt Q P y)))) (sym (fold-roll-Stmt ClauseWords (List Word) print_clause_step print_stmt_step (bare_stmt Q P y)))
+      (subst (Light (length (print_stmt_step (map-Stmt Clause Stmt ClauseWords (List Word) print_clause print_stmt (bare_stmt Q P y))))) (sym (part-rolls t (bare_stmt Q P y))) (at y))
 
-  clause-rolled : (y : Clause-F K S) → Q (roll-Clause (bare-clause y))
-  unfolding stmt_part clause_part
+  clause-rolled : (y : ClauseLayer Q P) → Q (roll-Clause (bare_clause Q P y))
   clause-rolled y =
-      subst (λ ws. ClauseLight (clause_total ws) (clause_part t (roll-Clause (bare-clause y)))) (sym (fold-roll-Clause ClauseWords (List Word) print_clause_step print_stmt_step (bare-clause y)))
-      (subst (ClauseLight (clause_total (print_clause_step (map-Clause Clause Stmt ClauseWords (List Word) print_clause print_stmt (bare-clause y))))) (sym (fold-roll-Clause ClausePart Part (clause_part_step t) (stmt_part_step t) (bare-clause y))) (clause-at y))
+      subst (λ ws. ClauseLight (clause_total ws) (clause_part t (roll-Clause (bare_clause Q P y)))) (sym (fold-roll-Clause ClauseWords (List Word) print_clause_step print_stmt_step (bare_clause Q P y)))
+      (subst (ClauseLight (clause_total (print_clause_step (map-Clause Clause Stmt ClauseWords (List Word) print_clause print_stmt (bare_clause Q P y))))) (sym (clause-rolls t (bare_clause Q P y))) (clause-at y))
 
   pub stmt-light : (x : Stmt) → P x
-  stmt-light = ind-Stmt Q P (λ x y is. subst (λ z. Q (roll-Clause z)) is (clause-rolled y)) (λ x y is. subst (λ z. P (roll-Stmt z)) is (rolled y))
+  stmt-light = every-stmt Q P clause-rolled rolled

@@ -9,9 +9,8 @@ use Rattle.std.specs.Str.{bytes_eq}
 use Rattle.std.specs.Option.{option_map}
 use Rattle.golf_data.specs.declared.code.Instr.{Instr}
 use Rattle.golf_syntax_trees.specs.declared.types.TypeExpr.{TypeExpr, roll-TypeExpr}
-use Rattle.golf_syntax_trees.specs.declared.types.TypeExpr.TheOpen.{TypeExpr-F}
 use Rattle.golf_syntax_trees.specs.declared.types.TypeExpr.TheOpen as F
-use Rattle.golf_syntax_trees.specs.declared.types.TypeExpr.TheFolds.{fold-roll-TypeExpr, ind-TypeExpr, map-TypeExpr}
+use Rattle.golf_syntax_induction.proofs.Types.{TypeLayer, bare_type, every-type}
 use Rattle.golf_check_types.specs.declared.types.Layer.{Layer}
 use Rattle.golf_check_types.specs.declared.types.Layer.TheVariants as layer
 use Rattle.golf_check_types.specs.declared.types.Base.{Base}
@@ -26,7 +25,7 @@ use Rattle.golf_check_types.specs.declared.scopes.Scope.{Scope}
 use Rattle.golf_check_types.specs.Faults.{broken}
 use Rattle.golf_check_types.specs.Types.{plain, with_layer, given, has_layer, is_channel, is_any, starts_with, assignable}
 use Rattle.golf_check_types.specs.Scopes.{meaning, member}
-use Rattle.golf_check_types.specs.Written.{Written, Write, write, write_step, made_base, of_base, pointer_to}
+use Rattle.golf_check_types.specs.Written.{Written, Write, write, made_base, of_base, pointer_to}
 use Rattle.golf_check_types.specs.Expressions.{Judged, used, given_by, made_sync, made_struct, pointer_value, field_type, field_of_member, put_faults, all_put_faults, fields_differ, struct_literal, slice_literal, made, made_sized, place_of, field_place}
 use Rattle.golf_model.specs.Values.{zero_of}
 use Rattle.golf_model_typing.specs.Types.{ValueType, FunctionTypes, Types, ValueFits}
@@ -35,6 +34,7 @@ use Rattle.golf_code_of.specs.declared.tables.Tables.{Tables}
 use Rattle.golf_code_of.specs.Values.{type_zero, new_container}
 use Rattle.golf_code_of.specs.Expressions as C
 use Rattle.golf_code_of.specs.Expressions.{Made, put, puts, elements, new_sync, new_struct}
+use Rattle.golf_code_of.proofs.TypeWrites.{write_layer, write-rolls}
 use Rattle.golf_code_shapes.specs.Types.{layers_type, value_type}
 use Rattle.golf_code_shapes.specs.Sound.{IsKnown, type_of_field, FileFits, ScopeFits, MemberFits, Turns, Pushes}
 use Rattle.golf_code_shapes.proofs.Typings.{none-left, none-right, kept}
@@ -57,13 +57,7 @@ module _ where
   abbrev P : TypeExpr → Type 0
   P x = (l : ℕ) (s : Scope) → (write x l s).faults ≡ [] → IsKnown (write x l s).type
 
-  abbrev Part : Type 0
-  Part = TypeExpr-F ((x : TypeExpr) × P x)
-
-  abbrev bare : Part → TypeExpr-F TypeExpr
-  bare y = map-TypeExpr ((x : TypeExpr) × P x) TypeExpr (λ p. p.0) y
-
-  known-at : (y : Part) (l : ℕ) (s : Scope) → (write_step (map-TypeExpr TypeExpr Write write (bare y)) l s).faults ≡ [] → IsKnown (write_step (map-TypeExpr TypeExpr Write write (bare y)) l s).type
+  known-at : (y : TypeLayer P) (l : ℕ) (s : Scope) → (write_layer (bare_type P y) l s).faults ≡ [] → IsKnown (write_layer (bare_type P y) l s).type
   known-at (F.Named n) l s none = of-base-known l _ none
   known-at (F.Pointer n) l s none = of-base-known l _ none
   known-at (F.SyncPointer n) l s none = known-if _ (kept l 4 _ (none-right (broken l 3 s.file.imports.sync) _ none))
@@ -73,12 +67,11 @@ module _ where
   known-at (F.ReceiveChan x) l s none = layered-known layer.ReceiveChan (write x.0 l s).type (x.1 l s none)
   known-at F.EmptyStruct l s none = of-base-known l (Some base.Unit) none
 
-  known-rolled : (y : Part) → P (roll-TypeExpr (bare y))
-  unfolding write
-  known-rolled y l s = subst (λ (w : Write). (w l s).faults ≡ [] → IsKnown (w l s).type) (sym (fold-roll-TypeExpr Write write_step (bare y))) (known-at y l s)
+  known-rolled : (y : TypeLayer P) → P (roll-TypeExpr (bare_type P y))
+  known-rolled y l s = subst (λ (w : Write). (w l s).faults ≡ [] → IsKnown (w l s).type) (sym (write-rolls (bare_type P y))) (known-at y l s)
 
   pub written-known : (x : TypeExpr) → P x
-  written-known = ind-TypeExpr P (λ x y is. subst (λ z. P (roll-TypeExpr z)) is (known-rolled y))
+  written-known = every-type P known-rolled
 
 module _ (types : Types) (t : Tables) (ft : FunctionTypes) (A : List ℕ) (s : Scope) where
   abbrev Sh : Operand → Made → Type 0

@@ -12,9 +12,9 @@ use Rattle.golf_syntax_trees.specs.declared.statements.Header.{Header}
 use Rattle.golf_syntax_trees.specs.declared.statements.Header.TheVariants as header
 use Rattle.golf_syntax_trees.specs.declared.statements.Stmt.{Stmt, roll-Stmt}
 use Rattle.golf_syntax_trees.specs.declared.statements.Clause.{Clause, roll-Clause}
-use Rattle.golf_syntax_trees.specs.declared.statements.Clause.TheOpen.{Stmt-F, Clause-F}
 use Rattle.golf_syntax_trees.specs.declared.statements.Clause.TheOpen as F
-use Rattle.golf_syntax_trees.specs.declared.statements.Clause.TheFolds.{fold-roll-Stmt, fold-roll-Clause, ind-Stmt, map-Stmt, map-Clause}
+use Rattle.golf_syntax_trees.specs.declared.statements.Clause.TheFolds.{fold-roll-Stmt, fold-roll-Clause, map-Stmt, map-Clause}
+use Rattle.golf_syntax_induction.proofs.Statements.{KnownClause, KnownStmt, bare_clauses, bare_stmts, ClauseLayer, StmtLayer, bare_clause, bare_stmt, every-stmt}
 use Rattle.golf_syntax_trees.specs.Simple.{simple_form, header_simple, header_expr, post_simple, all_of, header_good, comm_good}
 use Rattle.golf_syntax_trees.specs.Statements.{StmtForm, ClauseForm, stmts_good, stmt_form_step, clause_form_step, stmt_form, clause_form}
 use Rattle.golf_check_types.specs.declared.scopes.Scope.{Scope}
@@ -25,8 +25,8 @@ use Rattle.golf_code_of.specs.Statements as C
 use Rattle.golf_code_of.specs.Statements.{Part, block, in_order, in_block, optional}
 use Rattle.golf_code_of.specs.Loops.{for_part, header_part, in_loop}
 use Rattle.golf_code_of.specs.Loops as L
-use Rattle.golf_code_of.specs.Selects.{ClausePart}
-use Rattle.golf_code_of.specs.Laying.{stmt_part, clause_part, stmt_part_step, clause_part_step}
+use Rattle.golf_code_of.specs.Laying.{stmt_part, clause_part}
+use Rattle.golf_code_of.proofs.StmtCodes.{part_layer, clause_layer, part-rolls, clause-rolls}
 use Rattle.golf_code_of.proofs.Walks.{statement}
 use Rattle.golf_code_shapes.specs.Flowing.{StatementFits}
 use Rattle.golf_code_shapes.specs.Laws.{StatementsFit}
@@ -58,37 +58,31 @@ module _ (types : Types) (t : Tables) (ft : FunctionTypes) where
   abbrev P : Stmt → Type 0
   P x = (stmt_form x).good ≡ true → R (stmt_part t x)
 
-  abbrev S : Type 0
-  S = (x : Stmt) × P x
+  abbrev parts : List (KnownStmt P) → List Part
+  parts xs = map (stmt_part t) (bare_stmts P xs)
 
-  abbrev K : Type 0
-  K = (c : Clause) × Q c
+  abbrev forms : List (KnownStmt P) → List StmtForm
+  forms xs = map stmt_form (bare_stmts P xs)
 
-  abbrev parts : List S → List Part
-  parts xs = map (stmt_part t) (map (λ (p : S). p.0) xs)
-
-  abbrev forms : List S → List StmtForm
-  forms xs = map stmt_form (map (λ (p : S). p.0) xs)
-
-  each : (xs : List S) → stmts_good (forms xs) ≡ true → EachRight types t ft (parts xs)
+  each : (xs : List (KnownStmt P)) → stmts_good (forms xs) ≡ true → EachRight types t ft (parts xs)
   each [] h = tt
   each (x ∷ xs) h = let b = and_parts (stmt_form x.0).good (stmts_good (forms xs)) h in (x.1 b.0, each xs b.1)
 
-  order : (xs : List S) → stmts_good (forms xs) ≡ true → R (in_order (parts xs))
+  order : (xs : List (KnownStmt P)) → stmts_good (forms xs) ≡ true → R (in_order (parts xs))
   order xs h = right-order types t ft (parts xs) (each xs h)
 
-  body : (xs : List S) → stmts_good (forms xs) ≡ true → R (block (parts xs))
+  body : (xs : List (KnownStmt P)) → stmts_good (forms xs) ≡ true → R (block (parts xs))
   body xs h = right-block types t ft (in_order (parts xs)) (order xs h)
 
-  clauses : (cs : List K) → list_all (λ (c : ClauseForm). c.good) (map clause_form (map (λ (p : K). p.0) cs)) ≡ true → EachClause types t ft (map (clause_part t) (map (λ (p : K). p.0) cs))
+  clauses : (cs : List (KnownClause Q)) → list_all (λ (c : ClauseForm). c.good) (map clause_form (bare_clauses Q cs)) ≡ true → EachClause types t ft (map (clause_part t) (bare_clauses Q cs))
   clauses [] h = tt
-  clauses (c ∷ cs) h = let b = and_parts (clause_form c.0).good (list_all (λ (d : ClauseForm). d.good) (map clause_form (map (λ (p : K). p.0) cs))) h in (c.1 b.0, clauses cs b.1)
+  clauses (c ∷ cs) h = let b = and_parts (clause_form c.0).good (list_all (λ (d : ClauseForm). d.good) (map clause_form (bare_clauses Q cs))) h in (c.1 b.0, clauses cs b.1)
 
   optional-is : (o : Option Simple) → optional t o ≡ simply (W.optional o) (optional-piece types t ft o)
   optional-is None = refl
   optional-is (Some x) = refl
 
-  loop : (l : ℕ) (h : Header) (xs : List S) → header_good h ≡ true → stmts_good (forms xs) ≡ true → R (for_part t l h (parts xs))
+  loop : (l : ℕ) (h : Header) (xs : List (KnownStmt P)) → header_good h ≡ true → stmts_good (forms xs) ≡ true → R (for_part t l h (parts xs))
   loop l header.Forever xs g b = right-block types t ft (header_part t l header.Forever (parts xs)) (right-forever types t ft l (block (parts xs)) (λ s. refl) (body xs b))
   loop l (header.While e) xs g b = right-block types t ft (header_part t l (header.While e) (parts xs)) (right-while types t ft l e (block (parts xs)) (λ s. refl) (body xs b))
   loop l (header.Range names e) xs g b = right-range types t ft l names e (parts xs) (body xs b)
@@ -102,13 +96,7 @@ module _ (types : Types) (t : Tables) (ft : FunctionTypes) where
       (subst R (sym (optional-is first)) (right-simple types t ft (W.optional first) (optional-piece types t ft first) (right-optional types t ft first)))
       (subst (λ q. R (L.stepping t l test q (in_loop 2 0 (block (parts xs))))) (sym (optional-is post)) inner))
 
-  abbrev bare : Stmt-F K S → Stmt-F Clause Stmt
-  bare y = map-Stmt K S Clause Stmt (λ p. p.0) (λ p. p.0) y
-
-  abbrev bare-clause : Clause-F K S → Clause-F Clause Stmt
-  bare-clause y = map-Clause K S Clause Stmt (λ p. p.0) (λ p. p.0) y
-
-  at : (y : Stmt-F K S) → (stmt_form_step (map-Stmt Clause Stmt ClauseForm StmtForm clause_form stmt_form (bare y))).good ≡ true → R (stmt_part_step t (map-Stmt Clause Stmt ClausePart Part (clause_part t) (stmt_part t) (bare y)))
+  at : (y : StmtLayer Q P) → (stmt_form_step (map-Stmt Clause Stmt ClauseForm StmtForm clause_form stmt_form (bare_stmt Q P y))).good ≡ true → R (part_layer t (bare_stmt Q P y))
   at (F.Var v) g = right-simple types t ft (W.var_content v.line v.name v.content) _ (right-var types t ft v.line v.name v.content)
   at (F.Simple x) g = right-simple types t ft (W.simple_walk x) _ (right-kind types t ft x.line x.kind)
   at (F.Go l f xs) g = right-begin types t ft Instr.Go (λ full k sh f n h. h) l f xs
@@ -128,26 +116,24 @@ module _ (types : Types) (t : Tables) (ft : FunctionTypes) where
       subst (λ q. R (in_block (C.or_else l (C.then q (C.behind_test t l test (block (parts xs)))) (stmt_part t o.0)))) (sym (optional-is first))
       (right-or-else types t ft (W.optional first) (optional-piece types t ft first) (right-optional types t ft first) l test (block (parts xs)) (λ s. refl) (body xs b.0) (stmt_part t o.0) (o.1 other))
   at (F.For l h xs) g = let b = and_parts (header_good h) (stmts_good (forms xs)) g in loop l h xs b.0 b.1
-  at (F.Select l cs) g = right-select types t ft l (map (clause_part t) (map (λ (p : K). p.0) cs)) (clauses cs (and_parts (list_all (λ (c : ClauseForm). c.good) (map clause_form (map (λ (p : K). p.0) cs))) _ g).0)
+  at (F.Select l cs) g = right-select types t ft l (map (clause_part t) (bare_clauses Q cs)) (clauses cs (and_parts (list_all (λ (c : ClauseForm). c.good) (map clause_form (bare_clauses Q cs))) _ g).0)
 
-  clause-at : (y : Clause-F K S) → (clause_form_step (map-Clause Clause Stmt ClauseForm StmtForm clause_form stmt_form (bare-clause y))).good ≡ true → ClauseFits types t ft (clause_part_step t (map-Clause Clause Stmt ClausePart Part (clause_part t) (stmt_part t) (bare-clause y)))
+  clause-at : (y : ClauseLayer Q P) → (clause_form_step (map-Clause Clause Stmt ClauseForm StmtForm clause_form stmt_form (bare_clause Q P y))).good ≡ true → ClauseFits types t ft (clause_layer t (bare_clause Q P y))
   clause-at (F.Case k c xs) g = right-case types t ft k c (parts xs) (order xs (and_parts (comm_good c) (stmts_good (forms xs)) g).1)
   clause-at (F.Default k xs) g = right-default types t ft k (parts xs) (order xs g)
 
-  rolled : (y : Stmt-F K S) → P (roll-Stmt (bare y))
-  unfolding stmt_part clause_part
+  rolled : (y : StmtLayer Q P) → P (roll-Stmt (bare_stmt Q P y))
   rolled y g =
-      let good = subst (λ (f : StmtForm). f.good ≡ true) (fold-roll-Stmt ClauseForm StmtForm clause_form_step stmt_form_step (bare y)) g in
-      subst R (sym (fold-roll-Stmt ClausePart Part (clause_part_step t) (stmt_part_step t) (bare y))) (at y good)
+      let good = subst (λ (f : StmtForm). f.good ≡ true) (fold-roll-Stmt ClauseForm StmtForm clause_form_step stmt_form_step (bare_stmt Q P y)) g in
+      subst R (sym (part-rolls t (bare_stmt Q P y))) (at y good)
 
-  clause-rolled : (y : Clause-F K S) → Q (roll-Clause (bare-clause y))
-  unfolding stmt_part clause_part
+  clause-rolled : (y : ClauseLayer Q P) → Q (roll-Clause (bare_clause Q P y))
   clause-rolled y g =
-      let good = subst (λ (f : ClauseForm). f.good ≡ true) (fold-roll-Clause ClauseForm StmtForm clause_form_step stmt_form_step (bare-clause y)) g in
-      subst (ClauseFits types t ft) (sym (fold-roll-Clause ClausePart Part (clause_part_step t) (stmt_part_step t) (bare-clause y))) (clause-at y good)
+      let good = subst (λ (f : ClauseForm). f.good ≡ true) (fold-roll-Clause ClauseForm StmtForm clause_form_step stmt_form_step (bare_clause Q P y)) g in
+      subst (ClauseFits types t ft) (sym (clause-rolls t (bare_clause Q P y))) (clause-at y good)
 
   pub right-stmt : (x : Stmt) → P x
-  right-stmt = ind-Stmt Q P (λ x y is. subst (λ z. Q (roll-Clause z)) is (clause-rolled y)) (λ x y is. subst (λ z. P (roll-Stmt z)) is (rolled y))
+  right-stmt = every-stmt Q P clause-rolled rolled
 
 pub statements-fit : StatementsFit
 statements-fit types t ft x good = subst (λ w. StatementFits types t ft w (stmt_part t x).lay) (statement t x) (right-stmt types t ft x good)

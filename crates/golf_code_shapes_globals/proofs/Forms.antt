@@ -10,10 +10,8 @@ use Rattle.golf_syntax_trees.specs.declared.types.TypeExpr.{TypeExpr}
 use Rattle.golf_syntax_trees.specs.declared.expressions.UnaryOperator.{UnaryOperator}
 use Rattle.golf_syntax_trees.specs.declared.expressions.UnaryOperator.TheVariants as unary
 use Rattle.golf_syntax_trees.specs.declared.expressions.Expr.{Expr, roll-Expr}
-use Rattle.golf_syntax_trees.specs.declared.expressions.Element.{Element, roll-Element}
-use Rattle.golf_syntax_trees.specs.declared.expressions.Expr.TheOpen.{Expr-F, Element-F}
 use Rattle.golf_syntax_trees.specs.declared.expressions.Expr.TheOpen as F
-use Rattle.golf_syntax_trees.specs.declared.expressions.Expr.TheFolds.{fold-Element, fold-roll-Expr, fold-roll-Element, ind-Expr, map-Expr, map-Element}
+use Rattle.golf_syntax_induction.proofs.Expressions.{KnownExpr, KnownElement, bare_exprs, bare_elements, ExprLayer, bare_expr, every-expr}
 use Rattle.golf_check_types.specs.declared.types.Layer.{Layer}
 use Rattle.golf_check_types.specs.declared.types.Layer.TheVariants as layer
 use Rattle.golf_check_types.specs.declared.types.Base.{Base}
@@ -40,11 +38,12 @@ use Rattle.golf_check_types.specs.Scopes.{or_else, type_at, entry_operand, meani
 use Rattle.golf_check_types.specs.Written.{write, pointer_to}
 use Rattle.golf_check_types.specs.Expressions.{Judged, used, named_or_used, given_by, facts_of, value_faults, pointer_value, leaf, known_name, named, in_parens, field_of_member, field_type, put_faults, all_put_faults, fields_differ, field_place, put_facts, struct_literal, slice_literal, made, made_sized, made_struct, struct_member, base_member, type_member, value_member, selected_from, selector, unary_judged, binary_judged, index_judged}
 use Rattle.golf_check_types.specs.Calls.{steady_faults, called_with, call_judged}
-use Rattle.golf_check_types.specs.Judging.{Judge, Put, judge, judge_step, element_step}
+use Rattle.golf_check_types.specs.Judging.{Judge, Put, judge}
 use Rattle.golf_check_types.specs.Files.{outside}
 use Rattle.golf_code_shapes.specs.FileLaws.{initial_scope}
 use Rattle.golf_code_shapes.proofs.Typings.{none-left, none-right, kept}
 use Rattle.golf_check_types.proofs.Alike.{pointers-alike, written-same}
+use Rattle.golf_code_of.proofs.JudgeEquations.{element_judge, element-judge-is, judge_layer, judge-rolls}
 use Rattle.golf_code_shapes_globals.specs.Laws.{SameBelow, FormsStay}
 
 module _ (f : FileScope) (globals : List (Option GoType)) where
@@ -197,50 +196,38 @@ module _ (f : FileScope) (globals : List (Option GoType)) (g : ℕ) (same : Same
   abbrev P : Expr → Type 0
   P e = (l : ℕ) → (judge e l here).faults ≡ [] → judge e l there ≡ judge e l here
 
-  abbrev element_judge : Element → Put
-  element_judge = fold-Element Judge Put judge_step element_step
+  abbrev judged : ExprLayer P → Judge
+  judged y = judge_layer (bare_expr P y)
 
-  abbrev Q : Element → Type 0
-  Q x = (l : ℕ) → ((element_judge x).judge l here).faults ≡ [] → (element_judge x).judge l there ≡ (element_judge x).judge l here
+  abbrev all-at : ℕ → Scope → List (KnownExpr P) → List Judged
+  all-at l s xs = map (λ (j : Judge). j l s) (map judge (bare_exprs P xs))
 
-  abbrev E : Type 0
-  E = (e : Expr) × P e
+  abbrev puts-at : ℕ → Scope → List (KnownElement P) → List Judged
+  puts-at l s xs = map (λ (p : Put). p.judge l s) (map element_judge (bare_elements P xs))
 
-  abbrev D : Type 0
-  D = (x : Element) × Q x
-
-  abbrev bare : Expr-F E D → Expr-F Expr Element
-  bare y = map-Expr E D Expr Element (λ p. p.0) (λ p. p.0) y
-
-  abbrev judged : Expr-F E D → Judge
-  judged y = judge_step (map-Expr Expr Element Judge Put judge element_judge (bare y))
-
-  abbrev all-at : ℕ → Scope → List E → List Judged
-  all-at l s xs = map (λ (j : Judge). j l s) (map judge (map (λ (p : E). p.0) xs))
-
-  abbrev puts-at : ℕ → Scope → List D → List Judged
-  puts-at l s xs = map (λ (p : Put). p.judge l s) (map element_judge (map (λ (p : D). p.0) xs))
-
-  used-same : (l : ℕ) (e : E) → used l (judge e.0 l here) ≡ [] → judge e.0 l there ≡ judge e.0 l here
+  used-same : (l : ℕ) (e : KnownExpr P) → used l (judge e.0 l here) ≡ [] → judge e.0 l there ≡ judge e.0 l here
   used-same l e none = e.1 l (none-left (judge e.0 l here).faults _ none)
 
-  all-same : (l : ℕ) (xs : List E) → flat_map (used l) (all-at l here xs) ≡ [] → all-at l there xs ≡ all-at l here xs
+  all-same : (l : ℕ) (xs : List (KnownExpr P)) → flat_map (used l) (all-at l here xs) ≡ [] → all-at l there xs ≡ all-at l here xs
   all-same l [] none = refl
   all-same l (x ∷ xs) none = ap (λ j. j ∷ all-at l there xs) (used-same l x (none-left (used l (judge x.0 l here)) _ none)) ∙ ap (λ js. judge x.0 l here ∷ js) (all-same l xs (none-right (used l (judge x.0 l here)) _ none))
 
-  puts-same : (l : ℕ) (xs : List D) → flat_map (used l) (puts-at l here xs) ≡ [] → puts-at l there xs ≡ puts-at l here xs
+  value-stays : (x : KnownElement P) (l : ℕ) → ((element_judge x.0).judge l here).faults ≡ [] → (element_judge x.0).judge l there ≡ (element_judge x.0).judge l here
+  value-stays x l = subst (λ (p : Put). (p.judge l here).faults ≡ [] → p.judge l there ≡ p.judge l here) (sym (element-judge-is x.0)) (x.1 l)
+
+  puts-same : (l : ℕ) (xs : List (KnownElement P)) → flat_map (used l) (puts-at l here xs) ≡ [] → puts-at l there xs ≡ puts-at l here xs
   puts-same l [] none = refl
   puts-same l (x ∷ xs) none =
       let j = (element_judge x.0).judge l here in
-      ap (λ j. j ∷ puts-at l there xs) (x.1 l (none-left j.faults _ (none-left (used l j) _ none))) ∙ ap (λ js. j ∷ js) (puts-same l xs (none-right (used l j) _ none))
+      ap (λ j. j ∷ puts-at l there xs) (value-stays x l (none-left j.faults _ (none-left (used l j) _ none))) ∙ ap (λ js. j ∷ js) (puts-same l xs (none-right (used l j) _ none))
 
-  at : (y : Expr-F E D) (l : ℕ) → (judged y l here).faults ≡ [] → judged y l there ≡ judged y l here
+  at : (y : ExprLayer P) (l : ℕ) → (judged y l here).faults ≡ [] → judged y l there ≡ judged y l here
   at (F.Integer digits) l none = refl
   at (F.Text bytes) l none = refl
   at (F.Name x) l none = name-same l x none
   at (F.Parens e) l none = ap in_parens (e.1 l none)
   at (F.StructLiteral x xs) l none =
-      let ns = map (λ (p : Put). p.name) (map element_judge (map (λ (p : D). p.0) xs)) in
+      let ns = map (λ (p : Put). p.name) (map element_judge (bare_elements P xs)) in
       ap (λ b. struct_literal l there.file b ns (puts-at l there xs)) (pointer-same x)
       ∙ ap (struct_literal l there.file (pointer_to (meaning here x)) ns) (puts-same l xs (none-left (flat_map (used l) (puts-at l here xs)) _ none))
       ∙ literal-same f globals l (pointer_to (meaning here x)) ns (puts-at l here xs)
@@ -273,17 +260,11 @@ module _ (f : FileScope) (globals : List (Option GoType)) (g : ℕ) (same : Same
       ap (λ j. binary_judged l u j (judge y.0 l there)) (used-same l x (none-left (used l (judge x.0 l here)) _ none))
       ∙ ap (binary_judged l u (judge x.0 l here)) (used-same l y (none-left (used l (judge y.0 l here)) _ (none-right (used l (judge x.0 l here)) _ none)))
 
-  rolled : (y : Expr-F E D) → P (roll-Expr (bare y))
-  unfolding judge
-  rolled y l = subst (λ (j : Judge). (j l here).faults ≡ [] → j l there ≡ j l here) (sym (fold-roll-Expr Judge Put judge_step element_step (bare y))) (at y l)
-
-  element-rolled : (y : Element-F E D) → Q (roll-Element (map-Element E D Expr Element (λ p. p.0) (λ p. p.0) y))
-  unfolding judge
-  element-rolled y l =
-      subst (λ (p : Put). (p.judge l here).faults ≡ [] → p.judge l there ≡ p.judge l here) (sym (fold-roll-Element Judge Put judge_step element_step (map-Element E D Expr Element (λ p. p.0) (λ p. p.0) y))) (y.value.1 l)
+  rolled : (y : ExprLayer P) → P (roll-Expr (bare_expr P y))
+  rolled y l = subst (λ (j : Judge). (j l here).faults ≡ [] → j l there ≡ j l here) (sym (judge-rolls (bare_expr P y))) (at y l)
 
   pub form-stays : (e : Expr) → P e
-  form-stays = ind-Expr P Q (λ x y is. subst (λ z. P (roll-Expr z)) is (rolled y)) (λ x y is. subst (λ z. Q (roll-Element z)) is (element-rolled y))
+  form-stays = every-expr P rolled
 
 pub forms-stay : FormsStay
 forms-stay f globals g same e l none = form-stays f globals g same e l none

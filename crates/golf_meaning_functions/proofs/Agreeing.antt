@@ -18,7 +18,6 @@ use Rattle.golf_code_of.specs.declared.making.Around.{Around}
 use Rattle.golf_code_of.specs.declared.tables.Tables.{Tables}
 use Rattle.golf_code_of.specs.Values.{push, zero_value}
 use Rattle.golf_code_of.specs.Statements as L
-use Rattle.golf_code_of.specs.Statements.{Part}
 use Rattle.golf_code_of.specs.Laying.{stmt_part}
 use Rattle.golf_code_of.specs.Files.{body_part, body_laid, last_return, function_of}
 use Rattle.golf_meaning_flat.specs.Worlds.{Halt, End, Told, World, halted}
@@ -34,7 +33,7 @@ use Rattle.golf_meaning_statements.specs.Steps.{in_order, parts}
 use Rattle.golf_meaning_statements.specs.Statements.{step}
 use Rattle.golf_meaning_statements.specs.Follows.{EndsAlike, Goes, StatementMeans}
 use Rattle.golf_meaning_statements.proofs.Flowing.{EachMeans, means-order}
-use Rattle.golf_meaning_statements.proofs.Stmts.{all-mean}
+use Rattle.golf_meaning_statements.proofs.Stmts.{step-part, step-means}
 use Rattle.golf_meaning_functions.specs.Functions.{named, begins, at_end, told_by, Meaning}
 use Rattle.golf_meaning_functions.specs.Laws.{FunctionsAgree}
 use Rattle.golf_meaning_functions.proofs.Entering.{body-known}
@@ -54,11 +53,11 @@ stand-whole xs (y ∷ ys) n e = (
 module _ (t : Tables) where
   each : (xs : List Stmt) → EachMeans (map (step t) xs)
   each [] = tt
-  each (x ∷ xs) = (subst (λ (p : Part). StatementMeans p.walk p.lay (step t x).deed) (sym (all-mean t x).1) (all-mean t x).0, each xs)
+  each (x ∷ xs) = (step-means t x, each xs)
 
   parts-are : (xs : List Stmt) → parts (map (step t) xs) ≡ map (stmt_part t) xs
   parts-are [] = refl
-  parts-are (x ∷ xs) = ap (λ p. p ∷ parts (map (step t) xs)) (all-mean t x).1 ∙ ap (λ ps. stmt_part t x ∷ ps) (parts-are xs)
+  parts-are (x ∷ xs) = ap (λ p. p ∷ parts (map (step t) xs)) (step-part t x) ∙ ap (λ ps. stmt_part t x ∷ ps) (parts-are xs)
 
   pub body-means : (f : Func) → StatementMeans (body_part t f).walk (body_part t f).lay (in_order (map (step t) f.body))
   body-means f = subst (λ ps. StatementMeans (L.in_order ps).walk (L.in_order ps).lay (in_order (map (step t) f.body))) (parts-are f.body) (means-order (map (step t) f.body) (each f.body))

@@ -60,6 +60,7 @@ use Rattle.golf_meaning_statements.specs.Flows.{Course, Flow, on, after, ends_he
 use Rattle.golf_meaning_statements.specs.Steps.{Deals, Deed, Step, declared, drops, update_operation, updates, assigns, one, stores_pair, defines_pair, simple_deals, nothing, beginning, then_deed, in_order, in_block, block, returned, parts, in_loop, is_plain, measured, over}
 use Rattle.golf_meaning_statements.specs.Selecting.{ClauseStep, communicates, breaking}
 use Rattle.golf_meaning_statements.specs.Statements.{step, step_step, clause_step, clause_step_step}
+use Rattle.golf_meaning_source.proofs.Meanings.{meant_put}
 use Rattle.golf_meaning_functions.proofs.Equations as e
 use Rattle.golf_meaning_flat.specs.Worlds as W
 
@@ -233,9 +234,9 @@ puts_meant xs = map (λ (x : PutSample). put_meant x.field x.value.value) xs
 abbrev pub puts_judged : List PutSample → List Put
 puts_judged xs = map (λ (x : PutSample). put_judged x.field x.value.judged) xs
 
-pub puts-meant : (xs : List PutSample) → map (e.meant_put tables) (elements xs) ≡ puts_meant xs
+pub puts-meant : (xs : List PutSample) → map (meant_put tables) (elements xs) ≡ puts_meant xs
 puts-meant [] = refl
-puts-meant (x ∷ xs) = ap (λ m. put_meant x.field m ∷ map (e.meant_put tables) (elements xs)) x.value.same ∙ ap (λ ms. put_meant x.field x.value.value ∷ ms) (puts-meant xs)
+puts-meant (x ∷ xs) = ap (λ m. put_meant x.field m ∷ map (meant_put tables) (elements xs)) x.value.same ∙ ap (λ ms. put_meant x.field x.value.value ∷ ms) (puts-meant xs)
 
 pub puts-judged : (xs : List PutSample) → map j.put_of (elements xs) ≡ puts_judged xs
 puts-judged [] = refl

@@ -5,10 +5,8 @@ use Rattle.std.proofs.Common.{◌≡◌, ℕ, pos, List, [], ◌∷◌, map, ref
 use Rattle.golf_data.specs.declared.value.Value.{Value}
 use Rattle.golf_data.specs.declared.code.Instr.{Instr}
 use Rattle.golf_syntax_trees.specs.declared.expressions.Expr.{Expr, roll-Expr}
-use Rattle.golf_syntax_trees.specs.declared.expressions.Element.{Element, roll-Element}
-use Rattle.golf_syntax_trees.specs.declared.expressions.Expr.TheOpen.{Expr-F, Element-F}
 use Rattle.golf_syntax_trees.specs.declared.expressions.Expr.TheOpen as F
-use Rattle.golf_syntax_trees.specs.declared.expressions.Expr.TheFolds.{fold-Element, fold-roll-Expr, fold-roll-Element, ind-Expr, map-Expr, map-Element}
+use Rattle.golf_syntax_induction.proofs.Expressions.{KnownExpr, KnownElement, bare_exprs, bare_elements, ExprLayer, bare_expr, every-expr}
 use Rattle.golf_check_types.specs.declared.types.Base.{Base}
 use Rattle.golf_check_types.specs.declared.scopes.Scope.{Scope}
 use Rattle.golf_check_types.specs.declared.types.Layer.TheVariants as layer
@@ -26,27 +24,21 @@ use Rattle.golf_code_of.specs.Expressions.{Made}
 use Rattle.golf_code_of.specs.Expressions as C
 use Rattle.golf_code_of.specs.Calls as K
 use Rattle.golf_code_of.specs.Coding as G
-use Rattle.golf_code_of.specs.Coding.{Coded, CodedPut, coded, coded_step, element_coded_step}
+use Rattle.golf_code_of.specs.Coding.{Coded, CodedPut, coded}
 use Rattle.golf_code_of.proofs.Judgments.{agree}
+use Rattle.golf_code_of.proofs.ExprCodes.{element_coded, element-coded-is, coded_layer, coded-rolls}
 use Rattle.golf_meaning_source.specs.Names.{Env}
 use Rattle.golf_meaning_source.specs.Operations.{Gives}
 use Rattle.golf_meaning_source.specs.Exprs as X
 use Rattle.golf_meaning_source.specs.Meaning as M
-use Rattle.golf_meaning_source.specs.Meaning.{Meant, MeantPut, meant, meant_step, element_meant_step, outer}
+use Rattle.golf_meaning_source.specs.Meaning.{Meant, MeantPut, meant, outer}
 use Rattle.golf_meaning_source.specs.Does.{Turns, Known}
 use Rattle.golf_meaning_source.specs.Laws.{ExpressionMeans, ExpressionsMean}
 use Rattle.golf_meaning_source.proofs.Turning.{turn-none, turn-after, turn-visible, turn-pair}
 use Rattle.golf_meaning_source.proofs.Places.{matches-only, matches-element}
 use Rattle.golf_meaning_source.proofs.Constructs.{turn-puts, AllTurn, turn-made, turn-made-sized, turn-slice, turn-unary-operator, turn-binary, AllArguments, turn-call, MatchesDoes, matches-selector, matches-sync, matches-name}
 use Rattle.golf_meaning_source.proofs.Meanings as A
-
-element-meant-is : (t : Tables) (x : Element) → fold-Element Meant MeantPut (meant_step t) element_meant_step x ≡ record { name = x.field; value = meant t x.value }
-unfolding meant
-element-meant-is t x = fold-roll-Element Meant MeantPut (meant_step t) element_meant_step (record { field = x.field; value = x.value })
-
-element-coded-is : (t : Tables) (x : Element) → fold-Element Coded CodedPut (coded_step t) element_coded_step x ≡ record { name = x.field; value = coded t x.value }
-unfolding coded
-element-coded-is t x = fold-roll-Element Coded CodedPut (coded_step t) element_coded_step (record { field = x.field; value = x.value })
+use Rattle.golf_meaning_source.proofs.Meanings.{element_meant, element-meant-is, meant_layer, meant-rolls}
 
 module _ (t : Tables) where
   -- both know the same of an expression
@@ -56,32 +48,11 @@ module _ (t : Tables) where
   abbrev P : Expr → Type 0
   P e = ExpressionMeans (meant t e).does (coded t e).code
 
-  abbrev Q : Element → Type 0
-  Q x = P x.value
+  abbrev does : ExprLayer P → ℕ → Scope → X.Does
+  does y = (meant_layer t (bare_expr P y)).does
 
-  abbrev E : Type 0
-  E = (e : Expr) × P e
-
-  abbrev D : Type 0
-  D = (x : Element) × Q x
-
-  abbrev element_meant : Element → MeantPut
-  element_meant = fold-Element Meant MeantPut (meant_step t) element_meant_step
-
-  abbrev element_coded : Element → CodedPut
-  element_coded = fold-Element Coded CodedPut (coded_step t) element_coded_step
-
-  abbrev Part : Type 0
-  Part = Expr-F E D
-
-  abbrev bare : Part → Expr-F Expr Element
-  bare y = map-Expr E D Expr Element (λ p. p.0) (λ p. p.0) y
-
-  abbrev does : Part → ℕ → Scope → X.Does
-  does y = (meant_step t (map-Expr Expr Element Meant MeantPut (meant t) element_meant (bare y))).does
-
-  abbrev made : Part → ℕ → Scope → Made
-  made y = (coded_step t (map-Expr Expr Element Coded CodedPut (coded t) element_coded (bare y))).code
+  abbrev made : ExprLayer P → ℕ → Scope → Made
+  made y = (coded_layer t (bare_expr P y)).code
 
   module _ (l : ℕ) (s : Scope) (env : Env) (slots : List Value) (ok : Known s.locals s.next env slots) where
     abbrev Means : X.Does → Made → Type 0
@@ -90,46 +61,40 @@ module _ (t : Tables) where
     abbrev T : Piece → List Value → Gives → Type 0
     T = Turns slots
 
-    abbrev bares : List E → List Expr
-    bares xs = map (λ (p : E). p.0) xs
-
-    abbrev code_of : E → Piece
+    abbrev code_of : KnownExpr P → Piece
     code_of x = ((coded t x.0).code l s).piece
 
-    abbrev value_of : E → Gives
+    abbrev value_of : KnownExpr P → Gives
     value_of x = ((meant t x.0).does l s).value env
 
-    abbrev codes_of : List E → List Piece
-    codes_of xs = map (λ (c : Coded). (c.code l s).piece) (map (coded t) (bares xs))
+    abbrev codes_of : List (KnownExpr P) → List Piece
+    codes_of xs = map (λ (c : Coded). (c.code l s).piece) (map (coded t) (bare_exprs P xs))
 
-    abbrev values_of : List E → List Gives
-    values_of xs = map (λ (m : Meant). (m.does l s).value env) (map (meant t) (bares xs))
+    abbrev values_of : List (KnownExpr P) → List Gives
+    values_of xs = map (λ (m : Meant). (m.does l s).value env) (map (meant t) (bare_exprs P xs))
 
     -- the value of a part
-    turns : (x : E) → T ((coded t x.0).code l s).piece [] (((meant t x.0).does l s).value env)
+    turns : (x : KnownExpr P) → T ((coded t x.0).code l s).piece [] (((meant t x.0).does l s).value env)
     turns x = (x.1 l s env slots ok).value_turns
 
-    all-turn : (xs : List E) → AllTurn slots (map (λ (c : Coded). (c.code l s).piece) (map (coded t) (bares xs))) (map (λ (m : Meant). (m.does l s).value env) (map (meant t) (bares xs)))
+    all-turn : (xs : List (KnownExpr P)) → AllTurn slots (map (λ (c : Coded). (c.code l s).piece) (map (coded t) (bare_exprs P xs))) (map (λ (m : Meant). (m.does l s).value env) (map (meant t) (bare_exprs P xs)))
     all-turn [] = tt
     all-turn (x ∷ xs) = (turns x, all-turn xs)
 
-    all-arguments : (xs : List E) → AllArguments slots (map (M.argument l s env) (map (meant t) (bares xs))) (map (G.argument l s) (map (coded t) (bares xs)))
+    all-arguments : (xs : List (KnownExpr P)) → AllArguments slots (map (M.argument l s env) (map (meant t) (bare_exprs P xs))) (map (G.argument l s) (map (coded t) (bare_exprs P xs)))
     all-arguments [] = tt
     all-arguments (x ∷ xs) = (ap (λ (j : Judge). (j l s).meaning) (judges x.0), turns x, all-arguments xs)
 
-    abbrev elements_of : List D → List Element
-    elements_of xs = map (λ (p : D). p.0) xs
-
-    all-puts : (b : Rattle.std.specs.Prelude.Option Base) (xs : List D) (p : List Value)
-        → T (C.puts l s.file b (map (λ (c : CodedPut). c.name) (map element_coded (elements_of xs))) (map (λ (c : CodedPut). (c.value.code l s).piece) (map element_coded (elements_of xs)))) p
-        (X.puts s.file b (map (λ (m : MeantPut). m.name) (map element_meant (elements_of xs))) (map (λ (m : MeantPut). (m.value.does l s).value env) (map element_meant (elements_of xs))) p)
+    all-puts : (b : Rattle.std.specs.Prelude.Option Base) (xs : List (KnownElement P)) (p : List Value)
+        → T (C.puts l s.file b (map (λ (c : CodedPut). c.name) (map (element_coded t) (bare_elements P xs))) (map (λ (c : CodedPut). (c.value.code l s).piece) (map (element_coded t) (bare_elements P xs)))) p
+        (X.puts s.file b (map (λ (m : MeantPut). m.name) (map (element_meant t) (bare_elements P xs))) (map (λ (m : MeantPut). (m.value.does l s).value env) (map (element_meant t) (bare_elements P xs))) p)
     all-puts b [] p = turn-none slots p
     all-puts b (x ∷ xs) p =
-        let ns = map (λ (c : CodedPut). c.name) (map element_coded (elements_of xs)) in
-        let es = map (λ (c : CodedPut). (c.value.code l s).piece) (map element_coded (elements_of xs)) in
-        let ms = map (λ (m : MeantPut). m.name) (map element_meant (elements_of xs)) in
-        let gs = map (λ (m : MeantPut). (m.value.does l s).value env) (map element_meant (elements_of xs)) in
-        subst (λ (c : CodedPut). T (C.puts l s.file b (c.name ∷ ns) ((c.value.code l s).piece ∷ es)) p (X.puts s.file b ((element_meant x.0).name ∷ ms) (((element_meant x.0).value.does l s).value env ∷ gs) p)) (sym (element-coded-is t x.0))
+        let ns = map (λ (c : CodedPut). c.name) (map (element_coded t) (bare_elements P xs)) in
+        let es = map (λ (c : CodedPut). (c.value.code l s).piece) (map (element_coded t) (bare_elements P xs)) in
+        let ms = map (λ (m : MeantPut). m.name) (map (element_meant t) (bare_elements P xs)) in
+        let gs = map (λ (m : MeantPut). (m.value.does l s).value env) (map (element_meant t) (bare_elements P xs)) in
+        subst (λ (c : CodedPut). T (C.puts l s.file b (c.name ∷ ns) ((c.value.code l s).piece ∷ es)) p (X.puts s.file b ((element_meant t x.0).name ∷ ms) (((element_meant t x.0).value.does l s).value env ∷ gs) p)) (sym (element-coded-is t x.0))
         (subst (λ (m : MeantPut). T (C.puts l s.file b (x.0.field ∷ ns) (((coded t x.0.value).code l s).piece ∷ es)) p (X.puts s.file b (m.name ∷ ms) ((m.value.does l s).value env ∷ gs) p)) (sym (element-meant-is t x.0))
         (same-names ns ms es gs (all-puts b xs)))
       where
@@ -139,7 +104,7 @@ module _ (t : Tables) where
     only : (p : Piece) (f : Env → Gives) → T p [] (f env) → Means (X.only f) (C.only p)
     only p f h = matches-only slots s.locals env p (f env) h
 
-    at : (y : Part) → Means (does y l s) (made y l s)
+    at : (y : ExprLayer P) → Means (does y l s) (made y l s)
     unfolding meaning
     at (F.Integer digits) = only (op l (Instr.Int (pos (value_from 0 digits)))) (X.constant_gives (X.int_value (value_from 0 digits) ∷ [])) (λ n at ts rest w. refl)
     at (F.Text bytes) = only (op l (Instr.Text (text_number t.texts bytes))) (X.constant_gives (Value.Text (text_number t.texts bytes) ∷ [])) (λ n at ts rest w. refl)
@@ -148,7 +113,7 @@ module _ (t : Tables) where
     at (F.StructLiteral n xs) =
         let b = pointer_to (meaning s n) in
         only (made (F.StructLiteral n xs) l s).piece (does (F.StructLiteral n xs) l s).value
-        (turn-after slots (op l (Instr.NewStruct (struct_of b))) (C.puts l s.file b (map (λ (c : CodedPut). c.name) (map element_coded (elements_of xs))) (map (λ (c : CodedPut). (c.value.code l s).piece) (map element_coded (elements_of xs)))) (X.new_struct b) (X.puts s.file b (map (λ (m : MeantPut). m.name) (map element_meant (elements_of xs))) (map (λ (m : MeantPut). (m.value.does l s).value env) (map element_meant (elements_of xs)))) (turn-visible slots l (Instr.NewStruct (struct_of b)) (X.pointer_type b) [] refl) (all-puts b xs))
+        (turn-after slots (op l (Instr.NewStruct (struct_of b))) (C.puts l s.file b (map (λ (c : CodedPut). c.name) (map (element_coded t) (bare_elements P xs))) (map (λ (c : CodedPut). (c.value.code l s).piece) (map (element_coded t) (bare_elements P xs)))) (X.new_struct b) (X.puts s.file b (map (λ (m : MeantPut). m.name) (map (element_meant t) (bare_elements P xs))) (map (λ (m : MeantPut). (m.value.does l s).value env) (map (element_meant t) (bare_elements P xs)))) (turn-visible slots l (Instr.NewStruct (struct_of b)) (X.pointer_type b) [] refl) (all-puts b xs))
     at (F.SyncLiteral n) = matches-sync slots s.locals env l (made_base n)
     at (F.SliceLiteral w xs) = only (made (F.SliceLiteral w xs) l s).piece (does (F.SliceLiteral w xs) l s).value (turn-slice slots l (with_layer layer.Slice (write w l s).type) (codes_of xs) (values_of xs) (all-turn xs))
     at F.EmptyLiteral = only (op l Instr.Unit) (X.constant_gives (Value.Unit ∷ [])) (λ n at ts rest w. refl)
@@ -161,22 +126,18 @@ module _ (t : Tables) where
         (matches-selector slots s.locals env l s.next (selected_from l s.file n ((meant t e.0).judge l s).meaning).meaning ((coded t e.0).code l s).piece (λ env. ((meant t e.0).does l s).value env) ok (turns e))
     at (F.Index a i) = matches-element slots s.locals env l (X.element_type (index_judged l ((meant t a.0).judge l s) ((meant t i.0).judge l s)).meaning) (Rattle.golf_code_layout.specs.Piece.all (code_of a ∷ code_of i ∷ [])) (Rattle.golf_meaning_source.specs.Operations.both (value_of a) (value_of i)) (turn-pair slots (code_of a) (code_of i) (value_of a) (value_of i) (turns a) (turns i)) ok.stored
     at (F.Call f xs) =
-        subst (λ (j : Judge). Means (does (F.Call f xs) l s) (K.call l (j l s).meaning ((coded t f.0).code l s).piece (map (G.argument l s) (map (coded t) (bares xs))))) (judges f.0)
-        (only (K.call l ((meant t f.0).judge l s).meaning ((coded t f.0).code l s).piece (map (G.argument l s) (map (coded t) (bares xs)))).piece (does (F.Call f xs) l s).value
-        (turn-call slots l ((meant t f.0).judge l s).meaning (call_judged l s ((meant t f.0).judge l s) (map (λ (x : Meant). x.judge l s) (map (meant t) (bares xs)))).meaning ((coded t f.0).code l s).piece (((meant t f.0).does l s).value env) (map (M.argument l s env) (map (meant t) (bares xs))) (map (G.argument l s) (map (coded t) (bares xs))) (turns f) (all-arguments xs)))
+        subst (λ (j : Judge). Means (does (F.Call f xs) l s) (K.call l (j l s).meaning ((coded t f.0).code l s).piece (map (G.argument l s) (map (coded t) (bare_exprs P xs))))) (judges f.0)
+        (only (K.call l ((meant t f.0).judge l s).meaning ((coded t f.0).code l s).piece (map (G.argument l s) (map (coded t) (bare_exprs P xs)))).piece (does (F.Call f xs) l s).value
+        (turn-call slots l ((meant t f.0).judge l s).meaning (call_judged l s ((meant t f.0).judge l s) (map (λ (x : Meant). x.judge l s) (map (meant t) (bare_exprs P xs)))).meaning ((coded t f.0).code l s).piece (((meant t f.0).does l s).value env) (map (M.argument l s env) (map (meant t) (bare_exprs P xs))) (map (G.argument l s) (map (coded t) (bare_exprs P xs))) (turns f) (all-arguments xs)))
     at (F.Unary o e) = only (made (F.Unary o e) l s).piece (does (F.Unary o e) l s).value (turn-unary-operator slots l o (unary_judged l s o ((meant t e.0).judge l s)).meaning (code_of e) (value_of e) (turns e))
     at (F.Binary o a b) = only (made (F.Binary o a b) l s).piece (does (F.Binary o a b) l s).value (turn-binary slots l o (code_of a) (code_of b) (value_of a) (value_of b) (turns a) (turns b))
 
-  rolled : (y : Part) → P (roll-Expr (bare y))
-  unfolding meant coded
-  rolled y = subst (λ (m : Meant). ExpressionMeans m.does (coded t (roll-Expr (bare y))).code) (sym (fold-roll-Expr Meant MeantPut (meant_step t) element_meant_step (bare y)))
-      (subst (λ (c : Coded). ExpressionMeans (does y) c.code) (sym (fold-roll-Expr Coded CodedPut (coded_step t) element_coded_step (bare y))) (λ l s env slots ok. at l s env slots ok y))
-
-  element-rolled : (y : Element-F E D) → Q (roll-Element (map-Element E D Expr Element (λ p. p.0) (λ p. p.0) y))
-  element-rolled y = y.value.1
+  rolled : (y : ExprLayer P) → P (roll-Expr (bare_expr P y))
+  rolled y = subst (λ (m : Meant). ExpressionMeans m.does (coded t (roll-Expr (bare_expr P y))).code) (sym (meant-rolls t (bare_expr P y)))
+      (subst (λ (c : Coded). ExpressionMeans (does y) c.code) (sym (coded-rolls t (bare_expr P y))) (λ l s env slots ok. at l s env slots ok y))
 
   pub means : (e : Expr) → P e
-  means = ind-Expr P Q (λ x y is. subst (λ z. P (roll-Expr z)) is (rolled y)) (λ x y is. subst (λ z. Q (roll-Element z)) is (element-rolled y))
+  means = every-expr P rolled
 
 pub expressions-mean : ExpressionsMean
 expressions-mean t e = means t e

@@ -5,10 +5,9 @@ use Rattle.std.proofs.Common.{◌≡◌, ℕ, List, [], ◌∷◌, ◌++◌, map
 use Rattle.std.proofs.lemmas.Bool.{and_parts}
 use Rattle.std.specs.Prelude.{flat_map, is_some}
 use Rattle.golf_syntax_trees.specs.declared.expressions.Expr.{Expr, roll-Expr}
-use Rattle.golf_syntax_trees.specs.declared.expressions.Element.{Element, roll-Element}
-use Rattle.golf_syntax_trees.specs.declared.expressions.Expr.TheOpen.{Expr-F, Element-F}
+use Rattle.golf_syntax_trees.specs.declared.expressions.Element.{Element}
 use Rattle.golf_syntax_trees.specs.declared.expressions.Expr.TheOpen as F
-use Rattle.golf_syntax_trees.specs.declared.expressions.Expr.TheFolds.{fold-Element, fold-roll-Expr, fold-roll-Element, ind-Expr, map-Expr, map-Element}
+use Rattle.golf_syntax_induction.proofs.Expressions.{KnownExpr, KnownElement, bare_exprs, bare_elements, ExprLayer, bare_expr, every-expr}
 use Rattle.golf_syntax_trees.specs.declared.expressions.UnaryOperator.{UnaryOperator}
 use Rattle.golf_syntax_trees.specs.declared.expressions.UnaryOperator.TheVariants as unary
 use Rattle.golf_check_types.specs.declared.types.Layer.TheVariants as layer
@@ -26,9 +25,10 @@ use Rattle.golf_check_types.specs.Scopes.{meaning}
 use Rattle.golf_check_types.specs.Written.{write, pointer_to, made_base}
 use Rattle.golf_check_types.specs.Expressions.{used, named_or_used, given_by, without_package, pointer_value, all_put_faults, fields_differ, selected_from, unary_judged, unary_meaning, index_judged}
 use Rattle.golf_check_types.specs.Calls.{called_with}
-use Rattle.golf_check_types.specs.Judging.{Judge, Put, judge, judge_step, element_step}
+use Rattle.golf_check_types.specs.Judging.{Judge, Put, judge}
 use Rattle.golf_model_typing.specs.Types.{ValueType, Types}
 use Rattle.golf_code_of.specs.declared.tables.Tables.{Tables}
+use Rattle.golf_code_of.proofs.JudgeEquations.{element_judge, element-judge-is, judge_layer, judge-rolls}
 use Rattle.golf_code_shapes.specs.Types.{value_type}
 use Rattle.golf_code_shapes.specs.Sound.{IsKnown, FileFits}
 use Rattle.golf_code_shapes.proofs.Typings.{none-left, none-right, kept}
@@ -38,8 +38,9 @@ use Rattle.golf_meaning_source.specs.Operations.{Gives, both, then_do}
 use Rattle.golf_meaning_source.specs.Exprs as X
 use Rattle.golf_meaning_source.specs.Exprs.{Place}
 use Rattle.golf_meaning_source.specs.Meaning as M
-use Rattle.golf_meaning_source.specs.Meaning.{Meant, MeantPut, meant, meant_step, element_meant_step}
+use Rattle.golf_meaning_source.specs.Meaning.{Meant, MeantPut, meant}
 use Rattle.golf_meaning_source.proofs.Meanings as A
+use Rattle.golf_meaning_source.proofs.Meanings.{element_meant, element-meant-is, meant_layer, meant-rolls}
 use Rattle.golf_meaning_typing.specs.Sound.{One, Yields, YieldsBy, Shown, NamesFit}
 use Rattle.golf_meaning_typing.specs.Meets.{Many}
 use Rattle.golf_meaning_typing.specs.Laws.{ExpressionFits, ExpressionsFit}
@@ -50,16 +51,6 @@ use Rattle.golf_meaning_typing.proofs.Making.{Pointed, new-yields, literal-yield
 use Rattle.golf_meaning_typing.proofs.Calling.{Arg, judgeds, arguments, Stands, on-call}
 use Rattle.golf_meaning_typing.proofs.Operators.{operators-fit}
 
--- values of known types
-
-element-judge-is : (x : Element) → fold-Element Judge Put judge_step element_step x ≡ record { name = x.field; judge = judge x.value }
-unfolding judge
-element-judge-is x = fold-roll-Element Judge Put judge_step element_step (record { field = x.field; value = x.value })
-
-element-meant-is : (t : Tables) (x : Element) → fold-Element Meant MeantPut (meant_step t) element_meant_step x ≡ record { name = x.field; value = meant t x.value }
-unfolding meant
-element-meant-is t x = fold-roll-Element Meant MeantPut (meant_step t) element_meant_step (record { field = x.field; value = x.value })
-
 pub some-value : (g : Given) (f : Gives) → YieldsBy g f → Many 1 f
 some-value (given_as.Typed e) f h = many-one (value_type e) f h
 some-value given_as.Nil f h = many-one ValueType.Mutex f (h ValueType.Mutex tt)
@@ -69,32 +60,11 @@ module _ (types : Types) (t : Tables) where
   abbrev P : Expr → Type 0
   P e = ExpressionFits types t (judge e) (meant t e).does
 
-  abbrev Q : Element → Type 0
-  Q x = P x.value
+  abbrev judged : ExprLayer P → Judge
+  judged y = judge_layer (bare_expr P y)
 
-  abbrev E : Type 0
-  E = (e : Expr) × P e
-
-  abbrev D : Type 0
-  D = (x : Element) × Q x
-
-  abbrev element_judge : Element → Put
-  element_judge = fold-Element Judge Put judge_step element_step
-
-  abbrev element_meant : Element → MeantPut
-  element_meant = fold-Element Meant MeantPut (meant_step t) element_meant_step
-
-  abbrev Part : Type 0
-  Part = Expr-F E D
-
-  abbrev bare : Part → Expr-F Expr Element
-  bare y = map-Expr E D Expr Element (λ p. p.0) (λ p. p.0) y
-
-  abbrev judged : Part → Judge
-  judged y = judge_step (map-Expr Expr Element Judge Put judge element_judge (bare y))
-
-  abbrev does : Part → ℕ → Scope → X.Does
-  does y = (meant_step t (map-Expr Expr Element Meant MeantPut (meant t) element_meant (bare y))).does
+  abbrev does : ExprLayer P → ℕ → Scope → X.Does
+  does y = (meant_layer t (bare_expr P y)).does
 
   -- the judge of a meaning is the checker's
   judges : (e : Expr) → (meant t e).judge ≡ judge e
@@ -104,33 +74,33 @@ module _ (types : Types) (t : Tables) where
     abbrev Is : Operand → X.Does → Type 0
     Is m d = Me types t s env m (d.value env) (d.place env) (d.parts env)
 
-    abbrev gives_of : E → Gives
+    abbrev gives_of : KnownExpr P → Gives
     gives_of x = ((meant t x.0).does l s).value env
 
     -- what stands as a value gives it
-    value : (x : E) → used l (judge x.0 l s) ≡ [] → YieldsBy (given_by (judge x.0 l s)) (gives_of x)
+    value : (x : KnownExpr P) → used l (judge x.0 l s) ≡ [] → YieldsBy (given_by (judge x.0 l s)) (gives_of x)
     value x none = of-used types t s env l (judge x.0 l s) (gives_of x) (((meant t x.0).does l s).place env) (((meant t x.0).does l s).parts env) none (x.1 l s env file fit)
 
-    one : (x : E) → used l (judge x.0 l s) ≡ [] → Many 1 (gives_of x)
+    one : (x : KnownExpr P) → used l (judge x.0 l s) ≡ [] → Many 1 (gives_of x)
     one x none = some-value (given_by (judge x.0 l s)) (gives_of x) (value x none)
 
-    arg : E → Arg
+    arg : KnownExpr P → Arg
     arg x = record { judged = judge x.0 l s; value = gives_of x }
 
-    abbrev args : List E → List Arg
+    abbrev args : List (KnownExpr P) → List Arg
     args xs = map arg xs
 
-    stands : (xs : List E) → Stands l (args xs)
+    stands : (xs : List (KnownExpr P)) → Stands l (args xs)
     unfolding arg
     stands [] = tt
     stands (x ∷ xs) = (one x, stands xs)
 
-    js-are : (xs : List E) → judgeds (args xs) ≡ map (λ (j : Judge). j l s) (map judge (map (λ (p : E). p.0) xs))
+    js-are : (xs : List (KnownExpr P)) → judgeds (args xs) ≡ map (λ (j : Judge). j l s) (map judge (bare_exprs P xs))
     unfolding arg
     js-are [] = refl
     js-are (x ∷ xs) = ap (λ js. judge x.0 l s ∷ js) (js-are xs)
 
-    meant-js-are : (xs : List E) → judgeds (args xs) ≡ map (λ (x : Meant). x.judge l s) (map (meant t) (map (λ (p : E). p.0) xs))
+    meant-js-are : (xs : List (KnownExpr P)) → judgeds (args xs) ≡ map (λ (x : Meant). x.judge l s) (map (meant t) (bare_exprs P xs))
     unfolding arg
     meant-js-are [] = refl
     meant-js-are (x ∷ xs) = ap (λ (j : Judge). j l s ∷ judgeds (args xs)) (sym (judges x.0)) ∙ ap (λ js. (meant t x.0).judge l s ∷ js) (meant-js-are xs)
@@ -138,19 +108,19 @@ module _ (types : Types) (t : Tables) where
     argument_of : Expr → Judge → X.Argument
     argument_of e j = record { meaning = (j l s).meaning; value = ((meant t e).does l s).value env }
 
-    arguments-are : (xs : List E) → arguments (args xs) ≡ map (M.argument l s env) (map (meant t) (map (λ (p : E). p.0) xs))
+    arguments-are : (xs : List (KnownExpr P)) → arguments (args xs) ≡ map (M.argument l s env) (map (meant t) (bare_exprs P xs))
     unfolding arg argument_of
     arguments-are [] = refl
     arguments-are (x ∷ xs) = ap (λ j. argument_of x.0 j ∷ arguments (args xs)) (sym (judges x.0)) ∙ ap (λ ys. M.argument l s env (meant t x.0) ∷ ys) (arguments-are xs)
 
-    each : (xs : List E) → flat_map (used l) (map (λ (j : Judge). j l s) (map judge (map (λ (p : E). p.0) xs))) ≡ [] → EachOne (map (λ (m : Meant). (m.does l s).value env) (map (meant t) (map (λ (p : E). p.0) xs)))
+    each : (xs : List (KnownExpr P)) → flat_map (used l) (map (λ (j : Judge). j l s) (map judge (bare_exprs P xs))) ≡ [] → EachOne (map (λ (m : Meant). (m.does l s).value env) (map (meant t) (bare_exprs P xs)))
     each [] u = tt
     each (x ∷ xs) u = (one x (none-left (used l (judge x.0 l s)) _ u), each xs (none-right (used l (judge x.0 l s)) _ u))
 
-    each-put : (xs : List D) → flat_map (used l) (map (λ (p : Put). p.judge l s) (map element_judge (map (λ (p : D). p.0) xs))) ≡ [] → EachOne (map (λ (m : MeantPut). (m.value.does l s).value env) (map element_meant (map (λ (p : D). p.0) xs)))
+    each-put : (xs : List (KnownElement P)) → flat_map (used l) (map (λ (p : Put). p.judge l s) (map element_judge (bare_elements P xs))) ≡ [] → EachOne (map (λ (m : MeantPut). (m.value.does l s).value env) (map (element_meant t) (bare_elements P xs)))
     each-put [] u = tt
     each-put (x ∷ xs) u =
-        let v = subst (λ (p : Put). used l (p.judge l s) ++ flat_map (used l) (map (λ (q : Put). q.judge l s) (map element_judge (map (λ (q : D). q.0) xs))) ≡ []) (element-judge-is x.0) u in (
+        let v = subst (λ (p : Put). used l (p.judge l s) ++ flat_map (used l) (map (λ (q : Put). q.judge l s) (map element_judge (bare_elements P xs))) ≡ []) (element-judge-is x.0) u in (
           subst (λ (m : MeantPut). Many 1 ((m.value.does l s).value env)) (sym (element-meant-is t x.0)) (one (x.0.value, x.1) (none-left (used l (judge x.0.value l s)) _ v)),
           each-put xs (none-right (used l (judge x.0.value l s)) _ v),
         )
@@ -180,7 +150,7 @@ module _ (types : Types) (t : Tables) where
     typed : (o : Option GoType) → IsKnown o → (f : Option GoType → Gives) → ((e : GoType) → o ≡ Some e → Yields (value_type e) (f (Some e))) → Me types t s env (operand.Value o) (f o) Place.Nowhere (X.constant_gives [] env)
     typed o k f h = subst (λ z. Me types t s env (operand.Value z) (f z) Place.Nowhere (X.constant_gives [] env)) (sym k.1) (h k.0 k.1)
 
-    element : (o : Operand) (f : Gives) → (a b : E) → Shown o (then_do f (X.read env (Place.Element (X.element_type o)))) → ((z : Operand) → o ≡ z → (e : Option GoType) × (z ≡ operand.Element e)) → Many 2 f
+    element : (o : Operand) (f : Gives) → (a b : KnownExpr P) → Shown o (then_do f (X.read env (Place.Element (X.element_type o)))) → ((z : Operand) → o ≡ z → (e : Option GoType) × (z ≡ operand.Element e)) → Many 2 f
         → Me types t s env o (then_do f (X.read env (Place.Element (X.element_type o)))) (Place.Element (X.element_type o)) f
     element (operand.Element (Some e)) f a b h is two = (h, placed-element s.locals env fit e f two)
     element (operand.Element None) f a b h is two = absurd h
@@ -188,24 +158,24 @@ module _ (types : Types) (t : Tables) where
     element (operand.Outcome e) f a b h is two = let z = (is (operand.Outcome e) refl).1 in cc
     element _ f a b h is two = absurd h
 
-    at : (y : Part) → (judged y l s).faults ≡ [] → Is (judged y l s).meaning (does y l s)
+    at : (y : ExprLayer P) → (judged y l s).faults ≡ [] → Is (judged y l s).meaning (does y l s)
     at (F.Integer digits) none = λ w. refl
     at (F.Text bytes) none = λ w. refl
     at (F.Name n) none = on-name types t s env fit l n file none
     at (F.Parens x) none = parenthesised (judge x.0 l s).meaning ((meant t x.0).does l s) (x.1 l s env file fit none)
     at (F.StructLiteral n xs) none =
         let b = pointer_to (meaning s n) in
-        let ns = map (λ (p : Put). p.name) (map element_judge (map (λ (p : D). p.0) xs)) in
-        let js = map (λ (p : Put). p.judge l s) (map element_judge (map (λ (p : D). p.0) xs)) in
+        let ns = map (λ (p : Put). p.name) (map element_judge (bare_elements P xs)) in
+        let js = map (λ (p : Put). p.judge l s) (map element_judge (bare_elements P xs)) in
         let rest = none-right (flat_map (used l) js) _ none in
         let there = and_parts (is_some b) (fields_differ s.file b [] ns) (kept l 20 _ (none-right (all_put_faults l s.file b ns (map given_by js)) _ rest)) in
-        pointed b _ (literal-yields s.file (meaning s n) (map (λ (m : MeantPut). m.name) (map element_meant (map (λ (p : D). p.0) xs))) (map (λ (m : MeantPut). (m.value.does l s).value env) (map element_meant (map (λ (p : D). p.0) xs))) there.0 (each-put xs (none-left (flat_map (used l) js) _ none)))
+        pointed b _ (literal-yields s.file (meaning s n) (map (λ (m : MeantPut). m.name) (map (element_meant t) (bare_elements P xs))) (map (λ (m : MeantPut). (m.value.does l s).value env) (map (element_meant t) (bare_elements P xs))) there.0 (each-put xs (none-left (flat_map (used l) js) _ none)))
     at (F.SyncLiteral n) none = pointed (made_base n) _ (sync-yields n (kept l 4 _ (none-right (broken l 3 s.file.imports.sync) _ none)))
     at (F.SliceLiteral w xs) none =
         let k = written-known w l s (none-left (write w l s).faults _ none) in
-        let js = map (λ (j : Judge). j l s) (map judge (map (λ (p : E). p.0) xs)) in
+        let js = map (λ (j : Judge). j l s) (map judge (bare_exprs P xs)) in
         let u = none-left (flat_map (used l) js) _ (none-right (write w l s).faults _ none) in
-        subst (λ o. Me types t s env (operand.Value (with_layer layer.Slice o)) (X.slice_literal (with_layer layer.Slice o) (map (λ (m : Meant). (m.does l s).value env) (map (meant t) (map (λ (p : E). p.0) xs)))) Place.Nowhere (X.constant_gives [] env)) (sym k.1) (slice-yields k.0 _ (each xs u))
+        subst (λ o. Me types t s env (operand.Value (with_layer layer.Slice o)) (X.slice_literal (with_layer layer.Slice o) (map (λ (m : Meant). (m.does l s).value env) (map (meant t) (bare_exprs P xs)))) Place.Nowhere (X.constant_gives [] env)) (sym k.1) (slice-yields k.0 _ (each xs u))
     at F.EmptyLiteral none = λ w. refl
     at (F.Make w) none =
         let k = written-known w l s (none-left (write w l s).faults _ none) in
@@ -235,29 +205,25 @@ module _ (types : Types) (t : Tables) where
     at (F.Call f xs) none =
         let j = judge f.0 l s in
         let d = (meant t f.0).does l s in
-        let js = map (λ (w : Judge). w l s) (map judge (map (λ (p : E). p.0) xs)) in
+        let js = map (λ (w : Judge). w l s) (map judge (bare_exprs P xs)) in
         let clean = subst (λ ks. (called_with l s j.meaning ks).faults ≡ []) (sym (js-are xs)) (none-right (named_or_used l j) (called_with l s j.meaning js).faults none) in
         let start = on-call types t s env l (d.value env) (d.place env) (d.parts env) (args xs) (stands xs) j.meaning clean (f.1 l s env file fit (none-left j.faults _ (none-left (named_or_used l j) _ none))) in
         let two = subst (λ ys. Me types t s env (called_with l s j.meaning (judgeds (args xs))).meaning (X.call j.meaning (called_with l s j.meaning (judgeds (args xs))).meaning (d.value env) ys) Place.Nowhere (X.constant_gives [] env)) (arguments-are xs) start in
-        let three = subst (λ ks. Me types t s env (called_with l s j.meaning (judgeds (args xs))).meaning (X.call j.meaning (called_with l s j.meaning ks).meaning (d.value env) (map (M.argument l s env) (map (meant t) (map (λ (p : E). p.0) xs)))) Place.Nowhere (X.constant_gives [] env)) (meant-js-are xs) two in
-        let four = subst (λ ks. Me types t s env (called_with l s j.meaning ks).meaning (X.call j.meaning (called_with l s j.meaning (map (λ (x : Meant). x.judge l s) (map (meant t) (map (λ (p : E). p.0) xs)))).meaning (d.value env) (map (M.argument l s env) (map (meant t) (map (λ (p : E). p.0) xs)))) Place.Nowhere (X.constant_gives [] env)) (js-are xs) three in
-        subst (λ (w : Judge). Me types t s env (called_with l s j.meaning js).meaning (X.call (w l s).meaning (called_with l s (w l s).meaning (map (λ (x : Meant). x.judge l s) (map (meant t) (map (λ (p : E). p.0) xs)))).meaning (d.value env) (map (M.argument l s env) (map (meant t) (map (λ (p : E). p.0) xs)))) Place.Nowhere (X.constant_gives [] env)) (sym (judges f.0)) four
+        let three = subst (λ ks. Me types t s env (called_with l s j.meaning (judgeds (args xs))).meaning (X.call j.meaning (called_with l s j.meaning ks).meaning (d.value env) (map (M.argument l s env) (map (meant t) (bare_exprs P xs)))) Place.Nowhere (X.constant_gives [] env)) (meant-js-are xs) two in
+        let four = subst (λ ks. Me types t s env (called_with l s j.meaning ks).meaning (X.call j.meaning (called_with l s j.meaning (map (λ (x : Meant). x.judge l s) (map (meant t) (bare_exprs P xs)))).meaning (d.value env) (map (M.argument l s env) (map (meant t) (bare_exprs P xs)))) Place.Nowhere (X.constant_gives [] env)) (js-are xs) three in
+        subst (λ (w : Judge). Me types t s env (called_with l s j.meaning js).meaning (X.call (w l s).meaning (called_with l s (w l s).meaning (map (λ (x : Meant). x.judge l s) (map (meant t) (bare_exprs P xs)))).meaning (d.value env) (map (M.argument l s env) (map (meant t) (bare_exprs P xs)))) Place.Nowhere (X.constant_gives [] env)) (sym (judges f.0)) four
     at (F.Unary o e) none =
         let j = judge e.0 l s in
         subst (λ (w : Judge). Is (unary_judged l s o j).meaning (X.only (λ env. then_do (((meant t e.0).does l s).value env) (X.unary_does o (unary_judged l s o (w l s)).meaning)))) (sym (judges e.0))
         (shown (unary_judged l s o j).meaning _ (no-element o (given_by j)) (operators-fit.0 l s o j (gives_of e) (value e) none))
     at (F.Binary o a b) none = operators-fit.1 l o (judge a.0 l s) (judge b.0 l s) (gives_of a) (gives_of b) (value a) (value b) none
 
-  rolled : (y : Part) → P (roll-Expr (bare y))
-  unfolding judge meant
-  rolled y = subst (λ (j : Judge). ExpressionFits types t j (meant t (roll-Expr (bare y))).does) (sym (fold-roll-Expr Judge Put judge_step element_step (bare y)))
-      (subst (λ (m : Meant). ExpressionFits types t (judged y) m.does) (sym (fold-roll-Expr Meant MeantPut (meant_step t) element_meant_step (bare y))) (λ l s env file fit none. at l s env file fit y none))
-
-  element-rolled : (y : Element-F E D) → Q (roll-Element (map-Element E D Expr Element (λ p. p.0) (λ p. p.0) y))
-  element-rolled y = y.value.1
+  rolled : (y : ExprLayer P) → P (roll-Expr (bare_expr P y))
+  rolled y = subst (λ (j : Judge). ExpressionFits types t j (meant t (roll-Expr (bare_expr P y))).does) (sym (judge-rolls (bare_expr P y)))
+      (subst (λ (m : Meant). ExpressionFits types t (judged y) m.does) (sym (meant-rolls t (bare_expr P y))) (λ l s env file fit none. at l s env file fit y none))
 
   pub fits : (e : Expr) → P e
-  fits = ind-Expr P Q (λ x y is. subst (λ z. P (roll-Expr z)) is (rolled y)) (λ x y is. subst (λ z. Q (roll-Element z)) is (element-rolled y))
+  fits = every-expr P rolled
 
 pub expressions-fit : ExpressionsFit
 expressions-fit types t e = fits types t e

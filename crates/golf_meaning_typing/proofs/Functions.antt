@@ -23,7 +23,7 @@ use Rattle.golf_code_shapes.proofs.Typings.{none-left, none-right}
 use Rattle.golf_meaning_statements.specs.Flows.{Course, Flow}
 use Rattle.golf_meaning_statements.specs.Steps.{parts, in_order}
 use Rattle.golf_meaning_statements.specs.Statements.{step}
-use Rattle.golf_meaning_statements.proofs.Stmts.{all-mean}
+use Rattle.golf_meaning_statements.proofs.Stmts.{step-part}
 use Rattle.golf_meaning_functions.specs.Functions.{named, begins, told_by}
 use Rattle.golf_meaning_typing.specs.Sound.{NamesFit}
 use Rattle.golf_meaning_typing.specs.Flowing.{EndSound, FlowFits}
@@ -68,7 +68,7 @@ each-right types t (x ∷ xs) g = let b = and_parts (stmt_form x).good (stmts_go
 
 walks-are : (t : Tables) (xs : List Stmt) → map (λ (p : Part). p.walk) (parts (map (step t) xs)) ≡ map walk xs
 walks-are t [] = refl
-walks-are t (x ∷ xs) = ap (λ w. w ∷ map (λ (p : Part). p.walk) (parts (map (step t) xs))) (ap (λ (p : Part). p.walk) (all-mean t x).1 ∙ statement t x) ∙ ap (λ ws. walk x ∷ ws) (walks-are t xs)
+walks-are t (x ∷ xs) = ap (λ w. w ∷ map (λ (p : Part). p.walk) (parts (map (step t) xs))) (ap (λ (p : Part). p.walk) (step-part t x) ∙ statement t x) ∙ ap (λ ws. walk x ∷ ws) (walks-are t xs)
 
 pub functions-fit : FunctionsFit
 functions-fit types t names f k arguments answers n file ok given =

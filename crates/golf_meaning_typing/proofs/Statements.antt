@@ -10,9 +10,9 @@ use Rattle.golf_syntax_trees.specs.declared.statements.Header.{Header}
 use Rattle.golf_syntax_trees.specs.declared.statements.Header.TheVariants as header
 use Rattle.golf_syntax_trees.specs.declared.statements.Stmt.{Stmt, roll-Stmt}
 use Rattle.golf_syntax_trees.specs.declared.statements.Clause.{Clause, roll-Clause}
-use Rattle.golf_syntax_trees.specs.declared.statements.Clause.TheOpen.{Stmt-F, Clause-F}
 use Rattle.golf_syntax_trees.specs.declared.statements.Clause.TheOpen as F
-use Rattle.golf_syntax_trees.specs.declared.statements.Clause.TheFolds.{fold-roll-Stmt, fold-roll-Clause, ind-Stmt, map-Stmt, map-Clause}
+use Rattle.golf_syntax_trees.specs.declared.statements.Clause.TheFolds.{fold-roll-Stmt, fold-roll-Clause, map-Stmt, map-Clause}
+use Rattle.golf_syntax_induction.proofs.Statements.{KnownClause, KnownStmt, bare_clauses, bare_stmts, ClauseLayer, StmtLayer, bare_clause, bare_stmt, every-stmt}
 use Rattle.golf_syntax_trees.specs.Simple.{header_simple, header_expr, post_simple, all_of, header_good, comm_good}
 use Rattle.golf_syntax_trees.specs.Statements.{StmtForm, ClauseForm, stmts_good, defaults, stmt_form_step, clause_form_step, stmt_form, clause_form}
 use Rattle.golf_check_types.specs.Statements as W
@@ -24,8 +24,8 @@ use Rattle.golf_code_of.specs.Loops as O
 use Rattle.golf_code_of.proofs.Walks.{statement}
 use Rattle.golf_meaning_statements.specs.Steps.{Step, parts, in_order, block, in_loop, optional, stepping, then_deed, for_deed, forever, while}
 use Rattle.golf_meaning_statements.specs.Selecting.{ClauseStep, clause_parts, no_default, one_default}
-use Rattle.golf_meaning_statements.specs.Statements.{step, clause_step, step_step, clause_step_step}
-use Rattle.golf_meaning_statements.proofs.Stmts.{all-mean}
+use Rattle.golf_meaning_statements.specs.Statements.{step, clause_step}
+use Rattle.golf_meaning_statements.proofs.Stmts.{step_layer, clause_layer, step-rolls, clause-rolls, step-part}
 use Rattle.golf_meaning_typing.specs.Flowing.{StatementFits}
 use Rattle.golf_meaning_typing.specs.Laws.{StatementsFit}
 use Rattle.golf_meaning_typing.proofs.Blocks.{Fits, EachFits, order-fits, block-fits, then-fits, return-fits, break-fits, continue-fits, if-fits, else-fits, forever-fits, while-fits}
@@ -45,50 +45,32 @@ module _ (types : Types) (t : Tables) where
   abbrev Q : Clause → Type 0
   Q c = (is_some (clause_step t c).part.kind ≡ not (clause_form c).default) × ((clause_form c).good ≡ true → ClauseFits types t (clause_step t c))
 
-  abbrev S : Type 0
-  S = (x : Stmt) × P x
+  abbrev steps_of : List (KnownStmt P) → List Step
+  steps_of xs = map (step t) (bare_stmts P xs)
 
-  abbrev K : Type 0
-  K = (c : Clause) × Q c
+  abbrev forms : List (KnownStmt P) → List StmtForm
+  forms xs = map stmt_form (bare_stmts P xs)
 
-  abbrev bare : Stmt-F K S → Stmt-F Clause Stmt
-  bare y = map-Stmt K S Clause Stmt (λ p. p.0) (λ p. p.0) y
+  abbrev clauses_of : List (KnownClause Q) → List ClauseStep
+  clauses_of cs = map (clause_step t) (bare_clauses Q cs)
 
-  abbrev stepped : Stmt-F K S → Stmt-F ClauseStep Step
-  stepped y = map-Stmt Clause Stmt ClauseStep Step (clause_step t) (step t) (bare y)
+  abbrev clause_forms : List (KnownClause Q) → List ClauseForm
+  clause_forms cs = map clause_form (bare_clauses Q cs)
 
-  abbrev bare_clause : Clause-F K S → Clause-F Clause Stmt
-  bare_clause y = map-Clause K S Clause Stmt (λ p. p.0) (λ p. p.0) y
-
-  abbrev stepped_clause : Clause-F K S → Clause-F ClauseStep Step
-  stepped_clause y = map-Clause Clause Stmt ClauseStep Step (clause_step t) (step t) (bare_clause y)
-
-  abbrev steps_of : List S → List Step
-  steps_of xs = map (step t) (map (λ (p : S). p.0) xs)
-
-  abbrev forms : List S → List StmtForm
-  forms xs = map stmt_form (map (λ (p : S). p.0) xs)
-
-  abbrev clauses_of : List K → List ClauseStep
-  clauses_of cs = map (clause_step t) (map (λ (p : K). p.0) cs)
-
-  abbrev clause_forms : List K → List ClauseForm
-  clause_forms cs = map clause_form (map (λ (p : K). p.0) cs)
-
-  each : (xs : List S) → stmts_good (forms xs) ≡ true → EachFits types t (steps_of xs)
+  each : (xs : List (KnownStmt P)) → stmts_good (forms xs) ≡ true → EachFits types t (steps_of xs)
   each [] h = tt
   each (x ∷ xs) h = let b = and_parts (stmt_form x.0).good (stmts_good (forms xs)) h in (x.1 b.0, each xs b.1)
 
-  order : (xs : List S) → stmts_good (forms xs) ≡ true → Fits types t (L.in_order (parts (steps_of xs))).walk (in_order (steps_of xs))
+  order : (xs : List (KnownStmt P)) → stmts_good (forms xs) ≡ true → Fits types t (L.in_order (parts (steps_of xs))).walk (in_order (steps_of xs))
   order xs h = order-fits types t (steps_of xs) (each xs h)
 
-  each-clause : (cs : List K) → list_all (λ (c : ClauseForm). c.good) (clause_forms cs) ≡ true → EachClause types t (clauses_of cs)
+  each-clause : (cs : List (KnownClause Q)) → list_all (λ (c : ClauseForm). c.good) (clause_forms cs) ≡ true → EachClause types t (clauses_of cs)
   each-clause [] h = tt
   each-clause (c ∷ cs) h = let b = and_parts (clause_form c.0).good (list_all (λ (d : ClauseForm). d.good) (clause_forms cs)) h in (c.1.1 b.0, each-clause cs b.1)
 
   -- a well-formed `select` has one `default` at most
 
-  none-default : (cs : List K) → defaults (clause_forms cs) ≡ 0 → no_default (clause_parts (clauses_of cs)) ≡ true
+  none-default : (cs : List (KnownClause Q)) → defaults (clause_forms cs) ≡ 0 → no_default (clause_parts (clauses_of cs)) ≡ true
   none-default [] h = refl
   none-default (c ∷ cs) h = by (clause_form c.0).default c.1.0 h (none-default cs)
     where
@@ -96,7 +78,7 @@ module _ (types : Types) (t : Tables) where
       by true e f g = absurd (omega (arith, f))
       by false e f g = ap (λ b. b && no_default (clause_parts (clauses_of cs))) e ∙ g (omega (arith, f))
 
-  one-default : (cs : List K) → nat_le (defaults (clause_forms cs)) 1 ≡ true → one_default (clause_parts (clauses_of cs)) ≡ true
+  one-default : (cs : List (KnownClause Q)) → nat_le (defaults (clause_forms cs)) 1 ≡ true → one_default (clause_parts (clauses_of cs)) ≡ true
   one-default [] h = refl
   one-default (c ∷ cs) h = by (clause_form c.0).default c.1.0 h (one-default cs)
     where
@@ -104,7 +86,7 @@ module _ (types : Types) (t : Tables) where
       by true e f g = ap (λ b. cond b (one_default (clause_parts (clauses_of cs))) (no_default (clause_parts (clauses_of cs)))) e ∙ none-default cs (let q = leb-true (1 + defaults (clause_forms cs)) 1 f in omega (arith, q))
       by false e f g = ap (λ b. cond b (one_default (clause_parts (clauses_of cs))) (no_default (clause_parts (clauses_of cs)))) e ∙ g (subst (λ n. nat_le n 1 ≡ true) (let q : 0 + defaults (clause_forms cs) ≡ defaults (clause_forms cs) = omega arith in q) f)
 
-  loop : (l : ℕ) (h : Header) (xs : List S) → header_good h ≡ true → stmts_good (forms xs) ≡ true → Fits types t (O.for_part t l h (parts (steps_of xs))).walk (for_deed t l h (steps_of xs))
+  loop : (l : ℕ) (h : Header) (xs : List (KnownStmt P)) → header_good h ≡ true → stmts_good (forms xs) ≡ true → Fits types t (O.for_part t l h (parts (steps_of xs))).walk (for_deed t l h (steps_of xs))
   loop l header.Forever xs g b = block-fits types t (W.looping (W.in_block (L.in_order (parts (steps_of xs))).walk)) (forever (in_loop 1 0 (block (steps_of xs)))) (forever-fits types t (L.in_order (parts (steps_of xs))).walk (in_order (steps_of xs)) (order xs b) 1 0)
   loop l (header.While e) xs g b =
       block-fits types t (W.behind_test l e (W.looping (W.in_block (L.in_order (parts (steps_of xs))).walk))) (while t l e (in_loop 1 0 (block (steps_of xs)))) (while-fits types t (L.in_order (parts (steps_of xs))).walk (in_order (steps_of xs)) (order xs b) 1 0 l e)
@@ -116,7 +98,7 @@ module _ (types : Types) (t : Tables) where
       block-fits types t (W.then (L.optional t first).walk w) (then_deed (L.optional t first) (optional t first) d)
       (then-fits types t (L.optional t first) w (optional t first) d (optional-fits types t first) (stepping-fits types t 2 0 l test post posts (L.in_order (parts (steps_of xs))).walk (in_order (steps_of xs)) (order xs b)))
 
-  at : (y : Stmt-F K S) → (stmt_form_step (map-Stmt Clause Stmt ClauseForm StmtForm clause_form stmt_form (bare y))).good ≡ true → Right (step_step t (stepped y))
+  at : (y : StmtLayer Q P) → (stmt_form_step (map-Stmt Clause Stmt ClauseForm StmtForm clause_form stmt_form (bare_stmt Q P y))).good ≡ true → Right (step_layer t (bare_stmt Q P y))
   at (F.Var v) g = var-fits types t v.line v.name v.content
   at (F.Simple x) g = simple-fits types t x
   at (F.Go l f xs) g = begin-fits types t Instr.Go (λ j m. refl) l f xs
@@ -137,27 +119,25 @@ module _ (types : Types) (t : Tables) where
   at (F.For l h xs) g = let b = and_parts (header_good h) (stmts_good (forms xs)) g in loop l h xs b.0 b.1
   at (F.Select l cs) g = let b = and_parts (list_all (λ (c : ClauseForm). c.good) (clause_forms cs)) _ g in select-fits types t l (clauses_of cs) (each-clause cs b.0) (one-default cs b.1)
 
-  clause-at : (y : Clause-F K S) → (is_some (clause_step_step t (stepped_clause y)).part.kind ≡ not (clause_form_step (map-Clause Clause Stmt ClauseForm StmtForm clause_form stmt_form (bare_clause y))).default)
-      × ((clause_form_step (map-Clause Clause Stmt ClauseForm StmtForm clause_form stmt_form (bare_clause y))).good ≡ true → ClauseFits types t (clause_step_step t (stepped_clause y)))
+  clause-at : (y : ClauseLayer Q P) → (is_some (clause_layer t (bare_clause Q P y)).part.kind ≡ not (clause_form_step (map-Clause Clause Stmt ClauseForm StmtForm clause_form stmt_form (bare_clause Q P y))).default)
+      × ((clause_form_step (map-Clause Clause Stmt ClauseForm StmtForm clause_form stmt_form (bare_clause Q P y))).good ≡ true → ClauseFits types t (clause_layer t (bare_clause Q P y)))
   clause-at (F.Case k c xs) = (refl, λ g. case-fits types t k c (steps_of xs) (each xs (and_parts (comm_good c) (stmts_good (forms xs)) g).1))
   clause-at (F.Default k xs) = (refl, λ g. default-fits types t k (steps_of xs) (each xs g))
 
-  rolled : (y : Stmt-F K S) → P (roll-Stmt (bare y))
-  unfolding step clause_step
+  rolled : (y : StmtLayer Q P) → P (roll-Stmt (bare_stmt Q P y))
   rolled y g =
-      let good = subst (λ (f : StmtForm). f.good ≡ true) (fold-roll-Stmt ClauseForm StmtForm clause_form_step stmt_form_step (bare y)) g in
-      subst Right (sym (fold-roll-Stmt ClauseStep Step (clause_step_step t) (step_step t) (bare y))) (at y good)
+      let good = subst (λ (f : StmtForm). f.good ≡ true) (fold-roll-Stmt ClauseForm StmtForm clause_form_step stmt_form_step (bare_stmt Q P y)) g in
+      subst Right (sym (step-rolls t (bare_stmt Q P y))) (at y good)
 
-  clause-rolled : (y : Clause-F K S) → Q (roll-Clause (bare_clause y))
-  unfolding step clause_step
+  clause-rolled : (y : ClauseLayer Q P) → Q (roll-Clause (bare_clause Q P y))
   clause-rolled y =
-      let is = sym (fold-roll-Clause ClauseForm StmtForm clause_form_step stmt_form_step (bare_clause y)) in
-      subst (λ (f : ClauseForm). (is_some (clause_step t (roll-Clause (bare_clause y))).part.kind ≡ not f.default) × (f.good ≡ true → ClauseFits types t (clause_step t (roll-Clause (bare_clause y))))) is
-      (subst (λ (c : ClauseStep). (is_some c.part.kind ≡ not (clause_form_step (map-Clause Clause Stmt ClauseForm StmtForm clause_form stmt_form (bare_clause y))).default) × ((clause_form_step (map-Clause Clause Stmt ClauseForm StmtForm clause_form stmt_form (bare_clause y))).good ≡ true → ClauseFits types t c))
-      (sym (fold-roll-Clause ClauseStep Step (clause_step_step t) (step_step t) (bare_clause y))) (clause-at y))
+      let is = sym (fold-roll-Clause ClauseForm StmtForm clause_form_step stmt_form_step (bare_clause Q P y)) in
+      subst (λ (f : ClauseForm). (is_some (clause_step t (roll-Clause (bare_clause Q P y))).part.kind ≡ not f.default) × (f.good ≡ true → ClauseFits types t (clause_step t (roll-Clause (bare_clause Q P y))))) is
+      (subst (λ (c : ClauseStep). (is_some c.part.kind ≡ not (clause_form_step (map-Clause Clause Stmt ClauseForm StmtForm clause_form stmt_form (bare_clause Q P y))).default) × ((clause_form_step (map-Clause Clause Stmt ClauseForm StmtForm clause_form stmt_form (bare_clause Q P y))).good ≡ true → ClauseFits types t c))
+      (sym (clause-rolls t (bare_clause Q P y))) (clause-at y))
 
   pub right-stmt : (x : Stmt) → P x
-  right-stmt = ind-Stmt Q P (λ x y is. subst (λ z. Q (roll-Clause z)) is (clause-rolled y)) (λ x y is. subst (λ z. P (roll-Stmt z)) is (rolled y))
+  right-stmt = every-stmt Q P clause-rolled rolled
 
 pub statements-fit : StatementsFit
-statements-fit types t x good = subst (λ w. StatementFits types t w (step t x).deed) (ap (λ (p : L.Part). p.walk) (all-mean t x).1 ∙ statement t x) (right-stmt types t x good)
+statements-fit types t x good = subst (λ w. StatementFits types t w (step t x).deed) (ap (λ (p : L.Part). p.walk) (step-part t x) ∙ statement t x) (right-stmt types t x good)
