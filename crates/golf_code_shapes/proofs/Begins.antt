@@ -41,7 +41,7 @@ use Rattle.golf_code_shapes.specs.Sound.{ScopeFits, Shown, Gives, Callee, Turns,
 use Rattle.golf_code_shapes.specs.Flowing.{IsMaking, MadeFit}
 use Rattle.golf_code_shapes.proofs.Typings.{none-left, none-right, kept, sent-on, assigned-value}
 use Rattle.golf_code_shapes.proofs.Literals.{Arg, judgeds, arg-gives}
-use Rattle.golf_code_shapes.proofs.CallShapes.{arguments, Passes, passed, parts, one-passed}
+use Rattle.golf_code_shapes.proofs.CallShapes.{arguments, Passes, Taken, passed, parts, one-passed}
 use Rattle.golf_code_shapes.proofs.Exprs.{fits}
 use Rattle.golf_code_shapes.proofs.Flows.{Right, quiet}
 
@@ -91,14 +91,14 @@ module _ (types : Types) (t : Tables) (ft : FunctionTypes) (A : List ℕ) (s : S
 
   -- An instruction that begins a function.
   module _ (begin : ℕ → ℕ → Instr) (rule : (full : List Shape) (k : ℕ) (sh : Shape) (f n : ℕ) → TakesArguments types (filled ft full) k sh f n (λ callee. []) → InstructionFits types (filled ft full) k (begin f n) sh) where
-    begins : (l f n : ℕ) (below ts : List ValueType) (callee : Signature) (receiver args : Piece) → slice_get types.functions f ≡ Some callee → n ≡ length callee.params → ((ops : List ValueType) → pushed callee.params ops ≡ pushed ts (below ++ ops))
-        → Turns types ft A receiver [] below → Passes types t ft A s args ts → Silent types ft A (all (receiver ∷ args ∷ op l (begin f n) ∷ []))
-    begins l f n below ts callee receiver args there count stand hr ha ops exits =
+    begins : (l f n : ℕ) (receiver args : Piece) → Taken types t ft A s f n receiver args → Silent types ft A (all (receiver ∷ args ∷ op l (begin f n) ∷ []))
+    begins l f n receiver args c ops exits =
         let to = shape ops A in
-        has-then types ft receiver _ (shape ops A) (shape (below ++ ops) A) to exits (hr ops exits)
-        (has-then types ft args _ (shape (below ++ ops) A) (shape (pushed ts (below ++ ops)) A) to exits (ha (below ++ ops) exits)
-        (has-then types ft (op l (begin f n)) Piece.Empty (shape (pushed ts (below ++ ops)) A) to to exits
-        (has-op types ft (begin f n) l (shape (pushed ts (below ++ ops)) A) to exits (λ full at g. rule full at (shape (pushed ts (below ++ ops)) A) f n (callee, ops, there, count, sym (stand ops), g)))
+        let stood = shape (pushed c.above (c.below ++ ops)) A in
+        has-then types ft receiver _ (shape ops A) (shape (c.below ++ ops) A) to exits (c.receiver_turns ops exits)
+        (has-then types ft args _ (shape (c.below ++ ops) A) stood to exits (c.arguments_pass (c.below ++ ops) exits)
+        (has-then types ft (op l (begin f n)) Piece.Empty stood to to exits
+        (has-op types ft (begin f n) l stood to exits (λ full at g. rule full at stood f n (c.callee, ops, c.there, c.count, sym (c.stand ops), g)))
         (has-empty types ft to exits)))
 
     -- a built-in operation: the function that is made has the types of receiver and arguments
@@ -108,14 +108,40 @@ module _ (types : Types) (t : Tables) (ft : FunctionTypes) (A : List ℕ) (s : S
       where
         by-receiver : (o : Option Base) → Receives types ft A o receiver → (callee : Signature) × (slice_get types.functions next ≡ Some callee) × (callee.params ≡ known_types (with_receiver o (typed_args xs)))
             → Silent types ft A (all (receiver ∷ pushes (arguments types t ft A s xs) ∷ op l (begin next (length (with_receiver o (typed_args xs)))) ∷ []))
-        by-receiver None h c = begins l next (length (typed_args xs)) [] (known_types (typed_args xs)) c.0 receiver (pushes (arguments types t ft A s xs)) c.1 (sym (length-map (typed_args xs) known_type) ∙ ap length (sym c.2)) (λ ops. ap (λ ps. pushed ps ops) c.2) h (all-typed l xs u)
-        by-receiver (Some r) h c =
-            begins l next (length (with_receiver (Some r) (typed_args xs))) (base_type r ∷ []) (known_types (typed_args xs)) c.0 receiver (pushes (arguments types t ft A s xs)) c.1 (sym (length-map (with_receiver (Some r) (typed_args xs)) known_type) ∙ ap length (sym c.2)) (λ ops. ap (λ ps. pushed ps ops) c.2) h (all-typed l xs u)
+        by-receiver None h c = begins l next (length (typed_args xs)) receiver (pushes (arguments types t ft A s xs)) (record {
+          callee = c.0;
+          below = [];
+          above = known_types (typed_args xs);
+          there = c.1;
+          count = sym (length-map (typed_args xs) known_type) ∙ ap length (sym c.2);
+          stand = λ ops. ap (λ ps. pushed ps ops) c.2;
+          receiver_turns = h;
+          arguments_pass = all-typed l xs u;
+        })
+        by-receiver (Some r) h c = begins l next (length (with_receiver (Some r) (typed_args xs))) receiver (pushes (arguments types t ft A s xs)) (record {
+          callee = c.0;
+          below = base_type r ∷ [];
+          above = known_types (typed_args xs);
+          there = c.1;
+          count = sym (length-map (with_receiver (Some r) (typed_args xs)) known_type) ∙ ap length (sym c.2);
+          stand = λ ops. ap (λ ps. pushed ps ops) c.2;
+          receiver_turns = h;
+          arguments_pass = all-typed l xs u;
+        })
 
     file-begins : (l k n : ℕ) (below : List ValueType) (c : Callee types t s.file k below) (receiver : Piece) (xs : List (Arg types t ft A s)) → ((ts ops : List ValueType) → pushed (below ++ ts) ops ≡ pushed ts (below ++ ops)) → n ≡ length (below ++ known_types c.0.parameters)
         → Passes types t ft A s (pushes (arguments types t ft A s xs)) (known_types c.0.parameters) → Turns types ft A receiver [] below → Silent types ft A (all (receiver ∷ pushes (arguments types t ft A s xs) ∷ op l (begin (k + 1) n) ∷ []))
     file-begins l k n below c receiver xs stand count pass hr =
-        begins l (k + 1) n below (known_types c.0.parameters) c.1 receiver (pushes (arguments types t ft A s xs)) c.3 (count ∙ ap length (sym c.4)) (λ ops. ap (λ ps. pushed ps ops) c.4 ∙ stand (known_types c.0.parameters) ops) hr pass
+        begins l (k + 1) n receiver (pushes (arguments types t ft A s xs)) (record {
+          callee = c.1;
+          below = below;
+          above = known_types c.0.parameters;
+          there = c.3;
+          count = count ∙ ap length (sym c.4);
+          stand = λ ops. ap (λ ps. pushed ps ops) c.4 ∙ stand (known_types c.0.parameters) ops;
+          receiver_turns = hr;
+          arguments_pass = pass;
+        })
 
     -- what may be begun
     on-begin : (l next : ℕ) (m : Operand) (x : Made) (xs : List (Arg types t ft A s)) → may_be_begun m ≡ true → (called_with l s m (Js xs)).faults ≡ [] → Shown types t ft A s.file m x → MadeFit types next (makings l m (arguments types t ft A s xs))

@@ -158,19 +158,26 @@ module _ (types : Types) (t : Tables) (ft : FunctionTypes) where
 
   -- loops
 
-  -- the body of a loop, which `break` and `continue` leave by these targets
-  pub looped : (x : Part) → Right types t ft x → (b c : ℕ) (a : Around) (s : Scope) (A : List ℕ) (exits : List Shape) → Calm x → Fits A s → Reaches exits [] A b → Reaches exits [] A c
-      → Slotted ft s.next ((in_loop b c x).walk s).slots → MadeFit types a.functions ((in_loop b c x).lay a s).made → ((in_loop b c x).walk s).faults ≡ []
+  -- the body of a loop stands in this scope, and `break` and `continue` leave it by these targets
+  pub record Loops (x : Part) (b c : ℕ) (a : Around) (s : Scope) (A : List ℕ) (exits : List Shape) : Type 0 where
+    pub fits : Fits A s
+    pub breaks : Reaches exits [] A b
+    pub continues : Reaches exits [] A c
+    pub slots : Slotted ft s.next ((in_loop b c x).walk s).slots
+    pub made : MadeFit types a.functions ((in_loop b c x).lay a s).made
+    pub none : ((in_loop b c x).walk s).faults ≡ []
+
+  pub looped : (x : Part) → Right types t ft x → (b c : ℕ) (a : Around) (s : Scope) (A : List ℕ) (exits : List Shape) → Loops x b c a s A exits
       → Has types ft ((in_loop b c x).lay a s).piece (shape [] A) (shape [] A) exits × Every IsMaking ((in_loop b c x).lay a s).made
-  looped x h b c a s A exits calm ok rb rc slots made none =
-      calm-has x h (record { breaks = b; continues = c; functions = a.functions }) (record s { breaks = true; loops = true }) A exits (record { file = ok.file; locals = ok.locals; result = ok.result })
-      (record { breaks = λ e. rb; continues = λ e. rc }) slots made none
+  looped x h b c a s A exits is =
+      calm-has x h (record { breaks = b; continues = c; functions = a.functions }) (record s { breaks = true; loops = true }) A exits (record { file = is.fits.file; locals = is.fits.locals; result = is.fits.result })
+      (record { breaks = λ e. is.breaks; continues = λ e. is.continues }) is.slots is.made is.none
 
   pub right-forever : (l : ℕ) (x : Part) → Calm x → Right types t ft x → Right types t ft (forever l (in_loop 1 0 x))
   right-forever l x calm h a s A exits ok ways slots made none =
       let sh = shape [] A in
       let E : List Shape = sh ∷ sh ∷ exits in
-      let b = looped x h 1 0 a s A E calm ok (A, refl, every-self A) (A, refl, every-self A) slots made none in (
+      let b = looped x h 1 0 a s A E (record { fits = ok; breaks = (A, refl, every-self A); continues = (A, refl, every-self A); slots = slots; made = made; none = none }) in (
         quiet types t ft A exits s ((forever l (in_loop 1 0 x)).walk s) _ (calm (record s { breaks = true; loops = true })) ok
             (has-block types ft _ sh sh exits (has-again types ft _ sh sh (sh ∷ exits)
             (has-then types ft _ _ sh sh sh E b.0
@@ -183,7 +190,7 @@ module _ (types : Types) (t : Tables) (ft : FunctionTypes) where
       let sh = shape [] A in
       let E : List Shape = sh ∷ sh ∷ exits in
       let body = ((in_loop 1 0 x).lay a s).piece in
-      let b = looped x h 1 0 a s A E calm ok (A, refl, every-self A) (A, refl, every-self A) slots made (none-right (W.condition l test s).faults _ none) in (
+      let b = looped x h 1 0 a s A E (record { fits = ok; breaks = (A, refl, every-self A); continues = (A, refl, every-self A); slots = slots; made = made; none = none-right (W.condition l test s).faults _ none }) in (
         quiet types t ft A exits s ((while t l test (in_loop 1 0 x)).walk s) _ (calm (record s { breaks = true; loops = true })) ok
             (has-block types ft _ sh sh exits (has-again types ft _ sh sh (sh ∷ exits)
             (has-then types ft (piece_at t l s test) _ sh (shape (ValueType.Bool ∷ []) A) sh E (tests l test s A ok (none-left (W.condition l test s).faults _ none) [] E)
@@ -223,7 +230,14 @@ module _ (types : Types) (t : Tables) (ft : FunctionTypes) where
       let m = simple s A ok (slotted-left types t ft s.next (w s).slots _ slots1) (none-left (w s).faults _ rest) in
       let ok1 : Fits A s1 = scope-quiet types t ft A s (w s) (quiet-post s) ok in
       let body = ((in_loop 2 0 x).lay a1 s1).piece in
-      let hb = looped x h 2 0 a1 s1 A E calm ok1 (A, refl, every-self A) (A, refl, every-self A) (slotted-right types t ft s.next s1.next (w s).slots _ refl slots1) (made-right types t ft a.functions (a.functions + 0) [] ((in_loop 2 0 x).lay a1 s1).made refl made) (none-right (w s).faults _ rest) in (
+      let hb = looped x h 2 0 a1 s1 A E (record {
+        fits = ok1;
+        breaks = (A, refl, every-self A);
+        continues = (A, refl, every-self A);
+        slots = slotted-right types t ft s.next s1.next (w s).slots _ refl slots1;
+        made = made-right types t ft a.functions (a.functions + 0) [] ((in_loop 2 0 x).lay a1 s1).made refl made;
+        none = none-right (w s).faults _ rest;
+      }) in (
         quiet types t ft A exits s ((stepping t l test (simply w p) (in_loop 2 0 x)).walk s) _ (same-nil o.declares (w s).declares (x.walk (record s1 { breaks = true; loops = true })).declares (quiet-test l test s) (quiet-post s) (calm (record s1 { breaks = true; loops = true }))) ok
             (has-block types ft _ sh sh exits (has-again types ft _ sh sh (sh ∷ exits)
             (has-then types ft (optional_test t l test s) _ sh sh sh F (optional-tested l test s A F ok (A, refl, every-self A) (none-left o.faults _ none))

@@ -86,16 +86,27 @@ module _ (types : Types) (t : Tables) (ft : FunctionTypes) (A : List ℕ) (s : S
   gives-result None p h = h
   gives-result (Some e) p h = h
 
+  -- receiver and arguments leave what the function of this number takes, and are so many
+  pub record Taken (f n : ℕ) (receiver args : Piece) : Type 0 where
+    pub callee : Signature
+    pub below : List ValueType
+    pub above : List ValueType
+    pub there : slice_get types.functions f ≡ Some callee
+    pub count : n ≡ length callee.params
+    pub stand : (ops : List ValueType) → pushed callee.params ops ≡ pushed above (below ++ ops)
+    pub receiver_turns : Tu receiver [] below
+    pub arguments_pass : Passes args above
+
   -- receiver and arguments stand, and the function takes them
-  call-turns : (l k n : ℕ) (below ts : List ValueType) (callee : Signature) (r : Option GoType) (receiver args : Piece) → slice_get types.functions (k + 1) ≡ Some callee → callee.result ≡ option_map value_type r → n ≡ length callee.params
-      → ((ops : List ValueType) → pushed callee.params ops ≡ pushed ts (below ++ ops)) → Tu receiver [] below → Passes args ts
+  call-turns : (l k n : ℕ) (r : Option GoType) (receiver args : Piece) (c : Taken (k + 1) n receiver args) → c.callee.result ≡ option_map value_type r
       → (ops : List ValueType) (exits : List Shape) → Has types ft (all (receiver ∷ args ∷ op l (Instr.Call (k + 1) n) ∷ [])) (shape ops A) (shape (option_to_list (option_map value_type r) ++ ops) A) exits
-  call-turns l k n below ts callee r receiver args there result count stand hr ha ops exits =
+  call-turns l k n r receiver args c result ops exits =
       let to = shape (option_to_list (option_map value_type r) ++ ops) A in
-      has-then types ft receiver _ (shape ops A) (shape (below ++ ops) A) to exits (hr ops exits)
-      (has-then types ft args _ (shape (below ++ ops) A) (shape (pushed ts (below ++ ops)) A) to exits (ha (below ++ ops) exits)
-      (has-then types ft (op l (Instr.Call (k + 1) n)) Piece.Empty (shape (pushed ts (below ++ ops)) A) to to exits
-      (has-op types ft (Instr.Call (k + 1) n) l (shape (pushed ts (below ++ ops)) A) to exits (λ full at g. (callee, ops, there, count, sym (stand ops), subst (λ z. To (filled ft full) (shape (option_to_list z ++ ops) A) (at + 1)) (sym result) g)))
+      let stood = shape (pushed c.above (c.below ++ ops)) A in
+      has-then types ft receiver _ (shape ops A) (shape (c.below ++ ops) A) to exits (c.receiver_turns ops exits)
+      (has-then types ft args _ (shape (c.below ++ ops) A) stood to exits (c.arguments_pass (c.below ++ ops) exits)
+      (has-then types ft (op l (Instr.Call (k + 1) n)) Piece.Empty stood to to exits
+      (has-op types ft (Instr.Call (k + 1) n) l stood to exits (λ full at g. (c.callee, ops, c.there, c.count, sym (c.stand ops), subst (λ z. To (filled ft full) (shape (option_to_list z ++ ops) A) (at + 1)) (sym result) g)))
       (has-empty types ft to exits)))
 
   of-signature : (l k : ℕ) (below : List ValueType) (c : Callee types t s.file k below) (vs : List Given) → call_faults l s.file (operand.Function k) vs ≡ [] → parameter_faults l c.0.parameters vs ≡ []
@@ -105,7 +116,16 @@ module _ (types : Types) (t : Tables) (ft : FunctionTypes) (A : List ℕ) (s : S
       → Passes (pushes (arguments xs)) (known_types c.0.parameters) → Tu receiver [] below
       → Sh (signature_result (slice_get s.file.functions k)) (only (all (receiver ∷ pushes (arguments xs) ∷ op l (Instr.Call (k + 1) n) ∷ [])))
   file-call l k n below c receiver xs stand count pass hr = subst (λ o. Sh (signature_result o) (only (all (receiver ∷ pushes (arguments xs) ∷ op l (Instr.Call (k + 1) n) ∷ [])))) (sym c.2)
-      (gives-result c.0.result _ (call-turns l k n below (known_types c.0.parameters) c.1 c.0.result receiver (pushes (arguments xs)) c.3 c.5 (count ∙ ap length (sym c.4)) (λ ops. ap (λ ps. pushed ps ops) c.4 ∙ stand (known_types c.0.parameters) ops) hr pass))
+      (gives-result c.0.result _ (call-turns l k n c.0.result receiver (pushes (arguments xs)) (record {
+        callee = c.1;
+        below = below;
+        above = known_types c.0.parameters;
+        there = c.3;
+        count = count ∙ ap length (sym c.4);
+        stand = λ ops. ap (λ ps. pushed ps ops) c.4 ∙ stand (known_types c.0.parameters) ops;
+        receiver_turns = hr;
+        arguments_pass = pass;
+      }) c.5))
 
   -- the plain faults of a call
   pub parts : (l : ℕ) (m : Operand) (xs : Args) → (plain_call l s m (js xs)).faults ≡ [] → (flat_map (used l) (js xs) ≡ []) × (call_faults l s.file m (map given_by (js xs)) ≡ [])
@@ -225,11 +245,11 @@ module _ (types : Types) (t : Tables) (ft : FunctionTypes) (A : List ℕ) (s : S
       (silent-one l Instr.Panic receiver one.0 ValueType.Text [] h p (turn-op types ft A Instr.Panic l (ValueType.Text ∷ []) [] (λ full k ops g. (ops, refl))))
 
   -- with parameters of these types
-  with-parameters : (l : ℕ) (receiver : Piece) (xs : Args) (ps : List (Option GoType)) (below zs : List ValueType) (r : Piece) → Every IsKnown ps → flat_map (used l) (js xs) ≡ [] → parameter_faults l ps (map given_by (js xs)) ≡ [] → Tu receiver [] below
+  with-parameters : (l : ℕ) (receiver : Piece) (xs : Args) (ps : List (Option GoType)) (below zs : List ValueType) (r : Piece) → Every IsKnown ps → (flat_map (used l) (js xs) ≡ []) × (parameter_faults l ps (map given_by (js xs)) ≡ []) → Tu receiver [] below
       → ((ops : List ValueType) (exits : List Shape) → Has types ft r (shape (pushed (known_types ps) (below ++ ops)) A) (shape (zs ++ ops) A) exits) → Tu (all (receiver ∷ pushes (arguments xs) ∷ r ∷ [])) [] zs
-  with-parameters l receiver xs ps below zs r known u none h hr =
+  with-parameters l receiver xs ps below zs r known f h hr =
       operates receiver (pushes (arguments xs)) r below (known_types ps) zs h
-      (passes l xs ps known u (none-left (argument_faults l ps (map given_by (js xs))) _ none) (kept l 11 _ (none-right (argument_faults l ps (map given_by (js xs))) _ none))).1 hr
+      (passes l xs ps known f.0 (none-left (argument_faults l ps (map given_by (js xs))) _ f.1) (kept l 11 _ (none-right (argument_faults l ps (map given_by (js xs))) _ f.1))).1 hr
 
   takes-one : (l : ℕ) (i : Instr) (e : ValueType) → ((full : List Shape) (k : ℕ) (ops : List ValueType) → To (filled ft full) (shape ops A) (k + 1) → InstructionFits types (filled ft full) k i (shape (e ∷ ops) A)) → Tu (op l i) (e ∷ []) []
   takes-one l i e r = turn-op types ft A i l (e ∷ []) [] r
@@ -243,14 +263,14 @@ module _ (types : Types) (t : Tables) (ft : FunctionTypes) (A : List ℕ) (s : S
   on-built-in l built_in.Print receiver xs e none h = let f = parts l (operand.BuiltIn built_in.Print) xs none in late-shown 21 (list_all prints (map given_by (js xs))) _ (on-print l receiver xs f.0 h)
   on-built-in l built_in.Collect receiver xs e none h =
       let f = parts l (operand.BuiltIn built_in.Collect) xs none in
-      with-parameters l receiver xs [] [] [] (op l Instr.Collect) tt f.0 f.1 h (turn-op types ft A Instr.Collect l [] [] (λ full k ops g. (ops, refl, g)))
+      with-parameters l receiver xs [] [] [] (op l Instr.Collect) tt f h (turn-op types ft A Instr.Collect l [] [] (λ full k ops g. (ops, refl, g)))
   on-built-in l built_in.SetFinalizer receiver xs e none h = cc
   on-built-in l built_in.NewCondition receiver xs e none h =
       let f = parts l (operand.BuiltIn built_in.NewCondition) xs none in
-      with-parameters l receiver xs (Some (plain base.Mutex) ∷ []) [] (ValueType.Cond ∷ []) (op l Instr.NewCond) ((plain base.Mutex, refl), tt) f.0 f.1 h (turn-op types ft A Instr.NewCond l (ValueType.Mutex ∷ []) (ValueType.Cond ∷ []) (λ full k ops g. (ops, refl, g)))
+      with-parameters l receiver xs (Some (plain base.Mutex) ∷ []) [] (ValueType.Cond ∷ []) (op l Instr.NewCond) ((plain base.Mutex, refl), tt) f h (turn-op types ft A Instr.NewCond l (ValueType.Mutex ∷ []) (ValueType.Cond ∷ []) (λ full k ops g. (ops, refl, g)))
   on-built-in l built_in.Add receiver xs e none h =
       let f = parts l (operand.BuiltIn built_in.Add) xs none in
-      with-parameters l receiver xs (Some (plain base.Int) ∷ []) (ValueType.Group ∷ []) [] (op l Instr.GroupAdd) ((plain base.Int, refl), tt) f.0 f.1 h (turn-op types ft A Instr.GroupAdd l (ValueType.Int ∷ ValueType.Group ∷ []) [] (λ full k ops g. (ops, refl, g)))
+      with-parameters l receiver xs (Some (plain base.Int) ∷ []) (ValueType.Group ∷ []) [] (op l Instr.GroupAdd) ((plain base.Int, refl), tt) f h (turn-op types ft A Instr.GroupAdd l (ValueType.Int ∷ ValueType.Group ∷ []) [] (λ full k ops g. (ops, refl, g)))
   on-built-in l built_in.Done receiver xs e none h =
       let f = parts l (operand.BuiltIn built_in.Done) xs none in
       on-receiver l built_in.Done base.Group _ receiver xs f.1 h

@@ -27,7 +27,7 @@ use Rattle.golf_code_shapes_layout.proofs.Pieces.{every-self, has-empty, has-op,
 use Rattle.golf_code_of.specs.declared.tables.Tables.{Tables}
 use Rattle.golf_code_of.specs.Coding.{piece_at}
 use Rattle.golf_code_of.specs.declared.making.Around.{Around}
-use Rattle.golf_code_of.specs.Statements.{Part, laid, past, then_lay, in_order, stores_name, stores_pair}
+use Rattle.golf_code_of.specs.Statements.{Part, Lay, laid, past, then_lay, in_order, stores_name, stores_pair}
 use Rattle.golf_code_of.specs.Selects.{ClausePart, case_clause, default_clause, breaking, case_to, cases_from, default_or, default_from, choice, in_clause, clauses_lay, select_part}
 use Rattle.golf_code_shapes.specs.Types.{value_type, known_type}
 use Rattle.golf_code_shapes.specs.Sound.{LocalFits, ScopeFits, Pushes}
@@ -67,33 +67,54 @@ module _ (types : Types) (t : Tables) (ft : FunctionTypes) where
   abbrev Fits : List ℕ → Scope → Type 0
   Fits = ScopeFits types t ft
 
+  -- code in this scope has its shape from these operands on, wherever it is laid and `break` and `continue` lead on
+  abbrev pub BodyHas : Lay → Scope → Scope → List ValueType → List ℕ → Type 0
+  BodyHas lay s at leaves A = (b : Around) (exits : List Shape) → Reaches exits [] A b.breaks → (s.loops ≡ true → Reaches exits [] A b.continues) → MadeFit types b.functions (lay b at).made → Has types ft (lay b at).piece (shape leaves A) (shape [] A) exits × Every IsMaking (lay b at).made
+
   -- What a clause does: its operands, in the scope of the `select`, and its code after the choice.
   pub record ClauseGives (l : ℕ) (c : ClausePart) (s r : Scope) (A : List ℕ) : Type 0 where
     pub e : ValueType
     pub operands : (ops : List ValueType) (exits : List Shape) → Has types ft (c.operands l r) (shape ops A) (shape (takes_of c.kind e ops) A) exits
-    pub body : (b : Around) (exits : List Shape) → Reaches exits [] A b.breaks → (s.loops ≡ true → Reaches exits [] A b.continues) → MadeFit types b.functions (c.lay l b s).made
-        → Has types ft (c.lay l b s).piece (shape (leaves_of c.kind e) A) (shape [] A) exits × Every IsMaking (c.lay l b s).made
+    pub body : BodyHas (c.lay l) s s (leaves_of c.kind e) A
 
   pub record ClauseFits (c : ClausePart) : Type 0 where
     pub calm : (l : ℕ) (s : Scope) → (c.walk l s).declares ≡ []
     pub gives : (l : ℕ) (s r : Scope) (A : List ℕ) → Fits A s → Fits A r → Alike r s → Slotted ft s.next (c.walk l s).slots → (c.walk l s).faults ≡ [] → ClauseGives l c s r A
 
+  -- what a communication leaves is taken in by this piece, and these slots are assigned then
+  record TakesIn (w : Walk) (p : Scope → Piece) (s : Scope) (A : List ℕ) (leaves : List ValueType) (exits : List Shape) : Type 0 where
+    assigned : List ℕ
+    more : Every (λ i. In i assigned) A
+    fits : Fits assigned (behind (begun s) (w (begun s)))
+    has : Has types ft (p (begun s)) (shape leaves A) (shape [] assigned) exits
+
+  -- a clause stands where its body can: `break` and `continue` lead on, its slots have their types, what is made fits, and no rule is broken
+  record Stands (w : Walk) (p : Scope → Piece) (x : Part) (b : Around) (s : Scope) (A : List ℕ) (exits : List Shape) : Type 0 where
+    breaks : Reaches exits [] A b.breaks
+    continues : s.loops ≡ true → Reaches exits [] A b.continues
+    slots : Slotted ft s.next (W.in_block (W.then w (W.breaking x.walk)) s).slots
+    made : MadeFit types b.functions (then_lay (λ a r. laid (p r)) w (breaking x).lay b (begun s)).made
+    none : (W.in_block (W.then w (W.breaking x.walk)) s).faults ≡ []
+
   -- the statements of a clause after its communication
-  body-has : (w : Walk) (p : Scope → Piece) (x : Part) → Right types t ft x → (b : Around) (s : Scope) (A : List ℕ) (leaves : List ValueType) (exits : List Shape) (B : List ℕ) → Every (λ i. In i B) A → Fits B (behind (begun s) (w (begun s)))
-      → Has types ft (p (begun s)) (shape leaves A) (shape [] B) exits → Reaches exits [] A b.breaks → (s.loops ≡ true → Reaches exits [] A b.continues)
-      → Slotted ft s.next (W.in_block (W.then w (W.breaking x.walk)) s).slots → MadeFit types b.functions (then_lay (λ a r. laid (p r)) w (breaking x).lay b (begun s)).made → (W.in_block (W.then w (W.breaking x.walk)) s).faults ≡ []
+  body-has : (w : Walk) (p : Scope → Piece) (x : Part) → Right types t ft x → (b : Around) (s : Scope) (A : List ℕ) (leaves : List ValueType) (exits : List Shape) → TakesIn w p s A leaves exits → Stands w p x b s A exits
       → Has types ft (then_lay (λ a r. laid (p r)) w (breaking x).lay b (begun s)).piece (shape leaves A) (shape [] A) exits × Every IsMaking (then_lay (λ a r. laid (p r)) w (breaking x).lay b (begun s)).made
-  body-has w p x right b s A leaves exits B more ok hp rb rc slots made none =
+  body-has w p x right b s A leaves exits taken stands =
+      let B = taken.assigned in
+      let more = taken.more in
+      let ok = taken.fits in
+      let slots = stands.slots in
+      let made = stands.made in
       let s0 = begun s in
       let v = w s0 in
       let s1 = behind s0 v in
       let s2 = record s1 { breaks = true } in
       let b1 = past b (laid (p s0)) in
       let wide : (k : ℕ) → Reaches exits [] A k → Reaches exits [] B k = λ k q. (q.0, q.1, then-in q.0 A B q.2 more) in
-      let h = right b1 s2 B exits (record { file = ok.file; locals = ok.locals; result = ok.result }) (record { breaks = λ e. wide b.breaks rb; continues = λ e. wide b.continues (rc e) })
-      (slotted-right types t ft s.next s1.next v.slots (x.walk s2).slots refl slots) (made-right types t ft b.functions (b.functions + 0) [] (x.lay b1 s2).made refl made) (none-right v.faults _ none) in
+      let h = right b1 s2 B exits (record { file = ok.file; locals = ok.locals; result = ok.result }) (record { breaks = λ e. wide b.breaks stands.breaks; continues = λ e. wide b.continues (stands.continues e) })
+      (slotted-right types t ft s.next s1.next v.slots (x.walk s2).slots refl slots) (made-right types t ft b.functions (b.functions + 0) [] (x.lay b1 s2).made refl made) (none-right v.faults _ stands.none) in
       let g = h.0 in (
-        has-then types ft (p s0) (x.lay b1 s2).piece (shape leaves A) (shape [] B) (shape [] A) exits hp (has-weaker types ft (x.lay b1 s2).piece (shape [] B) [] A g.0 exits (then-in A B g.0 more g.1) g.3),
+        has-then types ft (p s0) (x.lay b1 s2).piece (shape leaves A) (shape [] B) (shape [] A) exits taken.has (has-weaker types ft (x.lay b1 s2).piece (shape [] B) [] A g.0 exits (then-in A B g.0 more g.1) g.3),
         h.1,
       )
 
@@ -148,17 +169,16 @@ module _ (types : Types) (t : Tables) (ft : FunctionTypes) where
               has-then types ft (piece_at t l r c) _ (shape ops A) (shape (ValueType.Chan T ∷ ops) A) (shape (T ∷ ValueType.Chan T ∷ ops) A) exits (ch.2 ops exits)
               (has-then types ft (piece_at t l r e) Piece.Empty (shape (ValueType.Chan T ∷ ops) A) (shape (T ∷ ValueType.Chan T ∷ ops) A) (shape (T ∷ ValueType.Chan T ∷ ops) A) exits (pv (ValueType.Chan T ∷ ops) exits) (has-empty types ft (shape (T ∷ ValueType.Chan T ∷ ops) A) exits));
           body = λ b exits rb rc made.
-              body-has (W.send l c e) (λ q. Piece.Empty) (in_order xs) right b s A [] exits A (every-self A) (scope-quiet types t ft A s0 (W.send l c e s0) refl (fits-begun A s ok)) (has-empty types ft (shape [] A) exits) rb rc slots made none;
+              body-has (W.send l c e) (λ q. Piece.Empty) (in_order xs) right b s A [] exits
+              (record { assigned = A; more = every-self A; fits = scope-quiet types t ft A s0 (W.send l c e s0) refl (fits-begun A s ok); has = has-empty types ft (shape [] A) exits })
+              (record { breaks = rb; continues = rc; slots = slots; made = made; none = none });
         };
   }
 
   -- a receive whose value is taken in by this piece
-  receive-clause : (l : ℕ) (e : Expr) (s r : Scope) (A : List ℕ) (v : GoType) (w : Walk) (p : Scope → Piece) (x : Part) → Right types t ft x → Pushes types ft A (piece_at t l r e) (ValueType.Chan (value_type v))
-      → (B : List ℕ) → Every (λ i. In i B) A → Fits B (behind (begun s) (w (begun s))) → ((exits : List Shape) → Has types ft (p (begun s)) (shape (value_type v ∷ []) A) (shape [] B) exits)
-      → Slotted ft s.next (W.in_block (W.then w (W.breaking x.walk)) s).slots → (W.in_block (W.then w (W.breaking x.walk)) s).faults ≡ []
-      → (b : Around) (exits : List Shape) → Reaches exits [] A b.breaks → (s.loops ≡ true → Reaches exits [] A b.continues) → MadeFit types b.functions (then_lay (λ a q. laid (p q)) w (breaking x).lay b (begun s)).made
-      → Has types ft (then_lay (λ a q. laid (p q)) w (breaking x).lay b (begun s)).piece (shape (value_type v ∷ []) A) (shape [] A) exits × Every IsMaking (then_lay (λ a q. laid (p q)) w (breaking x).lay b (begun s)).made
-  receive-clause l e s r A v w p x right hc B more ok hp slots none b exits rb rc made = body-has w p x right b s A (value_type v ∷ []) exits B more ok (hp exits) rb rc slots made none
+  receive-clause : (w : Walk) (p : Scope → Piece) (x : Part) → Right types t ft x → (s : Scope) (A : List ℕ) (v : GoType) → ((exits : List Shape) → TakesIn w p s A (value_type v ∷ []) exits)
+      → Slotted ft s.next (W.in_block (W.then w (W.breaking x.walk)) s).slots → (W.in_block (W.then w (W.breaking x.walk)) s).faults ≡ [] → BodyHas (then_lay (λ a q. laid (p q)) w (breaking x).lay) s (begun s) (value_type v ∷ []) A
+  receive-clause w p x right s A v taken slots none b exits rb rc made = body-has w p x right b s A (value_type v ∷ []) exits (taken exits) (record { breaks = rb; continues = rc; slots = slots; made = made; none = none })
 
   -- `case <-c`
   right-receive : (k : ℕ) (e : Expr) (xs : List Part) → Right types t ft (in_order xs) → ClauseFits (case_clause t k (comm.Receive e) xs)
@@ -170,8 +190,12 @@ module _ (types : Types) (t : Tables) (ft : FunctionTypes) where
         record {
           e = value_type c.0;
           operands = λ ops exits. c.2 ops exits;
-          body = receive-clause l e s r A c.0 (received l e) (λ q. op k Instr.Drop) (in_order xs) right c.2 A (every-self A) (scope-quiet types t ft A s0 (received l e s0) refl (fits-begun A s ok))
-              (λ exits. has-op types ft Instr.Drop k (shape (value_type c.0 ∷ []) A) (shape [] A) exits (λ full at g. (value_type c.0, ([], refl, g)))) slots none;
+          body = receive-clause (received l e) (λ q. op k Instr.Drop) (in_order xs) right s A c.0 (λ exits. record {
+            assigned = A;
+            more = every-self A;
+            fits = scope-quiet types t ft A s0 (received l e s0) refl (fits-begun A s ok);
+            has = has-op types ft Instr.Drop k (shape (value_type c.0 ∷ []) A) (shape [] A) exits (λ full at g. (value_type c.0, ([], refl, g)));
+          }) slots none;
         };
   }
 
@@ -189,9 +213,12 @@ module _ (types : Types) (t : Tables) (ft : FunctionTypes) where
         record {
           e = value_type c.0;
           operands = λ ops exits. c.2 ops exits;
-          body = receive-clause l e s r A c.0 w (λ q. op k (Instr.Store q.next)) (in_order xs) right c.2 B wide
-              (record { file = ok.file; locals = Every-append (LocalFits types t ft B) s.locals (w s0).declares (locals-wider types t ft A B wide s.locals ok.locals) ((c.0, c.1, inl refl, typed), tt); result = ok.result })
-              (λ exits. has-op types ft (Instr.Store s.next) k (shape (value_type c.0 ∷ []) A) (shape [] B) exits (λ full at g. (value_type c.0, [], typed, refl, g))) slots none;
+          body = receive-clause w (λ q. op k (Instr.Store q.next)) (in_order xs) right s A c.0 (λ exits. record {
+            assigned = B;
+            more = wide;
+            fits = record { file = ok.file; locals = Every-append (LocalFits types t ft B) s.locals (w s0).declares (locals-wider types t ft A B wide s.locals ok.locals) ((c.0, c.1, inl refl, typed), tt); result = ok.result };
+            has = has-op types ft (Instr.Store s.next) k (shape (value_type c.0 ∷ []) A) (shape [] B) exits (λ full at g. (value_type c.0, [], typed, refl, g));
+          }) slots none;
         };
   }
 
@@ -210,7 +237,7 @@ module _ (types : Types) (t : Tables) (ft : FunctionTypes) where
         record {
           e = value_type c.0;
           operands = λ ops exits. c.2 ops exits;
-          body = receive-clause l e s r A c.0 w (λ q. stores_name k t q n) (in_order xs) right c.2 A (every-self A) (scope-quiet types t ft A s0 (w s0) refl (fits-begun A s ok)) (λ exits. st [] exits) slots none;
+          body = receive-clause w (λ q. stores_name k t q n) (in_order xs) right s A c.0 (λ exits. record { assigned = A; more = every-self A; fits = scope-quiet types t ft A s0 (w s0) refl (fits-begun A s ok); has = st [] exits }) slots none;
         };
   }
 
@@ -222,12 +249,12 @@ module _ (types : Types) (t : Tables) (ft : FunctionTypes) where
         let s0 = begun s in
         let w = W.define_received l k n m e in
         let c = receives l e s r A okr alike (none-left (received l e s0).faults _ (none-left (w s0).faults _ none)) in
-        paired k n m e xs right l s r A ok slots none c.0 c.1 c.2;
+        paired l s r A ok slots none c.0 c.1 c.2;
   }
     where
-      paired : (k : ℕ) (n m : List ℕ) (e : Expr) (xs : List Part) → Right types t ft (in_order xs) → (l : ℕ) (s r : Scope) (A : List ℕ) → Fits A s → Slotted ft s.next ((case_clause t k (comm.DefineReceived n m e) xs).walk l s).slots → ((case_clause t k (comm.DefineReceived n m e) xs).walk l s).faults ≡ []
+      paired : (l : ℕ) (s r : Scope) (A : List ℕ) → Fits A s → Slotted ft s.next ((case_clause t k (comm.DefineReceived n m e) xs).walk l s).slots → ((case_clause t k (comm.DefineReceived n m e) xs).walk l s).faults ≡ []
           → (v : GoType) → carried l e (begun s) ≡ Some v → Pushes types ft A (piece_at t l r e) (ValueType.Chan (value_type v)) → ClauseGives l (case_clause t k (comm.DefineReceived n m e) xs) s r A
-      paired k n m e xs right l s r A ok slots none v is hc =
+      paired l s r A ok slots none v is hc =
           let s0 = begun s in
           let w = W.define_received l k n m e in
           let names = none-right (received l e s0).faults _ (none-left (w s0).faults _ none) in
@@ -238,8 +265,13 @@ module _ (types : Types) (t : Tables) (ft : FunctionTypes) where
             e = value_type v;
             operands = λ ops exits. hc ops exits;
             body = λ b exits rb rc made.
-                body-has w (λ q. stores_pair k t q n m (carried l e q)) (in_order xs) right b s A (ValueType.Bool ∷ value_type v ∷ []) exits p.slots p.more (subst (λ o. Fits p.slots (behind s0 (both (received l e s0) (pair k n m o s0)))) (sym is) p.fits)
-                (subst (λ o. Has types ft (stores_pair k t s0 n m o) (shape (ValueType.Bool ∷ value_type v ∷ []) A) (shape [] p.slots) exits) (sym is) (p.has [] exits)) rb rc slots made none;
+                body-has w (λ q. stores_pair k t q n m (carried l e q)) (in_order xs) right b s A (ValueType.Bool ∷ value_type v ∷ []) exits (record {
+                  assigned = p.slots;
+                  more = p.more;
+                  fits = subst (λ o. Fits p.slots (behind s0 (both (received l e s0) (pair k n m o s0)))) (sym is) p.fits;
+                  has = subst (λ o. Has types ft (stores_pair k t s0 n m o) (shape (ValueType.Bool ∷ value_type v ∷ []) A) (shape [] p.slots) exits) (sym is) (p.has [] exits);
+                })
+                (record { breaks = rb; continues = rc; slots = slots; made = made; none = none });
           }
 
   pub right-case : (k : ℕ) (c : Communication) (xs : List Part) → Right types t ft (in_order xs) → ClauseFits (case_clause t k c xs)
@@ -344,13 +376,22 @@ module _ (types : Types) (t : Tables) (ft : FunctionTypes) where
   reaches-past : (pre post : List Shape) (A : List ℕ) (n k : ℕ) → n ≡ length pre → Reaches post [] A k → Reaches (pre ++ post) [] A (k + n)
   reaches-past pre post A n k e w = (w.0, past-shapes pre post n k e ∙ w.1, w.2)
 
+  -- clauses stand after p: each does what it does, `continue` leads on, what is made fits, and p leads to the first of them by target 0
+  record ClausesStand (l : ℕ) (cs : List ClausePart) (p : Piece) (a : Around) (s r : Scope) (A : List ℕ) (exits : List Shape) (from : Shape) : Type 0 where
+    gives : AllGive l cs s r A
+    continues : s.loops ≡ true → Reaches exits [] A a.continues
+    made : MadeFit types a.functions (clauses_lay l p cs a s).made
+    has : (to : Shape) → Has types ft p from to (entries l cs s r A gives ++ (shape [] A ∷ exits))
+
   -- clauses after p, of which the first begins if p leads to target 0
-  clauses-has : (l : ℕ) (cs : List ClausePart) (p : Piece) (a : Around) (s r : Scope) (A : List ℕ) (exits : List Shape) (from : Shape) (g : AllGive l cs s r A) → (s.loops ≡ true → Reaches exits [] A a.continues) → MadeFit types a.functions (clauses_lay l p cs a s).made
-      → ((to : Shape) → Has types ft p from to (entries l cs s r A g ++ (shape [] A ∷ exits)))
+  clauses-has : {l : ℕ} {r : Scope} {A : List ℕ} {exits : List Shape} {from : Shape} (cs : List ClausePart) (p : Piece) (a : Around) (s : Scope) → ClausesStand l cs p a s r A exits from
       → Has types ft (clauses_lay l p cs a s).piece from (shape [] A) (shape [] A ∷ exits) × Every IsMaking (clauses_lay l p cs a s).made
   unfolding entries
-  clauses-has l [] p a s r A exits from g rc made hp = (hp (shape [] A), tt)
-  clauses-has l (c ∷ cs) p a s r A exits from g rc made hp =
+  clauses-has {l} {r} {A} {exits} {from} [] p a s stand = (stand.has (shape [] A), tt)
+  clauses-has {l} {r} {A} {exits} {from} (c ∷ cs) p a s stand =
+      let g = stand.gives in
+      let rc = stand.continues in
+      let made = stand.made in
       let sh = shape [] A in
       let one = g.0 in
       let s1 = behind s (c.walk l s) in
@@ -364,11 +405,17 @@ module _ (types : Types) (t : Tables) (ft : FunctionTypes) where
       (reaches-past (entries l cs s1 r A g.1) (sh ∷ exits) A (length cs) (a.continues + 1) (sym long) (further A exits sh a.continues (rc q))) in
       let rest = (clauses_lay l (all (Piece.Block p ∷ x.piece ∷ Piece.Exit c.line (length cs) ∷ [])) cs (past a x) s1).made in
       let body = one.body b E out on (made-left types t ft a.functions x.made rest made) in
-      let k = clauses-has l cs (all (Piece.Block p ∷ x.piece ∷ Piece.Exit c.line (length cs) ∷ [])) (past a x) s1 r A exits from g.1 rc (made-right types t ft a.functions (a.functions + length x.made) x.made rest refl made)
-      (λ to.
-      has-then types ft (Piece.Block p) _ from entry to E (has-block types ft p from entry E (hp entry))
-      (has-then types ft x.piece _ entry sh to E body.0
-      (has-then types ft (Piece.Exit c.line (length cs)) Piece.Empty sh to to E (has-exit types ft c.line (length cs) [] A to E out) (has-empty types ft to E)))) in
+      let q = all (Piece.Block p ∷ x.piece ∷ Piece.Exit c.line (length cs) ∷ []) in
+      let next : ClausesStand l cs q (past a x) s1 r A exits from = record {
+        gives = g.1;
+        continues = rc;
+        made = made-right types t ft a.functions (a.functions + length x.made) x.made rest refl made;
+        has = λ to.
+            has-then types ft (Piece.Block p) _ from entry to E (has-block types ft p from entry E (stand.has entry))
+            (has-then types ft x.piece _ entry sh to E body.0
+            (has-then types ft (Piece.Exit c.line (length cs)) Piece.Empty sh to to E (has-exit types ft c.line (length cs) [] A to E out) (has-empty types ft to E)));
+      } in
+      let k = clauses-has cs q (past a x) s1 next in
       (k.0, Every-append IsMaking x.made rest body.1 k.1)
 
   pub right-select : (l : ℕ) (cs : List ClausePart) → EachClause cs → Right types t ft (select_part l cs)
@@ -378,9 +425,14 @@ module _ (types : Types) (t : Tables) (ft : FunctionTypes) where
       let g = all-give l cs each s s A ok ok (λ x k. refl) slots none in
       let E = entries l cs s s A g ++ (sh ∷ exits) in
       let entered = entered-behind [] (entries l cs s s A g) (sh ∷ exits) 0 refl in
-      let h = clauses-has l cs (choice l cs s) a s s A exits sh g ways.continues made
-      (λ to.
-      has-then types ft _ _ sh (shape (stacked l cs s s A g []) A) to E (operands-has l cs s s A g [] E)
-      (has-then types ft _ Piece.Empty (shape (stacked l cs s s A g []) A) to to E
-      (has-choose types ft l (cases_from 0 cs) (default_from 0 cs) [] (stacked l cs s s A g []) A to E (cases-reach l cs s s A g E 0 [] entered) (default-reach l cs s s A g E 0 entered)) (has-empty types ft to E))) in
+      let stand : ClausesStand l cs (choice l cs s) a s s A exits sh = record {
+        gives = g;
+        continues = ways.continues;
+        made = made;
+        has = λ to.
+            has-then types ft _ _ sh (shape (stacked l cs s s A g []) A) to E (operands-has l cs s s A g [] E)
+            (has-then types ft _ Piece.Empty (shape (stacked l cs s s A g []) A) to to E
+            (has-choose types ft l (cases_from 0 cs) (default_from 0 cs) [] (stacked l cs s s A g []) A to E (cases-reach l cs s s A g E 0 [] entered) (default-reach l cs s s A g E 0 entered)) (has-empty types ft to E));
+      } in
+      let h = clauses-has cs (choice l cs s) a s stand in
       (quiet types t ft A exits s ((select_part l cs).walk s) _ (calm-all l cs each s) ok (has-block types ft _ sh sh exits h.0), h.1)

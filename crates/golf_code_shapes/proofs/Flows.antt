@@ -122,23 +122,31 @@ module _ (types : Types) (t : Tables) (ft : FunctionTypes) where
   pub still : (A : List ℕ) (s : Scope) (w : Walked) (p : Piece) → w.declares ≡ [] → Fits A s → Silent types ft A p → Moves types t ft A (behind s w) p
   still A s w p e ok h = (A, every-self A, scope-quiet A s w e ok, λ exits. h [] exits)
 
+  -- a statement declares one variable of a known type, whose slot has this type, and this piece leaves its value
+  pub record Fresh (n : List ℕ) (o : Option GoType) (e : GoType) (A : List ℕ) (s : Scope) (w : Walked) (p : Piece) : Type 0 where
+    pub known : o ≡ Some e
+    pub declares : w.declares ≡ variable_of s n o ∷ []
+    pub slot : slice_get (slot_types ft) s.next ≡ Some (known_type o)
+    pub fits : Fits A s
+    pub pushes : Pushes types ft A p (value_type e)
+
   -- a new variable that is stored
-  pub moves-fresh : (l : ℕ) (n : List ℕ) (o : Option GoType) (e : GoType) (A : List ℕ) (s : Scope) (w : Walked) (p : Piece) → o ≡ Some e → w.declares ≡ variable_of s n o ∷ [] → slice_get (slot_types ft) s.next ≡ Some (known_type o) → Fits A s → Pushes types ft A p (value_type e)
-      → Moves types t ft A (behind s w) (all (p ∷ op l (Instr.Store s.next) ∷ []))
-  moves-fresh l n o e A s w p is d slot ok h =
+  pub moves-fresh : (l : ℕ) (n : List ℕ) (o : Option GoType) (e : GoType) (A : List ℕ) (s : Scope) (w : Walked) (p : Piece) → Fresh n o e A s w p → Moves types t ft A (behind s w) (all (p ∷ op l (Instr.Store s.next) ∷ []))
+  moves-fresh l n o e A s w p is =
+      let ok = is.fits in
       let i = s.next in
       let B : List ℕ = i ∷ A in
       let wide = Every-from (λ j. In j B) A (λ j m. inr m) in
-      let typed = slot ∙ ap (λ z. Some (known_type z)) is in (
+      let typed = is.slot ∙ ap (λ z. Some (known_type z)) is.known in (
         B,
         wide,
         record {
           file = ok.file;
-          locals = subst (λ ds. Every (LocalFits types t ft B) (s.locals ++ ds)) (sym d) (Every-append (LocalFits types t ft B) s.locals (variable_of s n o ∷ []) (locals-wider A B wide s.locals ok.locals) ((e, is, inl refl, typed), tt));
+          locals = subst (λ ds. Every (LocalFits types t ft B) (s.locals ++ ds)) (sym is.declares) (Every-append (LocalFits types t ft B) s.locals (variable_of s n o ∷ []) (locals-wider A B wide s.locals ok.locals) ((e, is.known, inl refl, typed), tt));
           result = ok.result;
         },
         λ exits.
-            has-then types ft p _ (shape [] A) (shape (value_type e ∷ []) A) (shape [] B) exits (h [] exits)
+            has-then types ft p _ (shape [] A) (shape (value_type e ∷ []) A) (shape [] B) exits (is.pushes [] exits)
             (has-then types ft (op l (Instr.Store i)) Piece.Empty _ (shape [] B) (shape [] B) exits
             (has-op types ft (Instr.Store i) l (shape (value_type e ∷ []) A) (shape [] B) exits (λ full k m. (value_type e, [], typed, refl, m)))
             (has-empty types ft (shape [] B) exits)),

@@ -21,7 +21,7 @@ use Rattle.golf_code_shapes.proofs.Typings.{none-left, none-right}
 use Rattle.golf_code_shapes.proofs.Flows.{Right, quiet, slotted-left, slotted-right}
 use Rattle.golf_code_shapes.proofs.Simples.{value-of}
 use Rattle.golf_code_shapes.proofs.Branches.{looped}
-use Rattle.golf_code_shapes.proofs.Ranges.{over-given}
+use Rattle.golf_code_shapes.proofs.Ranges.{RangeFits, over-given}
 
 module _ (types : Types) (t : Tables) (ft : FunctionTypes) where
   -- what the names declare is known inside alone
@@ -36,7 +36,17 @@ module _ (types : Types) (t : Tables) (ft : FunctionTypes) where
       let x = in_loop 2 0 (block xs) in
       let head = none-left (used l j ++ range_faults l names g) _ none in
       let rest = none-right (used l j ++ range_faults l names g) _ none in
-      let h = over-given types t ft (Every IsMaking (x.lay a s1).made) l names g (piece_at t l s0 e) s0 (x.lay a s1).piece A exits ok0 (none-right (used l j) _ head) (value-of types t ft l e s0 A ok0 (none-left (used l j) _ head))
-      (slotted-left types t ft s0.next rs.slots (x.walk s1).slots slots)
-      (λ B E okb r2 r0. looped types t ft (block xs) right 2 0 a s1 B E (λ q. refl) okb r2 r0 (slotted-right types t ft s0.next s1.next rs.slots (x.walk s1).slots refl slots) made (none-right rs.faults _ rest)) in
+      let fit : RangeFits types t ft (Every IsMaking (x.lay a s1).made) names g s0 (x.lay a s1).piece A = record {
+        scope_fits = ok0;
+        slots = slotted-left types t ft s0.next rs.slots (x.walk s1).slots slots;
+        body_fits = λ B E okb r2 r0. looped types t ft (block xs) right 2 0 a s1 B E (record {
+          fits = okb;
+          breaks = r2;
+          continues = r0;
+          slots = slotted-right types t ft s0.next s1.next rs.slots (x.walk s1).slots refl slots;
+          made = made;
+          none = none-right rs.faults _ rest;
+        });
+      } in
+      let h = over-given types t ft l g (piece_at t l s0 e) exits fit (none-right (used l j) _ head) (value-of types t ft l e s0 A ok0 (none-left (used l j) _ head)) in
       (quiet types t ft A exits s ((in_block (ranging t l names e xs)).walk s) _ refl ok h.0, h.1)

@@ -228,14 +228,19 @@ module _ (types : Types) (t : Tables) (ft : FunctionTypes) where
       let one = none-right (used l j) _ none in
       let two = none-right (broken l 2 _) _ one in
       let v = typed A s (given_by j) (piece_at t l s e) (kept l 23 _ (none-left (broken l 23 _) _ two)) (value-of l e s A ok (none-left (used l j) _ none)) in
-      moves-fresh types t ft l n (type_given (given_by j)) v.0 A s (W.definition l n e s) (piece_at t l s e) v.1 refl slots.0 ok v.2
+      moves-fresh types t ft l n (type_given (given_by j)) v.0 A s (W.definition l n e s) (piece_at t l s e) (record { known = v.1; declares = refl; slot = slots.0; fits = ok; pushes = v.2 })
 
   right-zero : (l : ℕ) (n : List ℕ) (w : TypeExpr) → Is (W.zero l n w) (λ s. all (C.first_value t l (content.Zero w) s ∷ op l (Instr.Store s.next) ∷ []))
   right-zero l n w s A ok slots none =
       let k = written-known w l s (none-left (write w l s).faults _ none) in
       let few = let f = ok.file.texts [] in let g : 0 < types.texts = omega (arith, f) in g in
-      moves-fresh types t ft l n (write w l s).type k.0 A s (W.zero l n w s) (op l (push (zero_value (write w l s).type))) k.1 refl slots.0 ok
-      (subst (λ o. Pushes types ft A (op l (push (zero_value o))) (value_type k.0)) (sym k.1) (push-fits types t ft A s l (zero_value (Some k.0)) (value_type k.0) (zero-fits types t ft A s few k.0.layers k.0.base)))
+      moves-fresh types t ft l n (write w l s).type k.0 A s (W.zero l n w s) (op l (push (zero_value (write w l s).type))) (record {
+        known = k.1;
+        declares = refl;
+        slot = slots.0;
+        fits = ok;
+        pushes = subst (λ o. Pushes types ft A (op l (push (zero_value o))) (value_type k.0)) (sym k.1) (push-fits types t ft A s l (zero_value (Some k.0)) (value_type k.0) (zero-fits types t ft A s few k.0.layers k.0.base));
+      })
 
   right-typed : (l : ℕ) (n : List ℕ) (w : TypeExpr) (e : Expr) → Is (W.typed l n w e) (λ s. all (C.first_value t l (content.Typed w e) s ∷ op l (Instr.Store s.next) ∷ []))
   right-typed l n w e s A ok slots none =
@@ -244,14 +249,20 @@ module _ (types : Types) (t : Tables) (ft : FunctionTypes) where
       let one = none-right (write w l s).faults _ none in
       let two = none-right (used l j) _ one in
       let fit = subst (λ o. assignable (given_by j) o ≡ true) k.1 (kept l 9 _ (none-right (broken l 2 _) _ two)) in
-      moves-fresh types t ft l n (write w l s).type k.0 A s (W.typed l n w e s) (piece_at t l s e) k.1 refl slots.0 ok (given-to types t ft A s (given_by j) k.0 (piece_at t l s e) fit (value-of l e s A ok (none-left (used l j) _ one)))
+      moves-fresh types t ft l n (write w l s).type k.0 A s (W.typed l n w e s) (piece_at t l s e) (record {
+        known = k.1;
+        declares = refl;
+        slot = slots.0;
+        fits = ok;
+        pushes = given-to types t ft A s (given_by j) k.0 (piece_at t l s e) fit (value-of l e s A ok (none-left (used l j) _ one));
+      })
 
   right-untyped : (l : ℕ) (n : List ℕ) (e : Expr) → Is (W.untyped l n e) (λ s. all (C.first_value t l (content.Untyped e) s ∷ op l (Instr.Store s.next) ∷ []))
   right-untyped l n e s A ok slots none =
       let j = judge e l s in
       let one = none-right (used l j) _ none in
       let v = typed A s (given_by j) (piece_at t l s e) (kept l 23 _ (none-right (broken l 2 _) _ one)) (value-of l e s A ok (none-left (used l j) _ none)) in
-      moves-fresh types t ft l n (type_given (given_by j)) v.0 A s (W.untyped l n e s) (piece_at t l s e) v.1 refl slots.0 ok v.2
+      moves-fresh types t ft l n (type_given (given_by j)) v.0 A s (W.untyped l n e s) (piece_at t l s e) (record { known = v.1; declares = refl; slot = slots.0; fits = ok; pushes = v.2 })
 
   pub right-var : (l : ℕ) (n : List ℕ) (x : VarContent) → Is (W.var_content l n x) (λ s. all (C.first_value t l x s ∷ op l (Instr.Store s.next) ∷ []))
   right-var l n (content.Zero w) = right-zero l n w

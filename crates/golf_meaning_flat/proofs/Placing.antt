@@ -106,14 +106,14 @@ module _ (code : List CodeLine) where
   step at l c w h k = ap (λ o. at_line o (exec code k) at c w) h
 
   -- what follows a way of no instructions or more
-  after : (n at mid to : ℕ) (ts : List ℕ) (c d : Frame) (w u : World) (o : Way) → Comes code at c w mid d u → Follows code n mid ts to d u o → Follows code n at ts to c w o
-  after n at mid to ts c d w u (Way.Through f v) h r = record { by = λ k. let b = r.by k in let a = h.by b.0 in (a.0, omega (arith, a.1, b.1), a.2 ∙ b.2) }
-  after n at mid to ts c d w u (Way.Leaves q f v) h r = record { by = λ k. let b = r.by k in let a = h.by b.0 in (a.0, omega (arith, a.1, b.1), a.2 ∙ b.2) }
-  after n at mid to ts c d w u (Way.Ends t) h r = let a = h.by r.0 in (a.0, enough-more t.end n r.0 a.0 a.1 r.1, a.2 ∙ r.2)
-  after n at mid to ts c d w u Way.Lost h r = tt
+  after : {at mid : ℕ} {c d : Frame} {w u : World} (n to : ℕ) (ts : List ℕ) (o : Way) → Comes code at c w mid d u → Follows code n mid ts to d u o → Follows code n at ts to c w o
+  after n to ts (Way.Through f v) h r = record { by = λ k. let b = r.by k in let a = h.by b.0 in (a.0, omega (arith, a.1, b.1), a.2 ∙ b.2) }
+  after n to ts (Way.Leaves q f v) h r = record { by = λ k. let b = r.by k in let a = h.by b.0 in (a.0, omega (arith, a.1, b.1), a.2 ∙ b.2) }
+  after n to ts (Way.Ends t) h r = let a = h.by r.0 in (a.0, enough-more t.end n r.0 a.0 a.1 r.1, a.2 ∙ r.2)
+  after n to ts Way.Lost h r = tt
 
   then-follows : (n at mid to : ℕ) (ts : List ℕ) (c : Frame) (w : World) (o : Way) (next : Frame → World → Way) → Follows code n at ts mid c w o → ((d : Frame) (u : World) → Follows code n mid ts to d u (next d u)) → Follows code n at ts to c w (then_way o next)
-  then-follows n at mid to ts c w (Way.Through d u) next h k = after n at mid to ts c d w u (next d u) h (k d u)
+  then-follows n at mid to ts c w (Way.Through d u) next h k = after n to ts (next d u) h (k d u)
   then-follows n at mid to ts c w (Way.Leaves q d u) next h k = h
   then-follows n at mid to ts c w (Way.Ends t) next h k = h
   then-follows n at mid to ts c w Way.Lost next h k = tt
@@ -142,22 +142,30 @@ module _ (code : List CodeLine) where
   out-follows n at to ts c w Way.Lost h = tt
 
   -- after a jump to the beginning, one round more
-  again-after : (m at to : ℕ) (ts : List ℕ) (c d : Frame) (w u : World) (o : Way) → Leads code at c w at d u → Follows code m at ts to d u o → Follows code (suc m) at ts to c w o
-  again-after m at to ts c d w u (Way.Through f v) h r = record { by = λ k. let b = r.by k in let a = h.by b.0 in (a.0, omega (arith, a.1, b.1), a.2 ∙ b.2) }
-  again-after m at to ts c d w u (Way.Leaves q f v) h r = record { by = λ k. let b = r.by k in let a = h.by b.0 in (a.0, omega (arith, a.1, b.1), a.2 ∙ b.2) }
-  again-after m at to ts c d w u (Way.Ends t) h r = let a = h.by r.0 in (a.0, enough-one t.end m r.0 a.0 a.1 r.1, a.2 ∙ r.2)
-  again-after m at to ts c d w u Way.Lost h r = tt
+  again-after : {at : ℕ} {c d : Frame} {w u : World} (m to : ℕ) (ts : List ℕ) (o : Way) → Leads code at c w at d u → Follows code m at ts to d u o → Follows code (suc m) at ts to c w o
+  again-after m to ts (Way.Through f v) h r = record { by = λ k. let b = r.by k in let a = h.by b.0 in (a.0, omega (arith, a.1, b.1), a.2 ∙ b.2) }
+  again-after m to ts (Way.Leaves q f v) h r = record { by = λ k. let b = r.by k in let a = h.by b.0 in (a.0, omega (arith, a.1, b.1), a.2 ∙ b.2) }
+  again-after m to ts (Way.Ends t) h r = let a = h.by r.0 in (a.0, enough-one t.end m r.0 a.0 a.1 r.1, a.2 ∙ r.2)
+  again-after m to ts Way.Lost h r = tt
 
-  once-follows : (n m at to : ℕ) (ts : List ℕ) (c : Frame) (w : World) (o : Way) (next : Frame → World → Way) → suc m ≤ n → Follows code n at (at ∷ ts) to c w o → ((d : Frame) (u : World) → Follows code m at ts to d u (next d u)) → Follows code (suc m) at ts to c w (once_more o next)
-  once-follows n m at to ts c w (Way.Through d u) next le h k = h
-  once-follows n m at to ts c w (Way.Leaves zero d u) next le h k = again-after m at to ts c d w u (next d u) h (k d u)
-  once-follows n m at to ts c w (Way.Leaves (suc q) d u) next le h k = h
-  once-follows n m at to ts c w (Way.Ends t) next le h k = (h.0, enough-fewer t.end (suc m) n h.0 le h.1, h.2)
-  once-follows n m at to ts c w Way.Lost next le h k = tt
+  -- a round within this many rounds, and what comes of the rounds after it
+  record Round (n m at to : ℕ) (ts : List ℕ) (c : Frame) (w : World) (o : Way) (next : Frame → World → Way) : Type 0 where
+    within : suc m ≤ n
+    once : Follows code n at (at ∷ ts) to c w o
+    onward : (d : Frame) (u : World) → Follows code m at ts to d u (next d u)
+
+  once-follows : {n m at to : ℕ} {ts : List ℕ} {c : Frame} {w : World} {next : Frame → World → Way} (o : Way) → Round n m at to ts c w o next → Follows code (suc m) at ts to c w (once_more o next)
+  once-follows (Way.Through d u) round = round.once
+  once-follows {n} {m} {at} {to} {ts} {c} {w} {next} (Way.Leaves zero d u) round = again-after m to ts (next d u) round.once (round.onward d u)
+  once-follows (Way.Leaves (suc q) d u) round = round.once
+  once-follows {n} {m} {at} {to} {ts} {c} {w} {next} (Way.Ends t) round = let h = round.once in (h.0, enough-fewer t.end (suc m) n h.0 round.within h.1, h.2)
+  once-follows Way.Lost round = tt
 
   rounds-follow : (n at to : ℕ) (ts : List ℕ) (f : Frame → World → Way) → ((d : Frame) (u : World) → Follows code n at (at ∷ ts) to d u (f d u)) → (m : ℕ) → m ≤ n → (c : Frame) (w : World) → Follows code m at ts to c w (rounds m f c w)
   rounds-follow n at to ts f h zero le c w = (0, omega arith, refl)
-  rounds-follow n at to ts f h (suc m) le c w = once-follows n m at to ts c w (f c w) (rounds m f) le (h c w) (rounds-follow n at to ts f h m (omega (arith, le)))
+  rounds-follow n at to ts f h (suc m) le c w =
+      let round : Round n m at to ts c w (f c w) (rounds m f) = record { within = le; once = h c w; onward = rounds-follow n at to ts f h m (omega (arith, le)) } in
+      once-follows (f c w) round
 
   -- a choice
   picked-follows : (n at to : ℕ) (ts : List ℕ) (c : Frame) (w : World) (p q : Part (ℕ × Frame)) → q ≡ moved p (target ts) → ((k : ℕ) → exec code (suc k) at c w ≡ ended q (λ r u. exec code k r.0 r.1 u)) → Follows code n at ts to c w (picked p)

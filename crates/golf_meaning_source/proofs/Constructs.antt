@@ -76,11 +76,19 @@ module _ (slots : List Value) where
       (turn-tail l (Instr.SetField i) e f x [] h (λ vs. turn-visible slots l (Instr.SetField i) [] vs refl))
   turn-put l i e f (x ∷ (y ∷ p)) h = turn-unfit (C.put l i e) (x ∷ (y ∷ p))
 
+  -- values that are put into fields: the names of these for the code and for the meaning, the pieces, and what they give
+  pub record Puts (l : ℕ) (f : FileScope) (b : Option Base) : Type 0 where
+    pub names : List (List ℕ)
+    pub meant_names : List (List ℕ)
+    pub pieces : List Piece
+    pub values : List Gives
+    pub turn : (q : List Value) → T (C.puts l f b names pieces) q (X.puts f b meant_names values q)
+
   -- a value is put into the field of this name, and then others
-  pub turn-puts : (l : ℕ) (f : FileScope) (b : Option Base) (n : List ℕ) (e : Piece) (g : Gives) (ns ms : List (List ℕ)) (es : List Piece) (gs : List Gives) (p : List Value)
-      → T e [] g → ((q : List Value) → T (C.puts l f b ns es) q (X.puts f b ms gs q)) → T (C.puts l f b (n ∷ ns) (e ∷ es)) p (X.puts f b (n ∷ ms) (g ∷ gs) p)
-  turn-puts l f b n e g ns ms es gs p h k =
-      turn-then slots (C.put l (field_place f b n) e) (C.puts l f b ns es) p (one_reference p (puts_in (Instr.SetField (field_place f b n)) p g [])) (X.puts f b ms gs) (turn-put l (field_place f b n) e g p h) k
+  pub turn-puts : (l : ℕ) (f : FileScope) (b : Option Base) (n : List ℕ) (e : Piece) (g : Gives) (p : List Value) → T e [] g → (others : Puts l f b)
+      → T (C.puts l f b (n ∷ others.names) (e ∷ others.pieces)) p (X.puts f b (n ∷ others.meant_names) (g ∷ others.values) p)
+  turn-puts l f b n e g p h others =
+      turn-then slots (C.put l (field_place f b n) e) (C.puts l f b others.names others.pieces) p (one_reference p (puts_in (Instr.SetField (field_place f b n)) p g [])) (X.puts f b others.meant_names others.values) (turn-put l (field_place f b n) e g p h) others.turn
 
   turn-element : (l i : ℕ) (e : Piece) (f : Gives) (p : List Value) → T e [] f → T (all (op l Instr.Dup ∷ op l (Instr.Int (pos i)) ∷ e ∷ op l Instr.SetIndex ∷ [])) p (one_reference p (puts_in Instr.SetIndex p f (X.int_value i ∷ [])))
   turn-element l i e f [] h = turn-unfit (all (op l Instr.Dup ∷ op l (Instr.Int (pos i)) ∷ e ∷ op l Instr.SetIndex ∷ [])) []
@@ -322,18 +330,24 @@ module _ (slots : List Value) where
     matches-outer t l next g n (Some operand.Blank) ok e = matches-blank slots ds env l ok.stored
     matches-outer t l next g n (Some _) ok e = matches-nothing
 
-    matches-either : (t : Tables) (l next : ℕ) (g : Option ℕ) (n : List ℕ) (o : Option Operand) (a : Option Local) (v : Option Value) → Known ds next env slots → last ds n ≡ a → find env n ≡ v → Together slots a v
+    -- what a name is among the locals, and its value
+    record Named (n : List ℕ) (a : Option Local) (v : Option Value) : Type 0 where
+      local : last ds n ≡ a
+      value : find env n ≡ v
+      together : Together slots a v
+
+    matches-either : {next : ℕ} (t : Tables) (l : ℕ) (g : Option ℕ) (n : List ℕ) (o : Option Operand) (a : Option Local) (v : Option Value) → Known ds next env slots → Named n a v
         → Matches ds slots env (X.value_of_name t v o) (X.place_of_name n v o) (gives []) (C.name l t (known_name l g (or_else (option_map local_operand a) o)).meaning)
-    matches-either t l next g n o None None ok e f h = matches-outer t l next g n o ok f
-    matches-either t l next g n o None (Some v) ok e f h = absurd h
-    matches-either t l next g n o (Some d) None ok e f h = absurd h
-    matches-either t l next g n o (Some d) (Some v) ok e f h = matches-local slots ds env l next d n v ok e f h
+    matches-either {next} t l g n o None None ok is = matches-outer t l next g n o ok is.value
+    matches-either {next} t l g n o None (Some v) ok is = absurd is.together
+    matches-either {next} t l g n o (Some d) None ok is = absurd is.together
+    matches-either {next} t l g n o (Some d) (Some v) ok is = matches-local slots ds env l next d n v ok is.local is.value is.together
 
     matches-known : (t : Tables) (l next : ℕ) (g : Option ℕ) (n : List ℕ) (o : Option Operand) → Known ds next env slots
         → Matches ds slots env (X.value_of_name t (find env n) o) (X.place_of_name n (find env n) o) (gives []) (C.name l t (known_name l g (or_else (option_map local_operand (look ds n)) o)).meaning)
     matches-known t l next g n o ok =
         subst (λ a. Matches ds slots env (X.value_of_name t (find env n) o) (X.place_of_name n (find env n) o) (gives []) (C.name l t (known_name l g (or_else (option_map local_operand a) o)).meaning)) (sym (look-last ds n))
-        (matches-either t l next g n o (last ds n) (find env n) ok refl refl (together ds env slots n ok.stored))
+        (matches-either t l g n o (last ds n) (find env n) ok (record { local = refl; value = refl; together = together ds env slots n ok.stored }))
 
     pub matches-name : (t : Tables) (l next : ℕ) (g : Option ℕ) (n : List ℕ) (blank : Bool) (o : Option Operand) → Known ds next env slots
         → MatchesDoes (X.name_does t blank n o) (C.name l t (cond blank (leaf operand.Blank []) (known_name l g (or_else (option_map local_operand (look ds n)) o))).meaning)

@@ -108,33 +108,42 @@ last-low (x ∷ ds) n low high d r e = by (last ds n) refl (λ f. last-low ds n 
         one true q = let same : x ≡ d = cc in subst (λ z. low ≤ z.slot) same r.0
         one false q = cc
 
+-- a name is that of a local, whose slot is there, and the locals have their values in slots that rise
+pub record IsLocal (ds : List Local) (env : Env) (slots : List Value) (n : List ℕ) (low high : ℕ) (d : Local) : Type 0 where
+  pub rising : Rising low high ds
+  pub stored : Stored ds env slots
+  pub means : last ds n ≡ Some d
+  pub within : d.slot < length slots
+
 -- a name that is there gets a value, and so does its slot
-pub stored-assign : (ds : List Local) (env : Env) (slots : List Value) (n : List ℕ) (v : Value) (low high : ℕ) (d : Local) → Rising low high ds → Stored ds env slots → last ds n ≡ Some d → d.slot < length slots → Stored ds (assign env n v) (slice_set slots d.slot v)
-stored-assign [] [] slots n v low high d r h e lt = cc
-stored-assign [] (x ∷ xs) slots n v low high d r h e lt = absurd h
-stored-assign (k ∷ ds) [] slots n v low high d r h e lt = absurd h
-stored-assign (k ∷ ds) (x ∷ xs) slots n v low high d r h e lt = by (last ds n) (find xs n) refl refl (together ds xs slots n h.2) (λ f. stored-assign ds xs slots n v (k.slot + 1) high d r.1 h.2 f lt)
+pub stored-assign : {slots : List Value} {n : List ℕ} {low high : ℕ} {d : Local} (ds : List Local) (env : Env) (v : Value) → IsLocal ds env slots n low high d → Stored ds (assign env n v) (slice_set slots d.slot v)
+stored-assign [] [] v is = let e = is.means in cc
+stored-assign [] (x ∷ xs) v is = absurd is.stored
+stored-assign (k ∷ ds) [] v is = absurd is.stored
+stored-assign {slots} {n} {low} {high} {d} (k ∷ ds) (x ∷ xs) v is = by (last ds n) (find xs n) refl refl (together ds xs slots n is.stored.2) (λ f.
+    let below : IsLocal ds xs slots n (k.slot + 1) high d = record { rising = is.rising.1; stored = is.stored.2; means = f; within = is.within } in
+    stored-assign {low = k.slot + 1} ds xs v below)
   where
     by : (a : Option Local) (o : Option Value) → last ds n ≡ a → find xs n ≡ o → Together slots a o → (last ds n ≡ Some d → Stored ds (assign xs n v) (slice_set slots d.slot v)) → Stored (k ∷ ds) (assign (x ∷ xs) n v) (slice_set slots d.slot v)
     by None (Some y) f g t rec = absurd t
     by (Some z) None f g t rec = absurd t
     by (Some z) (Some y) f g t rec =
-        let same : z ≡ d = the-one z (sym (ap (λ a. first_some a (here (bytes_eq n k.name) k)) f) ∙ e) in
-        let low2 = last-low ds n (k.slot + 1) high d r.1 (f ∙ ap Some same) in
+        let same : z ≡ d = the-one z (sym (ap (λ a. first_some a (here (bytes_eq n k.name) k)) f) ∙ is.means) in
+        let low2 = last-low ds n (k.slot + 1) high d is.rising.1 (f ∙ ap Some same) in
         subst (λ o. Stored (k ∷ ds) (cond (is_some o) (x ∷ assign xs n v) (cond (bytes_eq n x.name) (record { name = x.name; value = v } ∷ xs) (x ∷ xs))) (slice_set slots d.slot v)) (sym g)
-        (h.0, set-other slots d.slot k.slot v (λ q. omega (arith, q, low2)) ∙ h.1, rec (f ∙ ap Some same))
+        (is.stored.0, set-other slots d.slot k.slot v (λ q. omega (arith, q, low2)) ∙ is.stored.1, rec (f ∙ ap Some same))
       where
         the-one : (z : Local) → Some z ≡ Some d → z ≡ d
         the-one z q = cc
     by None None f g t rec =
         subst (λ o. Stored (k ∷ ds) (cond (is_some o) (x ∷ assign xs n v) (cond (bytes_eq n x.name) (record { name = x.name; value = v } ∷ xs) (x ∷ xs))) (slice_set slots d.slot v)) (sym g)
-        (subst (λ m. Stored (k ∷ ds) (cond (bytes_eq n m) (record { name = x.name; value = v } ∷ xs) (x ∷ xs)) (slice_set slots d.slot v)) (sym h.0) (one (bytes_eq n k.name) (sym (ap (λ a. first_some a (here (bytes_eq n k.name) k)) f) ∙ e)))
+        (subst (λ m. Stored (k ∷ ds) (cond (bytes_eq n m) (record { name = x.name; value = v } ∷ xs) (x ∷ xs)) (slice_set slots d.slot v)) (sym is.stored.0) (one (bytes_eq n k.name) (sym (ap (λ a. first_some a (here (bytes_eq n k.name) k)) f) ∙ is.means)))
       where
         one : (b : Bool) → here b k ≡ Some d → Stored (k ∷ ds) (cond b (record { name = x.name; value = v } ∷ xs) (x ∷ xs)) (slice_set slots d.slot v)
         one true q =
             let same : k ≡ d = cc in
             subst (λ z. Stored (k ∷ ds) (record { name = x.name; value = v } ∷ xs) (slice_set slots z.slot v)) same
-            (h.0, set-same slots k.slot v (slice_get_within slots k.slot x.value h.1), stored-above ds xs slots k.slot (k.slot + 1) high v (omega arith) r.1 h.2)
+            (is.stored.0, set-same slots k.slot v (slice_get_within slots k.slot x.value is.stored.1), stored-above ds xs slots k.slot (k.slot + 1) high v (omega arith) is.rising.1 is.stored.2)
         one false q = cc
 
 -- whoever is apart from the locals is apart from each

@@ -99,7 +99,7 @@ module _ (t : Tables) where
         (same-names ns ms es gs (all-puts b xs)))
       where
         same-names : (ns ms : List (List ℕ)) (es : List Piece) (gs : List Gives) → ((q : List Value) → T (C.puts l s.file b ns es) q (X.puts s.file b ms gs q)) → T (C.puts l s.file b (x.0.field ∷ ns) (((coded t x.0.value).code l s).piece ∷ es)) p (X.puts s.file b (x.0.field ∷ ms) (((meant t x.0.value).does l s).value env ∷ gs) p)
-        same-names ns ms es gs h = turn-puts slots l s.file b x.0.field ((coded t x.0.value).code l s).piece (((meant t x.0.value).does l s).value env) ns ms es gs p ((x.1 l s env slots ok).value_turns) h
+        same-names ns ms es gs h = turn-puts slots l s.file b x.0.field ((coded t x.0.value).code l s).piece (((meant t x.0.value).does l s).value env) p ((x.1 l s env slots ok).value_turns) (record { names = ns; meant_names = ms; pieces = es; values = gs; turn = h })
 
     only : (p : Piece) (f : Env → Gives) → T p [] (f env) → Means (X.only f) (C.only p)
     only p f h = matches-only slots s.locals env p (f env) h

@@ -20,7 +20,7 @@ use Rattle.golf_meaning_source.specs.Operations.{Gives, gives, then_do, answered
 use Rattle.golf_meaning_source.specs.Exprs.{Place, found, if_none, read, store, assigned}
 use Rattle.golf_meaning_source.specs.Does.{frame, Sim, OnTop, Turns, Stored, Changed, Tail, Matches, Known}
 use Rattle.golf_meaning_source.proofs.Turning.{sim-in, turn-none, tail-then, tail-over, turn-last, turn-visible, turn-after, over, pushed-append}
-use Rattle.golf_meaning_source.proofs.Environments.{last, stored-assign, set-other, apart-last}
+use Rattle.golf_meaning_source.proofs.Environments.{last, IsLocal, stored-assign, set-other, apart-last}
 
 module _ (slots : List Value) where
   abbrev T : Piece → List Value → Gives → Type 0
@@ -156,10 +156,11 @@ module _ (slots : List Value) where
         put : (vs : List Value) (m at : ℕ) (ts : List ℕ) (rest : List Value) (w : World) → Sim (store env (Place.Local n) vs w) (Changed ds slots rest) (run m (op l (Instr.Store d.slot)) at ts (frame slots (pushed vs rest)) w)
         put [] m at ts rest w = tt
         put (x ∷ []) m at ts rest w =
+            let local : IsLocal ds env slots n 0 next d = record { rising = ok.rising; stored = ok.stored; means = there; within = slice_get_within slots d.slot v e } in
             subst (λ o. Sim (assigned env n o x w) (Changed ds slots rest) (run m (op l (Instr.Store d.slot)) at ts (frame slots (x ∷ rest)) w)) (sym is) (
               slice_set slots d.slot x,
               ap (λ o. from_part (on_some (λ (old : Value). Part.Gives (record { slots = slice_set slots d.slot x; operands = rest }) w) w o)) e,
-              stored-assign ds env slots n x 0 next d ok.rising ok.stored there (slice_get_within slots d.slot v e),
+              stored-assign ds env x local,
               length-set slots d.slot x,
               λ i a. set-other slots d.slot i x (λ q. apart-last ds n i d a there (sym q)),
             )

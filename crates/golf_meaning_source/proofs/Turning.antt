@@ -213,21 +213,35 @@ module _ (slots : List Value) where
   abbrev choice_of : (Frame → World → Way) → (Frame → World → Way) → Way → Way
   choice_of behind outer o = out_of (then_way (out_of (then_way o (λ c v. then_way (unless_true (tests c v) 0) behind))) outer)
 
-  either-bool : (q r : Piece) (g h : Gives) → T q [] g → T r [] h → (n at to : ℕ) (ts us : List ℕ) (rest : List Value) (m : Option Bool) (u : World)
-      → Sim (by_bool m u (g u) (h u)) (OnTop slots rest) (out_of (then_way (out_of (then_way (unless_true (on_some (λ b. Part.Gives (b, frame slots rest) u) u m) 0) (after_of n q at ts))) (outer_of n r to us)))
-  either-bool q r g h hq hr n at to ts us rest None u = tt
-  either-bool q r g h hq hr n at to ts us rest (Some true) u =
-      sim-into (g u) (OnTop slots rest) (OnTop slots rest) (λ o. out_of (then_way (out_of (then_way o (λ d x. Way.Leaves 1 d x))) (outer_of n r to us))) (run n q at ts (frame slots rest) u) (λ s os. refl) (hq n at ts rest u)
-      (λ vs v i e. ap (λ o. out_of (then_way (out_of (then_way o (λ d x. Way.Leaves 1 d x))) (outer_of n r to us))) e)
-  either-bool q r g h hq hr n at to ts us rest (Some false) u =
-      sim-into (h u) (OnTop slots rest) (OnTop slots rest) (λ o. out_of (then_way o (λ d x. Way.Through d x))) (run n r to us (frame slots rest) u) (λ s os. refl) (hr n to us rest u)
+  -- two pieces that give these, and where they stand
+  record Branches (g h : Gives) : Type 0 where
+    first : Piece
+    second : Piece
+    first_turns : T first [] g
+    second_turns : T second [] h
+    turns : ℕ
+    first_at : ℕ
+    second_at : ℕ
+    inner_targets : List ℕ
+    outer_targets : List ℕ
+    rest : List Value
+
+  either-bool : {g h : Gives} (b : Branches g h) (m : Option Bool) (u : World)
+      → Sim (by_bool m u (g u) (h u)) (OnTop slots b.rest) (out_of (then_way (out_of (then_way (unless_true (on_some (λ z. Part.Gives (z, frame slots b.rest) u) u m) 0) (after_of b.turns b.first b.first_at b.inner_targets))) (outer_of b.turns b.second b.second_at b.outer_targets)))
+  either-bool b None u = tt
+  either-bool {g} {h} b (Some true) u =
+      let outer = outer_of b.turns b.second b.second_at b.outer_targets in
+      sim-into (g u) (OnTop slots b.rest) (OnTop slots b.rest) (λ o. out_of (then_way (out_of (then_way o (λ d x. Way.Leaves 1 d x))) outer)) (run b.turns b.first b.first_at b.inner_targets (frame slots b.rest) u) (λ s os. refl) (b.first_turns b.turns b.first_at b.inner_targets b.rest u)
+      (λ vs v i e. ap (λ o. out_of (then_way (out_of (then_way o (λ d x. Way.Leaves 1 d x))) outer)) e)
+  either-bool {g} {h} b (Some false) u =
+      sim-into (h u) (OnTop slots b.rest) (OnTop slots b.rest) (λ o. out_of (then_way o (λ d x. Way.Through d x))) (run b.turns b.second b.second_at b.outer_targets (frame slots b.rest) u) (λ s os. refl) (b.second_turns b.turns b.second_at b.outer_targets b.rest u)
       (λ vs v i e. ap (λ o. out_of (then_way o (λ d x. Way.Through d x))) e)
 
-  either-tested : (q r : Piece) (g h : Gives) → T q [] g → T r [] h → (n at to : ℕ) (ts us : List ℕ) (rest vs : List Value) (u : World)
-      → Sim (if_true vs g h u) (OnTop slots rest) (choice_of (after_of n q at ts) (outer_of n r to us) (Way.Through (frame slots (pushed vs rest)) u))
-  either-tested q r g h hq hr n at to ts us rest [] u = tt
-  either-tested q r g h hq hr n at to ts us rest (x ∷ []) u = either-bool q r g h hq hr n at to ts us rest (bool_of x) u
-  either-tested q r g h hq hr n at to ts us rest (x ∷ (y ∷ vs)) u = tt
+  either-tested : {g h : Gives} (b : Branches g h) (vs : List Value) (u : World)
+      → Sim (if_true vs g h u) (OnTop slots b.rest) (choice_of (after_of b.turns b.first b.first_at b.inner_targets) (outer_of b.turns b.second b.second_at b.outer_targets) (Way.Through (frame slots (pushed vs b.rest)) u))
+  either-tested b [] u = tt
+  either-tested b (x ∷ []) u = either-bool b (bool_of x) u
+  either-tested b (x ∷ (y ∷ vs)) u = tt
 
   pub turn-either : (l : ℕ) (p q r : Piece) (f g h : Gives) → T p [] f → T q [] g → T r [] h → T (either l p q r) [] (then_do f (λ vs. if_true vs g h))
   turn-either l p q r f g h hp hq hr n at ts rest w =
@@ -235,5 +249,17 @@ module _ (slots : List Value) where
       let to = at + (size p + (1 + (size q + (1 + 0)))) in
       let us : List ℕ = end ∷ ts in
       let inside : List ℕ = to ∷ us in
+      let b : Branches g h = record {
+        first = q;
+        second = r;
+        first_turns = hq;
+        second_turns = hr;
+        turns = n;
+        first_at = at + size p + 1;
+        second_at = to;
+        inner_targets = inside;
+        outer_targets = us;
+        rest = rest;
+      } in
       sim-in (f w) (λ vs u. if_true vs g h u) (OnTop slots rest) (OnTop slots rest) (choice_of (after_of n q (at + size p + 1) inside) (outer_of n r to us)) (run n p at inside (frame slots rest) w) (λ s os. refl) (hp n at inside rest w)
-      (λ vs u i e. subst (λ z. Sim (if_true vs g h u) (OnTop slots rest) (choice_of (after_of n q (at + size p + 1) inside) (outer_of n r to us) z)) (sym e) (either-tested q r g h hq hr n (at + size p + 1) to inside us rest vs u))
+      (λ vs u i e. subst (λ z. Sim (if_true vs g h u) (OnTop slots rest) (choice_of (after_of n q (at + size p + 1) inside) (outer_of n r to us) z)) (sym e) (either-tested b vs u))

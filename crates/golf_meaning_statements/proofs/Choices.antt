@@ -25,7 +25,7 @@ use Rattle.golf_code_of.specs.Statements as L
 use Rattle.golf_code_of.specs.Selects as K
 use Rattle.golf_code_of.specs.Selects.{ClausePart, cases_from, default_from, choice, in_clause, clauses_lay, select_part}
 use Rattle.golf_meaning_flat.specs.Worlds as V
-use Rattle.golf_meaning_flat.specs.Worlds.{Answer, Halt, World, Operation, asks, bind, halted, pushed}
+use Rattle.golf_meaning_flat.specs.Worlds.{Answer, Halt, World, asks, bind, halted, pushed}
 use Rattle.golf_meaning_flat.specs.Doing.{Frame}
 use Rattle.golf_meaning_flat.specs.Flat.{on_clause, relabelled, lower, clause_of, picks}
 use Rattle.golf_meaning_flat.specs.Structured.{Way, then_way, picked, out_of, placed_targets, run}
@@ -35,26 +35,26 @@ use Rattle.golf_meaning_source.specs.Operations.{Gives, all_fit}
 use Rattle.golf_meaning_source.specs.Exprs.{store, dropped}
 use Rattle.golf_meaning_source.specs.Does.{frame, Sim, OnTop, Turns, Stored, Rising, Changed, Known}
 use Rattle.golf_meaning_source.proofs.Turning.{takes-all, turn-none, turn-both, turn-pair}
-use Rattle.golf_meaning_statements.specs.Flows.{Course, Flow, on, after, cut, guarded, if_fits}
+use Rattle.golf_meaning_statements.specs.Flows.{Course, Flow, on, after, guarded, if_fits}
 use Rattle.golf_meaning_statements.specs.Steps.{Deed, Step, value_at, declared, name_place, defines_pair, in_order, in_block, then_deed, parts}
 use Rattle.golf_meaning_statements.specs.Selecting.{ClauseStep, operands_given, received_types, takes_in, communicates, breaking, case_step, default_step, clause_parts, many, one_default, out_of_select, chosen, chooses, select_deed}
 use Rattle.golf_meaning_statements.specs.Follows.{Goes, StatementMeans}
 use Rattle.golf_meaning_statements.proofs.Ranks.{OneDefault, Rise, rank-is}
 use Rattle.golf_meaning_statements.proofs.Numbers.{one-of, relabel, relabel-default, clause-is}
-use Rattle.golf_meaning_statements.proofs.Flowing.{ends-in, stored-length, rising-append, Exactly, GoesPrefix, goes-prefix, cut-exactly, exactly-goes, exactly-block, goes-on, goes-changed, goes-and, means-order, EachMeans}
+use Rattle.golf_meaning_statements.proofs.Flowing.{ends-in, goes-guarded, rising-append, Exactly, goes-prefix, exactly-prefix, exactly-goes, LeadsAlike, past-alike, MayBegin, exactly-block, goes-after, goes-on, goes-changed, goes-and, means-order, EachMeans}
 use Rattle.golf_meaning_statements.proofs.Simples.{value-turns, declares-top, name-stores, pair-two, pair-rises}
 
 -- Clauses.
+
+-- wherever this piece stands, it does with these values what the flow tells, and all ways have the names of before
+abbrev pub Does : Around → Scope → ℕ → List Value → List Value → (World → Flow) → Piece → Type 0
+Does a s n slots vs f p = (at : ℕ) (ts : List ℕ) (rest : List Value) (u : World) → Exactly rest a s.locals s.next slots (f u) (run n p at ts (frame slots (pushed vs rest)) u)
 
 -- the code of a clause does what the clause does: its operands in the scope of the `select`, and what it does with the values that it is given
 pub record ClauseMeans (c : ClauseStep) : Type 0 where
   pub quiet : (l : ℕ) (s : Scope) → (c.part.walk l s).declares ≡ []
   pub operands_turn : (l : ℕ) (s : Scope) (env : Env) (slots : List Value) → Known s.locals s.next env slots → Turns slots (c.part.operands l s) [] (c.operands l s env)
-  pub does : (l : ℕ) (a : Around) (s : Scope) (n : ℕ) (env : Env) (slots : List Value) → Known s.locals s.next env slots → (behind s (c.part.walk l s)).next ≤ length slots → (vs : List Value) → all_fit (c.leaves l s) vs ≡ true
-      → (at : ℕ) (ts : List ℕ) (rest : List Value) (u : World) → Exactly rest a s.locals s.next slots (c.deed l vs a s n env u) (run n (c.part.lay l a s).piece at ts (frame slots (pushed vs rest)) u)
-
-exactly-cut : (rest : List Value) (a : Around) (s : Scope) (env : Env) (slots : List Value) (f : Flow) (o : Way) → Known s.locals s.next env slots → GoesPrefix rest a s.locals s.next slots f o → Exactly rest a s.locals s.next slots (cut (length env) f) o
-exactly-cut rest a s env slots f o ok h = subst (λ k. Exactly rest a s.locals s.next slots (cut k f) o) (sym (stored-length s.locals env slots ok.stored)) (cut-exactly rest a s.locals s.next slots f o h)
+  pub does : (l : ℕ) (a : Around) (s : Scope) (n : ℕ) (env : Env) (slots : List Value) → MayBegin s (c.part.walk l s) env slots → (vs : List Value) → all_fit (c.leaves l s) vs ≡ true → Does a s n slots vs (c.deed l vs a s n env) (c.part.lay l a s).piece
 
 means-breaking : (w : Walk) (x : Lay) (d : Deed) → StatementMeans w x d → StatementMeans (W.breaking w) (λ a s. x a (record s { breaks = true })) (breaking d)
 means-breaking w x d h = record {
@@ -75,17 +75,19 @@ module _ (t : Tables) (l k : ℕ) where
   dropped-goes s env slots ok (v ∷ []) n at ts rest u = (slots, refl, ok.stored, refl, λ i a. refl)
   dropped-goes s env slots ok (v ∷ (x ∷ vs)) n at ts rest u = tt
 
-  communication-goes : (c : Communication) (a : Around) (s r : Scope) (n : ℕ) (env : Env) (slots : List Value) → Known s.locals s.next env slots → (behind s (W.communication l k c s)).next ≤ length slots → (vs : List Value) → all_fit (received_types c l r) vs ≡ true → (at : ℕ) (ts : List ℕ) (rest : List Value) (u : World)
+  communication-goes : {s : Scope} {env : Env} {slots : List Value} (c : Communication) (a : Around) (r : Scope) (n : ℕ) → MayBegin s (W.communication l k c s) env slots → (vs : List Value) → all_fit (received_types c l r) vs ≡ true → (at : ℕ) (ts : List ℕ) (rest : List Value) (u : World)
       → Goes s.locals s.next slots rest (behind s (W.communication l k c s)).locals a (on (takes_in t c vs s env u)) (run n (K.takes_in t l k c s) at ts (frame slots (pushed vs rest)) u)
-  communication-goes (comm.Send c e) a s r n env slots ok room [] fits at ts rest u = goes-changed rest a s.locals s.next slots (V.Part.Gives env u) (Way.Through (frame slots rest) u) (slots, refl, ok.stored, refl, λ i q. refl)
-  communication-goes (comm.Send c e) a s r n env slots ok room (v ∷ vs) fits at ts rest u = absurd (false≢true fits)
-  communication-goes (comm.Receive e) a s r n env slots ok room vs fits at ts rest u = goes-changed rest a s.locals s.next slots (dropped env vs u) (run n (op k Instr.Drop) at ts (frame slots (pushed vs rest)) u) (dropped-goes s env slots ok vs n at ts rest u)
-  communication-goes (comm.Define m e) a s r n env slots ok room vs fits at ts rest u =
-      goes-on rest a s.locals (behind s (W.communication l k (comm.Define m e) s)).locals s.next slots (declared env m vs u) (run n (op k (Instr.Store s.next)) at ts (frame slots (pushed vs rest)) u) (declares-top s env slots rest m (W.carried l e s) k ok (omega (arith, room)) vs n at ts u)
-  communication-goes (comm.Assign m e) a s r n env slots ok room vs fits at ts rest u =
-      goes-changed rest a s.locals s.next slots (store env (name_place t s m env) vs u) (run n (L.stores_name k t s m) at ts (frame slots (pushed vs rest)) u) (name-stores t k s m env slots ok vs n at ts rest u)
-  communication-goes (comm.DefineReceived m q e) a s r n env slots ok room vs fits at ts rest u =
-      goes-on rest a s.locals (behind s (W.communication l k (comm.DefineReceived m q e) s)).locals s.next slots (defines_pair t s m q env vs u) (run n (L.stores_pair k t s m q (W.carried l e s)) at ts (frame slots (pushed vs rest)) u) (pair-two t k m q s env slots rest (W.carried l e s) ok room vs n at ts u)
+  communication-goes {s} {env} {slots} (comm.Send c e) a r n ready [] fits at ts rest u = goes-changed rest a s.locals s.next slots (V.Part.Gives env u) (Way.Through (frame slots rest) u) (slots, refl, ready.known.stored, refl, λ i q. refl)
+  communication-goes {s} {env} {slots} (comm.Send c e) a r n ready (v ∷ vs) fits at ts rest u = absurd (false≢true fits)
+  communication-goes {s} {env} {slots} (comm.Receive e) a r n ready vs fits at ts rest u =
+      goes-changed rest a s.locals s.next slots (dropped env vs u) (run n (op k Instr.Drop) at ts (frame slots (pushed vs rest)) u) (dropped-goes s env slots ready.known vs n at ts rest u)
+  communication-goes {s} {env} {slots} (comm.Define m e) a r n ready vs fits at ts rest u =
+      let room = ready.room in
+      goes-on rest a s.locals (behind s (W.communication l k (comm.Define m e) s)).locals s.next slots (declared env m vs u) (run n (op k (Instr.Store s.next)) at ts (frame slots (pushed vs rest)) u) (declares-top s env slots rest m (W.carried l e s) k ready.known (omega (arith, room)) vs n at ts u)
+  communication-goes {s} {env} {slots} (comm.Assign m e) a r n ready vs fits at ts rest u =
+      goes-changed rest a s.locals s.next slots (store env (name_place t s m env) vs u) (run n (L.stores_name k t s m) at ts (frame slots (pushed vs rest)) u) (name-stores t k s m env slots ready.known vs n at ts rest u)
+  communication-goes {s} {env} {slots} (comm.DefineReceived m q e) a r n ready vs fits at ts rest u =
+      goes-on rest a s.locals (behind s (W.communication l k (comm.DefineReceived m q e) s)).locals s.next slots (defines_pair t s m q env vs u) (run n (L.stores_pair k t s m q (W.carried l e s)) at ts (frame slots (pushed vs rest)) u) (pair-two t k m q s rest (W.carried l e s) ready.known ready.room vs n at ts u)
 
 operands-turn : (t : Tables) (c : Communication) (l : ℕ) (s : Scope) (env : Env) (slots : List Value) → Known s.locals s.next env slots → Turns slots (K.operands_of t c l s) [] (operands_given t c l s env)
 operands-turn t (comm.Send c e) l s env slots ok = turn-pair slots (piece_at t l s c) (piece_at t l s e) (value_at t l s c env) (value_at t l s e env) (value-turns t l c s env slots ok) (value-turns t l e s env slots ok)
@@ -101,18 +103,36 @@ case-means t k c body h =
     record {
       quiet = λ l s. refl;
       operands_turn = λ l s env slots ok. operands-turn t c l s env slots ok;
-      does = λ l a s n env slots ok room vs fits at ts rest u.
+      does = λ l a s n env slots before vs fits at ts rest u.
+          let ok = before.known in
+          let room = before.room in
           let s0 = begun s in
           let v = W.communication l k c in
           let w = W.breaking b.walk in
           let f = then_deed (K.communication t l k c) (communicates t c vs) (breaking (in_order body)) a s0 n env u in
           let o = run n (K.case_lay t l k c (parts body) a s).piece at ts (frame slots (pushed vs rest)) u in
           let e = length-append (v s0).slots (w (behind s0 (v s0))).slots in
-          exactly-cut rest a s env slots f o ok
+          let ready : MayBegin s0 (v s0) env slots = record { known = record { stored = ok.stored; rising = ok.rising }; room = omega (arith, room, e) } in
+          exactly-prefix rest a s f o ok
           (goes-prefix rest a s.locals (W.then v w s0).declares s.next slots f o
-          (goes-and v w (K.communication t l k c).lay (K.breaking b).lay (breaking (in_order body)) (communication-rises t l k c) bm a s0 n (on (takes_in t c vs s0 env u)) slots ok.rising room at ts rest (frame slots (pushed vs rest)) u
-          (communication-goes t l k c a s0 s n env slots (record { stored = ok.stored; rising = ok.rising }) (omega (arith, room, e)) vs fits at ts rest u)));
+          (goes-and v (K.communication t l k c).lay s0 slots (record {
+            around = a;
+            turns = n;
+            at = at;
+            targets = ts;
+            rest = rest;
+            start = frame slots (pushed vs rest);
+            world = u;
+            flow = on (takes_in t c vs s0 env u);
+            rises = communication-rises t l k c s0;
+            goes = communication-goes t l k c a s n ready vs fits at ts rest u;
+          }) bm ok.rising room));
     }
+
+-- what takes nothing is given nothing
+nothing-given : (vs : List Value) → all_fit [] vs ≡ true → vs ≡ []
+nothing-given [] fits = refl
+nothing-given (v ∷ vs) fits = absurd (false≢true fits)
 
 pub default-means : (k : ℕ) (body : List Step) → EachMeans body → ClauseMeans (default_step k body)
 default-means k body h =
@@ -121,13 +141,11 @@ default-means k body h =
     record {
       quiet = λ l s. refl;
       operands_turn = λ l s env slots ok. turn-none slots [];
-      does = λ l a s n env slots ok room vs fits at ts rest u. by bm l a s n env slots ok room vs fits at ts rest u;
+      does = λ l a s n env slots before vs fits at ts rest u.
+          let ready : MayBegin s (W.in_block (W.breaking b.walk) s) env slots = record { known = before.known; room = before.room } in
+          subst (λ xs. Exactly rest a s.locals s.next slots (in_block (breaking (in_order body)) a s n env u) (run n (b.lay a (record (begun s) { breaks = true })).piece at ts (frame slots (pushed xs rest)) u)) (sym (nothing-given vs fits))
+          (exactly-block bm a n ready at ts rest u);
     }
-  where
-    by : StatementMeans (W.breaking (L.in_order (parts body)).walk) (λ a s. (L.in_order (parts body)).lay a (record s { breaks = true })) (breaking (in_order body)) → (l : ℕ) (a : Around) (s : Scope) (n : ℕ) (env : Env) (slots : List Value) → Known s.locals s.next env slots → (behind s ((K.default_clause k (parts body)).walk l s)).next ≤ length slots → (vs : List Value) → all_fit [] vs ≡ true
-        → (at : ℕ) (ts : List ℕ) (rest : List Value) (u : World) → Exactly rest a s.locals s.next slots (in_block (breaking (in_order body)) a s n env u) (run n ((L.in_order (parts body)).lay a (record (begun s) { breaks = true })).piece at ts (frame slots (pushed vs rest)) u)
-    by bm l a s n env slots ok room [] fits at ts rest u = exactly-block (W.breaking (L.in_order (parts body)).walk) (λ a s. (L.in_order (parts body)).lay a (record s { breaks = true })) (breaking (in_order body)) bm a s n env slots ok room at ts rest u
-    by bm l a s n env slots ok room (v ∷ vs) fits at ts rest u = absurd (false≢true fits)
 
 abbrev pub EachClause : List ClauseStep → Type 0
 EachClause [] = Unit {0}
@@ -179,12 +197,12 @@ module _ (n l at : ℕ) where
 -- Ways of a `select`.
 
 module _ (rest : List Value) (ds : List Local) (next : ℕ) (slots : List Value) where
-  exactly-around : (a b : Around) (f : Flow) (o : Way) → b.breaks ≡ a.breaks → b.continues ≡ a.continues → Exactly rest b ds next slots f o → Exactly rest a ds next slots f o
-  exactly-around a b (Flow.Goes Course.On env u) o p q h = h
-  exactly-around a b (Flow.Goes Course.Skips env u) o p q h = h
-  exactly-around a b (Flow.Goes Course.Breaks env u) o p q h = (h.0, h.1 ∙ ap (λ k. Way.Leaves k (frame h.0 rest) u) p, h.2)
-  exactly-around a b (Flow.Goes Course.Continues env u) o p q h = (h.0, h.1 ∙ ap (λ k. Way.Leaves k (frame h.0 rest) u) q, h.2)
-  exactly-around a b (Flow.Ends t) o p q h = h
+  exactly-around : {a b : Around} (f : Flow) (o : Way) → LeadsAlike a b → Exactly rest b ds next slots f o → Exactly rest a ds next slots f o
+  exactly-around (Flow.Goes Course.On env u) o alike h = h
+  exactly-around (Flow.Goes Course.Skips env u) o alike h = h
+  exactly-around (Flow.Goes Course.Breaks env u) o alike h = (h.0, h.1 ∙ ap (λ k. Way.Leaves k (frame h.0 rest) u) alike.breaks, h.2)
+  exactly-around (Flow.Goes Course.Continues env u) o alike h = (h.0, h.1 ∙ ap (λ k. Way.Leaves k (frame h.0 rest) u) alike.continues, h.2)
+  exactly-around (Flow.Ends t) o alike h = h
 
   -- seen from fewer slots
   exactly-lower : (a : Around) (high : ℕ) (f : Flow) (o : Way) → next ≤ high → Exactly rest a ds high slots f o → Exactly rest a ds next slots f o
@@ -193,14 +211,6 @@ module _ (rest : List Value) (ds : List Local) (next : ℕ) (slots : List Value)
   exactly-lower a high (Flow.Goes Course.Breaks env u) o le h = (h.0, h.1, (h.2.0, h.2.1, λ i lt q. h.2.2 i (omega (arith, lt, le)) q))
   exactly-lower a high (Flow.Goes Course.Continues env u) o le h = (h.0, h.1, (h.2.0, h.2.1, λ i lt q. h.2.2 i (omega (arith, lt, le)) q))
   exactly-lower a high (Flow.Ends t) o le h = h
-
-  exactly-after : {A : Type 0} (a : Around) (p : V.Part A) (f : A → World → Flow) (K : A → World → Way → Type 0) (C : Way → Way) (o : Way) → ((h : Halt) (os : List Operation) → C (Way.Ends (halted h os)) ≡ Way.Ends (halted h os)) → Sim p K o
-      → ((x : A) (u : World) (i : Way) → K x u i → Exactly rest a ds next slots (f x u) (C i)) → Exactly rest a ds next slots (after p f) (C o)
-  exactly-after a (V.Part.Gives x u) f K C o strict h k = k x u o h
-  exactly-after a (V.Part.Stops (Halt.Returned v) os) f K C o strict h k = ap C h ∙ strict (Halt.Returned v) os
-  exactly-after a (V.Part.Stops Halt.Divided os) f K C o strict h k = ap C h ∙ strict Halt.Divided os
-  exactly-after a (V.Part.Stops Halt.Waits os) f K C o strict h k = ap C h ∙ strict Halt.Waits os
-  exactly-after a (V.Part.Stops (Halt.Unfit why) os) f K C o strict h k = tt
 
   -- a clause, and then the end of the `select`, after so many clauses more
   after-clause : (a : Around) (m : ℕ) (C : Way → Way) → ((t : V.Told) → C (Way.Ends t) ≡ Way.Ends t) → ((k q : ℕ) (d : Frame) (u : World) → k ≡ m + q → C (Way.Leaves k d u) ≡ Way.Leaves q d u)
@@ -218,44 +228,86 @@ known-after s w env slots quiet ok = record {
   rising = subst (λ es. Rising 0 (behind s w).next (s.locals ++ es)) (sym quiet) (rising-append s.locals [] 0 s.next (behind s w).next ok.rising (omega arith));
 }
 
+-- where a `select` stands, the locals and slots of before it, and the values that its choice gave
+record Selection : Type 0 where
+  turns : ℕ
+  line : ℕ
+  at : ℕ
+  targets : List ℕ
+  rest : List Value
+  locals : List Local
+  next : ℕ
+  slots : List Value
+  env : Env
+  values : List Value
+  world : World
+
+-- The scope of these clauses: its names are those of before and have their values, its slots are none of those, and those of the clauses are there.
+record OfClauses (here : Selection) (cs : List ClauseStep) (s : Scope) : Type 0 where
+  same : s.locals ≡ here.locals
+  above : here.next ≤ s.next
+  known : Known s.locals s.next here.env here.slots
+  room : (behind s (W.in_order (map (λ (c : ClausePart). c.walk here.line) (clause_parts cs)) s)).next ≤ length here.slots
+
 -- what leaves p at the place of a clause goes as that clause does
-clause-goes : (n l at : ℕ) (ts : List ℕ) (rest : List Value) (ds : List Local) (next : ℕ) (slots : List Value) (cs : List ClauseStep) → EachClause cs → (p : Piece) (a : Around) (s : Scope) (env : Env) → s.locals ≡ ds → next ≤ s.next → Known s.locals s.next env slots
-    → (behind s (W.in_order (map (λ (c : ClausePart). c.walk l) (clause_parts cs)) s)).next ≤ length slots → (k : ℕ) (vs : List Value) (u : World) (o : Way) → (k < many cs → o ≡ Way.Leaves k (frame slots (pushed vs rest)) u)
-    → Exactly rest a ds next slots (out_of_select (chosen l k vs cs a s n env u)) (out_of (around n l at p (clause_parts cs) a s ts o))
-clause-goes n l at ts rest ds next slots [] each p a s env is le ok room k vs u o h = tt
-clause-goes n l at ts rest ds next slots (c ∷ cs) each p a s env is le ok room zero vs u o h = by (all_fit (c.leaves l s) vs) refl
+clause-goes : (here : Selection) (cs : List ClauseStep) → EachClause cs → (p : Piece) (a : Around) (s : Scope) → OfClauses here cs s → (k : ℕ) (o : Way) → (k < many cs → o ≡ Way.Leaves k (frame here.slots (pushed here.values here.rest)) here.world)
+    → Exactly here.rest a here.locals here.next here.slots (out_of_select (chosen here.line k here.values cs a s here.turns here.env here.world)) (out_of (around here.turns here.line here.at p (clause_parts cs) a s here.targets o))
+clause-goes here [] each p a s scope k o h = tt
+clause-goes here (c ∷ cs) each p a s scope zero o h = by (all_fit (c.leaves here.line s) here.values) refl
   where
     means : ClauseMeans c
     means = each.0
 
-    by : (b : Bool) → all_fit (c.leaves l s) vs ≡ b → Exactly rest a ds next slots (out_of_select (if_fits b u (c.deed l vs (in_clause (many cs) a) s n env u))) (out_of (around n l at p (c.part ∷ clause_parts cs) a s ts o))
+    by : (b : Bool) → all_fit (c.leaves here.line s) here.values ≡ b → Exactly here.rest a here.locals here.next here.slots (out_of_select (if_fits b here.world (c.deed here.line here.values (in_clause (many cs) a) s here.turns here.env here.world)))
+        (out_of (around here.turns here.line here.at p (c.part ∷ clause_parts cs) a s here.targets o))
     by false e = tt
     by true e =
+        let n = here.turns in
+        let l = here.line in
+        let ts = here.targets in
+        let rest = here.rest in
+        let slots = here.slots in
+        let vs = here.values in
+        let u = here.world in
+        let room = scope.room in
         let b = in_clause (many cs) a in
         let x = c.part.lay l b s in
         let s1 = behind s (c.part.walk l s) in
-        let q = joined n l at p x.piece c.part.line (many cs) in
-        let us = inner n l at q (clause_parts cs) (past a x) s1 ts in
-        let C = around n l at q (clause_parts cs) (past a x) s1 ts in
+        let q = joined n l here.at p x.piece c.part.line (many cs) in
+        let us = inner n l here.at q (clause_parts cs) (past a x) s1 ts in
+        let C = around n l here.at q (clause_parts cs) (past a x) s1 ts in
+        let f = c.deed l vs b s n here.env u in
+        let way = run n x.piece (here.at + size p) us (frame slots (pushed vs rest)) u in
         let long = length-append (c.part.walk l s).slots (W.in_order (map (λ (d : ClausePart). d.walk l) (clause_parts cs)) s1).slots in
-        subst (λ z. Exactly rest a ds next slots (out_of_select (c.deed l vs b s n env u)) (out_of (around n l at p (c.part ∷ clause_parts cs) a s ts z))) (sym (h (omega arith)))
-        (after-clause rest ds next slots a (many cs) C (around-ends n l at (clause_parts cs) q (past a x) s1 ts) (sinks n l at (clause_parts cs) q (past a x) s1 ts) (c.deed l vs b s n env u) (run n x.piece (at + size p) us (frame slots (pushed vs rest)) u)
-        (exactly-lower rest ds next slots b s.next (c.deed l vs b s n env u) (run n x.piece (at + size p) us (frame slots (pushed vs rest)) u) le
-        (subst (λ es. Exactly rest b es s.next slots (c.deed l vs b s n env u) (run n x.piece (at + size p) us (frame slots (pushed vs rest)) u)) is
-        (means.does l b s n env slots ok (omega (arith, room, long)) vs e (at + size p) us rest u))))
-clause-goes n l at ts rest ds next slots (c ∷ cs) each p a s env is le ok room (suc k) vs u o h =
+        subst (λ z. Exactly rest a here.locals here.next slots (out_of_select f) (out_of (around n l here.at p (c.part ∷ clause_parts cs) a s ts z))) (sym (h (omega arith)))
+        (after-clause rest here.locals here.next slots a (many cs) C (around-ends n l here.at (clause_parts cs) q (past a x) s1 ts) (sinks n l here.at (clause_parts cs) q (past a x) s1 ts) f way
+        (exactly-lower rest here.locals here.next slots b s.next f way scope.above
+        (subst (λ es. Exactly rest b es s.next slots f way) scope.same
+        (means.does l b s n here.env slots (record { known = scope.known; room = omega (arith, room, long) }) vs e (here.at + size p) us rest u))))
+clause-goes here (c ∷ cs) each p a s scope (suc k) o h =
+    let n = here.turns in
+    let l = here.line in
+    let ts = here.targets in
+    let room = scope.room in
+    let above = scope.above in
     let b = in_clause (many cs) a in
     let x = c.part.lay l b s in
     let w = c.part.walk l s in
     let s1 = behind s w in
-    let q = joined n l at p x.piece c.part.line (many cs) in
-    let us = inner n l at q (clause_parts cs) (past a x) s1 ts in
-    let to = run n (all (x.piece ∷ Piece.Exit c.part.line (many cs) ∷ [])) (at + size p) us in
+    let q = joined n l here.at p x.piece c.part.line (many cs) in
+    let us = inner n l here.at q (clause_parts cs) (past a x) s1 ts in
+    let to = run n (all (x.piece ∷ Piece.Exit c.part.line (many cs) ∷ [])) (here.at + size p) us in
     let means : ClauseMeans c = each.0 in
     let quiet : w.declares ≡ [] = means.quiet l s in
     let long = length-append w.slots (W.in_order (map (λ (d : ClausePart). d.walk l) (clause_parts cs)) s1).slots in
-    exactly-around rest ds next slots a (past a x) (out_of_select (chosen l k vs cs (past a x) s1 n env u)) (out_of (around n l at q (clause_parts cs) (past a x) s1 ts (then_way (out_of o) to))) refl refl
-    (clause-goes n l at ts rest ds next slots cs each.1 q (past a x) s1 env (ap (λ es. s.locals ++ es) quiet ∙ append-nil s.locals ∙ is) (omega (arith, le)) (known-after s w env slots quiet ok) (omega (arith, room, long)) k vs u (then_way (out_of o) to)
+    let scope1 : OfClauses here cs s1 = record {
+      same = ap (λ es. s.locals ++ es) quiet ∙ append-nil s.locals ∙ scope.same;
+      above = omega (arith, above);
+      known = known-after s w here.env here.slots quiet scope.known;
+      room = omega (arith, room, long);
+    } in
+    exactly-around here.rest here.locals here.next here.slots (out_of_select (chosen l k here.values cs (past a x) s1 n here.env here.world)) (out_of (around n l here.at q (clause_parts cs) (past a x) s1 ts (then_way (out_of o) to))) (past-alike a x)
+    (clause-goes here cs each.1 q (past a x) s1 scope1 k (then_way (out_of o) to)
     (λ lt. ap (λ z. then_way (out_of z) to) (h (omega (arith, lt)))))
 
 -- The choice.
@@ -322,7 +374,9 @@ module _ (l : ℕ) (cs : List ClauseStep) (each : EachClause cs) where
 
     answered-goes : (x : Answer) (w : World) → X (out_of_select (chosen l x.clause x.values cs a s n env w)) (C (then_way (picked (chosen_frame slots rest (clause_of label x.clause cases otherwise) x w)) (λ c v. Way.Through c v)))
     answered-goes x w =
-        clause-goes n l at us rest s.locals s.next slots cs each p a s env refl (omega arith) ok room x.clause x.values w (then_way (picked (chosen_frame slots rest (clause_of label x.clause cases otherwise) x w)) (λ c v. Way.Through c v))
+        let here : Selection = record { turns = n; line = l; at = at; targets = us; rest = rest; locals = s.locals; next = s.next; slots = slots; env = env; values = x.values; world = w } in
+        let scope : OfClauses here cs s = record { same = refl; above = omega arith; known = ok; room = room } in
+        clause-goes here cs each p a s scope x.clause (then_way (picked (chosen_frame slots rest (clause_of label x.clause cases otherwise) x w)) (λ c v. Way.Through c v))
         (λ lt. ap (λ m. then_way (picked (chosen_frame slots rest m x w)) (λ c v. Way.Through c v)) (clause-is label 0 x.clause ps one label-is (omega arith) (omega (arith, lt))))
 
     choice-goes : (vs : List Value) (u : World) → X (chooses l cs vs a s n env u) (C (then_way (picked (picks label cases otherwise (frame slots (pushed vs rest)) u)) (λ c v. Way.Through c v)))
@@ -332,7 +386,7 @@ module _ (l : ℕ) (cs : List ClauseStep) (each : EachClause cs) where
         by false e = tt
         by true e =
             subst (λ q. X (after (asks (Instr.Select cases otherwise) vs u) (λ x w. out_of_select (chosen l x.clause x.values cs a s n env w))) (C (then_way (picked q) (λ c v. Way.Through c v)))) (sym (picks-is label one label-is slots rest vs u (exact_unsigned_eq (length vs) (cases_taken cases) e)))
-            (exactly-after rest s.locals s.next slots a (asks (Instr.Select cases otherwise) vs u) (λ x w. out_of_select (chosen l x.clause x.values cs a s n env w)) (λ x w i. i ≡ picked (chosen_frame slots rest (clause_of label x.clause cases otherwise) x w)) (λ z. C (then_way z (λ c v. Way.Through c v)))
+            (goes-after X (λ t o h. h) (asks (Instr.Select cases otherwise) vs u) (λ x w. out_of_select (chosen l x.clause x.values cs a s n env w)) (λ x w i. i ≡ picked (chosen_frame slots rest (clause_of label x.clause cases otherwise) x w)) (λ z. C (then_way z (λ c v. Way.Through c v)))
             (picked (bind (asks (Instr.Select cases otherwise) vs u) (λ x w. chosen_frame slots rest (clause_of label x.clause cases otherwise) x w))) (λ h os. ap out_of (around-ends n l at ps p a s us (halted h os)))
             (sim-picked (asks (Instr.Select cases otherwise) vs u) (λ x w. chosen_frame slots rest (clause_of label x.clause cases otherwise) x w))
             (λ x w i q. subst (λ z. X (out_of_select (chosen l x.clause x.values cs a s n env w)) (C (then_way z (λ c v. Way.Through c v)))) (sym q) (answered-goes x w)))
@@ -343,24 +397,21 @@ module _ (l : ℕ) (cs : List ClauseStep) (each : EachClause cs) where
     whole-goes : (u : World) → X (after (O.in_order (map (λ (c : ClauseStep). c.operands l s env) cs) u) (λ vs v. chooses l cs vs a s n env v)) (C (run n p at is (frame slots rest) u))
     whole-goes u =
         let to = run n (all (Piece.Choose l cases otherwise ∷ [])) (at + size ops) is in
-        exactly-after rest s.locals s.next slots a (O.in_order (map (λ (c : ClauseStep). c.operands l s env) cs) u) (λ vs v. chooses l cs vs a s n env v) (OnTop slots rest) (λ z. C (then_way z to)) (run n ops at is (frame slots rest) u) (λ h os. ap out_of (around-ends n l at ps p a s us (halted h os)))
+        goes-after X (λ t o h. h) (O.in_order (map (λ (c : ClauseStep). c.operands l s env) cs) u) (λ vs v. chooses l cs vs a s n env v) (OnTop slots rest) (λ z. C (then_way z to)) (run n ops at is (frame slots rest) u) (λ h os. ap out_of (around-ends n l at ps p a s us (halted h os)))
         (operands-of l s env slots ok cs each n at is rest u)
         (λ vs v i q. subst (λ z. X (chooses l cs vs a s n env v) (C (then_way z to))) (sym q) (choice-goes vs v))
 
 pub means-select : (l : ℕ) (cs : List ClauseStep) → EachClause cs → StatementMeans (select_part l (clause_parts cs)).walk (select_part l (clause_parts cs)).lay (select_deed l cs)
 means-select l cs each = record {
   rises = λ s. subst (λ ds. Rising s.next (behind s (W.in_order (map (λ (c : ClausePart). c.walk l) (clause_parts cs)) s)).next ds) (sym (quiet-all l cs each s)) (omega arith);
-  goes = λ a s n env slots ok room at ts rest u. by a s n env slots ok room at ts rest u (one_default (clause_parts cs)) refl;
+  goes = λ a s n env slots ok room at ts rest u.
+      let q = (clauses_lay l (choice l (clause_parts cs) s) (clause_parts cs) a s).piece in
+      let us : List ℕ = (at + size q) ∷ ts in
+      let f = after (O.in_order (map (λ (c : ClauseStep). c.operands l s env) cs) u) (λ vs v. chooses l cs vs a s n env v) in
+      let al = (behind s (W.in_order (map (λ (c : ClausePart). c.walk l) (clause_parts cs)) s)).locals in
+      goes-guarded (Goes s.locals s.next slots rest al a) (λ v o. tt) (one_default (clause_parts cs)) u f (run n ((select_part l (clause_parts cs)).lay a s).piece at ts (frame slots rest) u) (λ e.
+      subst (λ es. Goes s.locals s.next slots rest (s.locals ++ es) a f (out_of (run n q at us (frame slots rest) u))) (sym (quiet-all l cs each s))
+      (exactly-goes rest a s.locals s.next slots f (out_of (run n q at us (frame slots rest) u))
+      (subst (λ z. Exactly rest a s.locals s.next slots f (out_of z)) (sym (around-is n l at (clause_parts cs) (choice l (clause_parts cs) s) a s us (frame slots rest) u))
+      (whole-goes l cs each a s n at us env slots rest ok room (one-of (clause_parts cs) e) u))));
 }
-  where
-    by : (a : Around) (s : Scope) (n : ℕ) (env : Env) (slots : List Value) → Known s.locals s.next env slots → (behind s (W.in_order (map (λ (c : ClausePart). c.walk l) (clause_parts cs)) s)).next ≤ length slots → (at : ℕ) (ts : List ℕ) (rest : List Value) (u : World) (b : Bool) → one_default (clause_parts cs) ≡ b
-        → Goes s.locals s.next slots rest (behind s (W.in_order (map (λ (c : ClausePart). c.walk l) (clause_parts cs)) s)).locals a (guarded b u (after (O.in_order (map (λ (c : ClauseStep). c.operands l s env) cs) u) (λ vs v. chooses l cs vs a s n env v))) (run n ((select_part l (clause_parts cs)).lay a s).piece at ts (frame slots rest) u)
-    by a s n env slots ok room at ts rest u false e = tt
-    by a s n env slots ok room at ts rest u true e =
-        let q = (clauses_lay l (choice l (clause_parts cs) s) (clause_parts cs) a s).piece in
-        let us : List ℕ = (at + size q) ∷ ts in
-        let f = after (O.in_order (map (λ (c : ClauseStep). c.operands l s env) cs) u) (λ vs v. chooses l cs vs a s n env v) in
-        subst (λ es. Goes s.locals s.next slots rest (s.locals ++ es) a f (out_of (run n q at us (frame slots rest) u))) (sym (quiet-all l cs each s))
-        (exactly-goes rest a s.locals s.next slots f (out_of (run n q at us (frame slots rest) u))
-        (subst (λ z. Exactly rest a s.locals s.next slots f (out_of z)) (sym (around-is n l at (clause_parts cs) (choice l (clause_parts cs) s) a s us (frame slots rest) u))
-        (whole-goes l cs each a s n at us env slots rest ok room (one-of (clause_parts cs) e) u)))

@@ -28,15 +28,14 @@ use Rattle.golf_meaning_source.proofs.Turning.{then-end}
 use Rattle.golf_meaning_statements.specs.Flows.{Course, Flow, ends_here, or_else, tested}
 use Rattle.golf_meaning_statements.specs.Steps.{value_at, Deed, Step, optional, block, in_order, after_test, then_step, if_deed, else_deed, parts}
 use Rattle.golf_meaning_statements.specs.Follows.{Stands, Goes, StatementMeans}
-use Rattle.golf_meaning_statements.proofs.Flowing.{ends-in, goes-base, goes-after, goes-test, GoesPrefix, goes-prefix, exactly-prefix, exactly-goes, around-same, means-then, means-nothing, means-order, means-block, StepMeans, EachMeans, rising-append}
+use Rattle.golf_meaning_statements.proofs.Flowing.{ends-in, Declared, Branches, LeadsAlike, goes-base, goes-after, goes-test, GoesPrefix, goes-prefix, exactly-prefix, exactly-goes, around-same, means-then, means-nothing, means-order, means-block, StepMeans, EachMeans, rising-append}
 use Rattle.golf_meaning_statements.proofs.Simples.{value-turns, means-simple}
 
 -- operands under a test
-pub goes-tested : (rest : List Value) (a : Around) (ds al : List Local) (next : ℕ) (slots base : List Value) (vs : List Value) (u : World) (k : ℕ) (f g : Flow) (to : Frame → World → Way) → Goes ds next base rest al a f (to (frame slots rest) u) → Goes ds next base rest al a g (Way.Leaves k (frame slots rest) u)
-    → Goes ds next base rest al a (tested vs u f g) (then_way (unless_true (tests (frame slots (pushed vs rest)) u) k) to)
-goes-tested rest a ds al next slots base [] u k f g to h i = tt
-goes-tested rest a ds al next slots base (x ∷ []) u k f g to h i = goes-test rest a ds al next slots base (bool_of x) u k f g to h i
-goes-tested rest a ds al next slots base (x ∷ (y ∷ vs)) u k f g to h i = tt
+pub goes-tested : {R : Flow → Way → Type 0} {u : World} {k : ℕ} {f g : Flow} {to : Frame → World → Way} (slots rest vs : List Value) → Branches R (frame slots rest) u k f g to → R (tested vs u f g) (then_way (unless_true (tests (frame slots (pushed vs rest)) u) k) to)
+goes-tested slots rest [] h = h.if_neither _
+goes-tested slots rest (x ∷ []) h = goes-test (bool_of x) h
+goes-tested slots rest (x ∷ (y ∷ vs)) h = h.if_neither _
 
 module _ (t : Tables) (l : ℕ) where
   -- a condition, and what it guards
@@ -48,11 +47,14 @@ module _ (t : Tables) (l : ℕ) where
         let p = (x.lay a s).piece in
         let al = (behind s (x.walk s)).locals in
         let tail = all (Piece.Unless l 0 ∷ p ∷ []) in
-        goes-after rest a s.locals al s.next slots (value_at t l s test env u) (λ vs v. tested vs v (d a s n env v) (Flow.Goes Course.Skips env v)) (OnTop slots rest) (λ o. then_way o (run n tail (at + size e) ts)) (run n e at ts (frame slots rest) u) (λ k os. refl) (value-turns t l test s env slots ok n at ts rest u)
-        (λ vs v i q. subst (λ z. Goes s.locals s.next slots rest al a (tested vs v (d a s n env v) (Flow.Goes Course.Skips env v)) (then_way z (run n tail (at + size e) ts))) (sym q)
-        (goes-tested rest a s.locals al s.next slots slots vs v 0 (d a s n env v) (Flow.Goes Course.Skips env v) (run n (all (p ∷ [])) (at + size e + 1) ts)
-        (subst (λ o. Goes s.locals s.next slots rest al a (d a s n env v) o) (sym (then-end (run n p (at + size e + 1) ts (frame slots rest) v))) (h.goes a s n env slots ok room (at + size e + 1) ts rest v))
-        (slots, refl, (subst (λ ds. Stored (s.locals ++ ds) env slots) (sym (quiet s)) (subst (λ ds. Stored ds env slots) (sym (append-nil s.locals)) ok.stored), refl, λ i lt z. refl))));
+        goes-after (Goes s.locals s.next slots rest al a) (λ t o h. h) (value_at t l s test env u) (λ vs v. tested vs v (d a s n env v) (Flow.Goes Course.Skips env v)) (OnTop slots rest) (λ o. then_way o (run n tail (at + size e) ts)) (run n e at ts (frame slots rest) u) (λ k os. refl) (value-turns t l test s env slots ok n at ts rest u)
+        (λ vs v i q.
+        let branches : Branches (Goes s.locals s.next slots rest al a) (frame slots rest) v 0 (d a s n env v) (Flow.Goes Course.Skips env v) (run n (all (p ∷ [])) (at + size e + 1) ts) = record {
+          if_true = subst (λ o. Goes s.locals s.next slots rest al a (d a s n env v) o) (sym (then-end (run n p (at + size e + 1) ts (frame slots rest) v))) (h.goes a s n env slots ok room (at + size e + 1) ts rest v);
+          if_false = (slots, refl, (subst (λ ds. Stored (s.locals ++ ds) env slots) (sym (quiet s)) (subst (λ ds. Stored ds env slots) (sym (append-nil s.locals)) ok.stored), refl, λ i lt z. refl));
+          if_neither = λ o. tt;
+        } in
+        subst (λ z. Goes s.locals s.next slots rest al a (tested vs v (d a s n env v) (Flow.Goes Course.Skips env v)) (then_way z (run n tail (at + size e) ts))) (sym q) (goes-tested slots rest vs branches));
   }
 
   pub means-optional : (x : Option Simple) → StatementMeans (L.optional t x).walk (L.optional t x).lay (optional t x)
@@ -99,21 +101,35 @@ out-out-leaves k c u to = ap (λ j. out_of (then_way (out_of (Way.Leaves j c u))
     suc-is : (j : ℕ) → j + 2 ≡ suc (suc j)
     suc-is j = omega arith
 
--- one, and if its condition is false another
-goes-or-else : (rest : List Value) (a : Around) (ds es fs : List Local) (next : ℕ) (slots : List Value) (f : Flow) (g : Env → World → Flow) (o : Way) (to : Frame → World → Way) → Goes ds next slots rest (ds ++ es) (within 2 a) f o
-    → ((env : Env) (u : World) (now : List Value) → Stands ds next slots (ds ++ es) env now → Goes ds next slots rest (ds ++ fs) (within 1 a) (g env u) (to (frame now rest) u))
-    → GoesPrefix rest a ds next slots (or_else f (λ env u. ends_here (g env u))) (out_of (then_way (out_of (then_way o (λ c v. Way.Leaves 1 c v))) (λ c v. then_way (to c v) (λ d x. Way.Through d x))))
-goes-or-else rest a ds es fs next slots (Flow.Goes Course.On env u) g o to h k =
-    goes-prefix rest a ds es next slots (Flow.Goes Course.On env u) _ (h.0, ap (λ z. out_of (then_way (out_of (then_way z (λ c v. Way.Leaves 1 c v))) (λ c v. then_way (to c v) (λ d x. Way.Through d x)))) h.1, h.2)
-goes-or-else rest a ds es fs next slots (Flow.Goes Course.Skips env u) g o to h k =
+-- one part, and another one for if its condition is false: what they declare, and how they go
+record OrElse (rest : List Value) (a : Around) (ds : List Local) (next : ℕ) (slots : List Value) (f : Flow) : Type 0 where
+  one_declares : List Local
+  other_declares : List Local
+  other : Env → World → Flow
+  way : Way
+  to : Frame → World → Way
+  one_goes : Goes ds next slots rest (ds ++ one_declares) (within 2 a) f way
+  other_goes : (env : Env) (u : World) (now : List Value) → Stands ds next slots (ds ++ one_declares) env now → Goes ds next slots rest (ds ++ other_declares) (within 1 a) (other env u) (to (frame now rest) u)
+
+goes-or-else : (rest : List Value) (a : Around) (ds : List Local) (next : ℕ) (slots : List Value) (f : Flow) (p : OrElse rest a ds next slots f)
+    → GoesPrefix rest a ds next slots (or_else f (λ env u. ends_here (p.other env u))) (out_of (then_way (out_of (then_way p.way (λ c v. Way.Leaves 1 c v))) (λ c v. then_way (p.to c v) (λ d x. Way.Through d x))))
+goes-or-else rest a ds next slots (Flow.Goes Course.On env u) p =
+    let h = p.one_goes in
+    goes-prefix rest a ds p.one_declares next slots (Flow.Goes Course.On env u) _ (h.0, ap (λ z. out_of (then_way (out_of (then_way z (λ c v. Way.Leaves 1 c v))) (λ c v. then_way (p.to c v) (λ d x. Way.Through d x)))) h.1, h.2)
+goes-or-else rest a ds next slots (Flow.Goes Course.Skips env u) p =
+    let h = p.one_goes in
+    let to = p.to in
+    let g = p.other in
     subst (λ z. GoesPrefix rest a ds next slots (ends_here (g env u)) (out_of (then_way (out_of (then_way z (λ c v. Way.Leaves 1 c v))) (λ c v. then_way (to c v) (λ d x. Way.Through d x))))) (sym h.1)
     (subst (λ z. GoesPrefix rest a ds next slots (ends_here (g env u)) (out_of z)) (sym (then-end (to (frame h.0 rest) u)))
-    (goes-prefix rest a ds fs next slots (ends_here (g env u)) (out_of (to (frame h.0 rest) u)) (goes-ends-here rest a ds (ds ++ fs) next slots (g env u) (to (frame h.0 rest) u) (k env u h.0 h.2))))
-goes-or-else rest a ds es fs next slots (Flow.Goes Course.Breaks env u) g o to h k =
-    (h.0, ap (λ z. out_of (then_way (out_of (then_way z (λ c v. Way.Leaves 1 c v))) (λ c v. then_way (to c v) (λ d x. Way.Through d x)))) h.1 ∙ out-out-leaves a.breaks (frame h.0 rest) u (λ c v. then_way (to c v) (λ d x. Way.Through d x)), h.2)
-goes-or-else rest a ds es fs next slots (Flow.Goes Course.Continues env u) g o to h k =
-    (h.0, ap (λ z. out_of (then_way (out_of (then_way z (λ c v. Way.Leaves 1 c v))) (λ c v. then_way (to c v) (λ d x. Way.Through d x)))) h.1 ∙ out-out-leaves a.continues (frame h.0 rest) u (λ c v. then_way (to c v) (λ d x. Way.Through d x)), h.2)
-goes-or-else rest a ds es fs next slots (Flow.Ends t) g o to h k = ends-in t t.end (λ z. out_of (then_way (out_of (then_way z (λ c v. Way.Leaves 1 c v))) (λ c v. then_way (to c v) (λ d x. Way.Through d x)))) o refl h
+    (goes-prefix rest a ds p.other_declares next slots (ends_here (g env u)) (out_of (to (frame h.0 rest) u)) (goes-ends-here rest a ds (ds ++ p.other_declares) next slots (g env u) (to (frame h.0 rest) u) (p.other_goes env u h.0 h.2))))
+goes-or-else rest a ds next slots (Flow.Goes Course.Breaks env u) p =
+    let h = p.one_goes in
+    (h.0, ap (λ z. out_of (then_way (out_of (then_way z (λ c v. Way.Leaves 1 c v))) (λ c v. then_way (p.to c v) (λ d x. Way.Through d x)))) h.1 ∙ out-out-leaves a.breaks (frame h.0 rest) u (λ c v. then_way (p.to c v) (λ d x. Way.Through d x)), h.2)
+goes-or-else rest a ds next slots (Flow.Goes Course.Continues env u) p =
+    let h = p.one_goes in
+    (h.0, ap (λ z. out_of (then_way (out_of (then_way z (λ c v. Way.Leaves 1 c v))) (λ c v. then_way (p.to c v) (λ d x. Way.Through d x)))) h.1 ∙ out-out-leaves a.continues (frame h.0 rest) u (λ c v. then_way (p.to c v) (λ d x. Way.Through d x)), h.2)
+goes-or-else rest a ds next slots (Flow.Ends t) p = ends-in t t.end (λ z. out_of (then_way (out_of (then_way z (λ c v. Way.Leaves 1 c v))) (λ c v. then_way (p.to c v) (λ d x. Way.Through d x)))) p.way refl p.one_goes
 
 pub means-else : (t : Tables) (l : ℕ) (first : Option Simple) (test : Expr) (body : List Step) (y : Step) → EachMeans body → StepMeans y → StatementMeans (L.else_part t l first test (parts body) y.part).walk (L.else_part t l first test (parts body) y.part).lay (else_deed t l first test body y)
 means-else t l first test body y hb hy = record {
@@ -131,14 +147,22 @@ means-else t l first test body y hb hy = record {
       let vs : List ℕ = (at + size inner) ∷ us in
       let sized = length-append (x.walk s).slots (y.part.walk s1).slots in
       exactly-goes rest a s0.locals s0.next slots (else_deed t l first test body y a s0 n env u) (run n (Piece.Block outer) at ts (frame slots rest) u)
-      (exactly-prefix (λ a s n env w. or_else (then_step t l first test body (within 2 a) s n env w) (λ env u. ends_here (y.deed (within 1 (past a (x.lay (within 2 a) s))) (behind s (x.walk s)) n env u))) (Piece.Block outer) a s0 n env slots ok0 at ts rest u
-      (goes-or-else rest a s.locals (x.walk s).declares ((x.walk s).declares ++ (y.part.walk s1).declares) s.next slots (then_step t l first test body (within 2 a) s n env u) (y.deed b s1 n) (run n one.piece at vs (frame slots rest) u) (run n two.piece (at + size inner) us)
-      (hx.goes (within 2 a) s n env slots ok (omega (arith, room, sized)) at vs rest u)
-      (λ env1 u1 now st.
-      subst (λ al. Goes s.locals s.next slots rest al (within 1 a) (y.deed b s1 n env1 u1) (run n two.piece (at + size inner) us (frame now rest) u1)) (append_assoc s.locals (x.walk s).declares (y.part.walk s1).declares)
-      (goes-base rest (within 1 a) s.locals (x.walk s).declares (behind s1 (y.part.walk s1)).locals s.next s1.next slots now (y.deed b s1 n env1 u1) (run n two.piece (at + size inner) us (frame now rest) u1) (omega arith) (hx.rises s) st.1 st.2
-      (around-same s1.locals s1.next now rest (behind s1 (y.part.walk s1)).locals (within 1 a) b (y.deed b s1 n env1 u1) (run n two.piece (at + size inner) us (frame now rest) u1) refl refl
-      (hy.goes b s1 n env1 now (record { stored = st.0; rising = rising-append s.locals (x.walk s).declares 0 s.next s1.next ok.rising (hx.rises s) }) (let q = st.1 in omega (arith, room, sized, q)) (at + size inner) us rest u1))))));
+      (exactly-prefix rest a s0 (or_else (then_step t l first test body (within 2 a) s n env u) (λ env u. ends_here (y.deed b s1 n env u))) (run n (Piece.Block outer) at ts (frame slots rest) u) ok0
+      (goes-or-else rest a s.locals s.next slots (then_step t l first test body (within 2 a) s n env u) (record {
+        one_declares = (x.walk s).declares;
+        other_declares = (x.walk s).declares ++ (y.part.walk s1).declares;
+        other = y.deed b s1 n;
+        way = run n one.piece at vs (frame slots rest) u;
+        to = run n two.piece (at + size inner) us;
+        one_goes = hx.goes (within 2 a) s n env slots ok (omega (arith, room, sized)) at vs rest u;
+        other_goes = λ env1 u1 now st.
+            let more : Declared s.locals (x.walk s).declares s.next s1.next slots now = record { onward = omega arith; rising = hx.rises s; came = record { long = st.1; kept = st.2 } } in
+            let alike : LeadsAlike (within 1 a) b = record { breaks = refl; continues = refl } in
+            subst (λ al. Goes s.locals s.next slots rest al (within 1 a) (y.deed b s1 n env1 u1) (run n two.piece (at + size inner) us (frame now rest) u1)) (append_assoc s.locals (x.walk s).declares (y.part.walk s1).declares)
+            (goes-base rest (within 1 a) (behind s1 (y.part.walk s1)).locals (y.deed b s1 n env1 u1) (run n two.piece (at + size inner) us (frame now rest) u1) more
+            (around-same s1.locals s1.next now rest (behind s1 (y.part.walk s1)).locals (y.deed b s1 n env1 u1) (run n two.piece (at + size inner) us (frame now rest) u1) alike
+            (hy.goes b s1 n env1 now (record { stored = st.0; rising = rising-append s.locals (x.walk s).declares 0 s.next s1.next ok.rising (hx.rises s) }) (let q = st.1 in omega (arith, room, sized, q)) (at + size inner) us rest u1)));
+      })));
 }
   where
     x : Part

@@ -8,7 +8,7 @@ use Rattle.golf_check_types.specs.declared.scopes.Scope.{Scope}
 use Rattle.golf_check_types.specs.Scopes.{begun}
 use Rattle.golf_check_types.specs.Statements as W
 use Rattle.golf_check_types.specs.Statements.{Walk, behind}
-use Rattle.golf_code_layout.specs.Piece.{Piece, size}
+use Rattle.golf_code_layout.specs.Piece.{size}
 use Rattle.golf_code_of.specs.declared.making.Around.{Around}
 use Rattle.golf_code_of.specs.Statements.{Part, Lay, then_lay}
 use Rattle.golf_code_of.specs.Statements as L
@@ -18,7 +18,7 @@ use Rattle.golf_meaning_flat.specs.Doing.{Frame, on_some}
 use Rattle.golf_meaning_flat.specs.Structured.{Way, then_way, unless_true, run}
 use Rattle.golf_meaning_source.specs.Names.{Env}
 use Rattle.golf_meaning_source.specs.Does.{frame, Sim, Stored, Rising, Apart, Kept, Changed, Known}
-use Rattle.golf_meaning_statements.specs.Flows.{Course, Flow, on, after, then_flow, cut, by_test}
+use Rattle.golf_meaning_statements.specs.Flows.{Course, Flow, unfit_flow, on, after, then_flow, cut, guarded, by_test}
 use Rattle.golf_meaning_statements.specs.Steps.{Deed, Step, nothing, in_order, in_block, parts}
 use Rattle.golf_meaning_statements.specs.Follows.{Stands, EndsAlike, Goes, StatementMeans}
 
@@ -78,22 +78,59 @@ apart-below (d ∷ ds) low high j r le = let k = reaches ds (d.slot + 1) high r.
     reaches [] a b h = h
     reaches (e ∷ es) a b h = let k = reaches es (e.slot + 1) b h.1 in let l = h.0 in omega (arith, k, l)
 
+-- A frame came of another one: it has as many slots, and of those below this one only these locals' may have changed.
+pub record Came (ds : List Local) (next : ℕ) (slots now : List Value) : Type 0 where
+  pub long : length now ≡ length slots
+  pub kept : Kept ds next slots now
+
+-- a first part declared these locals, in slots of their own
+pub record Declared (ds es : List Local) (next next1 : ℕ) (slots now : List Value) : Type 0 where
+  pub onward : next ≤ next1
+  pub rising : Rising next next1 es
+  pub came : Came ds next slots now
+
 -- a first change and a second one, from more names and slots on
-pub kept-then : (ds es : List Local) (next next1 : ℕ) (slots now1 now : List Value) → next ≤ next1 → Rising next next1 es → Kept ds next slots now1 → Kept (ds ++ es) next1 now1 now → Kept ds next slots now
-kept-then ds es next next1 slots now1 now le r h k i lt a = k i (omega (arith, lt, le)) (apart-append ds es i a (apart-rising es next next1 i lt r)) ∙ h i lt a
+pub kept-then : {ds es : List Local} {next next1 : ℕ} {slots now1 : List Value} (now : List Value) → Declared ds es next next1 slots now1 → Kept (ds ++ es) next1 now1 now → Kept ds next slots now
+kept-then {ds} {es} {next} {next1} now first k i lt a = let le = first.onward in k i (omega (arith, lt, le)) (apart-append ds es i a (apart-rising es next next1 i lt first.rising)) ∙ first.came.kept i lt a
 
 pub kept-trans : (ds : List Local) (next : ℕ) (slots now1 now : List Value) → Kept ds next slots now1 → Kept ds next now1 now → Kept ds next slots now
 kept-trans ds next slots now1 now h k i lt a = k i lt a ∙ h i lt a
 
+-- after an expression, under a relation of flows to ways by which ends go with ends that are alike
+pub goes-after : {A : Type 0} (R : Flow → Way → Type 0) → ((t : Told) (o : Way) → EndsAlike t t.end o → R (Flow.Ends t) o) → (p : V.Part A) (f : A → World → Flow) (K : A → World → Way → Type 0) (C : Way → Way) (o : Way)
+    → ((h : Halt) (os : List Operation) → C (Way.Ends (halted h os)) ≡ Way.Ends (halted h os)) → Sim p K o → ((x : A) (u : World) (i : Way) → K x u i → R (f x u) (C i)) → R (after p f) (C o)
+goes-after R ends (V.Part.Gives x u) f K C o strict h k = k x u o h
+goes-after R ends (V.Part.Stops (Halt.Returned v) os) f K C o strict h k = ends (halted (Halt.Returned v) os) (C o) (ap C h ∙ strict (Halt.Returned v) os)
+goes-after R ends (V.Part.Stops Halt.Divided os) f K C o strict h k = ends (halted Halt.Divided os) (C o) (ap C h ∙ strict Halt.Divided os)
+goes-after R ends (V.Part.Stops Halt.Waits os) f K C o strict h k = ends (halted Halt.Waits os) (C o) (ap C h ∙ strict Halt.Waits os)
+goes-after R ends (V.Part.Stops (Halt.Unfit why) os) f K C o strict h k = ends (halted (Halt.Unfit why) os) (C o) tt
+
+-- What a test leads to, under a relation of flows to ways: a flow and a way if it is true, another flow and a target if it is false.
+pub record Branches (R : Flow → Way → Type 0) (c : Frame) (u : World) (k : ℕ) (f g : Flow) (to : Frame → World → Way) : Type 0 where
+  pub if_true : R f (to c u)
+  pub if_false : R g (Way.Leaves k c u)
+  pub if_neither : (o : Way) → R (unfit_flow u) o
+
+-- a test of a truth value
+pub goes-test : {R : Flow → Way → Type 0} {c : Frame} {u : World} {k : ℕ} {f g : Flow} {to : Frame → World → Way} (m : Option Bool) → Branches R c u k f g to
+    → R (by_test m u f g) (then_way (unless_true (on_some (λ b. V.Part.Gives (b, c) u) u m) k) to)
+goes-test None h = h.if_neither _
+goes-test (Some true) h = h.if_true
+goes-test (Some false) h = h.if_false
+
+-- what is guarded goes as it does if it is let through, under a relation that asks nothing of what is unfit
+pub goes-guarded : (R : Flow → Way → Type 0) → ((u : World) (o : Way) → R (unfit_flow u) o) → (b : Bool) (u : World) (f : Flow) (o : Way) → (b ≡ true → R f o) → R (guarded b u f) o
+goes-guarded R unfit true u f o h = h refl
+goes-guarded R unfit false u f o h = unfit u o
+
 module _ (rest : List Value) (a : Around) where
   -- after a first part, which declares these
-  pub goes-base : (ds es after : List Local) (next next1 : ℕ) (slots now1 : List Value) (f : Flow) (o : Way) → next ≤ next1 → Rising next next1 es → length now1 ≡ length slots → Kept ds next slots now1
-      → Goes (ds ++ es) next1 now1 rest after a f o → Goes ds next slots rest after a f o
-  goes-base ds es after next next1 slots now1 (Flow.Goes Course.On env u) o le r long kept h = (h.0, h.1, (h.2.0, h.2.1 ∙ long, kept-then ds es next next1 slots now1 h.0 le r kept h.2.2))
-  goes-base ds es after next next1 slots now1 (Flow.Goes Course.Skips env u) o le r long kept h = (h.0, h.1, (h.2.0, h.2.1 ∙ long, kept-then ds es next next1 slots now1 h.0 le r kept h.2.2))
-  goes-base ds es after next next1 slots now1 (Flow.Goes Course.Breaks env u) o le r long kept h = (h.0, h.1, (stored-shorter ds es env h.0 h.2.0, h.2.1 ∙ long, kept-then ds es next next1 slots now1 h.0 le r kept h.2.2))
-  goes-base ds es after next next1 slots now1 (Flow.Goes Course.Continues env u) o le r long kept h = (h.0, h.1, (stored-shorter ds es env h.0 h.2.0, h.2.1 ∙ long, kept-then ds es next next1 slots now1 h.0 le r kept h.2.2))
-  goes-base ds es after next next1 slots now1 (Flow.Ends t) o le r long kept h = h
+  pub goes-base : {ds es : List Local} {next next1 : ℕ} {slots now1 : List Value} (al : List Local) (f : Flow) (o : Way) → Declared ds es next next1 slots now1 → Goes (ds ++ es) next1 now1 rest al a f o → Goes ds next slots rest al a f o
+  goes-base {ds} {es} al (Flow.Goes Course.On env u) o first h = (h.0, h.1, (h.2.0, h.2.1 ∙ first.came.long, kept-then h.0 first h.2.2))
+  goes-base {ds} {es} al (Flow.Goes Course.Skips env u) o first h = (h.0, h.1, (h.2.0, h.2.1 ∙ first.came.long, kept-then h.0 first h.2.2))
+  goes-base {ds} {es} al (Flow.Goes Course.Breaks env u) o first h = (h.0, h.1, (stored-shorter ds es env h.0 h.2.0, h.2.1 ∙ first.came.long, kept-then h.0 first h.2.2))
+  goes-base {ds} {es} al (Flow.Goes Course.Continues env u) o first h = (h.0, h.1, (stored-shorter ds es env h.0 h.2.0, h.2.1 ∙ first.came.long, kept-then h.0 first h.2.2))
+  goes-base {ds} {es} al (Flow.Ends t) o first h = h
 
   pub goes-then : (ds mid after : List Local) (next : ℕ) (slots : List Value) (f : Flow) (g : Env → World → Flow) (o : Way) (to : Frame → World → Way) → Goes ds next slots rest mid a f o
       → ((env : Env) (u : World) (now : List Value) → Stands ds next slots mid env now → Goes ds next slots rest after a (g env u) (to (frame now rest) u)) → Goes ds next slots rest after a (then_flow f g) (then_way o to)
@@ -102,15 +139,6 @@ module _ (rest : List Value) (a : Around) where
   goes-then ds mid after next slots (Flow.Goes Course.Breaks env u) g o to h k = (h.0, ap (λ z. then_way z to) h.1, h.2)
   goes-then ds mid after next slots (Flow.Goes Course.Continues env u) g o to h k = (h.0, ap (λ z. then_way z to) h.1, h.2)
   goes-then ds mid after next slots (Flow.Ends t) g o to h k = ends-in t t.end (λ z. then_way z to) o refl h
-
-  -- after an expression
-  pub goes-after : {A : Type 0} (ds after_locals : List Local) (next : ℕ) (slots : List Value) (p : V.Part A) (f : A → World → Flow) (K : A → World → Way → Type 0) (C : Way → Way) (o : Way) → ((h : Halt) (os : List Operation) → C (Way.Ends (halted h os)) ≡ Way.Ends (halted h os)) → Sim p K o
-      → ((x : A) (u : World) (i : Way) → K x u i → Goes ds next slots rest after_locals a (f x u) (C i)) → Goes ds next slots rest after_locals a (after p f) (C o)
-  goes-after ds al next slots (V.Part.Gives x u) f K C o strict h k = k x u o h
-  goes-after ds al next slots (V.Part.Stops (Halt.Returned v) os) f K C o strict h k = ap C h ∙ strict (Halt.Returned v) os
-  goes-after ds al next slots (V.Part.Stops Halt.Divided os) f K C o strict h k = ap C h ∙ strict Halt.Divided os
-  goes-after ds al next slots (V.Part.Stops Halt.Waits os) f K C o strict h k = ap C h ∙ strict Halt.Waits os
-  goes-after ds al next slots (V.Part.Stops (Halt.Unfit why) os) f K C o strict h k = tt
 
   -- a part that changes names
   pub goes-on : (ds al : List Local) (next : ℕ) (slots : List Value) (p : V.Part Env) (o : Way) → Sim p (λ env u i. (now : List Value) × (i ≡ Way.Through (frame now rest) u) × Stands ds next slots al env now) o → Goes ds next slots rest al a (on p) o
@@ -129,13 +157,6 @@ module _ (rest : List Value) (a : Around) where
       by (V.Part.Stops Halt.Divided os) k = k
       by (V.Part.Stops Halt.Waits os) k = k
       by (V.Part.Stops (Halt.Unfit why) os) k = tt
-
-  -- a test of a truth value
-  pub goes-test : (ds al : List Local) (next : ℕ) (slots base : List Value) (m : Option Bool) (u : World) (k : ℕ) (f g : Flow) (to : Frame → World → Way) → Goes ds next base rest al a f (to (frame slots rest) u) → Goes ds next base rest al a g (Way.Leaves k (frame slots rest) u)
-      → Goes ds next base rest al a (by_test m u f g) (then_way (unless_true (on_some (λ b. V.Part.Gives (b, frame slots rest) u) u m) k) to)
-  goes-test ds al next slots base None u k f g to h i = tt
-  goes-test ds al next slots base (Some true) u k f g to h i = h
-  goes-test ds al next slots base (Some false) u k f g to h i = i
 
   -- blocks: what is declared inside is forgotten
 
@@ -180,12 +201,25 @@ module _ (rest : List Value) (a : Around) where
       by (Flow.Ends t) k = k
 
 -- break and continue lead to the same targets
-pub around-same : (ds : List Local) (next : ℕ) (slots rest : List Value) (al : List Local) (a b : Around) (f : Flow) (o : Way) → b.breaks ≡ a.breaks → b.continues ≡ a.continues → Goes ds next slots rest al b f o → Goes ds next slots rest al a f o
-around-same ds next slots rest al a b (Flow.Goes Course.On env u) o p q h = h
-around-same ds next slots rest al a b (Flow.Goes Course.Skips env u) o p q h = h
-around-same ds next slots rest al a b (Flow.Goes Course.Breaks env u) o p q h = (h.0, h.1 ∙ ap (λ k. Way.Leaves k (frame h.0 rest) u) p, h.2)
-around-same ds next slots rest al a b (Flow.Goes Course.Continues env u) o p q h = (h.0, h.1 ∙ ap (λ k. Way.Leaves k (frame h.0 rest) u) q, h.2)
-around-same ds next slots rest al a b (Flow.Ends t) o p q h = h
+pub record LeadsAlike (a b : Around) : Type 0 where
+  pub breaks : b.breaks ≡ a.breaks
+  pub continues : b.continues ≡ a.continues
+
+pub around-same : {a b : Around} (ds : List Local) (next : ℕ) (slots rest : List Value) (al : List Local) (f : Flow) (o : Way) → LeadsAlike a b → Goes ds next slots rest al b f o → Goes ds next slots rest al a f o
+around-same ds next slots rest al (Flow.Goes Course.On env u) o alike h = h
+around-same ds next slots rest al (Flow.Goes Course.Skips env u) o alike h = h
+around-same ds next slots rest al (Flow.Goes Course.Breaks env u) o alike h = (h.0, h.1 ∙ ap (λ k. Way.Leaves k (frame h.0 rest) u) alike.breaks, h.2)
+around-same ds next slots rest al (Flow.Goes Course.Continues env u) o alike h = (h.0, h.1 ∙ ap (λ k. Way.Leaves k (frame h.0 rest) u) alike.continues, h.2)
+around-same ds next slots rest al (Flow.Ends t) o alike h = h
+
+-- past a piece that was laid
+pub past-alike : (a : Around) (m : L.Laid) → LeadsAlike a (L.past a m)
+past-alike a m = record { breaks = refl; continues = refl }
+
+-- A statement may begin: the names that are known have their values, and the slots of what it declares are there.
+pub record MayBegin (s : Scope) (walked : W.Walked) (env : Env) (slots : List Value) : Type 0 where
+  pub known : Known s.locals s.next env slots
+  pub room : (behind s walked).next ≤ length slots
 
 -- statements that mean what their code does
 
@@ -195,22 +229,40 @@ means-nothing = record {
   goes = λ a s n env slots ok room at ts rest u. (slots, refl, (subst (λ xs. Stored xs env slots) (sym (append-nil s.locals)) ok.stored, refl, λ i lt q. refl));
 }
 
--- after a first part, which went as it is told, comes a statement
-pub goes-and : (v w : Walk) (x y : Lay) (e : Deed) → ((s : Scope) → Rising s.next (behind s (v s)).next (v s).declares) → StatementMeans w y e
-    → (a : Around) (s : Scope) (n : ℕ) (f : Flow) (slots : List Value) → Rising 0 s.next s.locals → (behind s (W.then v w s)).next ≤ length slots → (at : ℕ) (ts : List ℕ) (rest : List Value) (c : Frame) (u : World)
-    → Goes s.locals s.next slots rest (behind s (v s)).locals a f (run n (x a s).piece at ts c u)
-    → Goes s.locals s.next slots rest (behind s (W.then v w s)).locals a (then_flow f (e (L.past a (x a s)) (behind s (v s)) n)) (run n (then_lay x v y a s).piece at ts c u)
-goes-and v w x y e rises hy a s n f slots rising room at ts rest c u h =
+-- A first part went as it is told, where it stands: what it declares has slots of its own, and its code goes as this flow does.
+pub record Went (v : Walk) (x : Lay) (s : Scope) (slots : List Value) : Type 0 where
+  pub around : Around
+  pub turns : ℕ
+  pub at : ℕ
+  pub targets : List ℕ
+  pub rest : List Value
+  pub start : Frame
+  pub world : World
+  pub flow : Flow
+  pub rises : Rising s.next (behind s (v s)).next (v s).declares
+  pub goes : Goes s.locals s.next slots rest (behind s (v s)).locals around flow (run turns (x around s).piece at targets start world)
+
+-- after it comes a statement
+pub goes-and : {w : Walk} {y : Lay} {e : Deed} (v : Walk) (x : Lay) (s : Scope) (slots : List Value) (first : Went v x s slots) → StatementMeans w y e → Rising 0 s.next s.locals → (behind s (W.then v w s)).next ≤ length slots
+    → Goes s.locals s.next slots first.rest (behind s (W.then v w s)).locals first.around (then_flow first.flow (e (L.past first.around (x first.around s)) (behind s (v s)) first.turns))
+    (run first.turns (then_lay x v y first.around s).piece first.at first.targets first.start first.world)
+goes-and {w} {y} {e} v x s slots first hy rising room =
+    let a = first.around in
+    let n = first.turns in
+    let at = first.at in
+    let ts = first.targets in
+    let rest = first.rest in
     let s1 = behind s (v s) in
     let b = L.past a (x a s) in
     let l = length-append (v s).slots (w s1).slots in
-    let first = (x a s).piece in
-    subst (λ xs. Goes s.locals s.next slots rest xs a (then_flow f (e b s1 n)) (run n (then_lay x v y a s).piece at ts c u)) (append_assoc s.locals (v s).declares (w s1).declares)
-    (goes-then rest a s.locals s1.locals (behind s1 (w s1)).locals s.next slots f (e b s1 n) (run n first at ts c u) (run n (y b s1).piece (at + size first) ts) h
+    let piece = (x a s).piece in
+    subst (λ xs. Goes s.locals s.next slots rest xs a (then_flow first.flow (e b s1 n)) (run n (then_lay x v y a s).piece at ts first.start first.world)) (append_assoc s.locals (v s).declares (w s1).declares)
+    (goes-then rest a s.locals s1.locals (behind s1 (w s1)).locals s.next slots first.flow (e b s1 n) (run n piece at ts first.start first.world) (run n (y b s1).piece (at + size piece) ts) first.goes
     (λ env1 u1 now st.
-    goes-base rest a s.locals (v s).declares (behind s1 (w s1)).locals s.next s1.next slots now (e b s1 n env1 u1) _ (omega arith) (rises s) st.1 st.2
-    (around-same s1.locals s1.next now rest (behind s1 (w s1)).locals a b (e b s1 n env1 u1) _ refl refl
-    (hy.goes b s1 n env1 now (record { stored = st.0; rising = rising-append s.locals (v s).declares 0 s.next s1.next rising (rises s) }) (let q = st.1 in omega (arith, room, l, q)) (at + size first) ts rest u1))))
+    let more : Declared s.locals (v s).declares s.next s1.next slots now = record { onward = omega arith; rising = first.rises; came = record { long = st.1; kept = st.2 } } in
+    goes-base rest a (behind s1 (w s1)).locals (e b s1 n env1 u1) _ more
+    (around-same s1.locals s1.next now rest (behind s1 (w s1)).locals (e b s1 n env1 u1) _ (past-alike a (x a s))
+    (hy.goes b s1 n env1 now (record { stored = st.0; rising = rising-append s.locals (v s).declares 0 s.next s1.next rising first.rises }) (let q = st.1 in omega (arith, room, l, q)) (at + size piece) ts rest u1))))
 
 pub means-then : (v w : Walk) (x y : Lay) (d e : Deed) → StatementMeans v x d → StatementMeans w y e
     → StatementMeans (W.then v w) (then_lay x v y) (λ a s n env u. then_flow (d a s n env u) (e (L.past a (x a s)) (behind s (v s)) n))
@@ -221,7 +273,18 @@ means-then v w x y d e hx hy = record {
       subst (λ k. Rising s.next k ((v s).declares ++ (w s1).declares)) (omega (arith, l)) (rising-append (v s).declares (w s1).declares s.next s1.next (behind s1 (w s1)).next (hx.rises s) (hy.rises s1));
   goes = λ a s n env slots ok room at ts rest u.
       let l = length-append (v s).slots (w (behind s (v s))).slots in
-      goes-and v w x y e hx.rises hy a s n (d a s n env u) slots ok.rising room at ts rest (frame slots rest) u (hx.goes a s n env slots ok (omega (arith, room, l)) at ts rest u);
+      goes-and v x s slots (record {
+        around = a;
+        turns = n;
+        at = at;
+        targets = ts;
+        rest = rest;
+        start = frame slots rest;
+        world = u;
+        flow = d a s n env u;
+        rises = hx.rises s;
+        goes = hx.goes a s n env slots ok (omega (arith, room, l)) at ts rest u;
+      }) hy ok.rising room;
 }
 
 abbrev pub StepMeans : Step → Type 0
@@ -236,20 +299,21 @@ means-order [] h = means-nothing
 means-order (x ∷ xs) h = means-then x.part.walk (L.in_order (parts xs)).walk x.part.lay (L.in_order (parts xs)).lay x.deed (in_order xs) h.0 (means-order xs h.1)
 
 -- in a block, all ways have the names of before
-pub exactly-prefix : (d : Deed) (p : Piece) (a : Around) (s : Scope) (n : ℕ) (env : Env) (slots : List Value) → Known s.locals s.next env slots → (at : ℕ) (ts : List ℕ) (rest : List Value) (u : World)
-    → GoesPrefix rest a s.locals s.next slots (d a (begun s) n env u) (run n p at ts (frame slots rest) u) → Exactly rest a s.locals s.next slots (in_block d a s n env u) (run n p at ts (frame slots rest) u)
-exactly-prefix d p a s n env slots ok at ts rest u h =
-    subst (λ k. Exactly rest a s.locals s.next slots (cut k (d a (begun s) n env u)) (run n p at ts (frame slots rest) u)) (sym (stored-length s.locals env slots ok.stored))
-    (cut-exactly rest a s.locals s.next slots (d a (begun s) n env u) (run n p at ts (frame slots rest) u) h)
+pub exactly-prefix : {env : Env} {slots : List Value} (rest : List Value) (a : Around) (s : Scope) (f : Flow) (o : Way) → Known s.locals s.next env slots → GoesPrefix rest a s.locals s.next slots f o → Exactly rest a s.locals s.next slots (cut (length env) f) o
+exactly-prefix {env} {slots} rest a s f o ok h = subst (λ k. Exactly rest a s.locals s.next slots (cut k f) o) (sym (stored-length s.locals env slots ok.stored)) (cut-exactly rest a s.locals s.next slots f o h)
 
-pub exactly-block : (w : Walk) (x : Lay) (d : Deed) → StatementMeans w x d → (a : Around) (s : Scope) (n : ℕ) (env : Env) (slots : List Value) → Known s.locals s.next env slots → (behind s (W.in_block w s)).next ≤ length slots
-    → (at : ℕ) (ts : List ℕ) (rest : List Value) (u : World) → Exactly rest a s.locals s.next slots (in_block d a s n env u) (run n (x a (begun s)).piece at ts (frame slots rest) u)
-exactly-block w x d h a s n env slots ok room at ts rest u =
-    exactly-prefix d (x a (begun s)).piece a s n env slots ok at ts rest u
-    (goes-prefix rest a s.locals (w (begun s)).declares s.next slots (d a (begun s) n env u) (run n (x a (begun s)).piece at ts (frame slots rest) u) (h.goes a (begun s) n env slots (record { stored = ok.stored; rising = ok.rising }) room at ts rest u))
+pub exactly-block : {w : Walk} {x : Lay} {d : Deed} {s : Scope} {env : Env} {slots : List Value} → StatementMeans w x d → (a : Around) (n : ℕ) → MayBegin s (W.in_block w s) env slots → (at : ℕ) (ts : List ℕ) (rest : List Value) (u : World)
+    → Exactly rest a s.locals s.next slots (in_block d a s n env u) (run n (x a (begun s)).piece at ts (frame slots rest) u)
+exactly-block {w} {x} {d} {s} {env} {slots} h a n ready at ts rest u =
+    let f = d a (begun s) n env u in
+    let o = run n (x a (begun s)).piece at ts (frame slots rest) u in
+    exactly-prefix rest a s f o ready.known
+    (goes-prefix rest a s.locals (w (begun s)).declares s.next slots f o (h.goes a (begun s) n env slots (record { stored = ready.known.stored; rising = ready.known.rising }) ready.room at ts rest u))
 
 pub means-block : (w : Walk) (x : Lay) (d : Deed) → StatementMeans w x d → StatementMeans (W.in_block w) (λ a s. x a (begun s)) (in_block d)
 means-block w x d h = record {
   rises = λ s. omega arith;
-  goes = λ a s n env slots ok room at ts rest u. exactly-goes rest a s.locals s.next slots (in_block d a s n env u) (run n (x a (begun s)).piece at ts (frame slots rest) u) (exactly-block w x d h a s n env slots ok room at ts rest u);
+  goes = λ a s n env slots ok room at ts rest u.
+      let ready : MayBegin s (W.in_block w s) env slots = record { known = ok; room = room } in
+      exactly-goes rest a s.locals s.next slots (in_block d a s n env u) (run n (x a (begun s)).piece at ts (frame slots rest) u) (exactly-block h a n ready at ts rest u);
 }

@@ -18,27 +18,27 @@ use Rattle.golf_code_of.specs.Statements.{Part, past}
 use Rattle.golf_code_of.specs.Statements as L
 use Rattle.golf_code_of.specs.Loops as O
 use Rattle.golf_meaning_flat.specs.Worlds as V
-use Rattle.golf_meaning_flat.specs.Worlds.{Halt, World, Operation, halted, pushed}
+use Rattle.golf_meaning_flat.specs.Worlds.{Halt, World, pushed}
 use Rattle.golf_meaning_flat.specs.Doing.{Frame, on_some}
 use Rattle.golf_meaning_flat.specs.Flat.{tests}
 use Rattle.golf_meaning_flat.specs.Structured.{Way, then_way, unless_true, out_of, once_more, rounds, run}
 use Rattle.golf_meaning_source.specs.Names.{Env}
-use Rattle.golf_meaning_source.specs.Does.{frame, Sim, OnTop, Stored, Rising, Kept, Changed, Known}
+use Rattle.golf_meaning_source.specs.Does.{frame, Sim, OnTop, Stored, Rising, Changed, Known}
 use Rattle.golf_meaning_source.proofs.Turning.{then-end}
-use Rattle.golf_meaning_statements.specs.Flows.{Course, Flow, on, after, guarded, by_test, tested, turned, turns, then_post}
-use Rattle.golf_meaning_statements.specs.Steps.{value_at, Deed, Step, optional, simple_deals, block, in_order, after_test, in_loop, forever, while, is_plain, after_optional, with_post, stepping, parts}
+use Rattle.golf_meaning_statements.specs.Flows.{Course, Flow, on, by_test, tested, turned, turns, then_post}
+use Rattle.golf_meaning_statements.specs.Steps.{value_at, Deed, Step, optional, simple_deals, block, after_test, in_loop, forever, while, is_plain, after_optional, with_post, stepping, parts}
 use Rattle.golf_meaning_statements.specs.Follows.{Stands, EndsAlike, Goes, StatementMeans}
-use Rattle.golf_meaning_statements.proofs.Flowing.{ends-in, kept-trans, Exactly, exactly-block, means-order, EachMeans, rising-append}
+use Rattle.golf_meaning_statements.proofs.Flowing.{ends-in, Came, kept-trans, goes-guarded, Exactly, MayBegin, exactly-block, goes-after, means-order, EachMeans, rising-append}
 use Rattle.golf_meaning_statements.proofs.Simples.{value-turns, plain-quiet, plain-tail}
 use Rattle.golf_meaning_statements.proofs.Conditions.{means-optional}
 
 -- from a frame that has changed on
-pub goes-trans : (rest : List Value) (a : Around) (ds al : List Local) (next : ℕ) (slots now : List Value) (f : Flow) (o : Way) → length now ≡ length slots → Kept ds next slots now → Goes ds next now rest al a f o → Goes ds next slots rest al a f o
-goes-trans rest a ds al next slots now (Flow.Goes Course.On env u) o long kept h = (h.0, h.1, (h.2.0, h.2.1 ∙ long, kept-trans ds next slots now h.0 kept h.2.2))
-goes-trans rest a ds al next slots now (Flow.Goes Course.Skips env u) o long kept h = (h.0, h.1, (h.2.0, h.2.1 ∙ long, kept-trans ds next slots now h.0 kept h.2.2))
-goes-trans rest a ds al next slots now (Flow.Goes Course.Breaks env u) o long kept h = (h.0, h.1, (h.2.0, h.2.1 ∙ long, kept-trans ds next slots now h.0 kept h.2.2))
-goes-trans rest a ds al next slots now (Flow.Goes Course.Continues env u) o long kept h = (h.0, h.1, (h.2.0, h.2.1 ∙ long, kept-trans ds next slots now h.0 kept h.2.2))
-goes-trans rest a ds al next slots now (Flow.Ends t) o long kept h = h
+pub goes-trans : {ds : List Local} {next : ℕ} {slots now : List Value} (rest : List Value) (a : Around) (al : List Local) (f : Flow) (o : Way) → Came ds next slots now → Goes ds next now rest al a f o → Goes ds next slots rest al a f o
+goes-trans {ds} {next} {slots} {now} rest a al (Flow.Goes Course.On env u) o came h = (h.0, h.1, (h.2.0, h.2.1 ∙ came.long, kept-trans ds next slots now h.0 came.kept h.2.2))
+goes-trans {ds} {next} {slots} {now} rest a al (Flow.Goes Course.Skips env u) o came h = (h.0, h.1, (h.2.0, h.2.1 ∙ came.long, kept-trans ds next slots now h.0 came.kept h.2.2))
+goes-trans {ds} {next} {slots} {now} rest a al (Flow.Goes Course.Breaks env u) o came h = (h.0, h.1, (h.2.0, h.2.1 ∙ came.long, kept-trans ds next slots now h.0 came.kept h.2.2))
+goes-trans {ds} {next} {slots} {now} rest a al (Flow.Goes Course.Continues env u) o came h = (h.0, h.1, (h.2.0, h.2.1 ∙ came.long, kept-trans ds next slots now h.0 came.kept h.2.2))
+goes-trans {ds} {next} {slots} {now} rest a al (Flow.Ends t) o came h = h
 
 -- a turn of a loop, seen from the inside: target 0 is the beginning and target 1 the end
 abbrev pub Turning : List Value → List Local → ℕ → List Value → Flow → Way → Type 0
@@ -53,9 +53,11 @@ module _ (rest : List Value) (a : Around) (ds : List Local) (next : ℕ) where
       → ((env : Env) (now : List Value) (u : World) → Stored ds env now → length now ≡ length slots → Goes ds next now rest ds a (g env u) (out_of (to (frame now rest) u)))
       → Goes ds next slots rest ds a (turned f g) (out_of (once_more o to))
   turned-goes slots (Flow.Goes Course.On env u) o g to h k =
-      subst (λ z. Goes ds next slots rest ds a (g env u) (out_of (once_more z to))) (sym h.1) (goes-trans rest a ds ds next slots h.0 (g env u) _ h.2.1 h.2.2 (k env h.0 u h.2.0 h.2.1))
+      let came : Came ds next slots h.0 = record { long = h.2.1; kept = h.2.2 } in
+      subst (λ z. Goes ds next slots rest ds a (g env u) (out_of (once_more z to))) (sym h.1) (goes-trans rest a ds (g env u) _ came (k env h.0 u h.2.0 h.2.1))
   turned-goes slots (Flow.Goes Course.Continues env u) o g to h k =
-      subst (λ z. Goes ds next slots rest ds a (g env u) (out_of (once_more z to))) (sym h.1) (goes-trans rest a ds ds next slots h.0 (g env u) _ h.2.1 h.2.2 (k env h.0 u h.2.0 h.2.1))
+      let came : Came ds next slots h.0 = record { long = h.2.1; kept = h.2.2 } in
+      subst (λ z. Goes ds next slots rest ds a (g env u) (out_of (once_more z to))) (sym h.1) (goes-trans rest a ds (g env u) _ came (k env h.0 u h.2.0 h.2.1))
   turned-goes slots (Flow.Goes Course.Breaks env u) o g to h k = (h.0, ap (λ z. out_of (once_more z to)) h.1, h.2)
   turned-goes slots (Flow.Goes Course.Skips env u) o g to h k = (h.0, ap (λ z. out_of (once_more z to)) h.1, h.2)
   turned-goes slots (Flow.Ends t) o g to h k = ends-in t t.end (λ z. out_of (once_more z to)) o refl h
@@ -75,15 +77,6 @@ module _ (rest : List Value) (a : Around) (ds : List Local) (next : ℕ) where
   body-turning slots (Flow.Goes Course.Breaks env u) o h = (h.0, ap (λ z. then_way z (λ c v. Way.Leaves 0 c v)) h.1, h.2)
   body-turning slots (Flow.Goes Course.Skips env u) o h = absurd h
   body-turning slots (Flow.Ends t) o h = ends-in t t.end (λ z. then_way z (λ c v. Way.Leaves 0 c v)) o refl h
-
-  -- after an expression
-  turning-after : {A : Type 0} (slots : List Value) (p : V.Part A) (f : A → World → Flow) (K : A → World → Way → Type 0) (C : Way → Way) (o : Way) → ((h : Halt) (os : List Operation) → C (Way.Ends (halted h os)) ≡ Way.Ends (halted h os)) → Sim p K o
-      → ((x : A) (u : World) (i : Way) → K x u i → Turning rest ds next slots (f x u) (C i)) → Turning rest ds next slots (after p f) (C o)
-  turning-after slots (V.Part.Gives x u) f K C o strict h k = k x u o h
-  turning-after slots (V.Part.Stops (Halt.Returned v) os) f K C o strict h k = ap C h ∙ strict (Halt.Returned v) os
-  turning-after slots (V.Part.Stops Halt.Divided os) f K C o strict h k = ap C h ∙ strict Halt.Divided os
-  turning-after slots (V.Part.Stops Halt.Waits os) f K C o strict h k = ap C h ∙ strict Halt.Waits os
-  turning-after slots (V.Part.Stops (Halt.Unfit why) os) f K C o strict h k = tt
 
   turning-test : (slots : List Value) (m : Option Bool) (u : World) (f : Flow) (env : Env) (to : Frame → World → Way) → Stored ds env slots → Turning rest ds next slots f (to (frame slots rest) u)
       → Turning rest ds next slots (by_test m u f (Flow.Goes Course.Skips env u)) (then_way (unless_true (on_some (λ b. V.Part.Gives (b, frame slots rest) u) u m) 1) to)
@@ -105,21 +98,23 @@ module _ (rest : List Value) (a : Around) (ds : List Local) (next : ℕ) where
   turning-on slots (V.Part.Stops Halt.Waits os) o h = ap (λ z. then_way z (λ c v. Way.Leaves 0 c v)) h
   turning-on slots (V.Part.Stops (Halt.Unfit why) os) o h = tt
 
-  turning-trans : (slots now : List Value) (f : Flow) (o : Way) → length now ≡ length slots → Kept ds next slots now → Turning rest ds next now f o → Turning rest ds next slots f o
-  turning-trans slots now (Flow.Goes Course.On env u) o long kept h = (h.0, h.1, (h.2.0, h.2.1 ∙ long, kept-trans ds next slots now h.0 kept h.2.2))
-  turning-trans slots now (Flow.Goes Course.Continues env u) o long kept h = (h.0, h.1, (h.2.0, h.2.1 ∙ long, kept-trans ds next slots now h.0 kept h.2.2))
-  turning-trans slots now (Flow.Goes Course.Breaks env u) o long kept h = (h.0, h.1, (h.2.0, h.2.1 ∙ long, kept-trans ds next slots now h.0 kept h.2.2))
-  turning-trans slots now (Flow.Goes Course.Skips env u) o long kept h = (h.0, h.1, (h.2.0, h.2.1 ∙ long, kept-trans ds next slots now h.0 kept h.2.2))
-  turning-trans slots now (Flow.Ends t) o long kept h = h
+  turning-trans : {slots now : List Value} (f : Flow) (o : Way) → Came ds next slots now → Turning rest ds next now f o → Turning rest ds next slots f o
+  turning-trans {slots} {now} (Flow.Goes Course.On env u) o came h = (h.0, h.1, (h.2.0, h.2.1 ∙ came.long, kept-trans ds next slots now h.0 came.kept h.2.2))
+  turning-trans {slots} {now} (Flow.Goes Course.Continues env u) o came h = (h.0, h.1, (h.2.0, h.2.1 ∙ came.long, kept-trans ds next slots now h.0 came.kept h.2.2))
+  turning-trans {slots} {now} (Flow.Goes Course.Breaks env u) o came h = (h.0, h.1, (h.2.0, h.2.1 ∙ came.long, kept-trans ds next slots now h.0 came.kept h.2.2))
+  turning-trans {slots} {now} (Flow.Goes Course.Skips env u) o came h = (h.0, h.1, (h.2.0, h.2.1 ∙ came.long, kept-trans ds next slots now h.0 came.kept h.2.2))
+  turning-trans {slots} {now} (Flow.Ends t) o came h = h
 
   -- a body in a block of its own, and the post statement
   post-turning : (k : ℕ) (slots : List Value) (f : Flow) (o : Way) (g : Env → World → Flow) (to : Frame → World → Way) → Exactly rest (record { breaks = 2; continues = 0; functions = k }) ds next slots f o
       → ((env : Env) (now : List Value) (u : World) → Stored ds env now → length now ≡ length slots → Turning rest ds next now (g env u) (to (frame now rest) u))
       → Turning rest ds next slots (then_post f g) (then_way (out_of o) to)
   post-turning k0 slots (Flow.Goes Course.On env u) o g to h k =
-      subst (λ z. Turning rest ds next slots (g env u) (then_way (out_of z) to)) (sym h.1) (turning-trans slots h.0 (g env u) (to (frame h.0 rest) u) h.2.1 h.2.2 (k env h.0 u h.2.0 h.2.1))
+      let came : Came ds next slots h.0 = record { long = h.2.1; kept = h.2.2 } in
+      subst (λ z. Turning rest ds next slots (g env u) (then_way (out_of z) to)) (sym h.1) (turning-trans (g env u) (to (frame h.0 rest) u) came (k env h.0 u h.2.0 h.2.1))
   post-turning k0 slots (Flow.Goes Course.Continues env u) o g to h k =
-      subst (λ z. Turning rest ds next slots (g env u) (then_way (out_of z) to)) (sym h.1) (turning-trans slots h.0 (g env u) (to (frame h.0 rest) u) h.2.1 h.2.2 (k env h.0 u h.2.0 h.2.1))
+      let came : Came ds next slots h.0 = record { long = h.2.1; kept = h.2.2 } in
+      subst (λ z. Turning rest ds next slots (g env u) (then_way (out_of z) to)) (sym h.1) (turning-trans (g env u) (to (frame h.0 rest) u) came (k env h.0 u h.2.0 h.2.1))
   post-turning k0 slots (Flow.Goes Course.Breaks env u) o g to h k = (h.0, ap (λ z. then_way (out_of z) to) h.1, h.2)
   post-turning k0 slots (Flow.Goes Course.Skips env u) o g to h k = absurd h
   post-turning k0 slots (Flow.Ends t) o g to h k = ends-in t t.end (λ z. then_way (out_of z) to) o refl h
@@ -140,7 +135,8 @@ module _ (body : List Step) (means-body : EachMeans body) where
   pub body-exactly : (b : Around) (s : Scope) (n : ℕ) (env : Env) (slots : List Value) → Known s.locals s.next env slots → s.next + length (B.walk (looped s)).slots ≤ length slots → (at : ℕ) (ts : List ℕ) (rest : List Value) (u : World)
       → Exactly rest b s.locals s.next slots (block body b (looped s) n env u) (run n (B.lay b (looped s)).piece at ts (frame slots rest) u)
   body-exactly b s n env slots ok room at ts rest u =
-      exactly-block (L.in_order (parts body)).walk (L.in_order (parts body)).lay (in_order body) (means-order body means-body) b (looped s) n env slots (record { stored = ok.stored; rising = ok.rising }) room at ts rest u
+      let ready : MayBegin (looped s) (B.walk (looped s)) env slots = record { known = record { stored = ok.stored; rising = ok.rising }; room = room } in
+      exactly-block (means-order body means-body) b n ready at ts rest u
 
   pub means-forever : (l : ℕ) → StatementMeans (O.forever l (O.in_loop 1 0 B)).walk (O.forever l (O.in_loop 1 0 B)).lay (forever (in_loop 1 0 (block body)))
   means-forever l = record {
@@ -171,7 +167,7 @@ module _ (body : List Step) (means-body : EachMeans body) where
         (turns-go rest a s.locals s.next (length slots) (after_test t l test (in_loop 1 0 (block body)) a s n) (run n q at us)
         (λ env1 now u1 ok1 e1.
         let known : Known s.locals s.next env1 now = record { stored = ok1; rising = ok.rising } in
-        turning-after rest a s.locals s.next now (value_at t l s test env1 u1) (λ vs v. tested vs v (d env1 v) (Flow.Goes Course.Skips env1 v)) (OnTop now rest) (λ o. then_way o (run n tail (at + size e) us)) (run n e at us (frame now rest) u1) (λ k os. refl) (value-turns t l test s env1 now known n at us rest u1)
+        goes-after (Turning rest s.locals s.next now) (λ t o h. h) (value_at t l s test env1 u1) (λ vs v. tested vs v (d env1 v) (Flow.Goes Course.Skips env1 v)) (OnTop now rest) (λ o. then_way o (run n tail (at + size e) us)) (run n e at us (frame now rest) u1) (λ k os. refl) (value-turns t l test s env1 now known n at us rest u1)
         (λ vs v i z. subst (λ y. Turning rest s.locals s.next now (tested vs v (d env1 v) (Flow.Goes Course.Skips env1 v)) (then_way y (run n tail (at + size e) us))) (sym z)
         (turning-tested rest a s.locals s.next now vs v (d env1 v) env1 (run n (all (p ∷ Piece.Exit l 0 ∷ [])) (at + size e + 1) us) ok1
         (body-turning rest a s.locals s.next now (d env1 v) (run n p (at + size e + 1) us (frame now rest) v) (body-exactly b s n env1 now known (omega (arith, room, e1)) (at + size e + 1) us rest v)))))
@@ -184,10 +180,10 @@ module _ (body : List Step) (means-body : EachMeans body) where
   post-quiet t None h s = (refl, refl)
   post-quiet t (Some x) h s = plain-quiet t x.line x.kind h s
 
-  post-goes : (t : Tables) (l : ℕ) (post : Option Simple) → is_plain post ≡ true → (a : Around) (s : Scope) (n : ℕ) (env : Env) (now : List Value) → Known s.locals s.next env now → (at : ℕ) (ts : List ℕ) (rest : List Value) (u : World)
+  post-goes : {env : Env} {now : List Value} (t : Tables) (post : Option Simple) → is_plain post ≡ true → (a : Around) (s : Scope) (n : ℕ) → Known s.locals s.next env now → (at : ℕ) (ts : List ℕ) (rest : List Value) (u : World)
       → Turning rest s.locals s.next now (optional t post a s n env u) (then_way (run n ((L.optional t post).lay a s).piece at ts (frame now rest) u) (λ c v. Way.Leaves 0 c v))
-  post-goes t l None h a s n env now ok at ts rest u = (now, refl, (ok.stored, refl, λ i lt q. refl))
-  post-goes t l (Some x) h a s n env now ok at ts rest u = turning-on rest a s.locals s.next now (simple_deals t x.line x.kind s env u) (run n ((L.optional t (Some x)).lay a s).piece at ts (frame now rest) u) (plain-tail t x.line x.kind h s env now ok rest n at ts u)
+  post-goes {env} {now} t None h a s n ok at ts rest u = (now, refl, (ok.stored, refl, λ i lt q. refl))
+  post-goes {env} {now} t (Some x) h a s n ok at ts rest u = turning-on rest a s.locals s.next now (simple_deals t x.line x.kind s env u) (run n ((L.optional t (Some x)).lay a s).piece at ts (frame now rest) u) (plain-tail t x.line x.kind h s env now ok rest n at ts u)
 
   module _ (t : Tables) (l : ℕ) (test : Option Expr) (post : Option Simple) where
     abbrev X : Part
@@ -228,7 +224,9 @@ module _ (body : List Step) (means-body : EachMeans body) where
           let exact = body-exactly b s1 n env now known (subst (λ k. s1.next + length (B.walk (looped s1)).slots ≤ k) (sym e1) room) at vs rest u in
           post-turning rest a s.locals s.next (past a P).functions now (block body b (looped s1) n env u) (run n bp at vs (frame now rest) u) (optional t post a s n) (λ c v. then_way (run n P.piece (at + size bp) us c v) (λ d x. Way.Leaves 0 d x))
           (subst (λ k. Exactly rest b s.locals k now (block body b (looped s1) n env u) (run n bp at vs (frame now rest) u)) same-next (subst (λ ds. Exactly rest b ds s1.next now (block body b (looped s1) n env u) (run n bp at vs (frame now rest) u)) same-locals exact))
-          (λ env2 now2 u2 ok2 e2. post-goes t l post plain a s n env2 now2 (record { stored = ok2; rising = ok0.rising }) (at + size bp) us rest u2)
+          (λ env2 now2 u2 ok2 e2.
+          let known2 : Known s.locals s.next env2 now2 = record { stored = ok2; rising = ok0.rising } in
+          post-goes t post plain a s n known2 (at + size bp) us rest u2)
 
       -- a turn with its condition
       whole-turn : (o : Option Expr) → s1.next + length (B.walk (looped s1)).slots ≤ length slots → (env : Env) (now : List Value) (u : World) → Stored s.locals env now → length now ≡ length slots → (at : ℕ) (us : List ℕ)
@@ -239,7 +237,7 @@ module _ (body : List Step) (means-body : EachMeans body) where
           let d = with_post t post (in_loop 2 0 (block body)) a s n in
           let to = run n tail_of (at + (size e + (1 + 0))) us in
           let unless = all (Piece.Unless l 1 ∷ []) in
-          turning-after rest a s.locals s.next now (value_at t l s test env u) (λ vs v. tested vs v (d env v) (Flow.Goes Course.Skips env v)) (OnTop now rest) (λ o. then_way (then_way o (run n unless (at + size e) us)) to) (run n e at us (frame now rest) u) (λ k os. refl) (value-turns t l test s env now (record { stored = ok1; rising = ok0.rising }) n at us rest u)
+          goes-after (Turning rest s.locals s.next now) (λ t o h. h) (value_at t l s test env u) (λ vs v. tested vs v (d env v) (Flow.Goes Course.Skips env v)) (OnTop now rest) (λ o. then_way (then_way o (run n unless (at + size e) us)) to) (run n e at us (frame now rest) u) (λ k os. refl) (value-turns t l test s env now (record { stored = ok1; rising = ok0.rising }) n at us rest u)
           (λ vs v i z. subst (λ y. Turning rest s.locals s.next now (tested vs v (d env v) (Flow.Goes Course.Skips env v)) (then_way (then_way y (run n unless (at + size e) us)) to)) (sym z)
           (subst (λ y. Turning rest s.locals s.next now (tested vs v (d env v) (Flow.Goes Course.Skips env v)) (then_way y to)) (sym (then-end (unless_true (tests (frame now (pushed vs rest)) v) 1)))
           (turning-tested rest a s.locals s.next now vs v (d env v) env to ok1 (guarded-turn room env now v ok1 e1 (at + (size e + (1 + 0))) us))))
@@ -266,16 +264,13 @@ module _ (body : List Step) (means-body : EachMeans body) where
     pub means-stepping : StatementMeans X.walk X.lay D
     means-stepping = record {
       rises = stepping-rises test;
-      goes = λ a s n env slots ok room at ts rest u. by a s n env slots ok room at ts rest u (is_plain post) refl;
+      goes = λ a s n env slots ok room at ts rest u.
+          let flow = turns n (after_optional t l test (with_post t post (in_loop 2 0 (block body))) a s n) env u in
+          goes-guarded (Goes s.locals s.next slots rest (behind s (X.walk s)).locals a) (λ v o. tt) (is_plain post) u flow (run n (X.lay a s).piece at ts (frame slots rest) u) (λ e.
+          let q = Piece.Then (O.optional_test t l test s) (tail_of e a s n env slots ok rest) in
+          let us : List ℕ = at ∷ ((at + size q) ∷ ts) in
+          subst (λ al. Goes s.locals s.next slots rest al a flow (run n (O.round q) at ts (frame slots rest) u)) (stepping-locals test s (post-quiet t post e s).0)
+          (turns-go rest a s.locals s.next (length slots) (after_optional t l test (with_post t post (in_loop 2 0 (block body))) a s n) (run n q at us)
+          (λ env1 now u1 ok1 e1. whole-turn e a s n env slots ok rest test (stepping-room test s (length slots) room) env1 now u1 ok1 e1 at us)
+          n env slots u ok.stored refl));
     }
-      where
-        by : (a : Around) (s : Scope) (n : ℕ) (env : Env) (slots : List Value) → Known s.locals s.next env slots → (behind s (X.walk s)).next ≤ length slots → (at : ℕ) (ts : List ℕ) (rest : List Value) (u : World) (p : Bool) → is_plain post ≡ p
-            → Goes s.locals s.next slots rest (behind s (X.walk s)).locals a (guarded p u (turns n (after_optional t l test (with_post t post (in_loop 2 0 (block body))) a s n) env u)) (run n (X.lay a s).piece at ts (frame slots rest) u)
-        by a s n env slots ok room at ts rest u false e = tt
-        by a s n env slots ok room at ts rest u true e =
-            let q = Piece.Then (O.optional_test t l test s) (tail_of e a s n env slots ok rest) in
-            let us : List ℕ = at ∷ ((at + size q) ∷ ts) in
-            subst (λ al. Goes s.locals s.next slots rest al a (turns n (after_optional t l test (with_post t post (in_loop 2 0 (block body))) a s n) env u) (run n (O.round q) at ts (frame slots rest) u)) (stepping-locals test s (post-quiet t post e s).0)
-            (turns-go rest a s.locals s.next (length slots) (after_optional t l test (with_post t post (in_loop 2 0 (block body))) a s n) (run n q at us)
-            (λ env1 now u1 ok1 e1. whole-turn e a s n env slots ok rest test (stepping-room test s (length slots) room) env1 now u1 ok1 e1 at us)
-            n env slots u ok.stored refl)

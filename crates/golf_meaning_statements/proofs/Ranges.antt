@@ -43,7 +43,7 @@ use Rattle.golf_meaning_source.proofs.Environments.{set-other, set-same, stored-
 use Rattle.golf_meaning_statements.specs.Flows.{Course, Flow, after, cut, by_test, turned}
 use Rattle.golf_meaning_statements.specs.Steps.{value_at, Step, bound, declared, block, in_loop, parts, named_one, range_named, ranges, measured, range_step, over_slice, channel_named, received_two, receives, channel_step, by_channel, over, ranging, for_deed}
 use Rattle.golf_meaning_statements.specs.Follows.{Stands, EndsAlike, Goes, StatementMeans}
-use Rattle.golf_meaning_statements.proofs.Flowing.{ends-in, stored-prefix, stored-take, stored-length, rising-append, apart-rising, apart-append, apart-below, goes-after, Exactly, GoesPrefix, exactly-prefix, exactly-goes, EachMeans}
+use Rattle.golf_meaning_statements.proofs.Flowing.{ends-in, Came, MayBegin, stored-prefix, stored-take, stored-length, rising-append, apart-rising, apart-append, apart-below, goes-after, Exactly, GoesPrefix, exactly-prefix, exactly-goes, EachMeans}
 use Rattle.golf_meaning_statements.proofs.Simples.{value-turns, stored-new, there-is}
 use Rattle.golf_meaning_statements.proofs.Loops.{goes-trans, B, inside, looped, body-exactly}
 
@@ -55,11 +55,11 @@ then-assoc Way.Lost f g = refl
 
 -- steps whose slots are known
 
-load-step : (n l i : ℕ) (q : Piece) (at : ℕ) (ts : List ℕ) (slots ops : List Value) (w : World) (v : Value) → slice_get slots i ≡ Some v → run n (Piece.Then (op l (Instr.Load i)) q) at ts (frame slots ops) w ≡ run n q (at + 1) ts (frame slots (v ∷ ops)) w
-load-step n l i q at ts slots ops w v e = ap (λ o. then_way (from_part (on_some (λ x. V.Part.Gives (frame slots (x ∷ ops)) w) w o)) (run n q (at + 1) ts)) e
+load-step : {v : Value} (n l i : ℕ) (q : Piece) (at : ℕ) (ts : List ℕ) (slots ops : List Value) (w : World) → slice_get slots i ≡ Some v → run n (Piece.Then (op l (Instr.Load i)) q) at ts (frame slots ops) w ≡ run n q (at + 1) ts (frame slots (v ∷ ops)) w
+load-step n l i q at ts slots ops w e = ap (λ o. then_way (from_part (on_some (λ x. V.Part.Gives (frame slots (x ∷ ops)) w) w o)) (run n q (at + 1) ts)) e
 
-store-step : (n l i : ℕ) (q : Piece) (at : ℕ) (ts : List ℕ) (slots ops : List Value) (w : World) (v old : Value) → slice_get slots i ≡ Some old → run n (Piece.Then (op l (Instr.Store i)) q) at ts (frame slots (v ∷ ops)) w ≡ run n q (at + 1) ts (frame (slice_set slots i v) ops) w
-store-step n l i q at ts slots ops w v old e = ap (λ o. then_way (from_part (on_some (λ (x : Value). V.Part.Gives (frame (slice_set slots i v) ops) w) w o)) (run n q (at + 1) ts)) e
+store-step : {old : Value} (n l i : ℕ) (q : Piece) (at : ℕ) (ts : List ℕ) (slots ops : List Value) (w : World) (v : Value) → slice_get slots i ≡ Some old → run n (Piece.Then (op l (Instr.Store i)) q) at ts (frame slots (v ∷ ops)) w ≡ run n q (at + 1) ts (frame (slice_set slots i v) ops) w
+store-step n l i q at ts slots ops w v e = ap (λ o. then_way (from_part (on_some (λ (x : Value). V.Part.Gives (frame (slice_set slots i v) ops) w) w o)) (run n q (at + 1) ts)) e
 
 -- a calculation on the two operands on top
 sim-act : {A : Type 0} (p : V.Part A) (to : A → Frame) → Sim p (λ a u o. o ≡ Way.Through (to a) u) (from_part (bind p (λ a u. V.Part.Gives (to a) u)))
@@ -77,59 +77,73 @@ Below k slots now = (j : ℕ) → j < k → slice_get now j ≡ slice_get slots 
 abbrev NamedNow : List Local → ℕ → List Value → List Value → Env → World → Way → Type 0
 NamedNow al k slots rest env u o = (now : List Value) × (o ≡ Way.Through (frame now rest) u) × Stored al env now × (length now ≡ length slots) × Below k slots now
 
-tail-store : (s : Scope) (env : Env) (slots rest : List Value) (n : List ℕ) (t : Option GoType) (l : ℕ) → Stored s.locals env slots → Rising 0 s.next s.locals → s.next < length slots → (vs : List Value)
+tail-store : {env : Env} {slots : List Value} (s : Scope) (rest : List Value) (n : List ℕ) (t : Option GoType) (l : ℕ) → Known s.locals s.next env slots → s.next < length slots → (vs : List Value)
     → Tail slots rest (op l (Instr.Store s.next)) vs (declared env n vs) (NamedNow (s.locals ++ variable s n t ∷ []) s.next slots rest)
-tail-store s env slots rest n t l ok rising lt [] m at ts u = tt
-tail-store s env slots rest n t l ok rising lt (v ∷ []) m at ts u =
+tail-store {env} {slots} s rest n t l ok lt [] m at ts u = tt
+tail-store {env} {slots} s rest n t l ok lt (v ∷ []) m at ts u =
     let old = there-is slots s.next lt in (
       slice_set slots s.next v,
       ap (λ o. from_part (on_some (λ (x : Value). V.Part.Gives (frame (slice_set slots s.next v) rest) u) u o)) old.1,
-      stored-new s.locals env (slice_set slots s.next v) (variable s n t) v (stored-below s.locals env slots s.next 0 s.next v (omega arith) rising ok) (set-same slots s.next v lt),
+      stored-new s.locals env (slice_set slots s.next v) (variable s n t) v (stored-below s.locals env slots s.next 0 s.next v (omega arith) ok.rising ok.stored) (set-same slots s.next v lt),
       length-set slots s.next v,
       λ j under. set-other slots s.next j v (λ q. omega (arith, q, under)),
     )
-tail-store s env slots rest n t l ok rising lt (v ∷ (x ∷ vs)) m at ts u = tt
+tail-store {env} {slots} s rest n t l ok lt (v ∷ (x ∷ vs)) m at ts u = tt
+
+-- the slice that is ranged over is in this slot, and the index two slots later
+record Ranged (slots : List Value) (h : ℕ) (x i : Value) : Type 0 where
+  slice : slice_get slots h ≡ Some x
+  index : slice_get slots (h + 2) ≡ Some i
 
 module _ (l : ℕ) (el : Option GoType) (rest : List Value) where
   -- the index
-  index-named : (b : Bool) (s : Scope) (n : List ℕ) (env : Env) (slots : List Value) (k : ℕ) (v : Value) → Stored s.locals env slots → Rising 0 s.next s.locals → (behind s (W.one_new (not b) n int_type s)).next ≤ length slots → slice_get slots k ≡ Some v
+  index-named : {s : Scope} {env : Env} {slots : List Value} {v : Value} (b : Bool) (n : List ℕ) (k : ℕ) → MayBegin s (W.one_new (not b) n int_type s) env slots → slice_get slots k ≡ Some v
       → (m at : ℕ) (ts : List ℕ) (u : World) → NamedNow (behind s (W.one_new (not b) n int_type s)).locals s.next slots rest (cond b env (bound env n v)) u (run m (cond b Piece.Empty (all (op l (Instr.Load k) ∷ op l (Instr.Store s.next) ∷ []))) at ts (frame slots rest) u)
-  index-named true s n env slots k v ok rising room e m at ts u = (slots, refl, subst (λ ds. Stored ds env slots) (sym (append-nil s.locals)) ok, refl, λ j lt. refl)
-  index-named false s n env slots k v ok rising room e m at ts u =
-      subst (λ o. NamedNow (s.locals ++ variable s n int_type ∷ []) s.next slots rest (bound env n v) u o) (sym (load-step m l k (all (op l (Instr.Store s.next) ∷ [])) at ts slots rest u v e))
-      (tail-end slots rest (op l (Instr.Store s.next)) (v ∷ []) (declared env n (v ∷ [])) (NamedNow (s.locals ++ variable s n int_type ∷ []) s.next slots rest) (tail-store s env slots rest n int_type l ok rising (omega (arith, room)) (v ∷ [])) m (at + 1) ts u)
+  index-named {s} {env} {slots} {v} true n k ready e m at ts u = (slots, refl, subst (λ ds. Stored ds env slots) (sym (append-nil s.locals)) ready.known.stored, refl, λ j lt. refl)
+  index-named {s} {env} {slots} {v} false n k ready e m at ts u =
+      let room = ready.room in
+      subst (λ o. NamedNow (s.locals ++ variable s n int_type ∷ []) s.next slots rest (bound env n v) u o) (sym (load-step m l k (all (op l (Instr.Store s.next) ∷ [])) at ts slots rest u e))
+      (tail-end slots rest (op l (Instr.Store s.next)) (v ∷ []) (declared env n (v ∷ [])) (NamedNow (s.locals ++ variable s n int_type ∷ []) s.next slots rest) (tail-store s rest n int_type l ready.known (omega (arith, room)) (v ∷ [])) m (at + 1) ts u)
 
   -- the element
-  element-goes : (b : Bool) (s : Scope) (n : List ℕ) (env : Env) (slots : List Value) (h : ℕ) (x i : Value) → Stored s.locals env slots → Rising 0 s.next s.locals → (behind s (W.one_new (not b) n el s)).next ≤ length slots → slice_get slots h ≡ Some x → slice_get slots (h + 2) ≡ Some i
+  element-goes : {s : Scope} {env : Env} {slots : List Value} {h : ℕ} {x i : Value} (b : Bool) (n : List ℕ) → MayBegin s (W.one_new (not b) n el s) env slots → Ranged slots h x i
       → (m at : ℕ) (ts : List ℕ) (u : World) → Sim (cond b (V.Part.Gives env u) (bind (visible Instr.Index (el ∷ []) (x ∷ (i ∷ [])) u) (declared env n))) (NamedNow (behind s (W.one_new (not b) n el s)).locals s.next slots rest)
       (run m (cond b Piece.Empty (all (op l (Instr.Load h) ∷ op l (Instr.Load (h + 2)) ∷ op l Instr.Index ∷ op l (Instr.Store s.next) ∷ []))) at ts (frame slots rest) u)
-  element-goes true s n env slots h x i ok rising room e f m at ts u = (slots, refl, subst (λ ds. Stored ds env slots) (sym (append-nil s.locals)) ok, refl, λ j lt. refl)
-  element-goes false s n env slots h x i ok rising room e f m at ts u =
+  element-goes {s} {env} {slots} {h} {x} {i} true n ready ranged m at ts u = (slots, refl, subst (λ ds. Stored ds env slots) (sym (append-nil s.locals)) ready.known.stored, refl, λ j lt. refl)
+  element-goes {s} {env} {slots} {h} {x} {i} false n ready ranged m at ts u =
       let K = NamedNow (s.locals ++ variable s n el ∷ []) s.next slots rest in
       let last = all (op l (Instr.Store s.next) ∷ []) in
       let two : List Value = x ∷ (i ∷ []) in
-      subst (λ o. Sim (bind (visible Instr.Index (el ∷ []) two u) (declared env n)) K o) (sym (load-step m l h (all (op l (Instr.Load (h + 2)) ∷ op l Instr.Index ∷ op l (Instr.Store s.next) ∷ [])) at ts slots rest u x e ∙ load-step m l (h + 2) (all (op l Instr.Index ∷ op l (Instr.Store s.next) ∷ [])) (at + 1) ts slots (x ∷ rest) u i f))
+      let room = ready.room in
+      subst (λ o. Sim (bind (visible Instr.Index (el ∷ []) two u) (declared env n)) K o) (sym (load-step m l h (all (op l (Instr.Load (h + 2)) ∷ op l Instr.Index ∷ op l (Instr.Store s.next) ∷ [])) at ts slots rest u ranged.slice ∙ load-step m l (h + 2) (all (op l Instr.Index ∷ op l (Instr.Store s.next) ∷ [])) (at + 1) ts slots (x ∷ rest) u ranged.index))
       (tail-then slots rest (op l Instr.Index) last two (visible Instr.Index (el ∷ []) two) (declared env n) K (turn-visible slots l Instr.Index (el ∷ []) two refl)
-      (λ vs. tail-end slots rest (op l (Instr.Store s.next)) vs (declared env n vs) K (tail-store s env slots rest n el l ok rising (omega (arith, room)) vs)) m (at + 1 + 1) ts u)
+      (λ vs. tail-end slots rest (op l (Instr.Store s.next)) vs (declared env n vs) K (tail-store s rest n el l ready.known (omega (arith, room)) vs)) m (at + 1 + 1) ts u)
 
   -- both, with the slice in slot h and the index in slot h + 2
-  names-go : (names : RangeNames) (s : Scope) (env : Env) (slots : List Value) (h : ℕ) (x i : Value) → Stored s.locals env slots → Rising 0 s.next s.locals → h + 3 ≤ s.next → (behind s (range_names names true el s)).next ≤ length slots → slice_get slots h ≡ Some x → slice_get slots (h + 2) ≡ Some i
+  names-go : {s : Scope} {env : Env} {slots : List Value} {h : ℕ} {x i : Value} (names : RangeNames) → MayBegin s (range_names names true el s) env slots → Ranged slots h x i → h + 3 ≤ s.next
       → (m at : ℕ) (ts : List ℕ) (u : World) → Sim (range_named el names x i env u) (NamedNow (behind s (range_names names true el s)).locals s.next slots rest) (run m (O.slice_names l h names s) at ts (frame slots rest) u)
-  names-go range.Neither s env slots h x i ok rising under room e f m at ts u = (slots, refl, subst (λ ds. Stored ds env slots) (sym (append-nil s.locals)) ok, refl, λ j lt. refl)
-  names-go (range.One n) s env slots h x i ok rising under room e f m at ts u = index-named (is_blank n) s n env slots (h + 2) i ok rising room f m at ts u
-  names-go (range.Two n k) s env slots h x i ok rising under room e f m at ts u =
+  names-go {s} {env} {slots} {h} {x} {i} range.Neither ready ranged under m at ts u = (slots, refl, subst (λ ds. Stored ds env slots) (sym (append-nil s.locals)) ready.known.stored, refl, λ j lt. refl)
+  names-go {s} {env} {slots} {h} {x} {i} (range.One n) ready ranged under m at ts u =
+      let first : MayBegin s (W.one_new (not (is_blank n)) n int_type s) env slots = record { known = ready.known; room = ready.room } in
+      index-named (is_blank n) n (h + 2) first ranged.index m at ts u
+  names-go {s} {env} {slots} {h} {x} {i} (range.Two n k) ready ranged under m at ts u =
       let v = W.range_name n int_type s in
       let s1 = behind s v in
       let w = W.range_name k el s1 in
       let z = length-append v.slots w.slots in
+      let room = ready.room in
+      let rising = ready.known.rising in
       let first = cond (is_blank n) Piece.Empty (all (op l (Instr.Load (h + 2)) ∷ op l (Instr.Store s.next) ∷ [])) in
       let second = cond (is_blank k) Piece.Empty (all (op l (Instr.Load h) ∷ op l (Instr.Load (h + 2)) ∷ op l Instr.Index ∷ op l (Instr.Store s1.next) ∷ [])) in
-      let one = index-named (is_blank n) s n env slots (h + 2) i ok rising (omega (arith, room, z)) f m at ts u in
+      let ready1 : MayBegin s (W.one_new (not (is_blank n)) n int_type s) env slots = record { known = ready.known; room = omega (arith, room, z) } in
+      let one = index-named (is_blank n) n (h + 2) ready1 ranged.index m at ts u in
       let now = one.0 in
       let long = one.3 in
       let rising1 = rising-append s.locals v.declares 0 s.next s1.next rising (one-rises (not (is_blank n)) n int_type s) in
       let env1 = named_one n i env in
-      let two = element-goes (is_blank k) s1 k env1 now h x i one.2 rising1 (omega (arith, room, z, long)) (one.4 h (omega (arith, under)) ∙ e) (one.4 (h + 2) (omega (arith, under)) ∙ f) m (at + size first) ts u in
+      let ready2 : MayBegin s1 (W.one_new (not (is_blank k)) k el s1) env1 now = record { known = record { stored = one.2; rising = rising1 }; room = omega (arith, room, z, long) } in
+      let ranged1 : Ranged now h x i = record { slice = one.4 h (omega (arith, under)) ∙ ranged.slice; index = one.4 (h + 2) (omega (arith, under)) ∙ ranged.index } in
+      let two = element-goes (is_blank k) k ready2 ranged1 m (at + size first) ts u in
       subst (λ o. Sim (range_named el (range.Two n k) x i env u) (NamedNow (behind s (range_names (range.Two n k) true el s)).locals s.next slots rest) (then_way o (run m (all (second ∷ [])) (at + size first) ts))) (sym one.1)
       (subst (λ o. Sim (range_named el (range.Two n k) x i env u) (NamedNow (behind s (range_names (range.Two n k) true el s)).locals s.next slots rest) o) (sym (then-end (run m second (at + size first) ts (frame now rest) u)))
       (sim-in-one (range_named el (range.Two n k) x i env u) (run m second (at + size first) ts (frame now rest) u) two
@@ -235,7 +249,9 @@ module _ (body : List Step) (means-body : EachMeans body) (l : ℕ) (names : Ran
         let rising3 = subst (λ es. Rising 0 S3.next es) (sym (append-nil ds)) (wider ds 0 h rising) in
         let q = ready.1 in
         let nx = next-is in
-        let named = names-go l el rest names S3 env now h x i stored3 rising3 (omega arith) (omega (arith, room, q, nx)) ready.2.0 ready.2.2 n at us u in
+        let ready3 : MayBegin S3 (range_names names true el S3) env now = record { known = record { stored = stored3; rising = rising3 }; room = omega (arith, room, q, nx) } in
+        let ranged : Ranged now h x i = record { slice = ready.2.0; index = ready.2.2 } in
+        let named = names-go l el rest names ready3 ranged (omega arith) n at us u in
         subst (λ k. Half now i (cut k (after (range_named el names x i env u) d)) (then_way (run n (O.slice_names l h names S3) at us (frame now rest) u) (λ c v. out_of (run n bp at2 ((at2 + size bp) ∷ us) c v)))) (sym (stored-length ds env now ready.0))
         (half-after now i (length ds) (range_named el names x i env u) K (λ o. then_way o (λ c v. out_of (run n bp at2 ((at2 + size bp) ∷ us) c v))) (run n (O.slice_names l h names S3) at us (frame now rest) u) (λ g os. refl) named
         (λ env2 u2 o k.
@@ -278,26 +294,29 @@ module _ (body : List Step) (means-body : EachMeans body) (l : ℕ) (names : Ran
           let store = all (op l (Instr.Store (h + 2)) ∷ Piece.Exit l 0 ∷ []) in
           let at6 = at5 + 1 + 1 + 1 in
           let p = computed sum u i (int_value 1) in
-          subst (λ o. G now (after p (λ k v. ranges m long step k env v)) (out_of (once_more o to))) (sym (load-step n l (h + 2) (all (op l (Instr.Int (pos 1)) ∷ op l Instr.Add ∷ op l (Instr.Store (h + 2)) ∷ Piece.Exit l 0 ∷ [])) at5 us now rest u i ready.2.2))
-          (goes-after rest a ds ds h now p (λ k v. ranges m long step k env v) (λ k v o. o ≡ Way.Through (frame now (k ∷ rest)) v) (λ o. out_of (once_more (then_way o (run n store at6 us)) to)) (from_part (bind p (λ k v. V.Part.Gives (frame now (k ∷ rest)) v))) (λ g os. refl) (sim-act p (λ k. frame now (k ∷ rest)))
+          subst (λ o. G now (after p (λ k v. ranges m long step k env v)) (out_of (once_more o to))) (sym (load-step n l (h + 2) (all (op l (Instr.Int (pos 1)) ∷ op l Instr.Add ∷ op l (Instr.Store (h + 2)) ∷ Piece.Exit l 0 ∷ [])) at5 us now rest u ready.2.2))
+          (goes-after (Goes ds h now rest ds a) (λ t o h. h) p (λ k v. ranges m long step k env v) (λ k v o. o ≡ Way.Through (frame now (k ∷ rest)) v) (λ o. out_of (once_more (then_way o (run n store at6 us)) to)) (from_part (bind p (λ k v. V.Part.Gives (frame now (k ∷ rest)) v))) (λ g os. refl) (sim-act p (λ k. frame now (k ∷ rest)))
           (λ k v o e.
           let now4 = slice_set now (h + 2) k in
           let q = ready.1 in
           let within = slice_get_within now (h + 2) i ready.2.2 in
           let ready4 : Ready env now4 k = (stored-below ds env now (h + 2) 0 h k (omega arith) rising ready.0, length-set now (h + 2) k ∙ q, (set-other now (h + 2) h k (λ z. omega (arith, z)) ∙ ready.2.0, set-other now (h + 2) (h + 1) k (λ z. omega (arith, z)) ∙ ready.2.1, set-same now (h + 2) k within)) in
+          let came : Came ds h now now4 = record { long = length-set now (h + 2) k; kept = λ j lt ap'. set-other now (h + 2) j k (λ z. omega (arith, z, lt)) } in
           subst (λ z. G now (ranges m long step k env v) (out_of (once_more (then_way z (run n store at6 us)) to))) (sym e)
-          (subst (λ z. G now (ranges m long step k env v) (out_of (once_more z to))) (sym (store-step n l (h + 2) (all (Piece.Exit l 0 ∷ [])) at6 us now rest v k i ready.2.2))
-          (goes-trans rest a ds ds h now now4 (ranges m long step k env v) (out_of (to (frame now4 rest) v)) (length-set now (h + 2) k) (λ j lt ap'. set-other now (h + 2) j k (λ z. omega (arith, z, lt))) (rec k env now4 v ready4)))))
+          (subst (λ z. G now (ranges m long step k env v) (out_of (once_more z to))) (sym (store-step n l (h + 2) (all (Piece.Exit l 0 ∷ [])) at6 us now rest v k ready.2.2))
+          (goes-trans rest a ds (ranges m long step k env v) (out_of (to (frame now4 rest) v)) came (rec k env now4 v ready4)))))
 
       -- after the body
       half-goes : (m : ℕ) (to : Frame → World → Way) (at5 : ℕ) → ((i : Value) (env : Env) (now : List Value) (u : World) → Ready env now i → G now (ranges m long step i env u) (out_of (to (frame now rest) u)))
           → (now : List Value) (i : Value) (f : Flow) (o : Way) → length now ≡ count → Half now i f o → G now (turned f (λ e v. after (computed sum v i (int_value 1)) (λ k y. ranges m long step k e y))) (out_of (once_more (then_way o (run n incr at5 us)) to))
       half-goes m to at5 rec now i (Flow.Goes Course.On env u) o q g =
+          let came : Came ds h now g.0 = record { long = g.2.1 ∙ sym q; kept = g.3 } in
           subst (λ z. G now (after (computed sum u i (int_value 1)) (λ k y. ranges m long step k env y)) (out_of (once_more (then_way z (run n incr at5 us)) to))) (sym g.1)
-          (goes-trans rest a ds ds h now g.0 (after (computed sum u i (int_value 1)) (λ k y. ranges m long step k env y)) (out_of (once_more (run n incr at5 us (frame g.0 rest) u) to)) (g.2.1 ∙ sym q) g.3 (last-steps m to at5 rec i env g.0 u g.2))
+          (goes-trans rest a ds (after (computed sum u i (int_value 1)) (λ k y. ranges m long step k env y)) (out_of (once_more (run n incr at5 us (frame g.0 rest) u) to)) came (last-steps m to at5 rec i env g.0 u g.2))
       half-goes m to at5 rec now i (Flow.Goes Course.Continues env u) o q g =
+          let came : Came ds h now g.0 = record { long = g.2.1 ∙ sym q; kept = g.3 } in
           subst (λ z. G now (after (computed sum u i (int_value 1)) (λ k y. ranges m long step k env y)) (out_of (once_more (then_way z (run n incr at5 us)) to))) (sym g.1)
-          (goes-trans rest a ds ds h now g.0 (after (computed sum u i (int_value 1)) (λ k y. ranges m long step k env y)) (out_of (once_more (run n incr at5 us (frame g.0 rest) u) to)) (g.2.1 ∙ sym q) g.3 (last-steps m to at5 rec i env g.0 u g.2))
+          (goes-trans rest a ds (after (computed sum u i (int_value 1)) (λ k y. ranges m long step k env y)) (out_of (once_more (run n incr at5 us (frame g.0 rest) u) to)) came (last-steps m to at5 rec i env g.0 u g.2))
       half-goes m to at5 rec now i (Flow.Goes Course.Breaks env u) o q g = (g.0, ap (λ z. out_of (once_more (then_way z (run n incr at5 us)) to)) g.1, g.2)
       half-goes m to at5 rec now i (Flow.Goes Course.Skips env u) o q g = absurd g
       half-goes m to at5 rec now i (Flow.Ends t) o q g = ends-in t t.end (λ z. out_of (once_more (then_way z (run n incr at5 us)) to)) o refl g
@@ -321,8 +340,8 @@ module _ (body : List Step) (means-body : EachMeans body) (l : ℕ) (names : Ran
           let at3 = at + 1 + 1 + 1 in
           let p = compared int_lt u i long in
           let f : Value → World → Flow = λ b v. by_test (bool_of b) v (turned (step i env v) (λ e y. after (computed sum y i (int_value 1)) (λ k z. ranges m long step k e z))) (Flow.Goes Course.On env v) in
-          subst (λ o. G now (after p f) (out_of (once_more o (rounds m turn)))) (sym (load-step n l (h + 2) (Piece.Then (op l (Instr.Load (h + 1))) (Piece.Then (op l Instr.Less) P2)) at us now rest u i ready.2.2 ∙ load-step n l (h + 1) (Piece.Then (op l Instr.Less) P2) (at + 1) us now (i ∷ rest) u long ready.2.1))
-          (goes-after rest a ds ds h now p f (λ k v o. o ≡ Way.Through (frame now (k ∷ rest)) v) (λ o. out_of (once_more (then_way o (run n P2 at3 us)) (rounds m turn))) (from_part (bind p (λ k v. V.Part.Gives (frame now (k ∷ rest)) v))) (λ g os. refl) (sim-act p (λ k. frame now (k ∷ rest)))
+          subst (λ o. G now (after p f) (out_of (once_more o (rounds m turn)))) (sym (load-step n l (h + 2) (Piece.Then (op l (Instr.Load (h + 1))) (Piece.Then (op l Instr.Less) P2)) at us now rest u ready.2.2 ∙ load-step n l (h + 1) (Piece.Then (op l Instr.Less) P2) (at + 1) us now (i ∷ rest) u ready.2.1))
+          (goes-after (Goes ds h now rest ds a) (λ t o h. h) p f (λ k v o. o ≡ Way.Through (frame now (k ∷ rest)) v) (λ o. out_of (once_more (then_way o (run n P2 at3 us)) (rounds m turn))) (from_part (bind p (λ k v. V.Part.Gives (frame now (k ∷ rest)) v))) (λ g os. refl) (sim-act p (λ k. frame now (k ∷ rest)))
           (λ k v o e.
           subst (λ z. G now (f k v) (out_of (once_more (then_way z (run n P2 at3 us)) (rounds m turn)))) (sym e)
           (bool-goes m (rounds m turn) (at3 + 1) (ranges-go m) i env now v ready (bool_of k))))
@@ -423,22 +442,29 @@ module _ (body : List Step) (means-body : EachMeans body) (l : ℕ) (names : Ran
     name-goes env now v ready m at us u =
         let q = ready.1 in
         let nx = cnext-is in
-        received-name names C3 env now v (subst (λ es. Stored es env now) (sym (append-nil cds)) ready.0) (subst (λ es. Rising 0 C3.next es) (sym (append-nil cds)) (wider cds 0 ch rising)) (omega (arith, room, q, nx)) single m at us u
+        let known : Known C3.locals C3.next env now = record {
+          stored = subst (λ es. Stored es env now) (sym (append-nil cds)) ready.0;
+          rising = subst (λ es. Rising 0 C3.next es) (sym (append-nil cds)) (wider cds 0 ch rising);
+        } in
+        let ready3 : MayBegin C3 (range_names names false el C3) env now = record { known = known; room = omega (arith, room, q, nx) } in
+        received-name names v ready3 single m at us u
       where
         wider : (es : List Local) (low high : ℕ) → Rising low high es → Rising low (high + 1) es
         wider [] low high r = omega (arith, r)
         wider (e ∷ es) low high r = (r.0, wider es (e.slot + 1) high r.1)
 
-        by-blank : (b : Bool) (n : List ℕ) (s : Scope) (env : Env) (now : List Value) (v : Value) → Stored s.locals env now → Rising 0 s.next s.locals → (behind s (W.one_new (not b) n el s)).next ≤ length now → (m at : ℕ) (us : List ℕ) (u : World)
+        by-blank : {s : Scope} {env : Env} {now : List Value} (b : Bool) (n : List ℕ) (v : Value) → MayBegin s (W.one_new (not b) n el s) env now → (m at : ℕ) (us : List ℕ) (u : World)
             → NamedNow (behind s (W.one_new (not b) n el s)).locals s.next now rest (cond b env (bound env n v)) u (run m (cond b (op l Instr.Drop) (op l (Instr.Store s.next))) at us (frame now (v ∷ rest)) u)
-        by-blank true n s env now v ok rise few m at us u = (now, refl, subst (λ es. Stored es env now) (sym (append-nil s.locals)) ok, refl, λ j lt. refl)
-        by-blank false n s env now v ok rise few m at us u = tail-store s env now rest n el l ok rise (omega (arith, few)) (v ∷ []) m at us u
+        by-blank {s} {env} {now} true n v ready3 m at us u = (now, refl, subst (λ es. Stored es env now) (sym (append-nil s.locals)) ready3.known.stored, refl, λ j lt. refl)
+        by-blank {s} {env} {now} false n v ready3 m at us u = let few = ready3.room in tail-store s rest n el l ready3.known (omega (arith, few)) (v ∷ []) m at us u
 
-        received-name : (names : RangeNames) (s : Scope) (env : Env) (now : List Value) (v : Value) → Stored s.locals env now → Rising 0 s.next s.locals → (behind s (range_names names false el s)).next ≤ length now → Single names → (m at : ℕ) (us : List ℕ) (u : World)
+        received-name : {s : Scope} {env : Env} {now : List Value} (names : RangeNames) (v : Value) → MayBegin s (range_names names false el s) env now → Single names → (m at : ℕ) (us : List ℕ) (u : World)
             → NamedNow (behind s (range_names names false el s)).locals s.next now rest (channel_named names v env) u (run m (O.channel_name l names s) at us (frame now (v ∷ rest)) u)
-        received-name range.Neither s env now v ok rise few one m at us u = (now, refl, subst (λ es. Stored es env now) (sym (append-nil s.locals)) ok, refl, λ j lt. refl)
-        received-name (range.One n) s env now v ok rise few one m at us u = by-blank (is_blank n) n s env now v ok rise few m at us u
-        received-name (range.Two n k) s env now v ok rise few one m at us u = absurd one
+        received-name {s} {env} {now} range.Neither v ready3 one m at us u = (now, refl, subst (λ es. Stored es env now) (sym (append-nil s.locals)) ready3.known.stored, refl, λ j lt. refl)
+        received-name {s} {env} {now} (range.One n) v ready3 one m at us u =
+            let first : MayBegin s (W.one_new (not (is_blank n)) n el s) env now = record { known = ready3.known; room = ready3.room } in
+            by-blank (is_blank n) n v first m at us u
+        received-name (range.Two n k) v ready3 one m at us u = absurd one
 
     chalf : (env : Env) (now : List Value) (v : Value) → CReady env now → (at at2 : ℕ) (us : List ℕ) (u : World)
         → CHalf now (channel_step names cd v env u) (then_way (run n (O.channel_name l names C3) at us (frame now (v ∷ rest)) u) (λ d x. then_way (run n cbp at2 us d x) (λ d x. Way.Leaves 0 d x)))
@@ -473,9 +499,11 @@ module _ (body : List Step) (means-body : EachMeans body) (l : ℕ) (names : Ran
       chalf-goes : (m : ℕ) (to : Frame → World → Way) → ((env : Env) (now : List Value) (u : World) → CReady env now → CG now (receives m el c (channel_step names cd) env u) (outside (to (frame now rest) u)))
           → (now : List Value) (f : Flow) (o : Way) → length now ≡ count → CHalf now f o → CG now (turned f (receives m el c (channel_step names cd))) (outside (once_more o to))
       chalf-goes m to rec now (Flow.Goes Course.On env u) o q g =
-          subst (λ z. CG now (receives m el c (channel_step names cd) env u) (outside (once_more z to))) (sym g.1) (goes-trans rest a cds cds ch now g.0 (receives m el c (channel_step names cd) env u) (outside (to (frame g.0 rest) u)) (g.2.1 ∙ sym q) g.3 (rec env g.0 u g.2))
+          let came : Came cds ch now g.0 = record { long = g.2.1 ∙ sym q; kept = g.3 } in
+          subst (λ z. CG now (receives m el c (channel_step names cd) env u) (outside (once_more z to))) (sym g.1) (goes-trans rest a cds (receives m el c (channel_step names cd) env u) (outside (to (frame g.0 rest) u)) came (rec env g.0 u g.2))
       chalf-goes m to rec now (Flow.Goes Course.Continues env u) o q g =
-          subst (λ z. CG now (receives m el c (channel_step names cd) env u) (outside (once_more z to))) (sym g.1) (goes-trans rest a cds cds ch now g.0 (receives m el c (channel_step names cd) env u) (outside (to (frame g.0 rest) u)) (g.2.1 ∙ sym q) g.3 (rec env g.0 u g.2))
+          let came : Came cds ch now g.0 = record { long = g.2.1 ∙ sym q; kept = g.3 } in
+          subst (λ z. CG now (receives m el c (channel_step names cd) env u) (outside (once_more z to))) (sym g.1) (goes-trans rest a cds (receives m el c (channel_step names cd) env u) (outside (to (frame g.0 rest) u)) came (rec env g.0 u g.2))
       chalf-goes m to rec now (Flow.Goes Course.Breaks env u) o q g = (g.0, ap (λ z. outside (once_more z to)) g.1, g.2)
       chalf-goes m to rec now (Flow.Goes Course.Skips env u) o q g = absurd g
       chalf-goes m to rec now (Flow.Ends t) o q g = ends-in t t.end (λ z. outside (once_more z to)) o refl g
@@ -494,8 +522,8 @@ module _ (body : List Step) (means-body : EachMeans body) (l : ℕ) (names : Ran
           let p = visible Instr.ReceiveOk (el ∷ (W.bool_type ∷ [])) (c ∷ []) u in
           let f : List Value → World → Flow = λ vs y. received_two vs y (λ v ok z. by_test (bool_of ok) z (turned (channel_step names cd v env z) (receives m el c (channel_step names cd))) (Flow.Goes Course.On env z)) in
           let after_it = all (Piece.Unless l 1 ∷ O.channel_name l names C3 ∷ cbp ∷ Piece.Exit l 0 ∷ []) in
-          subst (λ o. CG now (after p f) (outside (once_more o (rounds m cturn)))) (sym (load-step n l ch (Piece.Then (op l Instr.ReceiveOk) after_it) at us now rest u c ready.2))
-          (goes-after rest a cds cds ch now p f (OnTop now rest) (λ o. outside (once_more (then_way o (run n after_it (at + 1 + 1) us)) (rounds m cturn))) (run n (op l Instr.ReceiveOk) (at + 1) us (frame now (c ∷ rest)) u) (λ g os. refl) (turn-visible now l Instr.ReceiveOk (el ∷ (W.bool_type ∷ [])) (c ∷ []) refl n (at + 1) us rest u)
+          subst (λ o. CG now (after p f) (outside (once_more o (rounds m cturn)))) (sym (load-step n l ch (Piece.Then (op l Instr.ReceiveOk) after_it) at us now rest u ready.2))
+          (goes-after (Goes cds ch now rest cds a) (λ t o h. h) p f (OnTop now rest) (λ o. outside (once_more (then_way o (run n after_it (at + 1 + 1) us)) (rounds m cturn))) (run n (op l Instr.ReceiveOk) (at + 1) us (frame now (c ∷ rest)) u) (λ g os. refl) (turn-visible now l Instr.ReceiveOk (el ∷ (W.bool_type ∷ [])) (c ∷ []) refl n (at + 1) us rest u)
           (λ vs y o e. subst (λ z. CG now (f vs y) (outside (once_more (then_way z (run n after_it (at + 1 + 1) us)) (rounds m cturn)))) (sym e) (by vs y (λ v ok z. cbool-goes m (rounds m cturn) (at + 1 + 1 + 1) (receives-go m) env now v z ready (bool_of ok)))))
         where
           by : (vs : List Value) (y : World) → ((v ok : Value) (z : World) → CG now (by_test (bool_of ok) z (turned (channel_step names cd v env z) (receives m el c (channel_step names cd))) (Flow.Goes Course.On env z)) (outside (once_more (then_way (unless_true (on_some (λ x. V.Part.Gives (x, frame now (v ∷ rest)) z) z (bool_of ok)) 1) (run n (all (O.channel_name l names C3 ∷ cbp ∷ Piece.Exit l 0 ∷ [])) (at + 1 + 1 + 1) us)) (rounds m cturn))))
@@ -555,8 +583,8 @@ module _ (body : List Step) (means-body : EachMeans body) (t : Tables) (l : ℕ)
       let F : List Value → World → Flow = λ ls u. measured ls u (λ long v. ranges n long (range_step el names x (in_loop 2 0 (block body) a (scope_by true) n)) (int_value 0) env v) in
       let p = visible Instr.Len (int_type ∷ []) (x ∷ []) y in
       let at3 = at + 1 + 1 + 1 in
-      subst (λ o. R (after p F) o) (sym (store-step n l h (Piece.Then (op l (Instr.Load h)) X2) at ts slots rest y x old.0 old.1 ∙ load-step n l h X2 (at + 1) ts slots1 rest y x (set-same slots h x (omega (arith, room, z1, z2)))))
-      (goes-after rest a s.locals s.locals h slots p F (OnTop slots1 rest) (λ o. then_way o (run n X3 at3 ts)) (run n (op l Instr.Len) (at + 1 + 1) ts (frame slots1 (x ∷ rest)) y) (λ g os. refl) (turn-visible slots1 l Instr.Len (int_type ∷ []) (x ∷ []) refl n (at + 1 + 1) ts rest y)
+      subst (λ o. R (after p F) o) (sym (store-step n l h (Piece.Then (op l (Instr.Load h)) X2) at ts slots rest y x old.1 ∙ load-step n l h X2 (at + 1) ts slots1 rest y (set-same slots h x (omega (arith, room, z1, z2)))))
+      (goes-after (Goes s.locals h slots rest s.locals a) (λ t o h. h) p F (OnTop slots1 rest) (λ o. then_way o (run n X3 at3 ts)) (run n (op l Instr.Len) (at + 1 + 1) ts (frame slots1 (x ∷ rest)) y) (λ g os. refl) (turn-visible slots1 l Instr.Len (int_type ∷ []) (x ∷ []) refl n (at + 1 + 1) ts rest y)
       (λ ls v o q. subst (λ w. R (F ls v) (then_way w (run n X3 at3 ts))) (sym q) (by ls v at3 (omega (arith, room, z1, z2)) (omega (arith, room, z2)))))
     where
       by : (ls : List Value) (v : World) (at3 : ℕ) → s.next + 3 ≤ length slots → (scope_by true).next + length ((B body means-body).walk (looped body means-body (scope_by true))).slots ≤ length slots
@@ -585,8 +613,12 @@ module _ (body : List Step) (means-body : EachMeans body) (t : Tables) (l : ℕ)
           let at0 : slice_get slots3 h ≡ Some x = set-other slots2 (h + 2) h i (λ z. omega (arith, z)) ∙ set-other slots1 (h + 1) h long (λ z. omega (arith, z)) ∙ set-same slots h x (omega (arith, few)) in
           let at1 : slice_get slots3 (h + 1) ≡ Some long = set-other slots2 (h + 2) (h + 1) i (λ z. omega (arith, z)) ∙ set-same slots1 (h + 1) long (omega (arith, few, l1)) in
           let at2 : slice_get slots3 (h + 2) ≡ Some i = set-same slots2 (h + 2) i (omega (arith, few, l1, l2)) in
-          subst (λ o. R f o) (sym (store-step n l (h + 1) (all (op l (Instr.Int (pos 0)) ∷ op l (Instr.Store (h + 2)) ∷ loop ∷ [])) at3 ts slots1 rest v long old1.0 old1.1 ∙ store-step n l (h + 2) (all (loop ∷ [])) (at3 + 1 + 1) ts slots2 rest v i old2.0 old2.1 ∙ then-end (run n loop at5 ts (frame slots3 rest) v)))
-          (goes-trans rest a s.locals s.locals h slots slots3 f (run n loop at5 ts (frame slots3 rest) v) (l3 ∙ l2 ∙ l1) (λ j lt q. set-other slots2 (h + 2) j i (λ z. omega (arith, z, lt)) ∙ set-other slots1 (h + 1) j long (λ z. omega (arith, z, lt)) ∙ set-other slots h j x (λ z. omega (arith, z, lt)))
+          let came : Came s.locals h slots slots3 = record {
+            long = l3 ∙ l2 ∙ l1;
+            kept = λ j lt q. set-other slots2 (h + 2) j i (λ z. omega (arith, z, lt)) ∙ set-other slots1 (h + 1) j long (λ z. omega (arith, z, lt)) ∙ set-other slots h j x (λ z. omega (arith, z, lt));
+          } in
+          subst (λ o. R f o) (sym (store-step n l (h + 1) (all (op l (Instr.Int (pos 0)) ∷ op l (Instr.Store (h + 2)) ∷ loop ∷ [])) at3 ts slots1 rest v long old1.1 ∙ store-step n l (h + 2) (all (loop ∷ [])) (at3 + 1 + 1) ts slots2 rest v i old2.1 ∙ then-end (run n loop at5 ts (frame slots3 rest) v)))
+          (goes-trans rest a s.locals f (run n loop at5 ts (frame slots3 rest) v) came
           (ranges-go body means-body l names el ty a s n rest x long (length slots) ok.rising (names-rise names el (hidden_by true)) enough at5 us n i env slots3 v (st3, l3 ∙ l2 ∙ l1, (at0, at1, at2))))
       by (long ∷ (k ∷ ls)) v at3 few enough = tt
 
@@ -608,8 +640,9 @@ module _ (body : List Step) (means-body : EachMeans body) (t : Tables) (l : ℕ)
       let at1 = at + 1 in
       let us : List ℕ = at1 ∷ ((at1 + size p) ∷ ((at1 + size inner) ∷ ts)) in
       let f = receives n el x (channel_step names (in_loop 2 0 (block body) a (scope_by false) n)) env y in
-      subst (λ o. R f o) (sym (store-step n l h (all (Piece.Block inner ∷ [])) at ts slots rest y x old.0 old.1 ∙ then-end (run n (Piece.Block inner) at1 ts (frame slots1 rest) y)))
-      (goes-trans rest a s.locals s.locals h slots slots1 f (run n (Piece.Block inner) at1 ts (frame slots1 rest) y) l1 (λ j lt q. set-other slots h j x (λ z. omega (arith, z, lt)))
+      let came : Came s.locals h slots slots1 = record { long = l1; kept = λ j lt q. set-other slots h j x (λ z. omega (arith, z, lt)) } in
+      subst (λ o. R f o) (sym (store-step n l h (all (Piece.Block inner ∷ [])) at ts slots rest y x old.1 ∙ then-end (run n (Piece.Block inner) at1 ts (frame slots1 rest) y)))
+      (goes-trans rest a s.locals f (run n (Piece.Block inner) at1 ts (frame slots1 rest) y) came
       (receives-go body means-body l names el ty a s n rest x (length slots) ok.rising (channel-rises names el (hidden_by false)) (omega (arith, room, z2)) single at1 us n env slots1 y (stored-below s.locals env slots h 0 h x (omega arith) ok.rising ok.stored, l1, set-same slots h x (omega (arith, room, z1, z2)))))
 
   by-names : (nm : RangeNames) (f : Flow) (w : World) (o : Way) → (Single nm → R f o) → R (by_channel nm f w) o
@@ -622,7 +655,7 @@ module _ (body : List Step) (means-body : EachMeans body) (t : Tables) (l : ℕ)
       let E = piece_at t l s e in
       let h = s.next in
       let tail = all (op l (Instr.Store h) ∷ op l (Instr.Load h) ∷ op l Instr.Len ∷ op l (Instr.Store (h + 1)) ∷ op l (Instr.Int (pos 0)) ∷ op l (Instr.Store (h + 2)) ∷ O.round (turn_of l h (O.slice_names l h names (hidden_by true)) (body_by true)) ∷ []) in
-      goes-after rest a s.locals s.locals h slots (value_at t l s e env u) (rest_by true) (OnTop slots rest) (λ o. then_way o (run n tail (at + size E) ts)) (run n E at ts (frame slots rest) u) (λ g os. refl) (value-turns t l e s env slots ok n at ts rest u)
+      goes-after (Goes s.locals h slots rest s.locals a) (λ t o h. h) (value_at t l s e env u) (rest_by true) (OnTop slots rest) (λ o. then_way o (run n tail (at + size E) ts)) (run n E at ts (frame slots rest) u) (λ g os. refl) (value-turns t l e s env slots ok n at ts rest u)
       (λ vs v o q. subst (λ z. R (rest_by true vs v) (then_way z (run n tail (at + size E) ts))) (sym q) (by tail vs v (at + size E) (λ x y. begun-goes room x (at + size E) ts y)))
     where
       by : (tail : Piece) (vs : List Value) (v : World) (at : ℕ) → ((x : Value) (y : World) → R (over_slice n el names (in_loop 2 0 (block body) a (scope_by true) n) x env y) (run n tail at ts (frame slots (x ∷ rest)) y)) → R (rest_by true vs v) (run n tail at ts (frame slots (pushed vs rest)) v)
@@ -634,7 +667,7 @@ module _ (body : List Step) (means-body : EachMeans body) (t : Tables) (l : ℕ)
       let h = s.next in
       let loop = O.round (receiving l h (O.channel_name l names (hidden_by false)) (body_by false)) in
       let tail = all (op l (Instr.Store h) ∷ Piece.Block (all (loop ∷ op l Instr.Drop ∷ [])) ∷ []) in
-      goes-after rest a s.locals s.locals h slots (value_at t l s e env u) (rest_by false) (OnTop slots rest) (λ o. then_way o (run n tail (at + size E) ts)) (run n E at ts (frame slots rest) u) (λ g os. refl) (value-turns t l e s env slots ok n at ts rest u)
+      goes-after (Goes s.locals h slots rest s.locals a) (λ t o h. h) (value_at t l s e env u) (rest_by false) (OnTop slots rest) (λ o. then_way o (run n tail (at + size E) ts)) (run n E at ts (frame slots rest) u) (λ g os. refl) (value-turns t l e s env slots ok n at ts rest u)
       (λ vs v o q. subst (λ z. R (rest_by false vs v) (then_way z (run n tail (at + size E) ts))) (sym q) (by tail vs v (at + size E) (λ x y. by-names names (receives n el x (channel_step names (in_loop 2 0 (block body) a (scope_by false) n)) env y) y (run n tail (at + size E) ts (frame slots (x ∷ rest)) y) (begun-channel room x (at + size E) ts y))))
     where
       by : (tail : Piece) (vs : List Value) (v : World) (at : ℕ) → ((x : Value) (y : World) → R (by_channel names (receives n el x (channel_step names (in_loop 2 0 (block body) a (scope_by false) n)) env y) y) (run n tail at ts (frame slots (x ∷ rest)) y)) → R (rest_by false vs v) (run n tail at ts (frame slots (pushed vs rest)) v)
@@ -652,7 +685,7 @@ means-range body h t l names e = record {
       let b = is_outer is_slice v in
       let piece = piece_by body h t l names e (element v) (type_given v) a s n env slots rest ok b in
       exactly-goes rest a s0.locals s0.next slots (for_deed t l (header.Range names e) body a s0 n env u) (run n piece at ts (frame slots rest) u)
-      (exactly-prefix (ranging t l names e (in_loop 2 0 (block body))) piece a s0 n env slots ok0 at ts rest u
+      (exactly-prefix rest a s0 (ranging t l names e (in_loop 2 0 (block body)) a s n env u) (run n piece at ts (frame slots rest) u) ok0
       (prefix-of rest a s0.locals s0.next slots (ranging t l names e (in_loop 2 0 (block body)) a s n env u) (run n piece at ts (frame slots rest) u)
       (range-goes body h t l names e (element v) (type_given v) a s n env slots rest ok b room at ts u)));
 }

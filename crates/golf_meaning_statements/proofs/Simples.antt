@@ -324,12 +324,12 @@ module _ (t : Tables) (l : ℕ) where
         (λ e2 x o d. (d.0, d.1, (both-new bn bm e2 d.0 d.2 d.5 d.6, d.3 ∙ c.3, λ j lt a. d.4 j lt a ∙ c.4 j lt a)))) k (at + size M) ts w))
 
   -- a value and `ok`, and two names left of `:=`
-  pub pair-two : (n m : List ℕ) (s : Scope) (env : Env) (slots rest : List Value) (ty : Option GoType) → Known s.locals s.next env slots → s.next + length ((W.one_new (W.is_new s n) n ty s).slots ++ (W.one_new (W.is_new s m) m W.bool_type (behind s (W.one_new (W.is_new s n) n ty s))).slots) ≤ length slots → (us : List Value) (k at : ℕ) (ts : List ℕ) (u : World)
-      → Sim (defines_pair t s n m env us u) (λ e2 x o. (now : List Value) × (o ≡ Way.Through (frame now rest) x) × Stands s.locals s.next slots (s.locals ++ ((W.one_new (W.is_new s n) n ty s).declares ++ (W.one_new (W.is_new s m) m W.bool_type (behind s (W.one_new (W.is_new s n) n ty s))).declares)) e2 now) (run k (L.stores_pair l t s n m ty) at ts (frame slots (V.pushed us rest)) u)
-  pair-two n m s env slots rest ty ok room [] k at ts u = tt
-  pair-two n m s env slots rest ty ok room (v ∷ []) k at ts u = tt
-  pair-two n m s env slots rest ty ok room (v ∷ (y ∷ [])) k at ts u = pair-goes s n m ty v y slots rest (W.is_new s n) (W.is_new s m) env ok room k at ts u
-  pair-two n m s env slots rest ty ok room (v ∷ (y ∷ (z ∷ us))) k at ts u = tt
+  pub pair-two : {env : Env} {slots : List Value} (n m : List ℕ) (s : Scope) (rest : List Value) (ty : Option GoType) → Known s.locals s.next env slots → s.next + length ((W.one_new (W.is_new s n) n ty s).slots ++ (W.one_new (W.is_new s m) m W.bool_type (behind s (W.one_new (W.is_new s n) n ty s))).slots) ≤ length slots
+      → (us : List Value) → Tail slots rest (L.stores_pair l t s n m ty) us (defines_pair t s n m env us) (λ e2 x o. (now : List Value) × (o ≡ Way.Through (frame now rest) x) × Stands s.locals s.next slots (s.locals ++ ((W.one_new (W.is_new s n) n ty s).declares ++ (W.one_new (W.is_new s m) m W.bool_type (behind s (W.one_new (W.is_new s n) n ty s))).declares)) e2 now)
+  pair-two {env} {slots} n m s rest ty ok room [] k at ts u = tt
+  pair-two {env} {slots} n m s rest ty ok room (v ∷ []) k at ts u = tt
+  pair-two {env} {slots} n m s rest ty ok room (v ∷ (y ∷ [])) k at ts u = pair-goes s n m ty v y slots rest (W.is_new s n) (W.is_new s m) env ok room k at ts u
+  pair-two {env} {slots} n m s rest ty ok room (v ∷ (y ∷ (z ∷ us))) k at ts u = tt
 
   means-pair : (n m : List ℕ) (e : Expr) → StatementMeans (W.simple_kind l (simple.DefineReceived n m e)) (λ a s. laid (L.simple_piece t l (simple.DefineReceived n m e) s)) (λ a s k env u. on (simple_deals t l (simple.DefineReceived n m e) s env u))
   means-pair n m e = record {
@@ -343,7 +343,7 @@ module _ (t : Tables) (l : ℕ) where
         goes-on rest a s.locals al s.next slots (simple_deals t l (simple.DefineReceived n m e) s env u) (run k (L.simple_piece t l (simple.DefineReceived n m e) s) at ts (frame slots rest) u)
         (tail-then slots rest (piece_at t l s e) (Piece.Then (op l Instr.ReceiveOk) pair) [] (value_at t l s e env) (λ vs u. bind (visible Instr.ReceiveOk leaves vs u) (defines_pair t s n m env)) A (value-turns e s env slots ok)
         (λ vs. tail-then slots rest (op l Instr.ReceiveOk) pair vs (visible Instr.ReceiveOk leaves vs) (defines_pair t s n m env) A (turn-visible slots l Instr.ReceiveOk leaves vs refl)
-        (λ us. tail-end slots rest (L.stores_pair l t s n m ty) us (defines_pair t s n m env us) A (λ k at ts u. pair-two n m s env slots rest ty ok room us k at ts u))) k at ts u);
+        (λ us. tail-end slots rest (L.stores_pair l t s n m ty) us (defines_pair t s n m env us) A (pair-two n m s rest ty ok room us))) k at ts u);
   }
 
   pub means-kind : (k : SimpleKind) → StatementMeans (W.simple_kind l k) (λ a s. laid (L.simple_piece t l k s)) (λ a s n env u. on (simple_deals t l k s env u))
@@ -402,7 +402,7 @@ module _ (t : Tables) (l : ℕ) where
   means-return (Some e) = record {
     rises = λ s. omega arith;
     goes = λ a s n env slots ok room at ts rest u.
-        goes-after rest a s.locals (s.locals ++ []) s.next slots (value_at t l s e env u) returned (OnTop slots rest) (λ o. then_way o (run n (all (op l Instr.ReturnValue ∷ [])) (at + size (piece_at t l s e)) ts)) (run n (piece_at t l s e) at ts (frame slots rest) u) (λ h os. refl) (value-turns e s env slots ok n at ts rest u)
+        goes-after (Goes s.locals s.next slots rest (s.locals ++ []) a) (λ t o h. h) (value_at t l s e env u) returned (OnTop slots rest) (λ o. then_way o (run n (all (op l Instr.ReturnValue ∷ [])) (at + size (piece_at t l s e)) ts)) (run n (piece_at t l s e) at ts (frame slots rest) u) (λ h os. refl) (value-turns e s env slots ok n at ts rest u)
         (λ vs v i q. subst (λ z. Goes s.locals s.next slots rest (s.locals ++ []) a (returned vs v) (then_way z (run n (all (op l Instr.ReturnValue ∷ [])) (at + size (piece_at t l s e)) ts))) (sym q) (by a s slots rest n (at + size (piece_at t l s e)) ts vs v));
   }
     where

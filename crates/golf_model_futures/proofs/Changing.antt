@@ -61,12 +61,21 @@ module _ (O O' G F F' : ℕ → Type 0) (w : (o : ℕ) → O o → O' o) (u : (o
   finalisable-wider (Change.WakeAll p how) o a = u o a
   finalisable-wider (Change.PassOn h m) o a = u o a
 
-pub sound-wider : (O O' G G' F F' : ℕ → Type 0) → ((o : ℕ) → O o → O' o) → ((g : ℕ) → G g → G' g) → ((o : ℕ) → F o → F' o) → (n : ℕ) (cs : List Change) → Sound O G F n cs → Sound O' G' F' n cs
-sound-wider O O' G G' F F' w v u n [] a = tt
-sound-wider O O' G G' F F' w v u n (c ∷ cs) a = (
-  good-wider O O' G G' F F' w v u c a.0,
-  sound-wider (objects_after c O n) (objects_after c O' n) G G' (finalisable_after c F) (finalisable_after c F') (objects-wider O O' G F F' w u n c) v (finalisable-wider O O' G F F' w u n c) (last_after c n) cs a.1,
-)
+-- what is among these is among those: of objects, of goroutines, and of objects that may get a finaliser
+pub record Wider (O O' G G' F F' : ℕ → Type 0) : Type 0 where
+  pub objects : (o : ℕ) → O o → O' o
+  pub goroutines : (g : ℕ) → G g → G' g
+  pub finalisable : (o : ℕ) → F o → F' o
+
+pub sound-wider : (n : ℕ) (cs : List Change) {O O' G G' F F' : ℕ → Type 0} → Wider O O' G G' F F' → Sound O G F n cs → Sound O' G' F' n cs
+sound-wider n [] wider a = tt
+sound-wider n (c ∷ cs) {O} {O'} {G} {G'} {F} {F'} wider a =
+    let later : Wider (objects_after c O n) (objects_after c O' n) G G' (finalisable_after c F) (finalisable_after c F') = record {
+      objects = objects-wider O O' G F F' wider.objects wider.finalisable n c;
+      goroutines = wider.goroutines;
+      finalisable = finalisable-wider O O' G F F' wider.objects wider.finalisable n c;
+    } in
+    (good-wider O O' G G' F F' wider.objects wider.goroutines wider.finalisable c a.0, sound-wider (last_after c n) cs later a.1)
 
 module _ (O G : ℕ → Type 0) where
   -- fresh numbers stay in the set
@@ -87,7 +96,9 @@ module _ (O G : ℕ → Type 0) where
   fresh-after n (Change.PassOn g m) h o l = h o l
 
   pub rest-sound : (F : ℕ → Type 0) (n : ℕ) (c : Change) (cs : List Change) → ((o : ℕ) → n < o → O o) → Sound (objects_after c O n) G (finalisable_after c F) (last_after c n) cs → Sound O G (finalisable_after c F) (last_after c n) cs
-  rest-sound F n c cs h a = sound-wider (objects_after c O n) O G G _ _ (after-in O G n c (h (n + 1) (omega arith))) (λ g i. i) (λ o i. i) (last_after c n) cs a
+  rest-sound F n c cs h a =
+      let wider : Wider (objects_after c O n) O G G (finalisable_after c F) (finalisable_after c F) = record { objects = after-in O G n c (h (n + 1) (omega arith)); goroutines = λ g i. i; finalisable = λ o i. i } in
+      sound-wider (last_after c n) cs wider a
 
   -- sound changes keep the sets closed, and change nothing outside them
   pub closed_changes : (F : ℕ → Type 0) (n : ℕ) (cs : List Change) (s : State) → ((o : ℕ) → n < o → O o) → Closed s O G → Sound O G F n cs → Closed (apply_all cs s) O G

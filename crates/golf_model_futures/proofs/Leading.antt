@@ -23,7 +23,7 @@ use Rattle.golf_model.specs.Futures.{Numbered, UpTo, Leads}
 use Rattle.golf_model_futures.specs.Invariant.{Sound, objects_after, last_after, finalisable_after, Unfinalised}
 use Rattle.golf_model_futures.proofs.RefLaws.{frames-cons}
 use Rattle.golf_model_futures.proofs.Goodness.{good-sound}
-use Rattle.golf_model_futures.proofs.Changing.{sound-wider}
+use Rattle.golf_model_futures.proofs.Changing.{Wider, sound-wider}
 use Rattle.golf_model_futures.proofs.Collecting.{queue-append, queue-keys}
 use Rattle.golf_model_futures.proofs.GoodCalls.{call_frame-in}
 use Rattle.golf_model_futures.proofs.GoodStructures.{zeros-in}
@@ -112,7 +112,8 @@ pub numbered_changes : (cs : List Change) (s : State) → Numbered s → Sound (
 numbered_changes [] s n a = n
 numbered_changes (c ∷ cs) s n a =
     let t = apply c s in
-    let w = sound-wider (objects_after c (Given s) s.last_object) (Given t) (Started s) (Started t) (finalisable_after c (Unfinalised s)) (Unfinalised t) (given-after s c) (started-after s c) (unfinalised-after s c) (last_after c s.last_object) cs a.1 in
+    let wider : Wider (objects_after c (Given s) s.last_object) (Given t) (Started s) (Started t) (finalisable_after c (Unfinalised s)) (Unfinalised t) = record { objects = given-after s c; goroutines = started-after s c; finalisable = unfinalised-after s c } in
+    let w = sound-wider (last_after c s.last_object) cs wider a.1 in
     numbered_changes cs t (numbered_change s c n a.0) (subst (λ k. Sound (Given t) (Started t) (Unfinalised t) k cs) (last-apply s c) w)
 
 pub numbered-turned : (code : Code) (s : State) (k : ℕ) → Numbered s → Numbered (turned code s k)

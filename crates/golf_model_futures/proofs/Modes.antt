@@ -27,7 +27,7 @@ use Rattle.golf_model.proofs.Agreeing.{reach-sound, live_list-sound, has_object-
 use Rattle.golf_model_futures.specs.Invariant.{Closed, Good, Sound, Nothing, Unfinalised, objects_after, last_after, finalisable_after}
 use Rattle.golf_model_futures.proofs.Acting.{Ground}
 use Rattle.golf_model_futures.proofs.Closing.{closed-ground}
-use Rattle.golf_model_futures.proofs.Changing.{sound-wider}
+use Rattle.golf_model_futures.proofs.Changing.{Wider, sound-wider}
 use Rattle.golf_model_futures.proofs.GoodTurn.{Allows, sound_turn}
 use Rattle.golf_model_futures.proofs.Clearing.{finalisers-clearing}
 use Rattle.golf_model_futures.proofs.Staying.{turn-running, turn-sound, behind-sound, step-confined}
@@ -85,8 +85,9 @@ still_none (Change.PassOn g m) o a = a
 none-changes : (O G : ℕ → Type 0) (n : ℕ) (cs : List Change) (s : State) → s.finalisers ≡ [] → Sound O G Nothing n cs → (apply_all cs s).finalisers ≡ []
 none-changes O G n [] s h a = h
 none-changes O G n (c ∷ cs) s h a =
+    let wider : Wider (objects_after c O n) (objects_after c O n) G G (finalisable_after c Nothing) Nothing = record { objects = λ o i. i; goroutines = λ g i. i; finalisable = still_none c } in
     none-changes (objects_after c O n) G (last_after c n) cs (apply c s) (none_after O G s c h a.0)
-    (sound-wider (objects_after c O n) (objects_after c O n) G G (finalisable_after c Nothing) Nothing (λ o i. i) (λ g i. i) (still_none c) (last_after c n) cs a.1)
+    (sound-wider (last_after c n) cs wider a.1)
 
 pub none-step : (O G : ℕ → Type 0) (code : Code) (s : State) (k : ℕ) (c : Ground s O G) → sets_finalisers code ≡ false → ((g : ℕ) → whose_turn s k ≡ Some g → G g) → s.finalisers ≡ [] → (step code s k).finalisers ≡ []
 none-step O G code s k c h w e =
@@ -127,10 +128,12 @@ module _ (code : Code) (s : State) (n : Numbered s) (gone : List ℕ) (ok : Gone
         let cs = turn_changes code (k / length (runnable t)) t (whose_turn t k) in
         let u = turned code t k in
         let ds = cleared_after code t k in
+        let wider : Wider O (λ o. kept_by s gone o ≡ true) (LiveGoroutine s) (λ g. stays_by gone g ≡ true) (Unfinalised t) (Unfinalised t) = record { objects = w; goroutines = v; finalisable = λ o h. h } in
+        let wider2 : Wider O (λ o. kept_by s gone o ≡ true) (LiveGoroutine s) (λ g. stays_by gone g ≡ true) Nothing Nothing = record { objects = w; goroutines = v; finalisable = λ o h. h } in
         let turned-flows = flow_changes (λ o. kept_by s gone o ≡ true) (λ g. stays_by gone g ≡ true) (Unfinalised t) t.last_object cs t f.new_objects f
-        (sound-wider O (λ o. kept_by s gone o ≡ true) (LiveGoroutine s) (λ g. stays_by gone g ≡ true) (Unfinalised t) (Unfinalised t) w v (λ o h. h) t.last_object cs (turn-sound code (LiveGoroutine s) O t c k)) in
+        (sound-wider t.last_object cs wider (turn-sound code (LiveGoroutine s) O t c k)) in
         flow_changes (λ o. kept_by s gone o ≡ true) (λ g. stays_by gone g ≡ true) Nothing u.last_object ds u turned-flows.new_objects turned-flows
-        (sound-wider O (λ o. kept_by s gone o ≡ true) (LiveGoroutine s) (λ g. stays_by gone g ≡ true) Nothing Nothing w v (λ o h. h) u.last_object ds (behind-sound code (LiveGoroutine s) O t c k))
+        (sound-wider u.last_object ds wider2 (behind-sound code (LiveGoroutine s) O t c k))
 
     present-step : Present t → Present (step code t k)
     present-step p g h =

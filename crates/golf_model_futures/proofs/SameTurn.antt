@@ -23,7 +23,7 @@ use Rattle.golf_model.specs.Collecting.{cut}
 use Rattle.golf_model_futures.specs.Invariant.{Closed, Nothing, Unfinalised}
 use Rattle.golf_model_futures.proofs.RefLaws.{goroutine-frames, frames-head, frames-tail}
 use Rattle.golf_model_futures.proofs.Closing.{closed-ground}
-use Rattle.golf_model_futures.proofs.Changing.{sound-wider}
+use Rattle.golf_model_futures.proofs.Changing.{Wider, sound-wider}
 use Rattle.golf_model_futures.proofs.Clearing.{same-clearing}
 use Rattle.golf_model_futures.proofs.Staying.{turn-sound, turn-running, behind-sound}
 use Rattle.golf_model_futures.proofs.Cutting.{Kept, Stays, keeps_fresh-all, cut_changes}
@@ -89,9 +89,10 @@ module _ (stays kept : ℕ → Bool) (O G : ℕ → Type 0) (s : State) (c : Clo
     cut_turned : (k : ℕ) → KeepsFresh stays kept s → turned code (cut stays kept s) k ≡ cut stays kept (turned code s k)
     cut_turned k f =
         let cs = turn_changes code (k / length (runnable s)) s (whose_turn s k) in
+        let wider : Wider O (Kept stays kept) G (Stays stays kept) (Unfinalised s) (Unfinalised s) = record { objects = sub_o; goroutines = sub_g; finalisable = λ o h. h } in
         ap (λ (ds : List Change). apply_all ds (cut stays kept s)) (same-turn_changes k)
         ∙ cut_changes stays kept (Unfinalised s) s.last_object cs s f.objects f
-        (sound-wider O (Kept stays kept) G (Stays stays kept) (Unfinalised s) (Unfinalised s) sub_o sub_g (λ o h. h) s.last_object cs (turn-sound code G O s c k))
+        (sound-wider s.last_object cs wider (turn-sound code G O s c k))
 
     cut_behind : (k : ℕ) → KeepsFresh stays kept s → cleared_after code (cut stays kept s) k ≡ cleared_after code s k
     cut_behind k f =
@@ -106,7 +107,8 @@ module _ (stays kept : ℕ → Bool) (O G : ℕ → Type 0) (s : State) (c : Clo
         let t = turned code s k in
         let ds = cleared_after code s k in
         let after = keeps_fresh-all stays kept (turn_changes code (k / length (runnable s)) s (whose_turn s k)) s f in
+        let wider : Wider O (Kept stays kept) G (Stays stays kept) Nothing Nothing = record { objects = sub_o; goroutines = sub_g; finalisable = λ o h. h } in
         ap (λ (es : List Change). apply_all es (turned code (cut stays kept s) k)) (cut_behind k f)
         ∙ ap (apply_all ds) (cut_turned k f)
         ∙ cut_changes stays kept Nothing t.last_object ds t after.objects after
-        (sound-wider O (Kept stays kept) G (Stays stays kept) Nothing Nothing sub_o sub_g (λ o h. h) t.last_object ds (behind-sound code G O s c k))
+        (sound-wider t.last_object ds wider (behind-sound code G O s c k))

@@ -235,8 +235,8 @@ pub record ActorFits (types : Typing) (known : List (ℕ × ValueType)) (s : Sta
   pub present : Vals (Present s) a.frame.operands
 
 -- if a position is led to, a frame stands there
-pub lands : (types : Typing) (known : List (ℕ × ValueType)) (ft : FunctionTypes) (lacking ts : List ValueType) (assigned : List ℕ) (k : ℕ) (vs slots : List Value) → GoesOn ft (lacking ++ ts) assigned k → ValuesFit types.of known vs ts → Every (SlotFits types known (slot_types ft) slots) assigned → Stands types known ft lacking k vs slots
-lands types known ft lacking ts assigned k vs slots l a h = record {
+pub lands : {types : Typing} {known : List (ℕ × ValueType)} {ft : FunctionTypes} {lacking : List ValueType} {k : ℕ} {vs slots : List Value} (ts : List ValueType) (assigned : List ℕ) → GoesOn ft (lacking ++ ts) assigned k → ValuesFit types.of known vs ts → Every (SlotFits types known (slot_types ft) slots) assigned → Stands types known ft lacking k vs slots
+lands {types} {known} {ft} {lacking} {k} {vs} {slots} ts assigned l a h = record {
   shape = l.0;
   here = l.1;
   rest = ts;
@@ -260,7 +260,7 @@ module _ (types : Typing) (known : List (ℕ × ValueType)) (s : State) (a : Act
     on_no lacking k vs slots h = subst (LeavingFits types known ft lacking k vs slots) (sym i.no) h
 
     pub proceeds-jumps : (k : ℕ) (vs : List Value) (ts : List ValueType) → ValuesFit types.of known vs ts → GoesOn ft ts sh.assigned k → Proceeds types known s (jumps a k vs)
-    proceeds-jumps k vs ts h l = proceeds-stands (record a.frame { at = k; operands = vs }) i.holds.base (on_no [] k vs a.frame.slots (lands types known ft [] ts sh.assigned k vs a.frame.slots l h i.assigned)) i.holds.callers
+    proceeds-jumps k vs ts h l = proceeds-stands (record a.frame { at = k; operands = vs }) i.holds.base (on_no [] k vs a.frame.slots (lands ts sh.assigned l h i.assigned)) i.holds.callers
 
     pub proceeds-goes : (vs : List Value) (ts : List ValueType) → ValuesFit types.of known vs ts → GoesOn ft ts sh.assigned (a.frame.at + 1) → Proceeds types known s (goes a vs)
     proceeds-goes vs ts h l = proceeds-jumps (a.frame.at + 1) vs ts h l

@@ -105,7 +105,7 @@ module _ (code : Code) (types : Typing) (shapes : HasShapes code types) (known :
       of-some types known s Goes _ (slice_get a.frame.slots k) old.0 old.1
       (proceeds-stands types known s a ft (record a.frame { at = a.frame.at + 1; slots = slots; operands = rest })
       (record { typed = i.holds.base.typed; shaped = i.holds.base.shaped; full = slice_set-length a.frame.slots k v ∙ i.holds.base.full; deferred_calls = i.holds.base.deferred_calls })
-      (on_no types known s a ft sh i [] (a.frame.at + 1) rest slots (lands types known ft [] r.1 (k ∷ sh.assigned) (a.frame.at + 1) rest slots r.4 hs (
+      (on_no types known s a ft sh i [] (a.frame.at + 1) rest slots (lands r.1 (k ∷ sh.assigned) r.4 hs (
         here v old.0 old.1 h,
         Every-from (SlotFits types known (slot_types ft) slots) sh.assigned (λ j m. elim (j == k) as (λ b. j == k ≡ b → SlotFits types known (slot_types ft) slots j) [
           | true ↦ λ q. subst (SlotFits types known (slot_types ft) slots) (sym (eqb-true j k q)) (here v old.0 old.1 h)

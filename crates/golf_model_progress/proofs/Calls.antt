@@ -214,7 +214,7 @@ module _ (code : Code) (types : Typing) (shapes : HasShapes code types) (known :
             with_shapes r.0 o.own,
             o.ok,
             subst (λ b. FramesFit types known (gives b r.0.result) (next a.frame rest ∷ a.callers)) (sym o.discarding)
-                (ft, (i.holds.base, on_no types known s a ft sh i (option_to_list r.0.result) (a.frame.at + 1) rest a.frame.slots (lands types known ft (option_to_list r.0.result) r.1 sh.assigned (a.frame.at + 1) rest a.frame.slots r.5 hs i.assigned)), i.holds.callers),
+                (ft, (i.holds.base, on_no types known s a ft sh i (option_to_list r.0.result) (a.frame.at + 1) rest a.frame.slots (lands r.1 sh.assigned r.5 hs i.assigned)), i.holds.callers),
           )))
 
       pub proceeds-spawns : (f n : ℕ) → InstructionFits types.of ft a.frame.at (Instr.Go f n) sh → Goes (spawns code a f n)
@@ -228,7 +228,7 @@ module _ (code : Code) (types : Typing) (shapes : HasShapes code types) (known :
       proceeds-defers f n r = of-taking types known Goes r.0.params r.1 n a.frame.operands _ r.3 (taken types known s a ft sh i (pushed r.0.params r.1) r.4)
           (λ xs rest hx hs. proceeds-stands types known s a ft (record a.frame { at = a.frame.at + 1; operands = rest; deferred = record { function = f; arguments = xs } ∷ a.frame.deferred })
           (record { typed = i.holds.base.typed; shaped = i.holds.base.shaped; full = i.holds.base.full; deferred_calls = ((r.0, r.2, hx), i.holds.base.deferred_calls) })
-          (on_no types known s a ft sh i [] (a.frame.at + 1) rest a.frame.slots (lands types known ft [] r.1 sh.assigned (a.frame.at + 1) rest a.frame.slots r.5 hs i.assigned)) i.holds.callers)
+          (on_no types known s a ft sh i [] (a.frame.at + 1) rest a.frame.slots (lands r.1 sh.assigned r.5 hs i.assigned)) i.holds.callers)
 
   -- goroutine 0 begins with an entry of its queue
   pub proceeds-begins_queued : (r : GoroutineView) (qs : List Queued) → Every (λ (q : Queued). FinaliserFits types known q.object.0 q.function) qs → r.mode ≡ Mode.Running → not_empty qs ≡ true → Goes (begins_queued code r qs)

@@ -2,7 +2,7 @@
 -- For: `sends` and `receives`, golf_model/specs/Channels.antt; `turns_keep_types`, src/lib.rt
 -- By: cases of the channel and of who waits first; no induction
 use Rattle.std.proofs.Common.{◌≡◌, ℕ, ◌+◌, Bool, true, false, List, [], ◌∷◌, ◌++◌, Option, Some, None, refl, nat_lt, length}
-use Rattle.golf_theory.specs.Membership.{In, Every}
+use Rattle.golf_theory.specs.Membership.{Every}
 use Rattle.golf_theory.proofs.Lists.{Every-push, Every-append}
 use Rattle.golf_data.specs.declared.value.Value.{Value}
 use Rattle.golf_data.specs.declared.value.Channel.{Channel}
@@ -22,19 +22,16 @@ use Rattle.golf_model.specs.Channels.{buffers, sends_to, sends_on, sends, given,
 use Rattle.golf_model_futures.proofs.WaitLaws.{first-is, wait_for-in}
 use Rattle.golf_model_typing.specs.Types.{ValueType, Shape, FunctionTypes, Typing, HasType, ValueFits, ValuesFit, ChannelFits}
 use Rattle.golf_model_typing.specs.Shapes.{GoesOn, Takes, InstructionFits}
-use Rattle.golf_model_typing.specs.WellTyped.{gives, received_types, LeavingFits, FrameBase, FramesFit, WaitFits, WaitsAlone, BlockedFits, GoroutineFits, WellTyped, ChangesFit}
-use Rattle.golf_model_typing.proofs.Changing.{received-fits, receiver-served, sender-served as served-sender, value-sent, given-fits}
+use Rattle.golf_model_typing.specs.WellTyped.{gives, received_types, LeavingFits, FrameBase, FramesFit, WaitFits, WaitsAlone, GoroutineFits, WellTyped, ChangesFit}
+use Rattle.golf_model_typing.proofs.Changing.{received-fits, WaitsOn, receiver-served, sender-served as served-sender, value-sent, given-fits}
 use Rattle.golf_model_typing.proofs.Waits.{wait_for-is}
 use Rattle.golf_model_typing.proofs.Waking.{blocked-of}
 use Rattle.golf_model_progress.proofs.Acting.{Proceeds, of-choose, of-taking_one, of-taking_two, of-reference_or, of-channel, Holds, ActorFits, proceeds-stands, proceeds-panics, proceeds-goes, proceeds-blocks, taken, on_no, lands}
 
 module _ (types : Typing) (known : List (ℕ × ValueType)) (s : State) (w : WellTyped types known s) where
   -- the first waiter of a channel: it is blocked, on this channel and side
-  pub record FirstIs (o : ℕ) (side : Side) (u : Waiter) : Type 0 where
-    pub blocked : BlockedFits types known (waits_of u.goroutine.mode) u.goroutine.frames
-    pub in_waits : In u.wait (waits_of u.goroutine.mode)
-    pub object : u.wait.object.0 ≡ o
-    pub side_is : u.wait.side ≡ side
+  abbrev pub FirstIs : ℕ → Side → Waiter → Type 0
+  FirstIs o side u = WaitsOn types known o side u.wait (waits_of u.goroutine.mode) u.goroutine
 
   pub first-typed : (o : ℕ) (side : Side) (u : Waiter) → first o side s.goroutines ≡ Some u → FirstIs o side u
   first-typed o side u e =
@@ -76,7 +73,7 @@ module _ (types : Typing) (known : List (ℕ × ValueType)) (s : State) (w : Wel
     proceeds-sends_to f o v c e None q b k hv hc = proceeds-buffers f o v c e b k hv hc
     proceeds-sends_to f o v c e (Some u) q b k hv hc =
         let is = first-typed o Side.Receive u q in
-        record { moves = refl; keeps = ((after-stands f b).keeps.0, (receiver-served types known u.number o e u.wait (waits_of u.goroutine.mode) u.goroutine v true is.side_is is.object k hv is.in_waits is.blocked, tt)) }
+        record { moves = refl; keeps = ((after-stands f b).keeps.0, (receiver-served types known u.number e v true is k hv, tt)) }
 
     pub proceeds-sends_on : (f : FrameView) (v : Value) (o : ℕ) (e : ValueType) → After [] f → HasType known o (ValueType.Chan e) → Present s o → ValueFits types.of known v e → Goes (sends_on a f v s o)
     proceeds-sends_on f v o e b k p hv = of-channel types known s Goes w o (ValueType.Chan e) k p _ e refl
@@ -89,20 +86,27 @@ module _ (types : Typing) (known : List (ℕ × ValueType)) (s : State) (w : Wel
     served-fits : (o : ℕ) (u : Waiter) → first o Side.Send s.goroutines ≡ Some u → GoroutineFits types known u.number (resumed u.wait [] u.goroutine)
     served-fits o u q = let is = first-typed o Side.Send u q in served-sender types known u.number u.wait (waits_of u.goroutine.mode) u.goroutine is.side_is is.in_waits is.blocked
 
-    proceeds-unbuffered : (f : FrameView) (with_ok : Bool) (o : ℕ) (c : Channel) (e : ValueType) (m : Option Waiter) → first o Side.Send s.goroutines ≡ m → After (received_types with_ok e) f → HasType known o (ValueType.Chan e) → ChannelFits types.of known c e → Goes (receives_unbuffered a f with_ok o c m)
-    proceeds-unbuffered f with_ok o c e None q b k hc = of-choose types known s Goes c.closed _ _
-        (after-stands (given f (received with_ok c.zero false)) (after-given f (received_types with_ok e) (received with_ok c.zero false) (received-fits types known with_ok c.zero false e hc.zero) b))
-        (record { moves = refl; keeps = (((ft, b.base, ((e, k, b.stands), tt), b.callers), ((λ e. cc), tt)), tt) })
-    proceeds-unbuffered f with_ok o c e (Some u) q b k hc =
-        let v = sent_by-fits o e (Some u) q k in
-        record { moves = refl; keeps = ((after-stands (given f (received with_ok u.wait.value true)) (after-given f (received_types with_ok e) (received with_ok u.wait.value true) (received-fits types known with_ok u.wait.value true e v.0) b)).keeps.0, (served-fits o u q, tt)) }
+    -- a receive from a channel of this type, of which this is the first sender that waits
+    record Receives (f : FrameView) (with_ok : Bool) (o : ℕ) (c : Channel) (e : ValueType) (m : Option Waiter) : Type 0 where
+      sender : first o Side.Send s.goroutines ≡ m
+      after : After (received_types with_ok e) f
+      typed : HasType known o (ValueType.Chan e)
+      fits : ChannelFits types.of known c e
 
-    proceeds-receives_from : (f : FrameView) (with_ok : Bool) (o : ℕ) (c : Channel) (e : ValueType) (vs : List Value) (m : Option Waiter) → first o Side.Send s.goroutines ≡ m → After (received_types with_ok e) f → HasType known o (ValueType.Chan e) → ChannelFits types.of known c e → Every (λ z. ValueFits types.of known z e) vs → Goes (receives_from a f with_ok o c vs m)
-    proceeds-receives_from f with_ok o c e [] m q b k hc hv = proceeds-unbuffered f with_ok o c e m q b k hc
-    proceeds-receives_from f with_ok o c e (v ∷ vs) m q b k hc hv =
-        let buffer = Every-append (λ z. ValueFits types.of known z e) vs (sent_by m) hv.1 (sent_by-fits o e m q k) in
-        let goes = after-stands (given f (received with_ok v true)) (after-given f (received_types with_ok e) (received with_ok v true) (received-fits types known with_ok v true e hv.0) b) in
-        record { moves = refl; keeps = ((ValueType.Chan e, k, (e, refl, record { buffer = buffer; zero = hc.zero })), (goes.keeps.0, sender _ m q)) }
+    proceeds-unbuffered : {f : FrameView} {with_ok : Bool} {o : ℕ} {c : Channel} {e : ValueType} (m : Option Waiter) → Receives f with_ok o c e m → Goes (receives_unbuffered a f with_ok o c m)
+    proceeds-unbuffered {f} {with_ok} {o} {c} {e} None is = of-choose types known s Goes c.closed _ _
+        (after-stands (given f (received with_ok c.zero false)) (after-given f (received_types with_ok e) (received with_ok c.zero false) (received-fits types known with_ok c.zero false e is.fits.zero) is.after))
+        (record { moves = refl; keeps = (((ft, is.after.base, ((e, is.typed, is.after.stands), tt), is.after.callers), ((λ e. cc), tt)), tt) })
+    proceeds-unbuffered {f} {with_ok} {o} {c} {e} (Some u) is =
+        let v = sent_by-fits o e (Some u) is.sender is.typed in
+        record { moves = refl; keeps = ((after-stands (given f (received with_ok u.wait.value true)) (after-given f (received_types with_ok e) (received with_ok u.wait.value true) (received-fits types known with_ok u.wait.value true e v.0) is.after)).keeps.0, (served-fits o u is.sender, tt)) }
+
+    proceeds-receives_from : {f : FrameView} {with_ok : Bool} {o : ℕ} {c : Channel} {e : ValueType} (vs : List Value) (m : Option Waiter) → Receives f with_ok o c e m → Every (λ z. ValueFits types.of known z e) vs → Goes (receives_from a f with_ok o c vs m)
+    proceeds-receives_from [] m is hv = proceeds-unbuffered m is
+    proceeds-receives_from {f} {with_ok} {o} {c} {e} (v ∷ vs) m is hv =
+        let buffer = Every-append (λ z. ValueFits types.of known z e) vs (sent_by m) hv.1 (sent_by-fits o e m is.sender is.typed) in
+        let goes = after-stands (given f (received with_ok v true)) (after-given f (received_types with_ok e) (received with_ok v true) (received-fits types known with_ok v true e hv.0) is.after) in
+        record { moves = refl; keeps = ((ValueType.Chan e, is.typed, (e, refl, record { buffer = buffer; zero = is.fits.zero })), (goes.keeps.0, sender _ m is.sender)) }
       where
         sender : (t : State) (m : Option Waiter) → first o Side.Send s.goroutines ≡ m → ChangesFit types known t (sender_served m)
         sender t None q = tt
@@ -110,12 +114,14 @@ module _ (types : Typing) (known : List (ℕ × ValueType)) (s : State) (w : Wel
 
     pub proceeds-receives_on : (f : FrameView) (with_ok : Bool) (o : ℕ) (e : ValueType) → After (received_types with_ok e) f → HasType known o (ValueType.Chan e) → Present s o → Goes (receives_on a f with_ok s o)
     proceeds-receives_on f with_ok o e b k p = of-channel types known s Goes w o (ValueType.Chan e) k p _ e refl
-        (λ c at hc. proceeds-receives_from f with_ok o c e c.buffer (first o Side.Send s.goroutines) refl b k hc hc.buffer)
+        (λ c at hc.
+        let is : Receives f with_ok o c e (first o Side.Send s.goroutines) = record { sender = refl; after = b; typed = k; fits = hc } in
+        proceeds-receives_from c.buffer (first o Side.Send s.goroutines) is hc.buffer)
 
   module _ (a : Actor) (ft : FunctionTypes) (sh : Shape) (i : ActorFits types known s a ft sh) where
     -- after the instruction, with these operands
     behind : (lacking ts : List ValueType) (vs : List Value) → ValuesFit types.of known vs ts → GoesOn ft (lacking ++ ts) sh.assigned (a.frame.at + 1) → After a ft i.holds lacking (next a.frame vs)
-    behind lacking ts vs hs l = record { base = i.holds.base; stands = on_no types known s a ft sh i lacking (a.frame.at + 1) vs a.frame.slots (lands types known ft lacking ts sh.assigned (a.frame.at + 1) vs a.frame.slots l hs i.assigned); callers = i.holds.callers }
+    behind lacking ts vs hs l = record { base = i.holds.base; stands = on_no types known s a ft sh i lacking (a.frame.at + 1) vs a.frame.slots (lands ts sh.assigned l hs i.assigned); callers = i.holds.callers }
 
     pub proceeds-sends : InstructionFits types.of ft a.frame.at Instr.Send sh → Proceeds types known s (sends a s)
     proceeds-sends r = of-taking_two types known s (Proceeds types known s) _ a.frame.operands (ValueType.Chan r.0) r.0 r.1.0 (taken types known s a ft sh i (r.0 ∷ ValueType.Chan r.0 ∷ r.1.0) r.1.1) i.present

@@ -168,7 +168,7 @@ module _ (types : Typing) (known : List (ℕ × ValueType)) (s : State) (w : Wel
   proceeds-awaits_by rest ts o m true hs l k q = go (first m Side.Lock s.goroutines) refl
     where
       block : (t : State) → ChangesFit types known t (Change.Block a.number WaitKind.Condition a.line (bare_wait o Side.Cond ∷ []) (standing a (next a.frame rest)) ∷ [])
-      block t = (((ft, i.holds.base, ((k, on_no types known s a ft sh i [] (a.frame.at + 1) rest a.frame.slots (lands types known ft [] ts sh.assigned (a.frame.at + 1) rest a.frame.slots l hs i.assigned)), tt), i.holds.callers), ((λ e. refl), tt)), tt)
+      block t = (((ft, i.holds.base, ((k, on_no types known s a ft sh i [] (a.frame.at + 1) rest a.frame.slots (lands ts sh.assigned l hs i.assigned)), tt), i.holds.callers), ((λ e. refl), tt)), tt)
 
       go : (u : Option Waiter) → first m Side.Lock s.goroutines ≡ u → Goes (hands_over m u ++ (Change.Block a.number WaitKind.Condition a.line (bare_wait o Side.Cond ∷ []) (standing a (next a.frame rest)) ∷ []))
       go None e = record { moves = refl; keeps = ((hands-over types known s w a ft sh i s m None e q).0, block (apply (Change.Replace m (Object.Mutex false)) s)) }

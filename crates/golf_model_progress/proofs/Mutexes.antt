@@ -26,7 +26,7 @@ module _ (types : Typing) (known : List (ℕ × ValueType)) (s : State) (w : Wel
   proceeds-locks_by : (rest : List Value) (ts : List ValueType) (o : ℕ) (locked : Bool) → ValuesFit types.of known rest ts → GoesOn ft ts sh.assigned (a.frame.at + 1) → HasType known o ValueType.Mutex → Goes (locks_by a rest o locked)
   proceeds-locks_by rest ts o false hs l k = record { moves = refl; keeps = ((ValueType.Mutex, k, refl), (proceeds-goes types known s a ft sh i rest ts hs l).keeps) }
   proceeds-locks_by rest ts o true hs l k = proceeds-blocks types known s a ft sh i (next a.frame rest) WaitKind.Lock (bare_wait o Side.Lock ∷ []) i.holds.base
-      ((k, on_no types known s a ft sh i [] (a.frame.at + 1) rest a.frame.slots (lands types known ft [] ts sh.assigned (a.frame.at + 1) rest a.frame.slots l hs i.assigned)), tt) ((λ e. cc), tt) i.holds.callers
+      ((k, on_no types known s a ft sh i [] (a.frame.at + 1) rest a.frame.slots (lands ts sh.assigned l hs i.assigned)), tt) ((λ e. cc), tt) i.holds.callers
 
   pub proceeds-locks : InstructionFits types.of ft a.frame.at Instr.Lock sh → Goes (locks a s)
   proceeds-locks r = of-taking_one types known s Goes _ a.frame.operands ValueType.Mutex r.0 (taken types known s a ft sh i (ValueType.Mutex ∷ r.0) r.1) i.present

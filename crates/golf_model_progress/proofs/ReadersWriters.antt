@@ -32,7 +32,7 @@ module _ (code : Code) (types : Typing) (shapes : HasShapes code types) (known :
 
   -- blocking on an object of this kind
   stays : (rest : List Value) (ts : List ValueType) → ValuesFit types.of known rest ts → GoesOn ft ts sh.assigned (a.frame.at + 1) → LeavingFits types known ft [] (a.frame.at + 1) rest a.frame.slots a.frame.leaving
-  stays rest ts hs l = on_no types known s a ft sh i [] (a.frame.at + 1) rest a.frame.slots (lands types known ft [] ts sh.assigned (a.frame.at + 1) rest a.frame.slots l hs i.assigned)
+  stays rest ts hs l = on_no types known s a ft sh i [] (a.frame.at + 1) rest a.frame.slots (lands ts sh.assigned l hs i.assigned)
 
   pub proceeds-adds : InstructionFits types.of ft a.frame.at Instr.GroupAdd sh → Goes (adds a s)
   proceeds-adds r = takes-two types known s a ft sh i ValueType.Group ValueType.Int _ [] r (λ x y rest hx hy hs p. of-int types known s Goes _ y hy (λ d. of-reference types known s Goes a _ x ValueType.Group tt hx p (proceeds-panics types known s a ft PanicKind.NilPointer i.holds)

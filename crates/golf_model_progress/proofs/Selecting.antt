@@ -102,7 +102,7 @@ module _ (types : Typing) (known : List (ℕ × ValueType)) (s : State) (w : Wel
 
   -- a chosen case leads to its target
   at_target : (rest : List Value) (kind : CaseKind) (e : ValueType) (target : ℕ) → ValuesFit types.of known rest below → GoesOn ft (case_leaves kind e ++ below) sh.assigned target → After types known s w a ft i.holds (case_leaves kind e) (record a.frame { at = target; operands = rest })
-  at_target rest kind e target hs l = record { base = i.holds.base; stands = on_no types known s a ft sh i (case_leaves kind e) target rest a.frame.slots (lands types known ft (case_leaves kind e) below sh.assigned target rest a.frame.slots l hs i.assigned); callers = i.holds.callers }
+  at_target rest kind e target hs l = record { base = i.holds.base; stands = on_no types known s a ft sh i (case_leaves kind e) target rest a.frame.slots (lands below sh.assigned l hs i.assigned); callers = i.holds.callers }
 
   proceeds-proceeds_by : (rest : List Value) (kind : CaseKind) (v : Value) (e : ValueType) (target o : ℕ) → ValuesFit types.of known rest below → SentFits kind v e → GoesOn ft (case_leaves kind e ++ below) sh.assigned target → HasType known o (ValueType.Chan e) → Present s o → Goes (proceeds_by a (record a.frame { at = target; operands = rest }) kind v s o)
   proceeds-proceeds_by rest CaseKind.Send v e target o hs hv l k p = proceeds-sends_on types known s w a ft i.holds _ v o e (at_target rest CaseKind.Send e target hs l) k p hv

@@ -40,8 +40,7 @@ module _ (code : Code) (types : Typing) (shapes : HasShapes code types) (known :
       let m = known-more types known s w t in
       let g = proceeds-stands types later s a ft (next a.frame (reference (s.last_object + 1) ∷ rest)) (base-more types known later m.0 ft a.frame.function a.frame.slots a.frame.deferred i.holds.base)
       (subst (LeavingFits types later ft [] (a.frame.at + 1) (reference (s.last_object + 1) ∷ rest) a.frame.slots) (sym i.no)
-      (lands types later ft [] (t ∷ ts) sh.assigned (a.frame.at + 1) (reference (s.last_object + 1) ∷ rest) a.frame.slots l ((m.1, n), values-more types known later m.0 rest ts hs)
-      (Every-weaker (SlotFits types known (slot_types ft) a.frame.slots) (SlotFits types later (slot_types ft) a.frame.slots) (λ j b. (b.0, b.1, b.2, b.3, value-more types known later m.0 b.1 b.0 b.4)) sh.assigned i.assigned)))
+      (lands (t ∷ ts) sh.assigned l ((m.1, n), values-more types known later m.0 rest ts hs) (Every-weaker (SlotFits types known (slot_types ft) a.frame.slots) (SlotFits types later (slot_types ft) a.frame.slots) (λ j b. (b.0, b.1, b.2, b.3, value-more types known later m.0 b.1 b.0 b.4)) sh.assigned i.assigned)))
       (frames-more types known later m.0 (gives a.frame.discards ft.result) a.callers i.holds.callers) in
       record { moves = refl; keeps = (t, h, (g.keeps.0, tt)) }
 

@@ -123,11 +123,18 @@ module _ (types : Typing) (known : List (ℕ × ValueType)) where
   sent_at o e ft f w Side.Write i q k h = cc
   sent_at o e ft f w Side.Cond i q k h = cc
 
+  -- a goroutine is blocked, and one of its waits is on this side of this object
+  pub record WaitsOn (o : ℕ) (side : Side) (w : Wait) (waits : List Wait) (r : GoroutineView) : Type 0 where
+    pub blocked : BlockedFits types known waits r.frames
+    pub in_waits : In w waits
+    pub object : w.object.0 ≡ o
+    pub side_is : w.side ≡ side
+
   -- a waiting receiver that is given a value of the channel's type, and a waiting sender that is served
-  pub receiver-served : (g o : ℕ) (e : ValueType) (w : Wait) (waits : List Wait) (r : GoroutineView) (v : Value) (sent : Bool) → w.side ≡ Side.Receive → w.object.0 ≡ o → HasType known o (ValueType.Chan e) → ValueFits types.of known v e → In w waits → BlockedFits types known waits r.frames
+  pub receiver-served : {o : ℕ} {w : Wait} {waits : List Wait} {r : GoroutineView} (g : ℕ) (e : ValueType) (v : Value) (sent : Bool) → WaitsOn o Side.Receive w waits r → HasType known o (ValueType.Chan e) → ValueFits types.of known v e
       → GoroutineFits types known g (resumed w (received w.with_ok v sent) r)
-  receiver-served g o e w waits r v sent side q k a i b =
-      resumed-fits g w (received_types w.with_ok e) (received w.with_ok v sent) waits r (received-fits w.with_ok v sent e a) (λ ft f h. receives_at o e ft f w w.side side q k h) i b
+  receiver-served {o} {w} {waits} {r} g e v sent is k a =
+      resumed-fits g w (received_types w.with_ok e) (received w.with_ok v sent) waits r (received-fits w.with_ok v sent e a) (λ ft f h. receives_at o e ft f w w.side is.side_is is.object k h) is.in_waits is.blocked
 
   pub sender-served : (g : ℕ) (w : Wait) (waits : List Wait) (r : GoroutineView) → w.side ≡ Side.Send → In w waits → BlockedFits types known waits r.frames → GoroutineFits types known g (resumed w [] r)
   sender-served g w waits r side i b = resumed-fits g w [] [] waits r tt (λ ft f h. sends_at ft f w w.side side h) i b

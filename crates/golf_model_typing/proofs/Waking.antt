@@ -15,7 +15,7 @@ use Rattle.golf_model_futures.proofs.WaitLaws.{wait_for-in, wait_on-in}
 use Rattle.golf_model_typing.specs.Types.{ValueType, Typing, HasType, ValueFits}
 use Rattle.golf_model_typing.specs.WellTyped.{BlockedFits, ModeFits, GoroutineFits, WakingFits}
 use Rattle.golf_model_typing.proofs.Waits.{wait_for-is, wait_on-is}
-use Rattle.golf_model_typing.proofs.Changing.{released-at, receiver-served, unwound-fits}
+use Rattle.golf_model_typing.proofs.Changing.{released-at, WaitsOn, receiver-served, unwound-fits}
 
 module _ (types : Typing) (known : List (ℕ × ValueType)) where
   -- who waits is blocked
@@ -25,7 +25,9 @@ module _ (types : Typing) (known : List (ℕ × ValueType)) where
 
   module _ (g o : ℕ) (r : GoroutineView) (h : GoroutineFits types known g r) where
     closed_for-fits : (zero : Value) (e : ValueType) (w : Wait) (side : Side) → HasType known o (ValueType.Chan e) → ValueFits types.of known zero e → w.side ≡ side → w.object.0 ≡ o → In w (waits_of r.mode) → GoroutineFits types known g (closed_for zero w side r)
-    closed_for-fits zero e w Side.Receive k a q j i = receiver-served types known g o e w (waits_of r.mode) r zero false q j k a i (blocked-of r.frames r.mode w i h.0)
+    closed_for-fits zero e w Side.Receive k a q j i =
+        let is : WaitsOn types known o Side.Receive w (waits_of r.mode) r = record { blocked = blocked-of r.frames r.mode w i h.0; in_waits = i; object = j; side_is = q } in
+        receiver-served types known g e zero false is k a
     closed_for-fits zero e w Side.Send k a q j i = unwound-fits types known (fault PanicKind.SendClosed (blocked_line r.mode)) g (waits_of r.mode) r (blocked-of r.frames r.mode w i h.0)
     closed_for-fits zero e w _ k a q j i = h
 

@@ -60,10 +60,10 @@ events_none is_next schedule after every done turns idle below none same =
     ap (λ b. collection_if b ++ turns_from every (done + 1) (numbers_left schedule done (turns - done))) idle ∙ none_left schedule every done turns below none in
     (here, ap (λ s. collection_if is_next ++ turns_from every (done + 1) (numbers_left s done (turns - done))) same ∙ here)
 
-pub events_turn : (is_next due : Bool) (before after : Schedule) (every : Option ℕ) (done turns c : ℕ) → is_next ≡ false → done < turns
+pub events_turn : {is_next due : Bool} {c : ℕ} (before after : Schedule) (every : Option ℕ) (done turns : ℕ) → is_next ≡ false → done < turns
     → numbers_left before done (suc (turns - suc done)) ≡ c ∷ numbers_left after (suc done) (turns - suc done) → due ≡ is_due every (done + 1)
     → collection_if is_next ++ turns_from every (done + 1) (numbers_left before done (turns - done))
     ≡ Event.Turn c ∷ (collection_if due ++ turns_from every ((done + 1) + 1) (numbers_left after (done + 1) (turns - (done + 1))))
-events_turn is_next due before after every done turns c idle below next is =
+events_turn {is_next} {due} {c} before after every done turns idle below next is =
     ap (λ b. collection_if b ++ turns_from every (done + 1) (numbers_left before done (turns - done))) idle ∙ turn_left before after every done turns c below next
     ∙ ap (λ b. Event.Turn c ∷ (collection_if b ++ turns_from every ((done + 1) + 1) (numbers_left after (done + 1) (turns - (done + 1))))) (sym is)

@@ -12,7 +12,6 @@ returns-in_err-number c =
 pub returns : goal.returns
 returns c =
     let s = c.args.self.now in (
-      events_turn s.is_collection_next c.is_due-self.result s.schedule c.next_number.new.self s.every s.done s.turns c.in_ok-number.number c.if-self.false c.if-self-2.false
-          (c.in_ok-number.ensures (s.turns - suc s.done)) c.is_due-self.ensures,
+      events_turn s.schedule c.next_number.new.self s.every s.done s.turns c.if-self.false c.if-self-2.false (c.in_ok-number.ensures (s.turns - suc s.done)) c.is_due-self.ensures,
       refl,
     )
