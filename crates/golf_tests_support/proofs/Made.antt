@@ -1,5 +1,5 @@
--- A graph under construction gains a node.
--- For: `node`, src/making.rt; `IsInMaking`, specs/Making.antt
+-- A graph under construction gains a node, and a sleeper.
+-- For: `node` and `sleeper`, src/making.rt; `IsInMaking`, specs/Making.antt
 -- By: induction over the list of objects of the graph
 use Rattle.std.proofs.Common.{◌≡◌, ℕ, ◌+◌, ◌<◌, ◌≤◌, List, [], ◌∷◌, ◌++◌, length, Bool, subst, sym, arith}
 use Rattle.std.proofs.lemmas.List.{length_push}
@@ -7,6 +7,7 @@ use Rattle.golf_theory.specs.Membership.{Every}
 use Rattle.golf_theory.proofs.Lists.{Every-push, Every-weaker}
 use Rattle.golf_base.specs.declared.ids.ObjectId.{ObjectId}
 use Rattle.golf_model.specs.declared.graph.GraphParts.{GraphParts}
+use Rattle.golf_model.specs.Sleepers.{Sleeper}
 use Rattle.golf_model.specs.Graph.{NumbersRise}
 use Rattle.golf_tests_support.specs.Making.{AreBelow, IsInMaking}
 
@@ -37,3 +38,17 @@ IsInMaking-node count g o row f m number below =
       waits = m.waits;
       references = m.references;
     }
+
+-- one more sleeper
+pub IsInMaking-sleeper : (count : ℕ) (g : GraphParts) (x : Sleeper) → IsInMaking count g → AreBelow count x.waits → AreBelow count x.references → IsInMaking count (record g { sleepers = g.sleepers ++ x ∷ [] })
+IsInMaking-sleeper count g x m waits references = record {
+  small = m.small;
+  numbered = m.numbered;
+  flagged = m.flagged;
+  rising = m.rising;
+  below = m.below;
+  children = m.children;
+  roots = m.roots;
+  waits = Every-push (λ (y : Sleeper). AreBelow count y.waits) g.sleepers x m.waits waits;
+  references = Every-push (λ (y : Sleeper). AreBelow count y.references) g.sleepers x m.references references;
+}
