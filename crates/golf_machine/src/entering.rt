@@ -51,7 +51,8 @@ fn open_frame(
         return Ok(None);
     };
     let slots = slots_of(alloc, function, arguments)?;
-    let operands = Room::with_room(alloc, (function.depth as usize).max(2))?;
+    // Whoever is served gets up to two values on top, for which there is room from the start.
+    let operands = Room::with_room(alloc, (function.depth as usize).saturating_add(2))?;
     Ok(Some(Frame {
         function: number,
         at: 0,

@@ -62,8 +62,7 @@ fn settle_frame(frame: &mut Frame, after: u32, taken: usize) -> Result<(), Memor
     ensures kept { frame.old.operands.spare ≤ frame.new.operands.spare }
     ensures err { OnErr result (frame_view frame.new ≡ frame_view frame.old) }
 {
-    let dropped = taken.min(frame.operands.len());
-    frame.operands.reserve(2usize.saturating_sub(dropped))?;
+    frame.operands.reserve(2)?;
     advance_frame(frame, after, taken);
     Ok(())
 }
@@ -105,7 +104,7 @@ pub fn advance_with(
 #[inline(always)]
 pub fn advance_frame(frame: &mut Frame, after: u32, taken: usize)
     ensures frame { frame_view frame.new ≡ went after taken [] (frame_view frame.old) }
-    ensures room { frame.new.operands.spare + (length frame.old.operands.items - taken) ≡ frame.old.operands.spare + length frame.old.operands.items }
+    ensures room { frame.old.operands.spare ≤ frame.new.operands.spare }
 {
     let keep = frame.operands.len().saturating_sub(taken);
     frame.operands.truncate(keep);
