@@ -130,22 +130,33 @@ next_found g levels parent Done parents all h = record {
   some = h.some;
 }
 
+-- a place is made the parent of all that it leads to, in two parts
+pub record Adopts (g : GraphParts) (w : Walk) (rows : List (List ℕ)) (parent : ℕ) (old new : List (Option ℕ)) : Type 0 where
+  pub levels : List ℕ
+  pub first : List ℕ
+  pub second : List ℕ
+  pub middle : List (Option ℕ)
+  pub levels_are : levels ≡ w.levels
+  pub first_is : first ≡ referred_by g parent
+  pub second_is : second ≡ row_of rows parent
+  pub is_levelled : 0 < get_or levels parent 0
+  pub first_done : middle ≡ adopted_all levels parent first old
+  pub second_done : new ≡ adopted_all levels parent second middle
+
 -- the place was made the parent of all that it leads to
-pub adopted_found : (g : GraphParts) (w : Walk) (rows : List (List ℕ)) (parent : ℕ) (levels first second : List ℕ) (a m b : List (Option ℕ)) → IsInRange g → HasWoken g (sleeper_count g) rows
-    → levels ≡ w.levels → first ≡ referred_by g parent → second ≡ row_of rows parent → 0 < get_or levels parent 0 → HasParentsBelow g w.levels parent (λ _. ⊥) a
-    → m ≡ adopted_all levels parent first a → b ≡ adopted_all levels parent second m → HasParentsBelow g w.levels (parent + 1) (λ _. ⊥) b
-adopted_found g w rows parent levels first second a m b fit woken el ef es some h em eb =
+pub adopted_found : {g : GraphParts} {w : Walk} {rows : List (List ℕ)} {parent : ℕ} {a b : List (Option ℕ)} → IsInRange g → HasWoken g (sleeper_count g) rows → Adopts g w rows parent a b → HasParentsBelow g w.levels parent (λ _. ⊥) a → HasParentsBelow g w.levels (parent + 1) (λ _. ⊥) b
+adopted_found {g} {w} {rows} {parent} {a} {b} fit woken adopts h =
     let L : List ℕ = w.levels in
     let R : List ℕ = referred_by g parent in
     let S : List ℕ = row_of rows parent in
     let F : List ℕ → List ℕ → List (Option ℕ) → List (Option ℕ) = λ l xs ps. adopted_all l parent xs ps in
-    let em' : m ≡ F L R a = em ∙ ap (λ (l : List ℕ). F l first a) el ∙ ap (λ (xs : List ℕ). F L xs a) ef in
-    let eb' : b ≡ F L S (F L R a) = eb ∙ ap (λ (l : List ℕ). F l second m) el ∙ ap (λ (xs : List ℕ). F L xs m) es ∙ ap (F L S) em' in
-    let has : 0 < get_or L parent 0 = subst (λ (l : List ℕ). 0 < get_or l parent 0) el some in
+    let one_done : adopts.middle ≡ F L R a = adopts.first_done ∙ ap (λ (l : List ℕ). F l adopts.first a) adopts.levels_are ∙ ap (λ (xs : List ℕ). F L xs a) adopts.first_is in
+    let two_done : b ≡ F L S (F L R a) = adopts.second_done ∙ ap (λ (l : List ℕ). F l adopts.second adopts.middle) adopts.levels_are ∙ ap (λ (xs : List ℕ). F L xs adopts.middle) adopts.second_is ∙ ap (F L S) one_done in
+    let has : 0 < get_or L parent 0 = subst (λ (l : List ℕ). 0 < get_or l parent 0) adopts.levels_are adopts.is_levelled in
     let Kind : ℕ → Type 0 = λ p. (p < place_count g) × Justifies g parent p in
     let one = adopt_all-found g L parent has R (λ _. ⊥) a (Every-from Kind R (λ p i. let j = referred-justifies g rows fit woken parent p i in (Justifies-below g fit parent p j, j))) h in
     let two = adopt_all-found g L parent has S (λ q. ⊥ ⊎ In q R) (F L R a) (Every-from Kind S (λ p i. let j = woken-justifies g rows fit woken parent p i in (Justifies-below g fit parent p j, j))) one in
-    subst (HasParentsBelow g L (parent + 1) (λ _. ⊥)) (sym eb')
+    subst (HasParentsBelow g L (parent + 1) (λ _. ⊥)) (sym two_done)
     (next_found g L parent (λ q. (⊥ ⊎ In q R) ⊎ In q S) (F L S (F L R a)) (λ q l. elim (justified-in g rows fit woken parent q l.justifies) [ inl i ↦ inl (inr i) | inr i ↦ inr i ]) two)
 
 -- nobody has a parent yet

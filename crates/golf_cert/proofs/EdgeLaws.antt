@@ -148,9 +148,9 @@ Stamps-more from places i old mid low fits s =
     }
 
 -- after both parts, a place has stamped exactly what it justifies
-pub stamped_all : (g : GraphParts) (from : ℕ) (first second : List ℕ) (a b c : List (Option ℕ)) → ((p x : ℕ) → parent_in a p ≡ Some x → x < from) → ((p : ℕ) → In p first → Justifies g from p) → ((p : ℕ) → In p second → Justifies g from p)
+pub stamped_all : {from : ℕ} {first second : List ℕ} {a b c : List (Option ℕ)} (g : GraphParts) → ((p x : ℕ) → parent_in a p ≡ Some x → x < from) → ((p : ℕ) → In p first → Justifies g from p) → ((p : ℕ) → In p second → Justifies g from p)
     → ((p : ℕ) → Justifies g from p → In p first ⊎ In p second) → Stamps from first a b → Stamps from second b c → (p : ℕ) → (parent_in c p ≡ Some from) ↔ Justifies g from p
-stamped_all g from first second a b c old left right parts s t p = (
+stamped_all {from} {first} {second} {a} {b} {c} g old left right parts s t p = (
   λ h. elim ((t.stamped p).0 h) [
     | inl e ↦ elim ((s.stamped p).0 e) [ inl f ↦ absurd (omega (arith, old p from f)) | inr i ↦ left p i ]
     | inr i ↦ right p i
@@ -163,10 +163,10 @@ pub Finds-none : (g : GraphParts) (links : List Link) (from : ℕ) (flags : List
 Finds-none g links from flags = record { size = refl; kept = λ i h. h; sound = λ i h. inl h; found = λ i link h. absurd h }
 
 -- the flag of the next number is set if the graph has its link, and it leads from there
-pub Finds-more : (g : GraphParts) (links : List Link) (from : ℕ) (numbers : List ℕ) (k : ℕ) (link : Link) (old mid new : List Bool) → k < length numbers → slice_get links (get_or numbers k 0) ≡ Some link → length mid ≡ length links
+pub Finds-more : {link : Link} {old mid new : List Bool} (g : GraphParts) (links : List Link) (from : ℕ) (numbers : List ℕ) (k : ℕ) → k < length numbers → slice_get links (get_or numbers k 0) ≡ Some link → length mid ≡ length links
     → ((new ≡ set mid (get_or numbers k 0) true) × IsEdge g link) ⊎ ((new ≡ mid) × ((IsEdge g link × (source_of g link ≡ from)) → ⊥))
     → Finds g links from (take k numbers) old mid → Finds g links from (take (k + 1) numbers) old new
-Finds-more g links from numbers k link old mid new low at size cases f =
+Finds-more {link} {old} {mid} {new} g links from numbers k low at size cases f =
     let n : ℕ = get_or numbers k 0 in
     let step : take (k + 1) numbers ≡ take k numbers ++ n ∷ [] = take_more numbers k 0 low in
     let fits : n < length mid = omega (arith, size, slice_get_within links n link at) in
@@ -214,9 +214,9 @@ IsFinding-none g links stamps flags es ef =
       found = λ i link get e low. absurd (omega (arith, low));
     }
 
-pub IsFinding-more : (g : GraphParts) (links : List Link) (place : ℕ) (leading : List (List ℕ)) (a b c : List (Option ℕ)) (first second : List ℕ) (old new : List Bool) → HasLeading g links (length links) leading → IsFinding g links place a old
+pub IsFinding-more : {g : GraphParts} {links : List Link} {place : ℕ} {leading : List (List ℕ)} {a b c : List (Option ℕ)} {first second : List ℕ} {old new : List Bool} → HasLeading g links (length links) leading → IsFinding g links place a old
     → Stamps place first a b → Stamps place second b c → Finds g links place (row_of leading place) old new → IsFinding g links (place + 1) c new
-IsFinding-more g links place leading a b c first second old new l h s t f = record {
+IsFinding-more {g} {links} {place} {leading} {a} {b} {c} {first} {second} {old} {new} l h s t f = record {
   stamp_count = t.size ∙ s.size ∙ h.stamp_count;
   flag_count = f.size ∙ h.flag_count;
   stamps_below = λ p x e. elim (t.others p x e) [

@@ -91,9 +91,9 @@ trail_last g links at = get_or_push (places_of g links) at 0 (length links) (len
 places_push : (g : GraphParts) (links : List Link) (link : Link) → places_of g (links ++ link ∷ []) ≡ places_of g links ++ placed_by g link ∷ []
 places_push g links link = map-append (placed_by g) links (link ∷ [])
 
-pub trail_goes_on : (g : GraphParts) (w : Walk) (start at parent : ℕ) (links new : List Link) (link : Link) → HasLevels g w → IsTrail g w start at links → IsParent g w.levels parent at
+pub trail_goes_on : {g : GraphParts} {w : Walk} {start at parent : ℕ} {links new : List Link} (link : Link) → HasLevels g w → IsTrail g w start at links → IsParent g w.levels parent at
     → new ≡ links ++ link ∷ [] → placed_by g link ≡ at → IsJustifiedBy g (parent ∷ []) link → IsTrail g w start parent new
-trail_goes_on g w start at parent links new link levels t i is placed justified =
+trail_goes_on {g} {w} {start} {at} {parent} {links} {new} link levels t i is placed justified =
     let old : List ℕ = trail g links at in
     let places : places_of g (links ++ link ∷ []) ≡ old = places_push g links link ∙ ap (λ (p : ℕ). places_of g links ++ p ∷ []) placed in
     let size : length old ≡ length links + 1 = trail_length g links at in

@@ -121,10 +121,10 @@ begins g w v fit levels order is =
     }
 
 -- the next place is scanned: all that it justifies is in these lists
-pub goes_on : (g : GraphParts) (a b : Walk) (turn p level : ℕ) (first second : List ℕ) → IsInRange g → IsUnderWay g a turn → turn < length a.order → get_or a.order turn 0 ≡ p → level ≡ level_of a p + 1
+pub goes_on : {g : GraphParts} {a b : Walk} {turn p level : ℕ} (first second : List ℕ) → IsInRange g → IsUnderWay g a turn → turn < length a.order → get_or a.order turn 0 ≡ p → level ≡ level_of a p + 1
     → ((q : ℕ) → Justifies g p q → In q first ⊎ In q second) → Every (Justifies g p) first → Every (Justifies g p) second
     → b ≡ claimed_all level second (claimed_all level first a) → IsUnderWay g b (turn + 1)
-goes_on g a b turn p level first second fit u low at is parts left right result =
+goes_on {g} {a} {b} {turn} {p} {level} first second fit u low at is parts left right result =
     let positive : 0 < level = omega (arith, is) in
     let here : 0 < level_of a p = listed_has g a u.levelled p (subst (λ (x : ℕ). In x a.order) at (In-get_or a.order turn 0 low)) in
     let near : (q : ℕ) → level_of a q ≤ level = λ q. omega (arith, u.near low q, ap (level_of a) at, is) in

@@ -68,6 +68,11 @@ pub later-fits : (s : Scope) (v w : Walked) (f : Flow) → FlowFits (behind s v)
 later-fits s v w f h = fitting-as (NamesFit (behind (behind s v) w).locals) (Out s.breaks (behind s v).locals) (Out s.loops (behind s v).locals) Never (NamesFit (behind s (W.both v w)).locals) (Out s.breaks s.locals) (Out s.loops s.locals) Never f h
     (λ env k. subst (λ xs. NamesFit xs env) (append_assoc s.locals v.declares w.declares) k) (out-in s.breaks s.locals v.declares) (out-in s.loops s.locals v.declares) (λ env k. k)
 
+-- after a test: if it is true this deed goes so, in every world, and if it is false these names stand
+pub record AfterTest (K B C S : Env → Type 0) (d : Deed) (a : Around) (s : Scope) (n : ℕ) (env : Env) : Type 0 where
+  pub if_true : (x : World) → Fitting K B C S (d a s n env x)
+  pub if_false : S env
+
 module _ (types : Types) (t : Tables) where
   abbrev pub Fits : Walk → Deed → Type 0
   Fits = StatementFits types t
@@ -136,11 +141,10 @@ module _ (types : Types) (t : Tables) where
   -- conditions
 
   module _ (l : ℕ) (test : Expr) where
-    pub test-fits : (K B C S : Env → Type 0) (d : Deed) (a : Around) (s : Scope) (n : ℕ) (env : Env) (u : World) → FileFits types t s.file → NamesFit s.locals env → (W.condition l test s).faults ≡ []
-        → ((x : World) → Fitting K B C S (d a s n env x)) → S env → Fitting K B C S (after_test t l test d a s n env u)
-    test-fits K B C S d a s n env u file fit none h k =
+    pub test-fits : {K B C S : Env → Type 0} {d : Deed} {a : Around} {s : Scope} {n : ℕ} {env : Env} (u : World) → FileFits types t s.file → NamesFit s.locals env → (W.condition l test s).faults ≡ [] → AfterTest K B C S d a s n env → Fitting K B C S (after_test t l test d a s n env u)
+    test-fits {K} {B} {C} {S} {d} {a} {s} {n} {env} u file fit none next =
         fitting-after K B C S (value_at t l s test env u) _ IsTruth (conditions-decide l (judge test l s) (value_at t l s test env) (value-of types t l s env file fit test) none u)
-        (λ vs x is. fitting-tested K B C S vs x (d a s n env x) (Flow.Goes Course.Skips env x) is (h x) k)
+        (λ vs x is. fitting-tested K B C S vs x (d a s n env x) (Flow.Goes Course.Skips env x) is (next.if_true x) next.if_false)
 
     module _ (x : Part) (d : Deed) (hx : Fits x.walk d) (w : Walk) (e : Deed) (he : Fits w e) where
       abbrev pub First : Deed
@@ -158,10 +162,15 @@ module _ (types : Types) (t : Tables) where
           let a1 = past a (x.lay a s) in
           let rest = none-right v.faults _ none in
           fitting-then (NamesFit s1.locals) (Out s.breaks s.locals) (Out s.loops s.locals) (NamesFit s1.locals) (NamesFit s1.locals) (d a s n env u) (after_test t l test (in_block e) a1 s1 n) (hx a s n env u file fit (none-left v.faults _ none))
-          (λ e1 u1 k. test-fits (NamesFit s1.locals) (Out s.breaks s.locals) (Out s.loops s.locals) (NamesFit s1.locals) (in_block e) a1 s1 n e1 u1 file k (none-left (W.condition l test s1).faults _ rest)
-          (λ y. fitting-as (NamesFit s1.locals) (Exact s.breaks s1.locals) (Exact s.loops s1.locals) Never (NamesFit s1.locals) (Out s.breaks s.locals) (Out s.loops s.locals) (NamesFit s1.locals) (in_block e a1 s1 n e1 y)
-          (block-exact w e he a1 s1 n e1 y file k (none-right (W.condition l test s1).faults _ rest))
-          (λ z q. q) (λ z q. (q.0, begins-on s.locals v.declares z q.1)) (λ z q. (q.0, begins-on s.locals v.declares z q.1)) (λ z q. absurd q)) k)
+          (λ e1 u1 k.
+          let next : AfterTest (NamesFit s1.locals) (Out s.breaks s.locals) (Out s.loops s.locals) (NamesFit s1.locals) (in_block e) a1 s1 n e1 = record {
+            if_true = λ y.
+                fitting-as (NamesFit s1.locals) (Exact s.breaks s1.locals) (Exact s.loops s1.locals) Never (NamesFit s1.locals) (Out s.breaks s.locals) (Out s.loops s.locals) (NamesFit s1.locals) (in_block e a1 s1 n e1 y)
+                (block-exact w e he a1 s1 n e1 y file k (none-right (W.condition l test s1).faults _ rest))
+                (λ z q. q) (λ z q. (q.0, begins-on s.locals v.declares z q.1)) (λ z q. (q.0, begins-on s.locals v.declares z q.1)) (λ z q. absurd q);
+            if_false = k;
+          } in
+          test-fits u1 file k (none-left (W.condition l test s1).faults _ rest) next)
 
       pub if-fits : Fits (W.in_block Test) (in_block (λ a s n env u. ends_here (First (within 1 a) s n env u)))
       if-fits a s n env u file fit none =
@@ -215,7 +224,12 @@ module _ (types : Types) (t : Tables) where
     while-fits b c l test a s n env u file fit none =
         left-fits s [] (while t l test (in_loop b c (in_block e)) a s n env u) refl
         (fitting-turns (NamesFit s.locals) (Out s.breaks s.locals) (Out s.loops s.locals) Never (NamesFit s.locals) (after_test t l test (in_loop b c (in_block e)) a s n)
-        (λ e1 u1 k. test-fits l test (NamesFit s.locals) (NamesFit s.locals) (NamesFit s.locals) (NamesFit s.locals) (in_loop b c (in_block e)) a s n e1 u1 file k (none-left (W.condition l test s).faults _ none)
-        (λ y. fitting-as (NamesFit s.locals) (NamesFit s.locals) (NamesFit s.locals) Never (NamesFit s.locals) (NamesFit s.locals) (NamesFit s.locals) (NamesFit s.locals) (in_loop b c (in_block e) a s n e1 y)
-        (body-fits b c a s n e1 y file k (none-right (W.condition l test s).faults _ none)) (λ z q. q) (λ z q. q) (λ z q. q) (λ z q. absurd q)) k)
+        (λ e1 u1 k.
+        let next : AfterTest (NamesFit s.locals) (NamesFit s.locals) (NamesFit s.locals) (NamesFit s.locals) (in_loop b c (in_block e)) a s n e1 = record {
+          if_true = λ y.
+              fitting-as (NamesFit s.locals) (NamesFit s.locals) (NamesFit s.locals) Never (NamesFit s.locals) (NamesFit s.locals) (NamesFit s.locals) (NamesFit s.locals) (in_loop b c (in_block e) a s n e1 y)
+              (body-fits b c a s n e1 y file k (none-right (W.condition l test s).faults _ none)) (λ z q. q) (λ z q. q) (λ z q. q) (λ z q. absurd q);
+          if_false = k;
+        } in
+        test-fits l test u1 file k (none-left (W.condition l test s).faults _ none) next)
         n env u fit)

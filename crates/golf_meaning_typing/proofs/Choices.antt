@@ -189,20 +189,27 @@ module _ (types : Types) (t : Tables) where
       (many-both (taken_by c.part.kind) (cases_taken (cases_from (i + 1) (clause_parts cs))) (c.operands l r env) (O.in_order (map (λ (d : ClauseStep). d.operands l r env) cs)) (each.0.gives l s r env file fit same (none-left v.faults _ none))
       (all-given l cs each.1 (behind s v) r env file fit (alike-behind r s v (each.0.calm l s) same) (none-right v.faults _ none) (i + 1)))
 
-  chosen-fits : (l k : ℕ) (vs : List Value) (cs : List ClauseStep) → EachClause cs → (a : Around) (s : Scope) (n : ℕ) (env : Env) (u : World) → FileFits types t s.file → NamesFit s.locals env → (walked l cs s).faults ≡ []
+  -- clauses are walked in a scope where the file and the names fit, and break no rule
+  record Clean (l : ℕ) (cs : List ClauseStep) (s : Scope) (env : Env) : Type 0 where
+    file : FileFits types t s.file
+    names : NamesFit s.locals env
+    none : (walked l cs s).faults ≡ []
+
+  chosen-fits : {l : ℕ} {s : Scope} {env : Env} (k : ℕ) (vs : List Value) (cs : List ClauseStep) → EachClause cs → (a : Around) (n : ℕ) (u : World) → Clean l cs s env
       → Fitting (NamesFit s.locals) (NamesFit s.locals) (Exact s.loops s.locals) Never (chosen l k vs cs a s n env u)
-  chosen-fits l k vs [] each a s n env u file fit none = tt
-  chosen-fits l zero vs (c ∷ cs) each a s n env u file fit none =
+  chosen-fits {l} {s} {env} k vs [] each a n u clean = tt
+  chosen-fits {l} {s} {env} zero vs (c ∷ cs) each a n u clean =
       fitting-if (NamesFit s.locals) (NamesFit s.locals) (Exact s.loops s.locals) Never (all_fit (c.leaves l s) vs) u (c.deed l vs (in_clause (many cs) a) s n env u)
       (λ holds. fitting-as (NamesFit s.locals) (Exact true s.locals) (Exact s.loops s.locals) Never (NamesFit s.locals) (NamesFit s.locals) (Exact s.loops s.locals) Never (c.deed l vs (in_clause (many cs) a) s n env u)
-      (each.0.does l vs (in_clause (many cs) a) s n env u file fit (none-left (c.part.walk l s).faults _ none) holds) (λ z p. p) (λ z p. p.1) (λ z p. p) (λ z p. p))
-  chosen-fits l (suc k) vs (c ∷ cs) each a s n env u file fit none =
+      (each.0.does l vs (in_clause (many cs) a) s n env u clean.file clean.names (none-left (c.part.walk l s).faults _ clean.none) holds) (λ z p. p) (λ z p. p.1) (λ z p. p) (λ z p. p))
+  chosen-fits {l} {s} {env} (suc k) vs (c ∷ cs) each a n u clean =
       let v = c.part.walk l s in
       let calm = each.0.calm l s in
       let a1 = past a (c.part.lay l (in_clause (many cs) a) s) in
       let s1 = behind s v in
+      let rest : Clean l cs s1 env = record { file = clean.file; names = quiet s.locals v.declares env calm clean.names; none = none-right v.faults _ clean.none } in
       fitting-as (NamesFit s1.locals) (NamesFit s1.locals) (Exact s.loops s1.locals) Never (NamesFit s.locals) (NamesFit s.locals) (Exact s.loops s.locals) Never (chosen l k vs cs a1 s1 n env u)
-      (chosen-fits l k vs cs each.1 a1 s1 n env u file (quiet s.locals v.declares env calm fit) (none-right v.faults _ none))
+      (chosen-fits {s = s1} k vs cs each.1 a1 n u rest)
       (λ z. loud s.locals v.declares z calm) (λ z. loud s.locals v.declares z calm) (λ z p. (p.0, loud s.locals v.declares z calm p.1)) (λ z p. p)
 
   pub select-fits : (l : ℕ) (cs : List ClauseStep) → EachClause cs → one_default (clause_parts cs) ≡ true → Fits types t (select_part l (clause_parts cs)).walk (select_deed l cs)
@@ -222,6 +229,7 @@ module _ (types : Types) (t : Tables) where
 
       taken : (x : Answer) (y : World) → Fitting (NamesFit s.locals) (Out s.breaks s.locals) (Out s.loops s.locals) Never (out_of_select (chosen l x.clause x.values cs a s n env y))
       taken x y =
+          let clean : Clean l cs s env = record { file = file; names = fit; none = none } in
           fitting-select (NamesFit s.locals) (Out s.breaks s.locals) (Out s.loops s.locals) Never (chosen l x.clause x.values cs a s n env y)
           (fitting-as (NamesFit s.locals) (NamesFit s.locals) (Exact s.loops s.locals) Never (NamesFit s.locals) (NamesFit s.locals) (Out s.loops s.locals) Never (chosen l x.clause x.values cs a s n env y)
-          (chosen-fits l x.clause x.values cs each a s n env y file fit none) (λ z p. p) (λ z p. p) (out-self s.loops s.locals) (λ z p. p))
+          (chosen-fits x.clause x.values cs each a n y clean) (λ z p. p) (λ z p. p) (out-self s.loops s.locals) (λ z p. p))

@@ -11,7 +11,7 @@ use Rattle.golf_check_types.specs.declared.types.GoType.{GoType}
 use Rattle.golf_check_types.specs.declared.locals.Local.{Local}
 use Rattle.golf_data.specs.Effects.{taken}
 use Rattle.golf_meaning_flat.specs.Worlds.{World, Part, bind}
-use Rattle.golf_meaning_source.specs.Names.{Env, Bound, find, first_some, here, assign}
+use Rattle.golf_meaning_source.specs.Names.{Env, find, first_some, here, assign}
 use Rattle.golf_meaning_source.specs.Operations.{Gives, gives, both, then_do, in_order, all_fit, visible}
 use Rattle.golf_meaning_source.specs.Exprs.{Place, found, if_none, assigned, read, store}
 use Rattle.golf_meaning_source.proofs.Environments.{last}
@@ -84,22 +84,21 @@ abbrev pub Takes : Option Local → Value → Type 0
 Takes None v = Unit {0}
 Takes (Some d) v = Held d.of_type v
 
-kept-step : (ds : List Local) (xs later : Env) (d : Local) (x : Bound) (v : Value) (a : Option Local) (o : Option Value) (same : Bool) → NamesFit (d ∷ ds) (x ∷ xs) → Paired a o → Takes (first_some a (here same d)) v → (Takes a v → NamesFit ds later)
-    → NamesFit (d ∷ ds) (cond (is_some o) (x ∷ later) (cond same (record { name = x.name; value = v } ∷ xs) (x ∷ xs)))
-kept-step ds xs later d x v None None true h p k r = (h.0, k, h.2)
-kept-step ds xs later d x v None None false h p k r = h
-kept-step ds xs later d x v None (Some z) same h p k r = absurd p
-kept-step ds xs later d x v (Some y) None same h p k r = absurd p
-kept-step ds xs later d x v (Some y) (Some z) same h p k r = (h.0, h.1, r k)
-
 -- after a value of its type was assigned to the last local of a name, all have values of their types
 pub kept-names : (ds : List Local) (env : Env) (n : List ℕ) (v : Value) → NamesFit ds env → Takes (last ds n) v → NamesFit ds (assign env n v)
 kept-names [] [] n v h k = tt
 kept-names [] (x ∷ xs) n v h k = absurd h
 kept-names (d ∷ ds) [] n v h k = absurd h
 kept-names (d ∷ ds) (x ∷ xs) n v h k =
-    kept-step ds xs (assign xs n v) d x v (last ds n) (find xs n) (bytes_eq n x.name) h (paired ds xs n h.2)
-    (subst (λ m. Takes (first_some (last ds n) (here (bytes_eq n m) d)) v) (sym h.0) k) (λ q. kept-names ds xs n v h.2 q)
+    kept-step (last ds n) (find xs n) (bytes_eq n x.name) (paired ds xs n h.2) (subst (λ m. Takes (first_some (last ds n) (here (bytes_eq n m) d)) v) (sym h.0) k) (λ q. kept-names ds xs n v h.2 q)
+  where
+    kept-step : (a : Option Local) (o : Option Value) (same : Bool) → Paired a o → Takes (first_some a (here same d)) v → (Takes a v → NamesFit ds (assign xs n v))
+        → NamesFit (d ∷ ds) (cond (is_some o) (x ∷ assign xs n v) (cond same (record { name = x.name; value = v } ∷ xs) (x ∷ xs)))
+    kept-step None None true p q r = (h.0, q, h.2)
+    kept-step None None false p q r = h
+    kept-step None (Some z) same p q r = absurd p
+    kept-step (Some y) None same p q r = absurd p
+    kept-step (Some y) (Some z) same p q r = (h.0, h.1, r q)
 
 module _ (ds : List Local) (env : Env) (fit : NamesFit ds env) where
   -- the last local of a name

@@ -143,27 +143,32 @@ module _ (types : Types) (t : Tables) (w : Walk) (e : Deed) (he : Fits types t w
   abbrev Body : Around → Scope → ℕ → Env → World → Flow
   Body = in_loop 2 0 (in_block e)
 
-  over-typed : (l n : ℕ) (a : Around) (s : Scope) (names : RangeNames) (xs : List Layer) (b : Base) (x : Value) (env : Env) (u : World) → FileFits types t s.file → NamesFit s.locals env → range_faults l names (given_as.Typed (record { layers = xs; base = b })) ≡ []
-      → (W.looping (W.in_block w) (behind s (W.range_slots names (given_as.Typed (record { layers = xs; base = b })) s))).faults ≡ []
-      → Loop s.locals (Out s.breaks s.locals) (Out s.loops s.locals) (over (is_outer is_slice (given_as.Typed (record { layers = xs; base = b }))) n (element (given_as.Typed (record { layers = xs; base = b }))) names (Body a (behind s (W.range_slots names (given_as.Typed (record { layers = xs; base = b })) s)) n) x env u)
-  over-typed l n a s names [] b x env u file fit none clean = let e : false ≡ true = kept l 17 false (none-right (broken l 16 true) (broken l 17 false) (none-right (broken l 2 (range_names_differ names)) _ none)) in cc
-  over-typed l n a s names (layer.Slice ∷ ys) b x env u file fit none clean =
-      slice-fits s.locals (Out s.breaks s.locals) (Out s.loops s.locals) _ names (record { layers = ys; base = b }) n _ x env u fit (λ z y k. body-fits types t w e he 2 0 a (behind s (W.range_slots names (given_as.Typed (record { layers = layer.Slice ∷ ys; base = b })) s)) n z y file k clean)
-  over-typed l n a s names (layer.Chan ∷ ys) b x env u file fit none clean =
-      channel-fits s.locals (Out s.breaks s.locals) (Out s.loops s.locals) _ names (record { layers = ys; base = b }) n _ x env u (one-name names (kept l 17 _ (none-right (broken l 16 true) _ (none-right (broken l 2 _) _ none)))) fit (λ z y k. body-fits types t w e he 2 0 a (behind s (W.range_slots names (given_as.Typed (record { layers = layer.Chan ∷ ys; base = b })) s)) n z y file k clean)
-  over-typed l n a s names (layer.ReceiveChan ∷ ys) b x env u file fit none clean =
-      channel-fits s.locals (Out s.breaks s.locals) (Out s.loops s.locals) _ names (record { layers = ys; base = b }) n _ x env u (one-name names (kept l 17 _ (none-right (broken l 16 true) _ (none-right (broken l 2 _) _ none)))) fit (λ z y k. body-fits types t w e he 2 0 a (behind s (W.range_slots names (given_as.Typed (record { layers = layer.ReceiveChan ∷ ys; base = b })) s)) n z y file k clean)
-  over-typed l n a s names (layer.SendChan ∷ ys) b x env u file fit none clean = let e : false ≡ true = kept l 16 false (none-left (broken l 16 false) (broken l 17 (not (are_two names && true))) (none-right (broken l 2 (range_names_differ names)) _ none)) in cc
+  -- a range over what is given stands where the file and the names fit, and neither its names nor its body break a rule
+  record Clean (l : ℕ) (s : Scope) (names : RangeNames) (g : Given) (env : Env) : Type 0 where
+    file : FileFits types t s.file
+    names_fit : NamesFit s.locals env
+    none : range_faults l names g ≡ []
+    none_inside : (W.looping (W.in_block w) (behind s (W.range_slots names g s))).faults ≡ []
 
-  over-given : (l n : ℕ) (a : Around) (s : Scope) (names : RangeNames) (g : Given) (f : World → Part (List Value)) (env : Env) (u : World) → FileFits types t s.file → NamesFit s.locals env → range_faults l names g ≡ [] → YieldsBy g f
-      → (W.looping (W.in_block w) (behind s (W.range_slots names g s))).faults ≡ []
+  over-typed : {l : ℕ} {s : Scope} {names : RangeNames} {env : Env} (n : ℕ) (a : Around) (xs : List Layer) (b : Base) (x : Value) (u : World) → Clean l s names (given_as.Typed (record { layers = xs; base = b })) env
+      → Loop s.locals (Out s.breaks s.locals) (Out s.loops s.locals) (over (is_outer is_slice (given_as.Typed (record { layers = xs; base = b }))) n (element (given_as.Typed (record { layers = xs; base = b }))) names (Body a (behind s (W.range_slots names (given_as.Typed (record { layers = xs; base = b })) s)) n) x env u)
+  over-typed {l} {s} {names} {env} n a [] b x u clean = let none = clean.none in let e : false ≡ true = kept l 17 false (none-right (broken l 16 true) (broken l 17 false) (none-right (broken l 2 (range_names_differ names)) _ none)) in cc
+  over-typed {l} {s} {names} {env} n a (layer.Slice ∷ ys) b x u clean =
+      slice-fits s.locals (Out s.breaks s.locals) (Out s.loops s.locals) _ names (record { layers = ys; base = b }) n _ x env u clean.names_fit (λ z y k. body-fits types t w e he 2 0 a (behind s (W.range_slots names (given_as.Typed (record { layers = layer.Slice ∷ ys; base = b })) s)) n z y clean.file k clean.none_inside)
+  over-typed {l} {s} {names} {env} n a (layer.Chan ∷ ys) b x u clean =
+      channel-fits s.locals (Out s.breaks s.locals) (Out s.loops s.locals) _ names (record { layers = ys; base = b }) n _ x env u (one-name names (kept l 17 _ (none-right (broken l 16 true) _ (none-right (broken l 2 _) _ clean.none)))) clean.names_fit (λ z y k. body-fits types t w e he 2 0 a (behind s (W.range_slots names (given_as.Typed (record { layers = layer.Chan ∷ ys; base = b })) s)) n z y clean.file k clean.none_inside)
+  over-typed {l} {s} {names} {env} n a (layer.ReceiveChan ∷ ys) b x u clean =
+      channel-fits s.locals (Out s.breaks s.locals) (Out s.loops s.locals) _ names (record { layers = ys; base = b }) n _ x env u (one-name names (kept l 17 _ (none-right (broken l 16 true) _ (none-right (broken l 2 _) _ clean.none)))) clean.names_fit (λ z y k. body-fits types t w e he 2 0 a (behind s (W.range_slots names (given_as.Typed (record { layers = layer.ReceiveChan ∷ ys; base = b })) s)) n z y clean.file k clean.none_inside)
+  over-typed {l} {s} {names} {env} n a (layer.SendChan ∷ ys) b x u clean = let none = clean.none in let e : false ≡ true = kept l 16 false (none-left (broken l 16 false) (broken l 17 (not (are_two names && true))) (none-right (broken l 2 (range_names_differ names)) _ none)) in cc
+
+  over-given : {l : ℕ} {s : Scope} {names : RangeNames} {env : Env} (n : ℕ) (a : Around) (g : Given) (f : World → Part (List Value)) (u : World) → Clean l s names g env → YieldsBy g f
       → Loop s.locals (Out s.breaks s.locals) (Out s.loops s.locals) (after (f u) (λ vs y. measured vs y (λ x z. over (is_outer is_slice g) n (element g) names (Body a (behind s (W.range_slots names g s)) n) x env z)))
-  over-given l n a s names (given_as.Typed c) f env u file fit none h clean =
+  over-given {l} {s} {names} {env} n a (given_as.Typed c) f u clean h =
       fitting-after (NamesFit s.locals) (Out s.breaks s.locals) (Out s.loops s.locals) Never (f u) _ (One (value_type c)) (h u)
       (λ vs y q. at-one (value_type c) (λ us. Loop s.locals (Out s.breaks s.locals) (Out s.loops s.locals) (measured us y (λ x z. over (is_outer is_slice (given_as.Typed c)) n (element (given_as.Typed c)) names (Body a (behind s (W.range_slots names (given_as.Typed c) s)) n) x env z)))
-      (λ x of. over-typed l n a s names c.layers c.base x env y file fit none clean) vs q)
-  over-given l n a s names given_as.Nil f env u file fit none h clean = let e : false ≡ true = kept l 17 false (none-right (broken l 16 true) (broken l 17 false) (none-right (broken l 2 (range_names_differ names)) _ none)) in cc
-  over-given l n a s names given_as.Unknown f env u file fit none h clean = absurd h
+      (λ x of. over-typed n a c.layers c.base x y clean) vs q)
+  over-given {l} {s} {names} {env} n a given_as.Nil f u clean h = let none = clean.none in let e : false ≡ true = kept l 17 false (none-right (broken l 16 true) (broken l 17 false) (none-right (broken l 2 (range_names_differ names)) _ none)) in cc
+  over-given {l} {s} {names} {env} n a given_as.Unknown f u clean h = absurd h
 
   -- a `range` in its block: what the names declare is known inside alone
   pub range-fits : (l : ℕ) (names : RangeNames) (x : Expr) → Fits types t (W.in_block (λ s. W.both (W.range_head l names x s) (W.then (W.range_slots names (given_by (judge x l s))) (W.looping (W.in_block w)) s))) (in_block (ranging t l names x (in_loop 2 0 (in_block e))))
@@ -174,6 +179,7 @@ module _ (types : Types) (t : Tables) (w : Walk) (e : Deed) (he : Fits types t w
       let head = none-left (used l j ++ range_faults l names g) _ none in
       let rest = none-right (used l j ++ range_faults l names g) _ none in
       let f = ranging t l names x (in_loop 2 0 (in_block e)) a r n env u in
+      let clean : Clean l r names g env = record { file = file; names_fit = fit; none = none-right (used l j) _ head; none_inside = none-right (W.range_slots names g r).faults _ rest } in
       exact-fits s (cut (length env) f) (block-cut s env f fit (fits-begin s [] f
       (left-fits types t w e he r [] f refl
-      (over-given l n a r names g (value_at t l r x env) env u file fit (none-right (used l j) _ head) (value-of types t l r env file fit x (none-left (used l j) _ head)) (none-right (W.range_slots names g r).faults _ rest)))))
+      (over-given n a g (value_at t l r x env) u clean (value-of types t l r env file fit x (none-left (used l j) _ head))))))

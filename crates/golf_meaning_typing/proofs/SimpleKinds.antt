@@ -32,7 +32,7 @@ use Rattle.golf_meaning_typing.specs.Flowing.{Fitting, Out, Never}
 use Rattle.golf_meaning_typing.proofs.Flows.{fitting-guarded, fitting-as, fitting-turns, fitting-post}
 use Rattle.golf_meaning_typing.proofs.Simples.{DealsFit, still, acts, sends, assigns-to, steps-on, updates-by, defines, begins}
 use Rattle.golf_meaning_typing.proofs.Stores.{defines-both, assigns-both, receives, receiving}
-use Rattle.golf_meaning_typing.proofs.Blocks.{quiet, loud, Fits, Goes, goes-fits, deals-go, nothing-goes, test-fits, body-fits, left-fits}
+use Rattle.golf_meaning_typing.proofs.Blocks.{AfterTest, quiet, loud, Fits, Goes, goes-fits, deals-go, nothing-goes, test-fits, body-fits, left-fits}
 
 -- a post statement declares nothing
 
@@ -106,10 +106,10 @@ module _ (types : Types) (t : Tables) where
 
   -- a test that may be missing
 
-  optional-tested : (l : ℕ) (o : Option Expr) (K B C S : Env → Type 0) (d : Deed) (a : Around) (s : Scope) (n : ℕ) (env : Env) (u : World) → FileFits types t s.file → NamesFit s.locals env → (W.optional_test l o s).faults ≡ []
-      → ((x : World) → Fitting K B C S (d a s n env x)) → S env → Fitting K B C S (after_optional t l o d a s n env u)
-  optional-tested l None K B C S d a s n env u file fit none h k = h u
-  optional-tested l (Some e) K B C S d a s n env u file fit none h k = test-fits types t l e K B C S d a s n env u file fit none h k
+  optional-tested : {K B C S : Env → Type 0} {d : Deed} {a : Around} {s : Scope} {n : ℕ} {env : Env} (l : ℕ) (o : Option Expr) (u : World) → FileFits types t s.file → NamesFit s.locals env → (W.optional_test l o s).faults ≡ [] → AfterTest K B C S d a s n env
+      → Fitting K B C S (after_optional t l o d a s n env u)
+  optional-tested l None u file fit none next = next.if_true u
+  optional-tested l (Some e) u file fit none next = test-fits types t l e u file fit none next
 
   -- test, body, post statement
   pub stepping-fits : (b c l : ℕ) (test : Option Expr) (post : Option Simple) → all_of post_simple post ≡ true → (w : Walk) (e : Deed) → Fits types t w e
@@ -125,13 +125,18 @@ module _ (types : Types) (t : Tables) where
       fitting-guarded (NamesFit (behind s (W.behind_optional l test (W.then (L.optional t post).walk (W.looping (W.in_block w))) s)).locals) (Out s.breaks s.locals) (Out s.loops s.locals) Never (is_plain post) u _ q.1
       (left-fits types t w e he s (W.behind_optional l test (W.then (L.optional t post).walk (W.looping (W.in_block w))) s).declares _ no
       (fitting-turns (NamesFit s.locals) (Out s.breaks s.locals) (Out s.loops s.locals) Never (NamesFit s.locals) (after_optional t l test (with_post t post (in_loop b c (in_block e))) a s n)
-      (λ e1 u1 k. optional-tested l test (NamesFit s.locals) (NamesFit s.locals) (NamesFit s.locals) (NamesFit s.locals) (with_post t post (in_loop b c (in_block e))) a s n e1 u1 file k (none-left (W.optional_test l test s).faults _ none)
-      (λ y. fitting-post (NamesFit s.locals) (NamesFit s.locals) (NamesFit s.locals) (NamesFit s.locals) (NamesFit s.locals) (in_loop b c (in_block e) a1 s1 n e1 y) (optional t post a s n)
-      (fitting-as (NamesFit s1.locals) (NamesFit s1.locals) (NamesFit s1.locals) Never (NamesFit s.locals) (NamesFit s.locals) (NamesFit s.locals) Never (in_loop b c (in_block e) a1 s1 n e1 y)
-      (body-fits types t w e he b c a1 s1 n e1 y file (quiet s.locals p.declares e1 q.0 k) (none-right p.faults _ rest))
-      (λ z. loud s.locals p.declares z q.0) (λ z. loud s.locals p.declares z q.0) (λ z. loud s.locals p.declares z q.0) (λ z r. r))
-      (λ e2 u2 m. fitting-as (NamesFit s1.locals) Never Never Never (NamesFit s.locals) (NamesFit s.locals) (NamesFit s.locals) (NamesFit s.locals) (optional t post a s n e2 u2)
-      (optional-goes post a s n e2 u2 file m (none-left p.faults _ rest)) (λ z. loud s.locals p.declares z q.0) (λ z r. absurd r) (λ z r. absurd r) (λ z r. absurd r))) k)
+      (λ e1 u1 k.
+      let next : AfterTest (NamesFit s.locals) (NamesFit s.locals) (NamesFit s.locals) (NamesFit s.locals) (with_post t post (in_loop b c (in_block e))) a s n e1 = record {
+        if_true = λ y.
+            fitting-post (NamesFit s.locals) (NamesFit s.locals) (NamesFit s.locals) (NamesFit s.locals) (NamesFit s.locals) (in_loop b c (in_block e) a1 s1 n e1 y) (optional t post a s n)
+            (fitting-as (NamesFit s1.locals) (NamesFit s1.locals) (NamesFit s1.locals) Never (NamesFit s.locals) (NamesFit s.locals) (NamesFit s.locals) Never (in_loop b c (in_block e) a1 s1 n e1 y)
+            (body-fits types t w e he b c a1 s1 n e1 y file (quiet s.locals p.declares e1 q.0 k) (none-right p.faults _ rest))
+            (λ z. loud s.locals p.declares z q.0) (λ z. loud s.locals p.declares z q.0) (λ z. loud s.locals p.declares z q.0) (λ z r. r))
+            (λ e2 u2 m. fitting-as (NamesFit s1.locals) Never Never Never (NamesFit s.locals) (NamesFit s.locals) (NamesFit s.locals) (NamesFit s.locals) (optional t post a s n e2 u2)
+            (optional-goes post a s n e2 u2 file m (none-left p.faults _ rest)) (λ z. loud s.locals p.declares z q.0) (λ z r. absurd r) (λ z r. absurd r) (λ z r. absurd r));
+        if_false = k;
+      } in
+      optional-tested l test u1 file k (none-left (W.optional_test l test s).faults _ none) next)
       n env u fit))
     where
       quiet-test : (l : ℕ) (o : Option Expr) (s : Scope) → (W.optional_test l o s).declares ≡ []

@@ -79,17 +79,24 @@ module _ (types : Types) (t : Tables) (l : ℕ) (s : Scope) (env : Env) (file : 
 
   -- names left of `:=`
 
+  -- what a name is among the locals, and its value
+  record Named (n : List ℕ) (a : Option Local) (o : Option Value) : Type 0 where
+    local : last s.locals n ≡ a
+    together : Paired a o
+    value : find env n ≡ o
+
   -- a local of this block takes a value that is assignable to it
-  here-stores : (n : List ℕ) (v : GoType) (x : Value) (a : Option Local) (o : Option Value) → last s.locals n ≡ a → Paired a o → find env n ≡ o → is_at_depth a s.depth ≡ true → kept_local l s.depth a (Some v) ≡ [] → is_of (value_type v) x ≡ true
+  here-stores : (n : List ℕ) (v : GoType) (x : Value) (a : Option Local) (o : Option Value) → Named n a o → is_at_depth a s.depth ≡ true → kept_local l s.depth a (Some v) ≡ [] → is_of (value_type v) x ≡ true
       → (w : World) → Sound (NamesFit s.locals) (store env (place_of_name n o (outer s n)) (x ∷ []) w)
-  here-stores n v x None o is h at depth none of w = cc
-  here-stores n v x (Some d) None is h at depth none of w = absurd h
-  here-stores n v x (Some d) (Some y) is h at depth none of w =
+  here-stores n v x None o named depth none of w = cc
+  here-stores n v x (Some d) None named depth none of w = absurd named.together
+  here-stores n v x (Some d) (Some y) named depth none of w =
+      let h = named.together in
       let e = held-known d.of_type y h in
       let test : (b : Bool) → b ≡ true → cond b (broken l 9 (assignable (given_as.Typed v) d.of_type)) [] ≡ [] → assignable (given_as.Typed v) d.of_type ≡ true = by-depth in
       let holds = subst (λ z. assignable (given_as.Typed v) z ≡ true) e.1 (test (d.depth == s.depth) depth none) in
       let held = subst (λ z. Held z x) (sym e.1) (subst (λ u. is_of u x ≡ true) (assigned-value v e.0 holds) of) in
-      subst (λ z. Sound (NamesFit s.locals) (assigned env n z x w)) (sym at) (kept-names s.locals env n x fit (subst (λ z. Takes z x) (sym is) held))
+      subst (λ z. Sound (NamesFit s.locals) (assigned env n z x w)) (sym named.value) (kept-names s.locals env n x fit (subst (λ z. Takes z x) (sym named.local) held))
     where
       by-depth : (b : Bool) → b ≡ true → cond b (broken l 9 (assignable (given_as.Typed v) d.of_type)) [] ≡ [] → assignable (given_as.Typed v) d.of_type ≡ true
       by-depth true e q = kept l 9 _ q
@@ -103,7 +110,7 @@ module _ (types : Types) (t : Tables) (l : ℕ) (s : Scope) (env : Env) (file : 
       by : (b h : Bool) → is_here s n ≡ h → (not b && not h) ≡ false → Sound (NamesFit s.locals) (store env (cond b Place.Blank (place_of_name n (find env n) (outer s n))) (x ∷ []) w)
       by true h e q = fit
       by false true e q =
-          here-stores n v x (last s.locals n) (find env n) refl (paired s.locals env n fit) refl (subst (λ a. is_at_depth a s.depth ≡ true) (look-last s.locals n) e) (subst (λ a. kept_local l s.depth a (Some v) ≡ []) (look-last s.locals n) none) of w
+          here-stores n v x (last s.locals n) (find env n) (record { local = refl; together = paired s.locals env n fit; value = refl }) (subst (λ a. is_at_depth a s.depth ≡ true) (look-last s.locals n) e) (subst (λ a. kept_local l s.depth a (Some v) ≡ []) (look-last s.locals n) none) of w
       by false false e q = cc
 
   pub unless-stores : (n : List ℕ) (v : GoType) (x : Value) → (is_new s n ≡ false → kept_faults l s n (Some v) ≡ []) → is_of (value_type v) x ≡ true → (w : World) → Sound (NamesFit s.locals) (stores_unless (is_new s n) t s n env x w)

@@ -15,8 +15,8 @@ either-next (b ∷ bs) [] i y d l e = cc
 either-next (b ∷ bs) (c ∷ cs) zero y d l e = let same : c ≡ y = cc in ap (λ z. (b || z) ∷ []) same
 either-next (b ∷ bs) (c ∷ cs) (suc i) y d l e = ap (λ (z : List Bool). (b || c) ∷ z) (either-next bs cs i y d (omega arith) e)
 
-pub either-more : (xs ys : List Bool) (i : ℕ) (y d b : Bool) (old new : List Bool) → i < length xs → slice_get ys i ≡ Some y → b ≡ (get_or xs i d || y) → old ≡ either (take i xs) (take i ys) → new ≡ old ++ b ∷ [] → new ≡ either (take (i + 1) xs) (take (i + 1) ys)
-either-more xs ys i y d b old new l e is so made =
+pub either-more : {y b : Bool} {old new : List Bool} (xs ys : List Bool) (i : ℕ) (d : Bool) → i < length xs → slice_get ys i ≡ Some y → b ≡ (get_or xs i d || y) → old ≡ either (take i xs) (take i ys) → new ≡ old ++ b ∷ [] → new ≡ either (take (i + 1) xs) (take (i + 1) ys)
+either-more {y} {b} {old} {new} xs ys i d l e is so made =
     let next : suc i ≡ i + 1 = omega arith in
     made ∙ ap (λ (z : List Bool). z ++ b ∷ []) so ∙ ap (λ c. either (take i xs) (take i ys) ++ c ∷ []) is
     ∙ sym (either-next xs ys i y d l e) ∙ ap (λ k. either (take k xs) (take k ys)) next
@@ -81,8 +81,8 @@ keys_where-filter p (e ∷ es) = let rest = keys_where-filter p es in
       | false ↦ rest
     ]
 
-pub filter-more : {X : Type 0} (p : X → Bool) (xs : List X) (i : ℕ) (d : X) (b : Bool) (old new : List X) → take (i + 1) xs ≡ take i xs ++ get_or xs i d ∷ [] → (filter p (take i xs ++ get_or xs i d ∷ []) ≡ filter p (take i xs) ++ filter p (get_or xs i d ∷ []))
+pub filter-more : {X : Type 0} {old new : List X} (p : X → Bool) (xs : List X) (i : ℕ) (d : X) (b : Bool) → take (i + 1) xs ≡ take i xs ++ get_or xs i d ∷ [] → (filter p (take i xs ++ get_or xs i d ∷ []) ≡ filter p (take i xs) ++ filter p (get_or xs i d ∷ []))
     → p (get_or xs i d) ≡ b → old ≡ filter p (take i xs) → new ≡ old ++ cond b (get_or xs i d ∷ []) [] → new ≡ filter p (take (i + 1) xs)
-filter-more {X = X} p xs i d b old new cut append is so made =
+filter-more {X} {old} {new} p xs i d b cut append is so made =
     made ∙ ap (λ (z : List X). z ++ cond b (get_or xs i d ∷ []) []) so ∙ ap (λ c. filter p (take i xs) ++ cond c (get_or xs i d ∷ []) []) (sym is)
     ∙ sym append ∙ ap (filter p) (sym cut)

@@ -63,9 +63,9 @@ known-alike reported reclaimed staying g has apart =
     and-true false = refl
 
 -- gathered in two lists, by numbers in order
-pub staying-among : (staying now then out new gone : List ℕ) (n : ℕ) → now ≡ [] ++ filter (λ k. not (is_in k out)) staying → then ≡ now ++ filter (λ k. not (is_in k out)) new → ((k : ℕ) → is_in k out ≡ is_in k gone) → (others : List ℕ) → ((k : ℕ) → is_in k new ≡ is_in k others)
+pub staying-among : {now then : List ℕ} (staying out new gone : List ℕ) (n : ℕ) → now ≡ [] ++ filter (λ k. not (is_in k out)) staying → then ≡ now ++ filter (λ k. not (is_in k out)) new → ((k : ℕ) → is_in k out ≡ is_in k gone) → (others : List ℕ) → ((k : ℕ) → is_in k new ≡ is_in k others)
     → is_in n then ≡ is_in n (filter (λ k. not (is_in k gone)) (staying ++ others))
-staying-among staying now then out new gone n first second alike others same =
+staying-among {now} {then} staying out new gone n first second alike others same =
     let f : List ℕ = filter (λ k. not (is_in k out)) staying in
     let e : List ℕ = filter (λ k. not (is_in k out)) new in
     ap (is_in n) (second ∙ ap (λ (l : List ℕ). l ++ e) first)

@@ -10,7 +10,6 @@ use Rattle.golf_theory.proofs.Tests.{is_in-from, In-from, is_in-out, is_in-appen
 use Rattle.golf_theory.proofs.MapEntries.{In-keys}
 use Rattle.golf_base.specs.declared.ids.GoroutineId.{GoroutineId}
 use Rattle.golf_data.specs.declared.report.Book.{Book}
-use Rattle.golf_data.specs.declared.report.Entry.{Entry as Reported}
 use Rattle.golf_data.specs.declared.report.Report.{Report}
 use Rattle.golf_model.specs.Views.{GoroutineView}
 use Rattle.golf_model.specs.Refs.{refs_if, goroutine_refs, goroutine_refs_where, queue_refs, refs_where, has_finaliser}
@@ -106,13 +105,12 @@ module _ (s : State) (b : Book) (recover sets : Bool) (apart : AreGone b s) wher
     pub counted-dead : length found ≡ length (dead s)
     counted-dead = sym (length-map found (λ (g : GoroutineId). g.0)) ∙ ap length are
 
-    pub report-is : (number marked kept reclaimed objects : ℕ) (reported : List Reported) → number ≡ b.collections + 1 → marked ≡ length (live_objects s) → reported ≡ entries s (numbers new) → kept + length gone ≡ length found → reclaimed ≡ length gone → objects ≡ length (retained_objects s (removed s recover sets))
-        → ◌≡◌ {A = Report} (record { number = number; marked = marked; reported = reported; kept = kept; reclaimed = reclaimed; objects = objects }) (report recover sets b s)
-    report-is number marked kept reclaimed objects reported n m r k c o =
-        let many : kept ≡ length (without (dead s) (all_gone recover sets b s)) = omega (arith, k, counted-gone, counted-dead, kept-are) in
-        let told : reported ≡ entries s (new_dead b s) = r ∙ ap (entries s) new-numbers in
-        let fewer : reclaimed ≡ length (new_gone recover sets b s) = c ∙ counted-gone ∙ sym (ap (λ (l : List ℕ). length l) (gone-by recover)) in
-        let rest : objects ≡ length (retained_objects s (all_gone recover sets b s)) = o ∙ sym left-same in
+    pub report-is : (it : Report) → it.number ≡ b.collections + 1 → it.marked ≡ length (live_objects s) → it.reported ≡ entries s (numbers new) → it.kept + length gone ≡ length found → it.reclaimed ≡ length gone → it.objects ≡ length (retained_objects s (removed s recover sets)) → it ≡ report recover sets b s
+    report-is it n m r k c o =
+        let many : it.kept ≡ length (without (dead s) (all_gone recover sets b s)) = omega (arith, k, counted-gone, counted-dead, kept-are) in
+        let told : it.reported ≡ entries s (new_dead b s) = r ∙ ap (entries s) new-numbers in
+        let fewer : it.reclaimed ≡ length (new_gone recover sets b s) = c ∙ counted-gone ∙ sym (ap (λ (l : List ℕ). length l) (gone-by recover)) in
+        let rest : it.objects ≡ length (retained_objects s (all_gone recover sets b s)) = o ∙ sym left-same in
         λ i. record { number = n i; marked = m i; reported = told i; kept = many i; reclaimed = fewer i; objects = rest i }
 
     pub book-is : noted new gone b ≡ book_after recover sets b s

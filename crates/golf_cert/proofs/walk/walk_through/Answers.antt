@@ -73,7 +73,7 @@ loop-place-preserved c =
     let at = slice_get-some w.order c.loop-place.turn p (sym (c.in-Some.ensures ∙ ap (λ (l : List ℕ). slice_get l c.loop-place.turn) c.as_slice.ensures)) in
     let level : ℕ = c.next_level-level.result in
     let is : level ≡ level_of w p + 1 = c.next_level-level.ensures ∙ ap (λ (l : List ℕ). get_or l p 0 + 1) c.as_slice-in-Some.ensures in
-    goes_on g w c.scan.new.walk c.loop-place.turn p level (referred_by g p) (row_of rows p) fit u at.0 at.1 is
+    goes_on (referred_by g p) (row_of rows p) fit u at.0 at.1 is
     (justified-in g rows fit c.requires p)
     (Every-from (Justifies g p) (referred_by g p) (λ q h. referred-justifies g rows fit c.requires p q h))
     (Every-from (Justifies g p) (row_of rows p) (λ q h. woken-justifies g rows fit c.requires p q h))

@@ -78,7 +78,14 @@ returns-clause-report g c =
     let out : numbers gone ≡ removed s recover sets = ap numbers c.as_slice-gone.ensures ∙ c.in_ok-found.ensures.gone in
     let fresh = c.in_ok-new.ensures ∙ ap (λ (l : List GoroutineId). filter (λ (h : GoroutineId). not (is_in h.0 (numbers b.reported))) l) c.as_slice.ensures in
     let less = fewer-gone s b recover sets c.requires.gone found gone are out in
-    report-is s b recover sets c.requires.gone found new gone are out fresh c.collections.result c.in_ok-found.found.objects (c.len.result - length gone) (length gone) c.in_ok-rest.rest.objects c.in_ok-reported.reported
+    report-is s b recover sets c.requires.gone found new gone are out fresh (record {
+      number = c.collections.result;
+      marked = c.in_ok-found.found.objects;
+      reported = c.in_ok-reported.reported;
+      kept = c.len.result - length gone;
+      reclaimed = length gone;
+      objects = c.in_ok-rest.rest.objects;
+    })
     (c.collections.ensures ∙ ap (λ (x : Book). x.collections) c.in_ok-note.ensures.book)
     c.in_ok-found.ensures.objects
     (c.in_ok-reported.ensures ∙ ap (λ (l : List GoroutineId). entries s (numbers l)) c.as_slice-2.ensures)

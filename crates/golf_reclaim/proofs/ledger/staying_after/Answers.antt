@@ -19,7 +19,7 @@ returns-clause-members c = λ n.
     c.in_ok-add_unlisted-2.ensures ∙ ap (λ (out : List ℕ). now ++ filter (λ k. not (is_in k out)) c.as_slice-2.result.now) c.as_slice-3.ensures.value
     ∙ ap (λ (l : List ℕ). now ++ filter (λ k. not (is_in k gone)) l) c.as_slice-2.ensures.value in
     same-among later c.sort.new.self.items n c.sort.ensures.permutation
-    ∙ staying-among c.args.staying.now now later gone new (numbers c.args.gone.now) n first second c.in_ok-gone.ensures.members (numbers c.args.new.now) c.in_ok-new.ensures.members
+    ∙ staying-among c.args.staying.now gone new (numbers c.args.gone.now) n first second c.in_ok-gone.ensures.members (numbers c.args.new.now) c.in_ok-new.ensures.members
 
 pub returns-clause-rises : goal.returns-clause-rises
 returns-clause-rises c = IsNonDecreasingBy-from_sort (λ (x : ℕ). x) c.sort.new.self.items c.in_ok-sort.ensures.sorted

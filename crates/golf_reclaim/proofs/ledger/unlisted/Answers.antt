@@ -15,9 +15,9 @@ loop-g-preserved c =
     let p : GoroutineId → Bool = λ g. not (is_in g.0 c.args.numbers.now) in
     elim c.if-not-is_among.branch [
       | then-not-is_among+in_ok-push w ↦
-          filter-more p gs i d true c.loop-g.new c.if-not-is_among.new (take_more gs i d c.loop-g-test.true) (filter-append p _ _) (ap not (sym c.is_among.ensures ∙ w.if-not-is_among.true)) c.loop-g.invariant
+          filter-more p gs i d true (take_more gs i d c.loop-g-test.true) (filter-append p _ _) (ap not (sym c.is_among.ensures ∙ w.if-not-is_among.true)) c.loop-g.invariant
           (w.new-is ∙ w.in_ok-push.ensures.ok)
       | else-not-is_among w ↦
-          filter-more p gs i d false c.loop-g.new c.if-not-is_among.new (take_more gs i d c.loop-g-test.true) (filter-append p _ _) (ap not (sym c.is_among.ensures ∙ w.if-not-is_among.false)) c.loop-g.invariant
+          filter-more p gs i d false (take_more gs i d c.loop-g-test.true) (filter-append p _ _) (ap not (sym c.is_among.ensures ∙ w.if-not-is_among.false)) c.loop-g.invariant
           (w.new-is ∙ sym (append-nil c.loop-g.new))
     ]

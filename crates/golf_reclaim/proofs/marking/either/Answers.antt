@@ -14,9 +14,9 @@ loop-at-preserved c =
     let y : Bool = get_or others i false in
     elim c.if-flags-at.branch [
       | then-flags-at w ↦
-          either-more flags others i y _ c.if-flags-at.is_set c.loop-at.both c.push.new.self within (slice_get-get_or others i false there) (w.is_set-is ∙ w.if-flags-at.true ∙ sym (ap (λ (t : Bool). t || y) w.if-flags-at.true)) c.loop-at.invariant c.in_ok-push.ensures.ok
+          either-more flags others i _ within (slice_get-get_or others i false there) (w.is_set-is ∙ w.if-flags-at.true ∙ sym (ap (λ (t : Bool). t || y) w.if-flags-at.true)) c.loop-at.invariant c.in_ok-push.ensures.ok
       | else-flags-at w ↦
-          either-more flags others i y _ c.if-flags-at.is_set c.loop-at.both c.push.new.self within (slice_get-get_or others i false there) (w.is_set-is ∙ sym (ap (λ (t : Bool). t || y) w.if-flags-at.false)) c.loop-at.invariant c.in_ok-push.ensures.ok
+          either-more flags others i _ within (slice_get-get_or others i false there) (w.is_set-is ∙ sym (ap (λ (t : Bool). t || y) w.if-flags-at.false)) c.loop-at.invariant c.in_ok-push.ensures.ok
     ]
 
 pub returns-clause-flags : goal.returns-clause-flags

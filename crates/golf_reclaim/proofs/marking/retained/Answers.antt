@@ -14,10 +14,10 @@ loop-node-preserved c =
     elim c.if-marked-node.branch [
       | then-marked-node w ↦
           let y : Bool = get_or finalised i false in
-          either-more marked finalised i y _ c.if-marked-node.stays c.loop-node.keep c.push.new.self within (slice_get-get_or finalised i false there) (w.stays-is ∙ w.if-marked-node.true ∙ sym (ap (λ (t : Bool). t || y) w.if-marked-node.true)) c.loop-node.invariant c.in_ok-push.ensures.ok
+          either-more marked finalised i _ within (slice_get-get_or finalised i false there) (w.stays-is ∙ w.if-marked-node.true ∙ sym (ap (λ (t : Bool). t || y) w.if-marked-node.true)) c.loop-node.invariant c.in_ok-push.ensures.ok
       | else-marked-node w ↦
           let y : Bool = w.finalised-stays.result in
-          either-more marked finalised i y _ c.if-marked-node.stays c.loop-node.keep c.push.new.self within w.finalised-stays.ensures (w.stays-is ∙ sym (ap (λ (t : Bool). t || y) w.if-marked-node.false)) c.loop-node.invariant c.in_ok-push.ensures.ok
+          either-more marked finalised i _ within w.finalised-stays.ensures (w.stays-is ∙ sym (ap (λ (t : Bool). t || y) w.if-marked-node.false)) c.loop-node.invariant c.in_ok-push.ensures.ok
     ]
 
 pub returns-clause-flags : goal.returns-clause-flags
