@@ -52,7 +52,7 @@ fn parts_of(
     ensures few { IfOk result (λ parts. length state.now.objects + length sleepers < 2 ^ 32) }
 {
     let heap = state.heap();
-    if u64::from(heap.count()) + sleepers.len() as u64 > u64::from(u32::MAX) {
+    if sleepers.len() > (u32::MAX - heap.count()) as usize {
         return Err(Memory);
     }
     Ok(GraphParts {
