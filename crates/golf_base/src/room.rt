@@ -40,7 +40,7 @@ impl<T> Room<T> {
         }
     }
 
-    /// No items, and room for exactly so many.
+    /// No items, and room for at least so many.
     pub fn with_room(alloc: Global, count: usize) -> Result<Room<T>, Memory>
         ensures items { IfOk result (λ room. room.items ≡ []) }
         ensures spare { IfOk result (λ room. count ≤ room.spare) }

@@ -6,9 +6,9 @@ ghost use Rattle.golf_model.specs.Presence.{IsWhole};
 
 use golf_base::{List, Memory};
 use golf_data::{Code, Instr, Value};
-use golf_machine::{start, turn};
+use golf_machine::start;
 use golf_state::State;
-use golf_tests_support::{can_run, code, function, lines};
+use golf_tests_support::{code, function, lines, take_turn};
 use std::alloc::Global;
 
 // `main` starts two goroutines a pair, each of which receives from a channel of its own. The channel of
@@ -63,28 +63,13 @@ fn pairs_code(alloc: Global, pairs: u32) -> Result<Code, Memory> {
     code(alloc, functions, &[Value::Nil], &[Value::Nil, Value::Nil])
 }
 
-// A turn, if the program goes on. It answers whether it did.
-fn take_turn(alloc: Global, code: &Code, state: &mut State, number: u64) -> Result<bool, Memory>
-    requires { Leads code.now state.old }
-    ensures { Leads code.now state.new }
-{
-    if state.ending().is_some() {
-        return Ok(false);
-    }
-    if !can_run(code) {
-        return Ok(false);
-    }
-    turn(alloc, code, state, number)?;
-    Ok(true)
-}
-
 // So many turns of the code.
 fn lead(alloc: Global, code: &Code, turns: u64) -> Result<State, Memory>
     ensures { IfOk result (Leads code.now) }
 {
     let mut state = start(alloc, code)?;
     for number in 0..turns {
-        if !take_turn(alloc, code, &mut state, number)? {
+        if take_turn(alloc, code, &mut state, number)?.is_none() {
             return Ok(state);
         }
     }

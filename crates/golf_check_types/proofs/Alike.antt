@@ -4,9 +4,9 @@
 use Rattle.std.proofs.Common.{◌≡◌, ℕ, List, [], ◌∷◌, ◌++◌, map, Option, Some, None, refl, sym, ap, ◌∙◌, subst}
 use Rattle.std.specs.Option.{option_map}
 use Rattle.golf_syntax_trees.specs.declared.types.TypeExpr.{TypeExpr, roll-TypeExpr}
-use Rattle.golf_syntax_trees.specs.declared.types.TypeExpr.TheOpen.{TypeExpr-F}
 use Rattle.golf_syntax_trees.specs.declared.types.TypeExpr.TheOpen as F
-use Rattle.golf_syntax_trees.specs.declared.types.TypeExpr.TheFolds.{fold-roll-TypeExpr, ind-TypeExpr, map-TypeExpr}
+use Rattle.golf_syntax_trees.specs.declared.types.TypeExpr.TheFolds.{fold-roll-TypeExpr, map-TypeExpr}
+use Rattle.golf_syntax_induction.proofs.Types.{TypeLayer, bare_type, every-type}
 use Rattle.golf_syntax_trees.specs.declared.declarations.Field.{Field}
 use Rattle.golf_check_types.specs.declared.types.Layer.TheVariants as layer
 use Rattle.golf_check_types.specs.declared.types.GoType.{GoType}
@@ -25,13 +25,7 @@ module _ (s u : Scope) (pointers : (n : List ℕ) → pointer_to (meaning s n) �
   abbrev P : TypeExpr → Type 0
   P x = (l k : ℕ) → (write x l s).type ≡ (write x k u).type
 
-  abbrev Part : Type 0
-  Part = TypeExpr-F ((x : TypeExpr) × P x)
-
-  abbrev bare : Part → TypeExpr-F TypeExpr
-  bare y = map-TypeExpr ((x : TypeExpr) × P x) TypeExpr (λ p. p.0) y
-
-  at : (y : Part) (l k : ℕ) → (write_step (map-TypeExpr TypeExpr Write write (bare y)) l s).type ≡ (write_step (map-TypeExpr TypeExpr Write write (bare y)) k u).type
+  at : (y : TypeLayer P) (l k : ℕ) → (write_step (map-TypeExpr TypeExpr Write write (bare_type P y)) l s).type ≡ (write_step (map-TypeExpr TypeExpr Write write (bare_type P y)) k u).type
   at (F.Named n) l k = refl
   at (F.Pointer n) l k = ap (option_map plain) (pointers n)
   at (F.SyncPointer n) l k = refl
@@ -41,12 +35,12 @@ module _ (s u : Scope) (pointers : (n : List ℕ) → pointer_to (meaning s n) �
   at (F.ReceiveChan x) l k = ap (with_layer layer.ReceiveChan) (x.1 l k)
   at F.EmptyStruct l k = refl
 
-  rolled : (y : Part) → P (roll-TypeExpr (bare y))
+  rolled : (y : TypeLayer P) → P (roll-TypeExpr (bare_type P y))
   unfolding write
-  rolled y l k = subst (λ (w : Write). (w l s).type ≡ (w k u).type) (sym (fold-roll-TypeExpr Write write_step (bare y))) (at y l k)
+  rolled y l k = subst (λ (w : Write). (w l s).type ≡ (w k u).type) (sym (fold-roll-TypeExpr Write write_step (bare_type P y))) (at y l k)
 
   pub written-alike : (x : TypeExpr) → P x
-  written-alike = ind-TypeExpr P (λ x y is. subst (λ z. P (roll-TypeExpr z)) is (rolled y))
+  written-alike = every-type P rolled
 
   abbrev named : Option GoType → List ℕ → List ℕ × Option GoType
   named o n = (n, o)
@@ -67,13 +61,7 @@ module _ (s u : Scope) (pointers : (n : List ℕ) → pointer_to (meaning s n) �
   abbrev R : TypeExpr → Type 0
   R x = (l : ℕ) → write x l s ≡ write x l u
 
-  abbrev WholePart : Type 0
-  WholePart = TypeExpr-F ((x : TypeExpr) × R x)
-
-  abbrev bare-whole : WholePart → TypeExpr-F TypeExpr
-  bare-whole y = map-TypeExpr ((x : TypeExpr) × R x) TypeExpr (λ p. p.0) y
-
-  whole : (y : WholePart) (l : ℕ) → write_step (map-TypeExpr TypeExpr Write write (bare-whole y)) l s ≡ write_step (map-TypeExpr TypeExpr Write write (bare-whole y)) l u
+  whole : (y : TypeLayer R) (l : ℕ) → write_step (map-TypeExpr TypeExpr Write write (bare_type R y)) l s ≡ write_step (map-TypeExpr TypeExpr Write write (bare_type R y)) l u
   whole (F.Named n) l = refl
   whole (F.Pointer n) l = ap (of_base l) (pointers n)
   whole (F.SyncPointer n) l = ap (λ b. of_sync l b (sync_base n)) sync
@@ -83,12 +71,12 @@ module _ (s u : Scope) (pointers : (n : List ℕ) → pointer_to (meaning s n) �
   whole (F.ReceiveChan x) l = ap (behind_layer layer.ReceiveChan) (x.1 l)
   whole F.EmptyStruct l = refl
 
-  whole-rolled : (y : WholePart) → R (roll-TypeExpr (bare-whole y))
+  whole-rolled : (y : TypeLayer R) → R (roll-TypeExpr (bare_type R y))
   unfolding write
-  whole-rolled y l = subst (λ (w : Write). w l s ≡ w l u) (sym (fold-roll-TypeExpr Write write_step (bare-whole y))) (whole y l)
+  whole-rolled y l = subst (λ (w : Write). w l s ≡ w l u) (sym (fold-roll-TypeExpr Write write_step (bare_type R y))) (whole y l)
 
   pub written-same : (x : TypeExpr) → R x
-  written-same = ind-TypeExpr R (λ x y is. subst (λ z. R (roll-TypeExpr z)) is (whole-rolled y))
+  written-same = every-type R whole-rolled
 
 -- the names of two files that differ in types alone
 

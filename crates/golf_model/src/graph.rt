@@ -123,7 +123,7 @@ impl Graph {
         self.parts.sleepers.waits(sleeper as usize)
     }
 
-    /// For each node the sleepers that wait on it, rising.
+    /// For each node the sleepers that wait on it.
     ///
     /// `Memory` also comes if all sleepers together wait on 2^32 nodes or more.
     pub fn waiters(&self, alloc: Global) -> Result<FlatRows, Memory>
@@ -133,7 +133,7 @@ impl Graph {
         Ok(rows)
     }
 
-    /// For each node the nodes that refer to it, rising.
+    /// For each node the nodes that refer to it.
     ///
     /// `Memory` also comes if all nodes together refer to 2^32 nodes or more.
     pub fn parents(&self, alloc: Global) -> Result<FlatRows, Memory>

@@ -30,16 +30,22 @@ AddsTo-one rows s n low k t = elim (cases_eq k n) [
       )
 ]
 
+-- those of two kinds are these together
+pub record Together (A B C : ℕ → Type 0) : Type 0 where
+  pub left : (n : ℕ) → A n → C n
+  pub right : (n : ℕ) → B n → C n
+  pub cases : (n : ℕ) → C n → A n ⊎ B n
+
 -- two additions, one after the other
-pub AddsTo-more : (A B C : ℕ → Type 0) (s : ℕ) (a b c : List (List ℕ)) → ((n : ℕ) → A n → C n) → ((n : ℕ) → B n → C n) → ((n : ℕ) → C n → A n ⊎ B n) → AddsTo A s a b → AddsTo B s b c → AddsTo C s a c
-AddsTo-more A B C s a b c left right cases f g n t = (
+pub AddsTo-more : {A B C : ℕ → Type 0} (s : ℕ) (a b c : List (List ℕ)) → Together A B C → AddsTo A s a b → AddsTo B s b c → AddsTo C s a c
+AddsTo-more s a b c both f g n t = (
   λ h. elim ((g n t).0 h) [
-    | inl i ↦ elim ((f n t).0 i) [ inl j ↦ inl j | inr e ↦ inr (e.0, left n e.1) ]
-    | inr e ↦ inr (e.0, right n e.1)
+    | inl i ↦ elim ((f n t).0 i) [ inl j ↦ inl j | inr e ↦ inr (e.0, both.left n e.1) ]
+    | inr e ↦ inr (e.0, both.right n e.1)
   ],
   λ h. elim h [
     | inl i ↦ (g n t).1 (inl ((f n t).1 (inl i)))
-    | inr e ↦ elim (cases n e.1) [ inl k ↦ (g n t).1 (inl ((f n t).1 (inr (e.0, k)))) | inr k ↦ (g n t).1 (inr (e.0, k)) ]
+    | inr e ↦ elim (both.cases n e.1) [ inl k ↦ (g n t).1 (inl ((f n t).1 (inr (e.0, k)))) | inr k ↦ (g n t).1 (inr (e.0, k)) ]
   ],
 )
 
@@ -74,14 +80,15 @@ IsInverseBelow-none count named rows size none = record { row_count = size; memb
 pub AddsTo-next : (s i : ℕ) (nodes : List ℕ) (a b c : List (List ℕ)) → i < length nodes → AddsTo (λ n. In n (take i nodes)) s a b → AddsTo (λ n. n ≡ get_or nodes i 0) s b c → AddsTo (λ n. In n (take (i + 1) nodes)) s a c
 AddsTo-next s i nodes a b c low f g =
     let step : take (i + 1) nodes ≡ take i nodes ++ get_or nodes i 0 ∷ [] = take_more nodes i 0 low in
-    AddsTo-more (λ n. In n (take i nodes)) (λ n. n ≡ get_or nodes i 0) (λ n. In n (take (i + 1) nodes)) s a b c
-    (λ n h. subst (λ (l : List ℕ). In n l) (sym step) (In-left n (take i nodes) (get_or nodes i 0 ∷ []) h))
-    (λ n e. subst (λ (l : List ℕ). In n l) (sym step) (In-right n (take i nodes) (get_or nodes i 0 ∷ []) (inl e)))
-    (λ n h. elim (In-cases n (take i nodes) (get_or nodes i 0 ∷ []) (subst (λ (l : List ℕ). In n l) step h)) [
-      | inl j ↦ inl j
-      | inr j ↦ elim j [ inl e ↦ inr e | inr none ↦ absurd none ]
-    ])
-    f g
+    let both : Together (λ n. In n (take i nodes)) (λ n. n ≡ get_or nodes i 0) (λ n. In n (take (i + 1) nodes)) = record {
+      left = λ n h. subst (λ (l : List ℕ). In n l) (sym step) (In-left n (take i nodes) (get_or nodes i 0 ∷ []) h);
+      right = λ n e. subst (λ (l : List ℕ). In n l) (sym step) (In-right n (take i nodes) (get_or nodes i 0 ∷ []) (inl e));
+      cases = λ n h. elim (In-cases n (take i nodes) (get_or nodes i 0 ∷ []) (subst (λ (l : List ℕ). In n l) step h)) [
+        | inl j ↦ inl j
+        | inr j ↦ elim j [ inl e ↦ inr e | inr none ↦ absurd none ]
+      ];
+    } in
+    AddsTo-more s a b c both f g
 
 -- the same, of rows that are told in another way
 pub IsInverseBelow-same : (bound count : ℕ) (named other : ℕ → List ℕ) (rows : List (List ℕ)) → ((n : ℕ) → named n ≡ other n) → IsInverseBelow bound count named rows → IsInverseBelow bound count other rows

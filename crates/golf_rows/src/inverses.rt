@@ -38,8 +38,8 @@ fn counts_of(alloc: Global, rows: &FlatRows, count: u32) -> Result<List<u32>, Me
     Ok(counts)
 }
 
-/// For each number below `count` the rows that have it as a member, by their places, rising. All
-/// members are such numbers.
+/// For each number below `count` the rows that have it as a member, by their places. All members are
+/// such numbers.
 ///
 /// Members are counted first, so that each row of the answer takes just the room that it needs.
 /// `Memory` also comes if there are 2^32 members or more.

@@ -9,9 +9,9 @@ use Rattle.golf_syntax_trees.specs.declared.expressions.Expr.{Expr}
 use Rattle.golf_syntax_trees.specs.declared.statements.Simple.{Simple}
 use Rattle.golf_syntax_trees.specs.declared.statements.Stmt.{Stmt, roll-Stmt}
 use Rattle.golf_syntax_trees.specs.declared.statements.Clause.{Clause, roll-Clause}
-use Rattle.golf_syntax_trees.specs.declared.statements.Clause.TheOpen.{Stmt-F, Clause-F}
 use Rattle.golf_syntax_trees.specs.declared.statements.Clause.TheOpen as F
-use Rattle.golf_syntax_trees.specs.declared.statements.Clause.TheFolds.{fold-roll-Stmt, fold-roll-Clause, ind-Stmt, map-Stmt, map-Clause}
+use Rattle.golf_syntax_trees.specs.declared.statements.Clause.TheFolds.{fold-roll-Stmt, fold-roll-Clause, map-Stmt, map-Clause}
+use Rattle.golf_syntax_induction.proofs.Statements.{KnownClause, bare_clauses, ClauseLayer, StmtLayer, bare_clause, bare_stmt, every-stmt}
 use Rattle.golf_syntax_trees.specs.declared.declarations.Const.{Const}
 use Rattle.golf_syntax_trees.specs.declared.declarations.Const.TheVariants as const
 use Rattle.golf_syntax_trees.specs.declared.declarations.Import.{Import}
@@ -44,7 +44,7 @@ abbrev EachClause : List ClauseWords → Type 0
 EachClause [] = Unit {0}
 EachClause (c ∷ cs) = WordsAre c × EachClause cs
 
-each-clause : (cs : List ((c : Clause) × ClauseIs c)) → EachClause (map print_clause (map (λ p. p.0) cs))
+each-clause : (cs : List (KnownClause ClauseIs)) → EachClause (map print_clause (bare_clauses ClauseIs cs))
 each-clause [] = tt
 each-clause (c ∷ cs) = (c.1, each-clause cs)
 
@@ -65,13 +65,7 @@ in-front x = append true _ _ (weaken false _ (simple-nested x)) (semicolon None 
 front-nested : (o : Option Simple) → Nested true (optional (λ x. print_simple x ++ words.punctuation punctuations.Semicolon ∷ []) o)
 front-nested o = optional-nested Simple (λ x. print_simple x ++ words.punctuation punctuations.Semicolon ∷ []) in-front o
 
-abbrev bare_stmt : Stmt-F ((c : Clause) × ClauseIs c) ((x : Stmt) × StmtIs x) → Stmt-F Clause Stmt
-bare_stmt y = map-Stmt ((c : Clause) × ClauseIs c) ((x : Stmt) × StmtIs x) Clause Stmt (λ p. p.0) (λ p. p.0) y
-
-abbrev bare_clause : Clause-F ((c : Clause) × ClauseIs c) ((x : Stmt) × StmtIs x) → Clause-F Clause Stmt
-bare_clause y = map-Clause ((c : Clause) × ClauseIs c) ((x : Stmt) × StmtIs x) Clause Stmt (λ p. p.0) (λ p. p.0) y
-
-stmt-at : (y : Stmt-F ((c : Clause) × ClauseIs c) ((x : Stmt) × StmtIs x)) → Nested true (print_stmt_step (map-Stmt Clause Stmt ClauseWords (List Word) print_clause print_stmt (bare_stmt y)))
+stmt-at : (y : StmtLayer ClauseIs StmtIs) → Nested true (print_stmt_step (map-Stmt Clause Stmt ClauseWords (List Word) print_clause print_stmt (bare_stmt ClauseIs StmtIs y)))
 stmt-at (F.Var v) = weaken false _ (var-nested v)
 stmt-at (F.Simple x) = weaken false _ (simple-nested x)
 stmt-at (F.Go l f xs) = on-line true l _ (one true _ _ refl (call-nested f xs))
@@ -86,18 +80,18 @@ stmt-at (F.IfElse l i e b o) =
 stmt-at (F.For l h b) = on-line true l _ (one true _ _ refl (append true _ _ (header-nested h) (block-nested true _ (each-known Stmt true print_stmt b))))
 stmt-at (F.Select l cs) = on-line true l _ (one true _ _ refl (braces true _ _ (clauses-nested _ (each-clause cs)) (none true)))
 
-clause-at : (y : Clause-F ((c : Clause) × ClauseIs c) ((x : Stmt) × StmtIs x)) → WordsAre (print_clause_step (map-Clause Clause Stmt ClauseWords (List Word) print_clause print_stmt (bare_clause y)))
+clause-at : (y : ClauseLayer ClauseIs StmtIs) → WordsAre (print_clause_step (map-Clause Clause Stmt ClauseWords (List Word) print_clause print_stmt (bare_clause ClauseIs StmtIs y)))
 clause-at (F.Case l c b) = (on-line true l _ (one true _ _ refl (append true _ _ (comm-nested c) (one true _ _ refl (none true)))), each-known Stmt true print_stmt b)
 clause-at (F.Default l b) = (on-line true l _ (one true _ _ refl (one true _ _ refl (none true))), each-known Stmt true print_stmt b)
 
-stmt-rolled : (y : Stmt-F ((c : Clause) × ClauseIs c) ((x : Stmt) × StmtIs x)) → StmtIs (roll-Stmt (bare_stmt y))
-stmt-rolled y = subst (Nested true) (sym (fold-roll-Stmt ClauseWords (List Word) print_clause_step print_stmt_step (bare_stmt y))) (stmt-at y)
+stmt-rolled : (y : StmtLayer ClauseIs StmtIs) → StmtIs (roll-Stmt (bare_stmt ClauseIs StmtIs y))
+stmt-rolled y = subst (Nested true) (sym (fold-roll-Stmt ClauseWords (List Word) print_clause_step print_stmt_step (bare_stmt ClauseIs StmtIs y))) (stmt-at y)
 
-clause-rolled : (y : Clause-F ((c : Clause) × ClauseIs c) ((x : Stmt) × StmtIs x)) → ClauseIs (roll-Clause (bare_clause y))
-clause-rolled y = subst WordsAre (sym (fold-roll-Clause ClauseWords (List Word) print_clause_step print_stmt_step (bare_clause y))) (clause-at y)
+clause-rolled : (y : ClauseLayer ClauseIs StmtIs) → ClauseIs (roll-Clause (bare_clause ClauseIs StmtIs y))
+clause-rolled y = subst WordsAre (sym (fold-roll-Clause ClauseWords (List Word) print_clause_step print_stmt_step (bare_clause ClauseIs StmtIs y))) (clause-at y)
 
 pub stmt-nested : (x : Stmt) → Nested true (print_stmt x)
-stmt-nested = ind-Stmt ClauseIs StmtIs (λ x y is. subst (λ z. ClauseIs (roll-Clause z)) is (clause-rolled y)) (λ x y is. subst (λ z. StmtIs (roll-Stmt z)) is (stmt-rolled y))
+stmt-nested = every-stmt ClauseIs StmtIs clause-rolled stmt-rolled
 
 text-nested : (b : Bool) (bytes : List ℕ) → Nested b (text bytes)
 text-nested b bytes = one b _ _ refl (none b)

@@ -1,21 +1,21 @@
 -- What types, expressions, simple statements, headers and communications print has its brackets in pairs.
 -- For: `print_type`, golf_syntax_trees/specs/Types.antt; `print_expr`, golf_syntax_trees/specs/Expressions.antt
 -- By: induction over the tree of a type, and of an expression; for the others, cases of their kind
-use Rattle.std.proofs.Common.{◌≡◌, true, false, List, [], refl, sym, subst}
+use Rattle.std.proofs.Common.{◌≡◌, true, false, List, [], ◌∷◌, map, refl, sym, subst}
 use Rattle.std.specs.Prelude.{Option, Some, None}
 use Rattle.golf_syntax_trees.specs.declared.types.TypeExpr.{TypeExpr, roll-TypeExpr}
-use Rattle.golf_syntax_trees.specs.declared.types.TypeExpr.TheOpen.{TypeExpr-F}
 use Rattle.golf_syntax_trees.specs.declared.types.TypeExpr.TheOpen as T
-use Rattle.golf_syntax_trees.specs.declared.types.TypeExpr.TheFolds.{fold-roll-TypeExpr, ind-TypeExpr, map-TypeExpr}
+use Rattle.golf_syntax_trees.specs.declared.types.TypeExpr.TheFolds.{fold-roll-TypeExpr, map-TypeExpr}
+use Rattle.golf_syntax_induction.proofs.Types.{TypeLayer, bare_type, every-type}
 use Rattle.golf_syntax_trees.specs.declared.expressions.UnaryOperator.{UnaryOperator}
 use Rattle.golf_syntax_trees.specs.declared.expressions.UnaryOperator.TheVariants as unary
 use Rattle.golf_syntax_trees.specs.declared.expressions.BinaryOperator.{BinaryOperator}
 use Rattle.golf_syntax_trees.specs.declared.expressions.BinaryOperator.TheVariants as binary
 use Rattle.golf_syntax_trees.specs.declared.expressions.Expr.{Expr, roll-Expr}
-use Rattle.golf_syntax_trees.specs.declared.expressions.Expr.TheOpen.{Expr-F, Element-F}
 use Rattle.golf_syntax_trees.specs.declared.expressions.Expr.TheOpen as F
-use Rattle.golf_syntax_trees.specs.declared.expressions.Expr.TheFolds.{fold-roll-Expr, fold-roll-Element, ind-Expr, map-Expr, map-Element}
-use Rattle.golf_syntax_trees.specs.declared.expressions.Element.{Element, roll-Element}
+use Rattle.golf_syntax_trees.specs.declared.expressions.Expr.TheFolds.{fold-roll-Expr, map-Expr}
+use Rattle.golf_syntax_induction.proofs.Expressions.{KnownElement, bare_elements, ExprLayer, bare_expr, every-expr, fold-element}
+use Rattle.golf_syntax_trees.specs.declared.expressions.Element.{Element}
 use Rattle.golf_syntax_trees.specs.declared.statements.UpdateOperator.{UpdateOperator}
 use Rattle.golf_syntax_trees.specs.declared.statements.UpdateOperator.TheVariants as update
 use Rattle.golf_syntax_trees.specs.declared.statements.Simple.{Simple}
@@ -34,12 +34,12 @@ use Rattle.golf_syntax_trees.specs.Words.{Word}
 use Rattle.golf_syntax_trees.specs.Types.{print_type_step, print_type}
 use Rattle.golf_syntax_trees.specs.Expressions.{unary_punctuation, binary_punctuation, print_step, print_element_step, print_expr, print_element}
 use Rattle.golf_syntax_trees.specs.Simple.{update_punctuation, print_simple_kind, print_simple, print_content, print_var, optional, print_range_names, print_header, print_comm}
-use Rattle.golf_syntax_segments.proofs.Nested.{Nested, none, semicolon, is_ordinary_punctuation, append, weaken, on-line, one, parens, braces, brackets, each-known, commas}
+use Rattle.golf_syntax_segments.proofs.Nested.{Nested, none, semicolon, is_ordinary_punctuation, append, weaken, on-line, one, parens, braces, brackets, Each, each-known, commas}
 
 abbrev TypeIs : TypeExpr → Type 0
 TypeIs t = Nested false (print_type t)
 
-type-at : (y : TypeExpr-F ((t : TypeExpr) × TypeIs t)) → Nested false (print_type_step (map-TypeExpr TypeExpr (List Word) print_type (map-TypeExpr ((t : TypeExpr) × TypeIs t) TypeExpr (λ p. p.0) y)))
+type-at : (y : TypeLayer TypeIs) → Nested false (print_type_step (map-TypeExpr TypeExpr (List Word) print_type (bare_type TypeIs y)))
 type-at (T.Named n) = one false _ _ refl (none false)
 type-at (T.Pointer n) = one false _ _ refl (one false _ _ refl (none false))
 type-at (T.SyncPointer n) = one false _ _ refl (one false _ _ refl (one false _ _ refl (one false _ _ refl (none false))))
@@ -49,11 +49,11 @@ type-at (T.SendChan t) = one false _ _ refl (one false _ _ refl t.1)
 type-at (T.ReceiveChan t) = one false _ _ refl (one false _ _ refl t.1)
 type-at T.EmptyStruct = one false _ _ refl (braces false [] [] (none true) (none false))
 
-type-rolled : (y : TypeExpr-F ((t : TypeExpr) × TypeIs t)) → TypeIs (roll-TypeExpr (map-TypeExpr ((t : TypeExpr) × TypeIs t) TypeExpr (λ p. p.0) y))
-type-rolled y = subst (Nested false) (sym (fold-roll-TypeExpr (List Word) print_type_step (map-TypeExpr ((t : TypeExpr) × TypeIs t) TypeExpr (λ p. p.0) y))) (type-at y)
+type-rolled : (y : TypeLayer TypeIs) → TypeIs (roll-TypeExpr (bare_type TypeIs y))
+type-rolled y = subst (Nested false) (sym (fold-roll-TypeExpr (List Word) print_type_step (bare_type TypeIs y))) (type-at y)
 
 pub type-nested : (t : TypeExpr) → Nested false (print_type t)
-type-nested = ind-TypeExpr TypeIs (λ x y is. subst (λ z. TypeIs (roll-TypeExpr z)) is (type-rolled y))
+type-nested = every-type TypeIs type-rolled
 
 ordinary-unary : (o : UnaryOperator) → is_ordinary_punctuation (unary_punctuation o) ≡ true
 ordinary-unary unary.Negate = refl
@@ -66,21 +66,19 @@ ordinary-binary _ = refl
 abbrev ExprIs : Expr → Type 0
 ExprIs e = Nested false (print_expr e)
 
-abbrev ElementIs : Element → Type 0
-ElementIs d = Nested false (print_element d)
+element-nested : (x : KnownElement ExprIs) → Nested false (print_element x.0)
+element-nested x = subst (Nested false) (sym (fold-element (List Word) (List Word) print_step print_element_step x.0)) (one false _ _ refl (one false _ _ refl x.1))
 
-abbrev bare_expr : Expr-F ((e : Expr) × ExprIs e) ((d : Element) × ElementIs d) → Expr-F Expr Element
-bare_expr y = map-Expr ((e : Expr) × ExprIs e) ((d : Element) × ElementIs d) Expr Element (λ p. p.0) (λ p. p.0) y
+each-element : (xs : List (KnownElement ExprIs)) → Each (map print_element (bare_elements ExprIs xs))
+each-element [] = tt
+each-element (x ∷ xs) = (weaken false _ (element-nested x), each-element xs)
 
-abbrev bare_element : Element-F ((e : Expr) × ExprIs e) ((d : Element) × ElementIs d) → Element-F Expr Element
-bare_element y = map-Element ((e : Expr) × ExprIs e) ((d : Element) × ElementIs d) Expr Element (λ p. p.0) (λ p. p.0) y
-
-expr-at : (y : Expr-F ((e : Expr) × ExprIs e) ((d : Element) × ElementIs d)) → Nested false (print_step (map-Expr Expr Element (List Word) (List Word) print_expr print_element (bare_expr y)))
+expr-at : (y : ExprLayer ExprIs) → Nested false (print_step (map-Expr Expr Element (List Word) (List Word) print_expr print_element (bare_expr ExprIs y)))
 expr-at (F.Integer digits) = one false _ _ refl (none false)
 expr-at (F.Text bytes) = one false _ _ refl (none false)
 expr-at (F.Name n) = one false _ _ refl (none false)
 expr-at (F.Parens a) = parens false _ _ (weaken false _ a.1) (none false)
-expr-at (F.StructLiteral n xs) = one false _ _ refl (one false _ _ refl (braces false _ _ (commas _ (each-known Element false print_element xs)) (none false)))
+expr-at (F.StructLiteral n xs) = one false _ _ refl (one false _ _ refl (braces false _ _ (commas _ (each-element xs)) (none false)))
 expr-at (F.SyncLiteral n) = one false _ _ refl (one false _ _ refl (one false _ _ refl (one false _ _ refl (braces false [] [] (none true) (none false)))))
 expr-at (F.SliceLiteral t xs) = brackets false [] _ (none true) (append false (print_type t) _ (type-nested t) (braces false _ _ (commas _ (each-known Expr false print_expr xs)) (none false)))
 expr-at F.EmptyLiteral = one false _ _ refl (braces false [] _ (none true) (braces false [] [] (none true) (none false)))
@@ -94,14 +92,11 @@ expr-at (F.Call a xs) = append false _ _ a.1 (parens false _ _ (commas _ (each-k
 expr-at (F.Unary o a) = one false _ _ (ordinary-unary o) a.1
 expr-at (F.Binary o a b) = append false _ _ a.1 (one false _ _ (ordinary-binary o) b.1)
 
-expr-rolled : (y : Expr-F ((e : Expr) × ExprIs e) ((d : Element) × ElementIs d)) → ExprIs (roll-Expr (bare_expr y))
-expr-rolled y = subst (Nested false) (sym (fold-roll-Expr (List Word) (List Word) print_step print_element_step (bare_expr y))) (expr-at y)
-
-element-rolled : (y : Element-F ((e : Expr) × ExprIs e) ((d : Element) × ElementIs d)) → ElementIs (roll-Element (bare_element y))
-element-rolled y = subst (Nested false) (sym (fold-roll-Element (List Word) (List Word) print_step print_element_step (bare_element y))) (one false _ _ refl (one false _ _ refl y.value.1))
+expr-rolled : (y : ExprLayer ExprIs) → ExprIs (roll-Expr (bare_expr ExprIs y))
+expr-rolled y = subst (Nested false) (sym (fold-roll-Expr (List Word) (List Word) print_step print_element_step (bare_expr ExprIs y))) (expr-at y)
 
 pub expr-nested : (e : Expr) → Nested false (print_expr e)
-expr-nested = ind-Expr ExprIs ElementIs (λ x y is. subst (λ z. ExprIs (roll-Expr z)) is (expr-rolled y)) (λ x y is. subst (λ z. ElementIs (roll-Element z)) is (element-rolled y))
+expr-nested = every-expr ExprIs expr-rolled
 
 ordinary-update : (o : UpdateOperator) → is_ordinary_punctuation (update_punctuation o) ≡ true
 ordinary-update update.Add = refl

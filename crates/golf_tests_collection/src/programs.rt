@@ -5,9 +5,9 @@ ghost use Rattle.golf_model.specs.Futures.{Leads};
 
 use golf_base::{List, Memory};
 use golf_data::{Code, Instr, Value};
-use golf_machine::{start, turn};
+use golf_machine::start;
 use golf_state::State;
-use golf_tests_support::{can_run, code, function, lines};
+use golf_tests_support::{code, function, lines, take_turn};
 use std::alloc::Global;
 
 /// How many turns lead to the states.
@@ -64,28 +64,13 @@ pub fn state_of(alloc: Global, code: &Code) -> Result<State, Memory>
     Ok(state)
 }
 
-// A turn, if the program goes on. It answers whether it did.
-fn take_turn(alloc: Global, code: &Code, state: &mut State, number: u64) -> Result<bool, Memory>
-    requires { Leads code.now state.old }
-    ensures { Leads code.now state.new }
-{
-    if state.ending().is_some() {
-        return Ok(false);
-    }
-    if !can_run(code) {
-        return Ok(false);
-    }
-    turn(alloc, code, state, number)?;
-    Ok(true)
-}
-
 /// Takes turns with rising numbers, until the program has ended or the turns are spent.
 pub fn go_on(alloc: Global, code: &Code, state: &mut State) -> Result<(), Memory>
     requires { Leads code.now state.old }
     ensures { Leads code.now state.new }
 {
     for number in 0..TURNS {
-        if !take_turn(alloc, code, state, number)? {
+        if take_turn(alloc, code, state, number)?.is_none() {
             return Ok(());
         }
     }

@@ -1,12 +1,11 @@
 //! Codes of two functions with a global, a struct type and texts, and what their runs come to.
 
 use crate::reading::instrs;
-use crate::stepping::step;
 use golf_base::{List, Memory};
 use golf_data::{Code, Ending, Function, Value};
 use golf_machine::start;
 use golf_state::State;
-use golf_tests_support::{code, function, lines};
+use golf_tests_support::{code, function, lines, take_turn};
 use std::alloc::Global;
 use std::process::Abort;
 use std::test::Fail;
@@ -52,7 +51,7 @@ pub fn program(alloc: Global, main: &str, other: &str) -> Result<Code, Fail> {
 // Takes turns, each of the next number, until the program has ended.
 fn go_on(alloc: Global, code: &Code, state: &mut State) -> Result<(), Memory> {
     for number in 0..TURNS {
-        step(alloc, code, state, number)?;
+        take_turn(alloc, code, state, number)?;
     }
     Ok(())
 }

@@ -4,11 +4,12 @@
 //! make their codes fail for want of memory, the others pass.
 
 use crate::programs::program;
-use crate::stepping::{HowBlocked, MAIN, blocked, holds, stands, step};
+use crate::stepping::{HowBlocked, MAIN, blocked, holds, stands};
 use golf_base::{Memory, ObjectId};
 use golf_data::{Code, Ending, Side};
 use golf_machine::start;
 use golf_state::State;
+use golf_tests_support::take_turn;
 use std::alloc::Global;
 use std::test::Fail;
 
@@ -44,11 +45,11 @@ fn see(state: &State) -> Seen {
 // then.
 fn persist(alloc: Global, code: &Code, state: &mut State) -> Result<bool, Memory> {
     let before = see(state);
-    match step(alloc, code, state, 0) {
+    match take_turn(alloc, code, state, 0) {
         Ok(_) => Ok(true),
         Err(_) => {
             let same = see(state) == before;
-            step(alloc, code, state, 0)?;
+            take_turn(alloc, code, state, 0)?;
             Ok(same)
         }
     }

@@ -2,11 +2,12 @@
 
 use crate::codes::Texts;
 use crate::programs::program;
-use crate::stepping::{MAIN, OTHER, after, step};
+use crate::stepping::{MAIN, OTHER, after};
 use golf_base::{GoroutineId, ObjectId};
 use golf_data::{Ending, Goroutine, Mode, PanicKind, Side, Value, WaitKind};
 use golf_machine::Turned;
 use golf_state::State;
+use golf_tests_support::take_turn;
 use std::alloc::Global;
 use std::process::Abort;
 use std::test::Fail;
@@ -26,7 +27,7 @@ fn run(alloc: Global, texts: Texts, turns: Turns) -> Result<State, Fail> {
 fn turned(alloc: Global, texts: Texts, count: u32) -> Result<Option<Turned>, Fail> {
     let code = program(alloc, texts.0, texts.1)?;
     let mut state = after(alloc, &code, &[(0, count.saturating_sub(1))])?;
-    Ok(step(alloc, &code, &mut state, 0)?)
+    Ok(take_turn(alloc, &code, &mut state, 0)?)
 }
 
 /// The last of so many turns comes to this.

@@ -2,9 +2,9 @@
 
 use golf_base::{GoroutineId, Memory};
 use golf_data::{Code, Mode, WaitKind};
-use golf_machine::{Turned, start, turn};
+use golf_machine::start;
 use golf_state::State;
-use golf_tests_support::can_run;
+use golf_tests_support::take_turn;
 use std::alloc::Global;
 use std::process::Abort;
 use std::test::Fail;
@@ -18,20 +18,6 @@ pub const MAIN: GoroutineId = GoroutineId(1);
 /// The goroutine that `main` starts.
 pub const OTHER: GoroutineId = GoroutineId(2);
 
-/// One turn of the goroutine at this place among those that can run, if the program goes on and the
-/// machine can step its code.
-pub fn step(
-    alloc: Global,
-    code: &Code,
-    state: &mut State,
-    place: u64,
-) -> Result<Option<Turned>, Memory> {
-    if state.ending().is_some() || !can_run(code) {
-        return Ok(None);
-    }
-    Ok(Some(turn(alloc, code, state, place)?))
-}
-
 /// So many turns of the goroutine at this place among those that can run.
 pub fn take(
     alloc: Global,
@@ -41,7 +27,7 @@ pub fn take(
     count: u32,
 ) -> Result<(), Memory> {
     for _ in 0..count {
-        step(alloc, code, state, place)?;
+        take_turn(alloc, code, state, place)?;
     }
     Ok(())
 }

@@ -1,4 +1,4 @@
-//! Graphs, gates and codes for tests and measurements, and why a measurement comes to nothing. Graphs are
+//! Graphs, gates, codes and their turns for tests and measurements, and why a measurement comes to nothing. Graphs are
 //! made a place at a time, of a shape, or such that they look random; gates see how markers run.
 #![tactic(auto)]
 
@@ -9,6 +9,7 @@ mod making;
 mod numbers;
 mod random;
 mod shapes;
+mod turns;
 
 pub use codes::{can_run, code, function, lines};
 pub use fault::BenchFault;
@@ -17,3 +18,4 @@ pub use making::{GraphFault, GraphMaker};
 pub use numbers::Numbers;
 pub use random::random_graph;
 pub use shapes::{Shape, shaped};
+pub use turns::take_turn;
