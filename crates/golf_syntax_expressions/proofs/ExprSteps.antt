@@ -29,7 +29,7 @@ use Rattle.golf_syntax_expressions.specs.Operators.{unary_of, binary_of, punctua
 use Rattle.golf_syntax_expressions.specs.TypeReading.{type_at, OfType}
 use Rattle.golf_syntax_expressions.specs.Starts.{whole, make_behind, make_start, new_behind, new_start, empty_start, slice_behind, slice_start, sync_start, struct_behind, literal_behind, literal_start, punctuation_start, named_start, keyword_start, start_from, start_at, call_behind, call_at, no_field, suffix_by, suffix_at}
 use Rattle.golf_syntax_expressions.specs.ExprReading.{Mode, Finish, Extend, Suffixes, Prefixed, Level, Climb, Items, Elements, Node, ExprPlan, just, found, inside, finish, extend, suffixes_plan, prefixed_plan, climb_plan, items_behind, element, elements_behind, elements_plan, expr_plan, rank, expr_at}
-use Rattle.golf_syntax_expressions.proofs.Plans.{bind_some, Leaves, Within, within-given, whole-is, whole-leaves}
+use Rattle.golf_syntax_expressions.proofs.Plans.{bind-same, bind_some, Leaves, Within, within-given, whole-is, whole-leaves}
 use Rattle.golf_syntax_expressions.proofs.Fronts.{some-same, after-shorter, name-shorter}
 use Rattle.golf_syntax_expressions.proofs.TypeSteps.{type-leaves}
 
@@ -269,10 +269,6 @@ given-just (Some us) a = refl
 same-found : {A : Type 0} (o : Option (A × List Token)) → (o >>= λ x. Some x) ≡ o
 same-found None = refl
 same-found (Some x) = refl
-
-bind-same : {A B : Type 0} (o : Option A) (f g : A → Option B) → ((x : A) → f x ≡ g x) → (o >>= f) ≡ (o >>= g)
-bind-same None f g k = refl
-bind-same (Some x) f g k = k x
 
 abbrev pub inside_by : Punctuation → (Expr → Expr) → List Token → Option (Expr × List Token)
 inside_by close wrap ts = expr_at (Level false 1) ts >>= λ x. after close x.1 >>= λ us. Some (wrap x.0, us)

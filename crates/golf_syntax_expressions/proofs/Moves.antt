@@ -23,24 +23,15 @@ use Rattle.golf_syntax_expressions.specs.Operators.{unary_at}
 use Rattle.golf_syntax_expressions.specs.Starts.{start_at, suffix_at}
 use Rattle.golf_syntax_expressions.specs.ExprReading.{Mode, Node, Finish, Extend, Suffixes, Prefixed, Level, Items, Elements, element, expr_at}
 use Rattle.golf_syntax_expressions.specs.Moves.{Found, suffixed, argument_at, item_at, element_at, pending_at, waited, field_at, started_at, extended_at}
+use Rattle.golf_syntax_expressions.proofs.Plans.{bind-assoc, bind-same, waits-last, waits-none}
 use Rattle.golf_syntax_expressions.proofs.ExprSteps.{inside_by, begun_by, finish_by, extend_by, suffixes_by, prefixed_by, items_by, elements_by, gap, left, expr-Finish, expr-Extend, expr-Suffixes, expr-Prefixed, expr-Level, expr-Climb, expr-Items, expr-Elements, expr-leaves}
-
-bind-assoc : {A B C : Type 0} (o : Option A) (f : A → Option B) (g : B → Option C) → ((o >>= f) >>= g) ≡ (o >>= λ x. f x >>= g)
-bind-assoc None f g = refl
-bind-assoc (Some x) f g = refl
-
-bind-same : {A B : Type 0} (o : Option A) (f g : A → Option B) → ((x : A) → f x ≡ g x) → (o >>= f) ≡ (o >>= g)
-bind-same None f g k = refl
-bind-same (Some x) f g k = k x
 
 -- the last of those that wait goes on first
 pub waited-last : (fs : List Pending) (f : Pending) (o : Found) → waited (fs ++ f ∷ []) o ≡ waited fs (o >>= pending_at f)
-waited-last [] f o = refl
-waited-last (g ∷ fs) f o = ap (λ q. q >>= pending_at g) (waited-last fs f o)
+waited-last = waits-last pending_at
 
 pub waited-none : (fs : List Pending) → waited fs None ≡ None
-waited-none [] = refl
-waited-none (g ∷ fs) = ap (λ q. q >>= pending_at g) (waited-none fs)
+waited-none = waits-none pending_at
 
 -- an expression in brackets, with what stands after
 inside-goes : (close : Punctuation) (wrap : Expr → Expr) (ts : List Token) → (inside_by close wrap ts >>= λ y. suffixed y.0 y.1) ≡ (expr_at (Level false 1) ts >>= λ x. after close x.1 >>= suffixed (wrap x.0))

@@ -1,13 +1,30 @@
 -- Readers that ask only for less than they were given find what their plans say.
 -- For: `reads` and `run`, golf_syntax_expressions/specs/Plan.antt.
--- By: induction over the plan, and over how deep reading may go.
-use Rattle.std.proofs.Common.{◌≡◌, ℕ, zero, suc, ◌+◌, ◌≤◌, ◌<◌, List, length, refl, ap, subst, ◌∙◌, arith}
+-- By: induction over the plan, and over how deep reading may go; over the list of what waits.
+use Rattle.std.proofs.Common.{◌≡◌, ℕ, zero, suc, ◌+◌, ◌≤◌, ◌<◌, List, [], ◌∷◌, ◌++◌, length, refl, ap, subst, ◌∙◌, arith}
 use Rattle.std.specs.Prelude.{Option, Some, None, MatchOption}
-use Rattle.golf_syntax_expressions.specs.Plan.{◌>>=◌, Plan, Done, Ask, run, reads, given}
+use Rattle.golf_syntax_expressions.specs.Plan.{◌>>=◌, Plan, Done, Ask, run, reads, given, waited_by}
 
 pub bind_some : {A B : Type 0} (o : Option A) (f : A → Option B) (y : B) → (o >>= f) ≡ Some y → (x : A) × (o ≡ Some x) × (f x ≡ Some y)
 bind_some None f y e = cc
 bind_some (Some x) f y e = (x, refl, e)
+
+pub bind-assoc : {A B C : Type 0} (o : Option A) (f : A → Option B) (g : B → Option C) → ((o >>= f) >>= g) ≡ (o >>= λ x. f x >>= g)
+bind-assoc None f g = refl
+bind-assoc (Some x) f g = refl
+
+pub bind-same : {A B : Type 0} (o : Option A) (f g : A → Option B) → ((x : A) → f x ≡ g x) → (o >>= f) ≡ (o >>= g)
+bind-same None f g k = refl
+bind-same (Some x) f g k = k x
+
+-- the last of those that wait goes on first
+pub waits-last : {Pending X : Type 0} (pending_at : Pending → X → Option X) (fs : List Pending) (f : Pending) (o : Option X) → waited_by pending_at (fs ++ f ∷ []) o ≡ waited_by pending_at fs (o >>= pending_at f)
+waits-last pending_at [] f o = refl
+waits-last pending_at (g ∷ fs) f o = ap (λ q. q >>= pending_at g) (waits-last pending_at fs f o)
+
+pub waits-none : {Pending X : Type 0} (pending_at : Pending → X → Option X) (fs : List Pending) → waited_by pending_at fs None ≡ None
+waits-none pending_at [] = refl
+waits-none pending_at (g ∷ fs) = ap (λ q. q >>= pending_at g) (waits-none pending_at fs)
 
 -- what is found leaves so much less than there was
 abbrev pub Leaves : {A Token : Type 0} → ℕ → ℕ → Option (A × List Token) → Type 0

@@ -18,7 +18,7 @@ use Rattle.golf_syntax_expressions.specs.declared.pending.Pending.{Pending}
 use Rattle.golf_syntax_expressions.specs.declared.pending.Pending.TheVariants as pendings
 use Rattle.golf_syntax_expressions.specs.declared.pending.Move.{Move}
 use Rattle.golf_syntax_expressions.specs.declared.pending.Move.TheVariants as moves
-use Rattle.golf_syntax_expressions.specs.Plan.{◌>>=◌}
+use Rattle.golf_syntax_expressions.specs.Plan.{◌>>=◌, moved_by, waited_by}
 use Rattle.golf_syntax_expressions.specs.Front.{after, name_at}
 use Rattle.golf_syntax_expressions.specs.ExprReading.{Suffixes, Prefixed, Level, Climb, Items, Elements, element, expr_at}
 
@@ -72,12 +72,11 @@ move_at (moves.Seek a) ts = goal_at a ts
 move_at (moves.Wait f a) ts = goal_at a ts >>= pending_at f
 
 abbrev pub moved : Option (Move × Bor (List Token)) → Found
-moved o = o >>= λ x. move_at x.0 x.1.now
+moved o = moved_by move_at o
 
 -- what is found with all that waits, the last first
 abbrev pub waited : List Pending → Found → Found
-waited [] o = o
-waited (f ∷ fs) o = waited fs o >>= pending_at f
+waited fs o = waited_by pending_at fs o
 
 -- what is found after how an operand begins
 abbrev pub field_at : List ℕ → List Element → List Token → Found

@@ -1,5 +1,6 @@
 -- Readers that ask each other, and what they read.
-use Rattle.std.specs.Prelude.{ℕ, zero, suc, List, Option, Some, None, option_and_then}
+use Rattle.std.specs.Prelude.{ℕ, zero, suc, List, [], ◌∷◌, Option, Some, None, option_and_then}
+use Rattle.std.specs.Borrow.{Bor}
 
 infixl 10 ◌>>=◌
 abbrev pub ◌>>=◌ : {A B : Type 0} → Option A → (A → Option B) → Option B
@@ -24,3 +25,11 @@ reads plan (suc n) m ts = run (reads plan n) (plan m ts)
 abbrev pub given : {Token Mode : Type 0} {Node : Mode → Type 0} {A X : Type 0} → Option X → (X → Plan Token Mode Node A) → Plan Token Mode Node A
 given None more = Done None
 given (Some x) more = more x
+
+-- Reading move by move: what is found by the next move, if there is one; and what is found with all that waits, the last first.
+abbrev pub moved_by : {Move Rest X : Type 0} → (Move → Rest → Option X) → Option (Move × Bor Rest) → Option X
+moved_by move_at o = o >>= λ x. move_at x.0 x.1.now
+
+abbrev pub waited_by : {Pending X : Type 0} → (Pending → X → Option X) → List Pending → Option X → Option X
+waited_by pending_at [] o = o
+waited_by pending_at (f ∷ fs) o = waited_by pending_at fs o >>= pending_at f

@@ -23,7 +23,7 @@ use Rattle.golf_syntax_trees.specs.declared.statements.Clause.TheVariants as cl
 use Rattle.golf_syntax_trees.specs.declared.statements.Clause.TheOpen as F
 use Rattle.golf_syntax_expressions.specs.Plan.{◌>>=◌, Done, Ask, run, given}
 use Rattle.golf_syntax_expressions.specs.Front.{after, after_kind, after_keyword}
-use Rattle.golf_syntax_expressions.proofs.Plans.{Leaves}
+use Rattle.golf_syntax_expressions.proofs.Plans.{bind-assoc, bind-same, waits-last, waits-none, Leaves}
 use Rattle.golf_syntax_statements.specs.CommReading.{comm_at}
 use Rattle.golf_syntax_statements.specs.HeaderReading.{Test, test_at, header_at}
 use Rattle.golf_syntax_statements.specs.StmtReading.{OfStmt, Body, Clauses, CaseBody, found, just, body, block, block_at, call_in, call_of, else_plan, if_plan, for_plan, kind_plan, body_behind, case_behind, begins_clause, clause_body, clause_plan, clauses_from, stmt_at}
@@ -38,18 +38,9 @@ use Rattle.golf_syntax_statements.specs.declared.pending.Move.TheVariants as mov
 use Rattle.golf_syntax_statements.specs.Moves.{Found, moved, weight, move_at, owned, closed_at, body_at, grown, selected, clause_at, case_at, headed_by, headed_at, colon_at, selected_by, pending_at, waited, statements_in, statements_of}
 use Rattle.golf_syntax_statements.proofs.StmtSteps.{stmt-is, stmt-leaves}
 
-bind-assoc : {A B C : Type 0} (o : Option A) (f : A → Option B) (g : B → Option C) → ((o >>= f) >>= g) ≡ (o >>= λ x. f x >>= g)
-bind-assoc None f g = refl
-bind-assoc (Some x) f g = refl
-
-bind-same : {A B : Type 0} (o : Option A) (f g : A → Option B) → ((x : A) → f x ≡ g x) → (o >>= f) ≡ (o >>= g)
-bind-same None f g k = refl
-bind-same (Some x) f g k = k x
-
 -- the last of those that wait goes on first
 pub waited-last : (fs : List Pending) (f : Pending) (o : Found) → waited (fs ++ f ∷ []) o ≡ waited fs (o >>= pending_at f)
-waited-last [] f o = refl
-waited-last (g ∷ fs) f o = ap (λ q. q >>= pending_at g) (waited-last fs f o)
+waited-last = waits-last pending_at
 
 -- one move more
 pub went-found : (fs gs : List Pending) (f : Pending) (n : Move) (s : Stmt) (ts : List Token) (o r : Found) → waited fs (move_at n ts) ≡ r → n ≡ moves.Found s → fs ≡ gs ++ f ∷ [] → o ≡ pending_at f (s, ts) → waited gs o ≡ r
@@ -67,8 +58,7 @@ pub went-on : (fs : List Pending) (n m : Move) (ts : List Token) (o r : Found) �
 went-on fs n m ts o r i p e = ap (waited fs) e ∙ ap (λ (k : Move). waited fs (move_at k ts)) (sym p) ∙ i
 
 pub waited-none : (fs : List Pending) → waited fs None ≡ None
-waited-none [] = refl
-waited-none (g ∷ fs) = ap (λ q. q >>= pending_at g) (waited-none fs)
+waited-none = waits-none pending_at
 
 -- the rest of statements in braces
 pub body-goes : (o : Owner) (done : List Stmt) (ts : List Token) → (stmt_at (Body done) ts >>= closed_at o) ≡ (stmt_at OfStmt ts >>= pending_at (pendings.Body o done))

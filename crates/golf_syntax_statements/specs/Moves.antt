@@ -13,7 +13,7 @@ use Rattle.golf_syntax_trees.specs.declared.statements.Clause.{Clause}
 use Rattle.golf_syntax_trees.specs.declared.statements.Clause.TheVariants as cl
 use Rattle.golf_syntax_trees.specs.declared.statements.Clause.TheOpen.{Stmt-F}
 use Rattle.golf_syntax_trees.specs.declared.statements.Clause.TheOpen as F
-use Rattle.golf_syntax_expressions.specs.Plan.{◌>>=◌, run}
+use Rattle.golf_syntax_expressions.specs.Plan.{◌>>=◌, run, moved_by, waited_by}
 use Rattle.golf_syntax_expressions.specs.Front.{after, after_keyword}
 use Rattle.golf_syntax_statements.specs.CommReading.{comm_at}
 use Rattle.golf_syntax_statements.specs.declared.pending.Owner.{Owner}
@@ -103,12 +103,11 @@ move_at (moves.Clauses s) ts = selected s ts
 move_at (moves.Headed s h) ts = colon_at s h ts
 
 abbrev pub moved : Option (Move × Bor (List Token)) → Found
-moved o = o >>= λ x. move_at x.0 x.1.now
+moved o = moved_by move_at o
 
 -- what is found with all that waits, the last first
 abbrev pub waited : List Pending → Found → Found
-waited [] o = o
-waited (f ∷ fs) o = waited fs o >>= pending_at f
+waited fs o = waited_by pending_at fs o
 
 -- how many moves there may be before a token is taken or a waiting one goes on
 abbrev pub weight : Move → ℕ
