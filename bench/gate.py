@@ -1,9 +1,11 @@
 #!/usr/bin/env python3
-"""What the gate costs: runs a command, by default `rt ci --anew`, at the top of the repository, and prints the minutes of
+"""What the gate costs: runs a command, by default `rt ci`, at the top of the repository, and prints the minutes of
 processor that each crate took for its proof, its tests and its must-fail edits, and the longest path of crates that
 stand on each other.
 
     bench/gate.py [COMMAND ..]      the command's own output goes to gate.log in the folder for temporary files
+
+A kit whose `rt ci` takes over what it has proved before has `rt ci --anew`, which proves all from nothing: give it as the command.
 """
 import os
 import re
@@ -55,7 +57,7 @@ def uses():
 
 
 def main():
-    command = sys.argv[1:] or ["rt", "ci", "--anew"]
+    command = sys.argv[1:] or ["rt", "ci"]
     seen, began = {}, time.time()
     with open(LOG, "w", encoding="utf-8") as log:
         environment = dict(os.environ, GATE_OF=str(os.getpid()))

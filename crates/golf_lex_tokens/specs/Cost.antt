@@ -9,7 +9,7 @@ abbrev pub one_more : List ℕ → List ℕ
 one_more [] = 1 ∷ []
 one_more (count ∷ counts) = (count + 1) ∷ counts
 
--- the count of what a bracket held goes, if one is left behind it
+-- the count of what a bracket held goes, if there is one outside it
 abbrev pub closed : List ℕ → List ℕ
 closed (inner ∷ outer ∷ counts) = outer ∷ counts
 closed counts = counts

@@ -28,7 +28,7 @@ pub struct Waiting {
 
 /// Whether all who wait on that side stand in the queue. Those who wait for a mutex do while they all could
 /// be listed: one that is passed on from a condition waits for the mutex without a turn of its own,
-/// and memory may be wanting for its place in the queue.
+/// and memory may run out for its place in the queue.
 #[inline(always)]
 pub fn has_queue(are_mutexes_enqueued: bool, side: Side) -> bool
     ensures { result ≡ has_queue are_mutexes_enqueued side }

@@ -63,7 +63,7 @@ unfoldable pub const_at : List Token → Option (Const × List Token)
 const_at [] = None
 const_at (t ∷ ts) = const_of t.kind ts
 
--- more names, each behind a comma
+-- more names, each after a comma
 abbrev pub names_by : List (List ℕ) → List Token → (List (List ℕ) → List Token → Option (List (List ℕ) × List Token)) → Option (List Token) → Option (List (List ℕ) × List Token)
 names_by done ts again None = Some (done, ts)
 names_by done ts again (Some us) = name_at us >>= λ m. again (done ++ m.0 ∷ []) m.1

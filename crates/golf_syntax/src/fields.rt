@@ -11,7 +11,7 @@ use golf_syntax_expressions::{after, copied, name_at, type_at};
 use golf_syntax_trees::{Field, Name};
 use std::alloc::Global;
 
-// More names, each behind a comma.
+// More names, each after a comma.
 fn names_at(alloc: Global, tokens: &[Token]) -> Result<Option<(List<Name>, &[Token])>, Memory>
     ensures value { IfOk result (λ o. seen o ≡ decl_spec.names_at tokens.now) }
     ensures shorter { IfOk result (λ o. IfSome o (λ x. length x.1.now ≤ length tokens.now)) }

@@ -14,7 +14,7 @@ use Rattle.golf_syntax_expressions.specs.ExprReading.{Level, expr_at}
 abbrev pub Found : Type 0
 Found = Option (VarContent × List Token)
 
--- behind a type: a value, or nothing
+-- after a type: a value, or nothing
 abbrev pub typed_by : TypeExpr → List Token → Option (List Token) → Found
 typed_by t ts (Some us) = expr_at (Level false 1) us >>= λ v. Some (content.Typed t v.0, v.1)
 typed_by t ts None = Some (content.Zero t, ts)
