@@ -43,8 +43,8 @@ pub waited-last : (fs : List Pending) (f : Pending) (o : Found) → waited (fs +
 waited-last = waits-last pending_at
 
 -- one move more
-pub went-found : (fs gs : List Pending) (f : Pending) (n : Move) (s : Stmt) (ts : List Token) (o r : Found) → waited fs (move_at n ts) ≡ r → n ≡ moves.Found s → fs ≡ gs ++ f ∷ [] → o ≡ pending_at f (s, ts) → waited gs o ≡ r
-went-found fs gs f n s ts o r i p q e =
+pub went-found : {s : Stmt} {o r : Found} (fs gs : List Pending) (f : Pending) (n : Move) (ts : List Token) → waited fs (move_at n ts) ≡ r → n ≡ moves.Found s → fs ≡ gs ++ f ∷ [] → o ≡ pending_at f (s, ts) → waited gs o ≡ r
+went-found {s} fs gs f n ts i p q e =
     ap (waited gs) e ∙ sym (waited-last gs f (Some (s, ts))) ∙ ap (λ (hs : List Pending). waited hs (Some (s, ts))) (sym q) ∙ ap (λ (m : Move). waited fs (move_at m ts)) (sym p) ∙ i
 
 pub went-done : (fs : List Pending) (n : Move) (s : Stmt) (ts : List Token) (r : Found) → waited fs (move_at n ts) ≡ r → n ≡ moves.Found s → fs ≡ [] → Some (s, ts) ≡ r
@@ -93,8 +93,8 @@ went-further fs q m b r p e = ap (λ (x : Next). waited fs (moved x)) (sym p) �
 pub less-than : (o q : Next) (m : Move) (b : Bor (List Token)) (bound : ℕ) → q ≡ Some (m, b) → q ≡ o → IfSome o (λ x. weight x.0 + 8 * length x.1.now < bound) → weight m + 8 * length b.now < bound
 less-than o q m b bound p e h = let P : Next → Type 0 = λ y. IfSome y (λ x. weight x.0 + 8 * length x.1.now < bound) in subst P (sym e ∙ p) h
 
-pub smaller-found : (fs gs ws : List Pending) (f : Pending) (n m : Move) (s : Stmt) (ts : List Token) (b : Bor (List Token)) → n ≡ moves.Found s → fs ≡ gs ++ f ∷ [] → ws ≡ gs → weight m + 8 * length b.now < 8 * length ts + 3 → weight m + 8 * length b.now + 3 * length ws < weight n + 8 * length ts + 3 * length fs
-smaller-found fs gs ws f n m s ts b p q a l =
+pub smaller-found : {gs ws : List Pending} {s : Stmt} (fs : List Pending) (f : Pending) (n m : Move) (ts : List Token) (b : Bor (List Token)) → n ≡ moves.Found s → fs ≡ gs ++ f ∷ [] → ws ≡ gs → weight m + 8 * length b.now < 8 * length ts + 3 → weight m + 8 * length b.now + 3 * length ws < weight n + 8 * length ts + 3 * length fs
+smaller-found {gs} {ws} fs f n m ts b p q a l =
     let z : weight n ≡ 0 = ap weight p in
     let x : length fs ≡ length gs + 1 = ap length q ∙ length-append gs (f ∷ []) in
     let y : length ws ≡ length gs = ap length a in

@@ -19,7 +19,7 @@ returns-in-None c = record { value = went-done c.moves.waiting c.moves.now c.in-
 pub returns-in_default : goal.returns-in_default
 returns-in_default c = record {
   value = went-nowhere c.match-into_inner.waiting c.match-into_inner.next (stmt_at OfStmt c.args.tokens.now) c.in_default.is (elim c.match-into_inner.branch [
-    | in-Found+in-Some+in_ok-next-in-Some w ↦ went-so w.pop.new.self c.match-into_inner.waiting w.in_ok-next-in-Some.next c.match-into_inner.next (stmt_at OfStmt c.args.tokens.now) w.waiting-is w.next-is (went-found c.moves.waiting w.pop.new.self w.in-Some.pending c.moves.now w.in-Found.found c.moves.rest.now (moved w.in_ok-next-in-Some.next) (stmt_at OfStmt c.args.tokens.now) c.moves.invariant (sym c.into_inner.ensures ∙ w.in-Found.is) w.in-Some.ensures w.in_ok-next-in-Some.ensures.value)
+    | in-Found+in-Some+in_ok-next-in-Some w ↦ went-so w.pop.new.self c.match-into_inner.waiting w.in_ok-next-in-Some.next c.match-into_inner.next (stmt_at OfStmt c.args.tokens.now) w.waiting-is w.next-is (went-found c.moves.waiting w.pop.new.self w.in-Some.pending c.moves.now c.moves.rest.now c.moves.invariant (sym c.into_inner.ensures ∙ w.in-Found.is) w.in-Some.ensures w.in_ok-next-in-Some.ensures.value)
     | in-Seek+in_ok-next-in-Seek w ↦ went-so c.moves.waiting c.match-into_inner.waiting w.in_ok-next-in-Seek.next c.match-into_inner.next (stmt_at OfStmt c.args.tokens.now) w.waiting-is w.next-is (went-on c.moves.waiting c.moves.now moves.Seek c.moves.rest.now (moved w.in_ok-next-in-Seek.next) (stmt_at OfStmt c.args.tokens.now) c.moves.invariant (sym c.into_inner.ensures ∙ w.in-Seek.is) w.in_ok-next-in-Seek.ensures.value)
     | in-Wait+in_ok-push-in-Wait+in_ok-next-in-Wait w ↦ went-so w.push.new.self c.match-into_inner.waiting w.in_ok-next-in-Wait.next c.match-into_inner.next (stmt_at OfStmt c.args.tokens.now) w.waiting-is w.next-is (went-wait c.moves.waiting w.push.new.self w.in-Wait.pending c.moves.now c.moves.rest.now (moved w.in_ok-next-in-Wait.next) (stmt_at OfStmt c.args.tokens.now) c.moves.invariant (sym c.into_inner.ensures ∙ w.in-Wait.is) w.in_ok-push-in-Wait.ensures.ok w.in_ok-next-in-Wait.ensures.value)
     | in-Clauses+in_ok-next-in-Clauses w ↦ went-so c.moves.waiting c.match-into_inner.waiting w.in_ok-next-in-Clauses.next c.match-into_inner.next (stmt_at OfStmt c.args.tokens.now) w.waiting-is w.next-is (went-on c.moves.waiting c.moves.now (moves.Clauses w.in-Clauses.select) c.moves.rest.now (moved w.in_ok-next-in-Clauses.next) (stmt_at OfStmt c.args.tokens.now) c.moves.invariant (sym c.into_inner.ensures ∙ w.in-Clauses.is) w.in_ok-next-in-Clauses.ensures.value)
@@ -29,7 +29,7 @@ returns-in_default c = record {
 
 pub moves-smaller : goal.moves-smaller
 moves-smaller c = elim c.match-into_inner.branch [
-  | in-Found+in-Some+in_ok-next-in-Some w ↦ smaller-found c.moves.waiting w.pop.new.self c.match-into_inner.waiting w.in-Some.pending c.moves.now c.in-Some-next.moved w.in-Found.found c.moves.rest.now c.in-Some-next.behind (sym c.into_inner.ensures ∙ w.in-Found.is) w.in-Some.ensures w.waiting-is (less-than w.in_ok-next-in-Some.next c.match-into_inner.next c.in-Some-next.moved c.in-Some-next.behind (8 * length c.moves.rest.now + 3) c.in-Some-next.is w.next-is w.in_ok-next-in-Some.ensures.less)
+  | in-Found+in-Some+in_ok-next-in-Some w ↦ smaller-found c.moves.waiting w.in-Some.pending c.moves.now c.in-Some-next.moved c.moves.rest.now c.in-Some-next.behind (sym c.into_inner.ensures ∙ w.in-Found.is) w.in-Some.ensures w.waiting-is (less-than w.in_ok-next-in-Some.next c.match-into_inner.next c.in-Some-next.moved c.in-Some-next.behind (8 * length c.moves.rest.now + 3) c.in-Some-next.is w.next-is w.in_ok-next-in-Some.ensures.less)
   | in-Seek+in_ok-next-in-Seek w ↦ smaller-on c.moves.waiting c.match-into_inner.waiting c.moves.now c.in-Some-next.moved c.moves.rest.now c.in-Some-next.behind (ap weight (sym c.into_inner.ensures ∙ w.in-Seek.is)) w.waiting-is (less-than w.in_ok-next-in-Seek.next c.match-into_inner.next c.in-Some-next.moved c.in-Some-next.behind (8 * length c.moves.rest.now) c.in-Some-next.is w.next-is w.in_ok-next-in-Seek.ensures.less)
   | in-Wait+in_ok-push-in-Wait+in_ok-next-in-Wait w ↦ smaller-wait c.moves.waiting c.match-into_inner.waiting w.in-Wait.pending c.moves.now c.in-Some-next.moved c.moves.rest.now c.in-Some-next.behind (sym c.into_inner.ensures ∙ w.in-Wait.is) (w.waiting-is ∙ w.in_ok-push-in-Wait.ensures.ok) (less-than w.in_ok-next-in-Wait.next c.match-into_inner.next c.in-Some-next.moved c.in-Some-next.behind (8 * length c.moves.rest.now) c.in-Some-next.is w.next-is w.in_ok-next-in-Wait.ensures.less)
   | in-Clauses+in_ok-next-in-Clauses w ↦ smaller-on c.moves.waiting c.match-into_inner.waiting c.moves.now c.in-Some-next.moved c.moves.rest.now c.in-Some-next.behind (ap weight (sym c.into_inner.ensures ∙ w.in-Clauses.is)) w.waiting-is (less-than w.in_ok-next-in-Clauses.next c.match-into_inner.next c.in-Some-next.moved c.in-Some-next.behind (8 * length c.moves.rest.now) c.in-Some-next.is w.next-is w.in_ok-next-in-Clauses.ensures.less)
@@ -38,7 +38,7 @@ moves-smaller c = elim c.match-into_inner.branch [
 
 pub moves-preserved : goal.moves-preserved
 moves-preserved c = went-further c.match-into_inner.waiting c.match-into_inner.next c.in-Some-next.moved c.in-Some-next.behind (stmt_at OfStmt c.args.tokens.now) c.in-Some-next.is (elim c.match-into_inner.branch [
-  | in-Found+in-Some+in_ok-next-in-Some w ↦ went-so w.pop.new.self c.match-into_inner.waiting w.in_ok-next-in-Some.next c.match-into_inner.next (stmt_at OfStmt c.args.tokens.now) w.waiting-is w.next-is (went-found c.moves.waiting w.pop.new.self w.in-Some.pending c.moves.now w.in-Found.found c.moves.rest.now (moved w.in_ok-next-in-Some.next) (stmt_at OfStmt c.args.tokens.now) c.moves.invariant (sym c.into_inner.ensures ∙ w.in-Found.is) w.in-Some.ensures w.in_ok-next-in-Some.ensures.value)
+  | in-Found+in-Some+in_ok-next-in-Some w ↦ went-so w.pop.new.self c.match-into_inner.waiting w.in_ok-next-in-Some.next c.match-into_inner.next (stmt_at OfStmt c.args.tokens.now) w.waiting-is w.next-is (went-found c.moves.waiting w.pop.new.self w.in-Some.pending c.moves.now c.moves.rest.now c.moves.invariant (sym c.into_inner.ensures ∙ w.in-Found.is) w.in-Some.ensures w.in_ok-next-in-Some.ensures.value)
   | in-Seek+in_ok-next-in-Seek w ↦ went-so c.moves.waiting c.match-into_inner.waiting w.in_ok-next-in-Seek.next c.match-into_inner.next (stmt_at OfStmt c.args.tokens.now) w.waiting-is w.next-is (went-on c.moves.waiting c.moves.now moves.Seek c.moves.rest.now (moved w.in_ok-next-in-Seek.next) (stmt_at OfStmt c.args.tokens.now) c.moves.invariant (sym c.into_inner.ensures ∙ w.in-Seek.is) w.in_ok-next-in-Seek.ensures.value)
   | in-Wait+in_ok-push-in-Wait+in_ok-next-in-Wait w ↦ went-so w.push.new.self c.match-into_inner.waiting w.in_ok-next-in-Wait.next c.match-into_inner.next (stmt_at OfStmt c.args.tokens.now) w.waiting-is w.next-is (went-wait c.moves.waiting w.push.new.self w.in-Wait.pending c.moves.now c.moves.rest.now (moved w.in_ok-next-in-Wait.next) (stmt_at OfStmt c.args.tokens.now) c.moves.invariant (sym c.into_inner.ensures ∙ w.in-Wait.is) w.in_ok-push-in-Wait.ensures.ok w.in_ok-next-in-Wait.ensures.value)
   | in-Clauses+in_ok-next-in-Clauses w ↦ went-so c.moves.waiting c.match-into_inner.waiting w.in_ok-next-in-Clauses.next c.match-into_inner.next (stmt_at OfStmt c.args.tokens.now) w.waiting-is w.next-is (went-on c.moves.waiting c.moves.now (moves.Clauses w.in-Clauses.select) c.moves.rest.now (moved w.in_ok-next-in-Clauses.next) (stmt_at OfStmt c.args.tokens.now) c.moves.invariant (sym c.into_inner.ensures ∙ w.in-Clauses.is) w.in_ok-next-in-Clauses.ensures.value)
