@@ -7,7 +7,6 @@ use Rattle.std.proofs.lemmas.Bool.Decides.{nat_tests}
 use Rattle.golf_lex_tokens.specs.declared.token.Token.{Token}
 use Rattle.golf_lex_tokens.specs.declared.token.TokenKind.{TokenKind}
 use Rattle.golf_lex_tokens.specs.declared.token.TokenKind.TheVariants as kinds
-use Rattle.golf_lex_tokens.specs.declared.token.Punctuation.{Punctuation}
 use Rattle.golf_lex_tokens.specs.declared.token.Punctuation.TheVariants as punctuations
 use Rattle.golf_syntax_trees.specs.declared.expressions.UnaryOperator.{UnaryOperator}
 use Rattle.golf_syntax_trees.specs.declared.expressions.UnaryOperator.TheVariants as unary

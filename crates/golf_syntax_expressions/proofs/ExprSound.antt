@@ -78,10 +78,19 @@ false-and : (b : Bool) → (b && false) ≡ false
 false-and true = refl
 false-and false = refl
 
+-- an operand of this form and these words, which stand before us
+record StandsWhole (header : Bool) (e : Expr) (ts us : List Token) (ws : List Word) (f : Form) : Type 0 where
+  print : print_expr e ≡ ws
+  form : form e ≡ f
+  spelt : Spelt ws ts us
+  good : f.good ≡ true
+  top : f.top ≡ 7
+  clear : (header && f.ampersand) ≡ false
+
 -- an operand that stands there whole
-whole-begins : (header : Bool) (e : Expr) (ts us : List Token) (ws : List Word) (f : Form) (x : Start × List Token) → print_expr e ≡ ws → form e ≡ f → Spelt ws ts us → f.good ≡ true → f.top ≡ 7 → (header && f.ampersand) ≡ false → whole e us ≡ Some x → Begins header ts x
-whole-begins header e ts us ws f x p q h g t c is =
-    subst (Begins header ts) (some-same (starts.Whole e, us) x is) (record { words = subst (λ vs. Spelt vs ts us) (sym p) h; good = prim header e f q g t c })
+whole-begins : {ws : List Word} {f : Form} (header : Bool) (e : Expr) (ts us : List Token) (x : Start × List Token) → StandsWhole header e ts us ws f → whole e us ≡ Some x → Begins header ts x
+whole-begins {f = f} header e ts us x s is =
+    subst (Begins header ts) (some-same (starts.Whole e, us) x is) (record { words = subst (λ vs. Spelt vs ts us) (sym s.print) s.spelt; good = prim header e f s.form s.good s.top s.clear })
 
 module _ (header : Bool) (t : Token) (ts : List Token) where
   make-sound : t.kind ≡ kinds.Name make → (x : Start × List Token) → make_start ts ≡ Some x → Begins header (t ∷ ts) x
@@ -99,8 +108,14 @@ module _ (header : Bool) (t : Token) (ts : List Token) where
       at us p y vs q None c f =
           let s = type-sound us (y, vs) q in
           let d = bind_some (after punctuations.CloseParen vs) (whole (ex.Make y)) x f in
-          whole-begins header (ex.Make y) (t ∷ ts) d.0 _ _ x (shape.print-Make y) (shape.form-Make y)
-          (kind-then t _ is (punctuation-then punctuations.OpenParen ts p (join s.words (punctuation-then punctuations.CloseParen vs d.1 nothing)))) s.good refl (false-and header) d.2
+          whole-begins header (ex.Make y) (t ∷ ts) d.0 x (record {
+            print = shape.print-Make y;
+            form = shape.form-Make y;
+            spelt = kind-then t _ is (punctuation-then punctuations.OpenParen ts p (join s.words (punctuation-then punctuations.CloseParen vs d.1 nothing)));
+            good = s.good;
+            top = refl;
+            clear = false-and header;
+          }) d.2
 
   new-sound : t.kind ≡ kinds.Name new → (x : Start × List Token) → new_start ts ≡ Some x → Begins header (t ∷ ts) x
   unfolding new_start
@@ -118,15 +133,27 @@ module _ (header : Bool) (t : Token) (ts : List Token) where
           let c = bind_some (name_at qs) (λ m. after punctuations.CloseParen m.1 >>= whole (ex.NewSync m.0)) x f in
           let d = bind_some (after punctuations.CloseParen c.0.1) (whole (ex.NewSync c.0.0)) x c.2 in
           let named = q ∙ ap (λ m. Some (m, vs)) ((bytes_eq-Decides n sync).0 eq) in
-          whole-begins header (ex.NewSync c.0.0) (t ∷ ts) d.0 _ _ x (shape.print-NewSync c.0.0) (shape.form-NewSync c.0.0)
-          (kind-then t _ is (punctuation-then punctuations.OpenParen ts p (name-then sync us named (punctuation-then punctuations.Dot vs r (name-then c.0.0 qs c.1 (punctuation-then punctuations.CloseParen c.0.1 d.1 nothing)))))) refl refl (false-and header) d.2
+          whole-begins header (ex.NewSync c.0.0) (t ∷ ts) d.0 x (record {
+            print = shape.print-NewSync c.0.0;
+            form = shape.form-NewSync c.0.0;
+            spelt = kind-then t _ is (punctuation-then punctuations.OpenParen ts p (name-then sync us named (punctuation-then punctuations.Dot vs r (name-then c.0.0 qs c.1 (punctuation-then punctuations.CloseParen c.0.1 d.1 nothing)))));
+            good = refl;
+            top = refl;
+            clear = false-and header;
+          }) d.2
 
       at : (us : List Token) → after punctuations.OpenParen ts ≡ Some us → (n : List ℕ) (vs : List Token) → name_at us ≡ Some (n, vs) → (o : Option (List Token)) → after punctuations.Dot vs ≡ o → new_behind n vs o ≡ Some x → Begins header (t ∷ ts) x
       at us p n vs q (Some qs) r f = sync_at us p n vs qs q r (bytes_eq n sync) refl f
       at us p n vs q None r f =
           let d = bind_some (after punctuations.CloseParen vs) (whole (ex.New n)) x f in
-          whole-begins header (ex.New n) (t ∷ ts) d.0 _ _ x (shape.print-New n) (shape.form-New n)
-          (kind-then t _ is (punctuation-then punctuations.OpenParen ts p (name-then n us q (punctuation-then punctuations.CloseParen vs d.1 nothing)))) refl refl (false-and header) d.2
+          whole-begins header (ex.New n) (t ∷ ts) d.0 x (record {
+            print = shape.print-New n;
+            form = shape.form-New n;
+            spelt = kind-then t _ is (punctuation-then punctuations.OpenParen ts p (name-then n us q (punctuation-then punctuations.CloseParen vs d.1 nothing)));
+            good = refl;
+            top = refl;
+            clear = false-and header;
+          }) d.2
 
   named-sound : (n : List ℕ) → t.kind ≡ kinds.Name n → (x : Start × List Token) → named_start n ts ≡ Some x → Begins header (t ∷ ts) x
   unfolding named_start
@@ -135,7 +162,14 @@ module _ (header : Bool) (t : Token) (ts : List Token) where
       at : (b : Bool) → bytes_eq n make ≡ b → (c : Bool) → bytes_eq n new ≡ c → cond b (make_start ts) (cond c (new_start ts) (whole (ex.Name n) ts)) ≡ Some x → Begins header (t ∷ ts) x
       at true p c q f = make-sound (is ∙ ap kinds.Name ((bytes_eq-Decides n make).0 p)) x f
       at false p true q f = new-sound (is ∙ ap kinds.Name ((bytes_eq-Decides n new).0 q)) x f
-      at false p false q f = whole-begins header (ex.Name n) (t ∷ ts) ts _ _ x (shape.print-Name n) (shape.form-Name n) (kind-then t _ is nothing) (and-true (not (bytes_eq n make)) (not (bytes_eq n new)) (ap not p) (ap not q)) refl (false-and header) f
+      at false p false q f = whole-begins header (ex.Name n) (t ∷ ts) ts x (record {
+        print = shape.print-Name n;
+        form = shape.form-Name n;
+        spelt = kind-then t _ is nothing;
+        good = and-true (not (bytes_eq n make)) (not (bytes_eq n new)) (ap not p) (ap not q);
+        top = refl;
+        clear = false-and header;
+      }) f
 
   empty-sound : t.kind ≡ kinds.Keyword keywords.Struct → (x : Start × List Token) → empty_start ts ≡ Some x → Begins header (t ∷ ts) x
   unfolding empty_start
@@ -144,8 +178,14 @@ module _ (header : Bool) (t : Token) (ts : List Token) where
       let b = bind_some (after punctuations.CloseBrace a.0) (λ b. after punctuations.OpenBrace b >>= λ c. after punctuations.CloseBrace c >>= whole ex.EmptyLiteral) x a.2 in
       let c = bind_some (after punctuations.OpenBrace b.0) (λ c. after punctuations.CloseBrace c >>= whole ex.EmptyLiteral) x b.2 in
       let d = bind_some (after punctuations.CloseBrace c.0) (whole ex.EmptyLiteral) x c.2 in
-      whole-begins header ex.EmptyLiteral (t ∷ ts) d.0 _ _ x shape.print-EmptyLiteral shape.form-EmptyLiteral
-      (kind-then t _ is (punctuation-then punctuations.OpenBrace ts a.1 (punctuation-then punctuations.CloseBrace a.0 b.1 (punctuation-then punctuations.OpenBrace b.0 c.1 (punctuation-then punctuations.CloseBrace c.0 d.1 nothing))))) refl refl (false-and header) d.2
+      whole-begins header ex.EmptyLiteral (t ∷ ts) d.0 x (record {
+        print = shape.print-EmptyLiteral;
+        form = shape.form-EmptyLiteral;
+        spelt = kind-then t _ is (punctuation-then punctuations.OpenBrace ts a.1 (punctuation-then punctuations.CloseBrace a.0 b.1 (punctuation-then punctuations.OpenBrace b.0 c.1 (punctuation-then punctuations.CloseBrace c.0 d.1 nothing))));
+        good = refl;
+        top = refl;
+        clear = false-and header;
+      }) d.2
 
   slice-sound : t.kind ≡ kinds.Punctuation punctuations.OpenBracket → (x : Start × List Token) → slice_start ts ≡ Some x → Begins header (t ∷ ts) x
   unfolding slice_start
@@ -162,8 +202,14 @@ module _ (header : Bool) (t : Token) (ts : List Token) where
           (record { words = kind-then t _ is (punctuation-then punctuations.CloseBracket ts p (join s.words (punctuation-then punctuations.OpenBrace vs r nothing))); good = s.good })
       at us p y vs q qs r (Some zs) c f =
           let s = type-sound us (y, vs) q in
-          whole-begins header (ex.SliceLiteral y []) (t ∷ ts) zs _ _ x (shape.print-SliceLiteral y []) (shape.form-SliceLiteral y [])
-          (kind-then t _ is (punctuation-then punctuations.CloseBracket ts p (join s.words (punctuation-then punctuations.OpenBrace vs r (punctuation-then punctuations.CloseBrace qs c nothing))))) (and-true (type_form y).good true s.good refl) refl (false-and header) f
+          whole-begins header (ex.SliceLiteral y []) (t ∷ ts) zs x (record {
+            print = shape.print-SliceLiteral y [];
+            form = shape.form-SliceLiteral y [];
+            spelt = kind-then t _ is (punctuation-then punctuations.CloseBracket ts p (join s.words (punctuation-then punctuations.OpenBrace vs r (punctuation-then punctuations.CloseBrace qs c nothing))));
+            good = and-true (type_form y).good true s.good refl;
+            top = refl;
+            clear = false-and header;
+          }) f
 
   literal-sound : header ≡ false → t.kind ≡ kinds.Punctuation punctuations.Ampersand → (x : Start × List Token) → literal_start ts ≡ Some x → Begins header (t ∷ ts) x
   unfolding literal_start sync_start
@@ -184,15 +230,27 @@ module _ (header : Bool) (t : Token) (ts : List Token) where
           let c = bind_some (after punctuations.OpenBrace b.0.1) (λ us. after punctuations.CloseBrace us >>= whole (ex.SyncLiteral b.0.0)) x b.2 in
           let d = bind_some (after punctuations.CloseBrace c.0) (whole (ex.SyncLiteral b.0.0)) x c.2 in
           let named = p ∙ ap (λ m. Some (m, us)) ((bytes_eq-Decides n sync).0 eq) in
-          whole-begins header (ex.SyncLiteral b.0.0) (t ∷ ts) d.0 _ _ x (shape.print-SyncLiteral b.0.0) (shape.form-SyncLiteral b.0.0)
-          (kind-then t _ is (name-then sync ts named (punctuation-then punctuations.Dot us q (name-then b.0.0 vs b.1 (punctuation-then punctuations.OpenBrace b.0.1 c.1 (punctuation-then punctuations.CloseBrace c.0 d.1 nothing)))))) refl refl (clear true) d.2
+          whole-begins header (ex.SyncLiteral b.0.0) (t ∷ ts) d.0 x (record {
+            print = shape.print-SyncLiteral b.0.0;
+            form = shape.form-SyncLiteral b.0.0;
+            spelt = kind-then t _ is (name-then sync ts named (punctuation-then punctuations.Dot us q (name-then b.0.0 vs b.1 (punctuation-then punctuations.OpenBrace b.0.1 c.1 (punctuation-then punctuations.CloseBrace c.0 d.1 nothing)))));
+            good = refl;
+            top = refl;
+            clear = clear true;
+          }) d.2
 
       opened : (n : List ℕ) (us vs : List Token) → name_at ts ≡ Some (n, us) → after punctuations.OpenBrace us ≡ Some vs → (o : Option (List Token)) → after punctuations.CloseBrace vs ≡ o → struct_behind n vs o ≡ Some x → Begins header (t ∷ ts) x
       opened n us vs p q None c f =
           subst (Begins header (t ∷ ts)) (some-same (starts.Elements n, vs) x f) (record { words = kind-then t _ is (name-then n ts p (punctuation-then punctuations.OpenBrace us q nothing)); good = off })
       opened n us vs p q (Some zs) c f =
-          whole-begins header (ex.StructLiteral n []) (t ∷ ts) zs _ _ x (shape.print-StructLiteral n []) (shape.form-StructLiteral n [])
-          (kind-then t _ is (name-then n ts p (punctuation-then punctuations.OpenBrace us q (punctuation-then punctuations.CloseBrace vs c nothing)))) refl refl (clear true) f
+          whole-begins header (ex.StructLiteral n []) (t ∷ ts) zs x (record {
+            print = shape.print-StructLiteral n [];
+            form = shape.form-StructLiteral n [];
+            spelt = kind-then t _ is (name-then n ts p (punctuation-then punctuations.OpenBrace us q (punctuation-then punctuations.CloseBrace vs c nothing)));
+            good = refl;
+            top = refl;
+            clear = clear true;
+          }) f
 
       at : (n : List ℕ) (us : List Token) → name_at ts ≡ Some (n, us) → (o : Option (List Token)) → after punctuations.Dot us ≡ o → literal_behind n us o ≡ Some x → Begins header (t ∷ ts) x
       at n us p (Some vs) q f = sync_at n us vs p q (bytes_eq n sync) refl f
@@ -220,8 +278,22 @@ module _ (header : Bool) (t : Token) (ts : List Token) where
 
   kind-sound : (k : TokenKind) → t.kind ≡ k → (x : Start × List Token) → start_from header k ts ≡ Some x → Begins header (t ∷ ts) x
   unfolding start_from
-  kind-sound (kinds.Integer digits) is x e = whole-begins header (ex.Integer digits) (t ∷ ts) ts _ _ x (shape.print-Integer digits) (shape.form-Integer digits) (kind-then t _ is nothing) refl refl (false-and header) e
-  kind-sound (kinds.Text bytes) is x e = whole-begins header (ex.Text bytes) (t ∷ ts) ts _ _ x (shape.print-Text bytes) (shape.form-Text bytes) (kind-then t _ is nothing) refl refl (false-and header) e
+  kind-sound (kinds.Integer digits) is x e = whole-begins header (ex.Integer digits) (t ∷ ts) ts x (record {
+    print = shape.print-Integer digits;
+    form = shape.form-Integer digits;
+    spelt = kind-then t _ is nothing;
+    good = refl;
+    top = refl;
+    clear = false-and header;
+  }) e
+  kind-sound (kinds.Text bytes) is x e = whole-begins header (ex.Text bytes) (t ∷ ts) ts x (record {
+    print = shape.print-Text bytes;
+    form = shape.form-Text bytes;
+    spelt = kind-then t _ is nothing;
+    good = refl;
+    top = refl;
+    clear = false-and header;
+  }) e
   kind-sound (kinds.Name n) is x e = named-sound n is x e
   kind-sound (kinds.Keyword w) is x e = keyword-sound w is x e
   kind-sound (kinds.Punctuation m) is x e = punctuation-sound m is x e
