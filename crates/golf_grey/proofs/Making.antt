@@ -19,26 +19,35 @@ owner_fits thieves owners c n j w n_is small s fresh d =
     let t = exists_at thieves j (omega (arith, s.len)) in
     record { deque = λ u e. (s.each j u w e d).0; flavor = (s.each j t.0 w t.1 d).1; parts = omega (arith, s.low j w d (omega (arith, s.len)), n_is); fresh = fresh j w d }
 
-pub hand_fits : (thieves : List Thief) (c j : ℕ) (h : GreyHand) (own : Owner) (passes : Vec GreyPass) → h.own ≡ own → h.passes ≡ passes → h.number ≡ j → h.owners.items ≡ [] → length thieves ≤ vec_capacity h.owners → h.rows.items ≡ [] → length thieves ≤ vec_capacity h.rows → j < length thieves → OwnerFits thieves c j own → IsRow thieves passes.items → ((f : ℕ → ℕ) → row_weight f passes.items ≡ 0)
-    → IsHandIn thieves c h × IsNewHand h
-hand_fits thieves c j h own passes o p n no_owner owner_room no_row row_room low fits row none =
-    let f : OwnerFits thieves c h.number h.own = subst (λ (x : ℕ × Owner). OwnerFits thieves c x.0 x.1) (λ i. (sym n i, sym o i)) fits in (
+-- the hand j is made of an owner and a row of passes; its lists of owners and rows are empty, with room for all thieves
+pub record IsMadeOf (thieves : List Thief) (j : ℕ) (owner : Owner) (row : Vec GreyPass) (h : GreyHand) : Type 0 where
+  pub own : h.own ≡ owner
+  pub passes : h.passes ≡ row
+  pub number : h.number ≡ j
+  pub no_owner : h.owners.items ≡ []
+  pub owner_room : length thieves ≤ vec_capacity h.owners
+  pub no_row : h.rows.items ≡ []
+  pub row_room : length thieves ≤ vec_capacity h.rows
+
+pub hand_fits : (thieves : List Thief) (c j : ℕ) (h : GreyHand) (own : Owner) (passes : Vec GreyPass) → IsMadeOf thieves j own passes h → j < length thieves → OwnerFits thieves c j own → IsRow thieves passes.items → ((f : ℕ → ℕ) → row_weight f passes.items ≡ 0) → IsHandIn thieves c h × IsNewHand h
+hand_fits thieves c j h own passes made low fits row none =
+    let f : OwnerFits thieves c h.number h.own = subst (λ (x : ℕ × Owner). OwnerFits thieves c x.0 x.1) (λ i. (sym made.number i, sym made.own i)) fits in (
       record {
-        row = subst (λ (x : Vec GreyPass). IsRow thieves x.items) (sym p) row;
-        low = omega (arith, n);
+        row = subst (λ (x : Vec GreyPass). IsRow thieves x.items) (sym made.passes) row;
+        low = omega (arith, made.number);
         own = f.deque;
         parts = f.parts;
         index = omega (arith, f.fresh.index);
         count = omega (arith, ap (λ (l : List ℕ). length l) f.fresh.pushed);
         room = f.fresh.room;
-        no_owner = no_owner;
-        owner_room = owner_room;
-        no_row = no_row;
-        row_room = row_room;
+        no_owner = made.no_owner;
+        owner_room = made.owner_room;
+        no_row = made.no_row;
+        row_room = made.row_room;
       },
       record {
         none_pushed = f.fresh.pushed;
-        none_taken = λ g. omega (arith, ap (sum_by g) f.fresh.taken, none g, ap (λ (x : Vec GreyPass). row_weight g x.items) p);
+        none_taken = λ g. omega (arith, ap (sum_by g) f.fresh.taken, none g, ap (λ (x : Vec GreyPass). row_weight g x.items) made.passes);
       },
     )
 

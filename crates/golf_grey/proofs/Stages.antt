@@ -23,9 +23,15 @@ at_low [] j a e = absurd (some-ne-none a (sym e))
 at_low (x ∷ xs) zero a e = omega arith
 at_low (x ∷ xs) (suc j) a e = omega (arith, at_low xs j a e)
 
-pub stage_push : (thieves : List Thief) (owners : List Owner) (p k : ℕ) (t : Thief) (w : Owner) → length owners ≡ k → length thieves ≡ k → IsStage thieves p k owners
-    → worker_deque w ≡ stealer_deque t → worker_flavor w ≡ 0 → stealer_flavor t ≡ 0 → (worker_view w).parts ≡ p → IsStage (thieves ++ t ∷ []) p (k + 1) (owners ++ w ∷ [])
-stage_push thieves owners p k t w ol tl s deque fw ft parts = record {
+-- an owner and a thief of one deque; the owner has p parts
+pub record AreOfOneDeque (p : ℕ) (t : Thief) (w : Owner) : Type 0 where
+  pub deque : worker_deque w ≡ stealer_deque t
+  pub owner_flavor : worker_flavor w ≡ 0
+  pub thief_flavor : stealer_flavor t ≡ 0
+  pub parts : (worker_view w).parts ≡ p
+
+pub stage_push : (thieves : List Thief) (owners : List Owner) (p k : ℕ) (t : Thief) (w : Owner) → length owners ≡ k → length thieves ≡ k → IsStage thieves p k owners → AreOfOneDeque p t w → IsStage (thieves ++ t ∷ []) p (k + 1) (owners ++ w ∷ [])
+stage_push thieves owners p k t w ol tl s one = record {
   len = omega (arith, length-append owners (w ∷ []), length-append thieves (t ∷ []));
   each = λ j u x e d. ⊎_elim
       (λ (a : (j < length thieves) × (get_elem? thieves j ≡ some u)). ⊎_elim
@@ -36,12 +42,12 @@ stage_push thieves owners p k t w ol tl s deque fw ft parts = record {
       (λ (b : (j < length owners) × (get_elem? owners j ≡ some x)). absurd (omega arith))
       (λ (b : (j ≡ length owners) × (w ≡ x)).
       subst (λ (y : Owner). (worker_deque y ≡ stealer_deque u) × (worker_flavor y ≡ 0) × (stealer_flavor u ≡ 0)) b.1
-      (subst (λ (y : Thief). (worker_deque w ≡ stealer_deque y) × (worker_flavor w ≡ 0) × (stealer_flavor y ≡ 0)) a.1 (deque, fw, ft)))
+      (subst (λ (y : Thief). (worker_deque w ≡ stealer_deque y) × (worker_flavor w ≡ 0) × (stealer_flavor y ≡ 0)) a.1 (one.deque, one.owner_flavor, one.thief_flavor)))
       (push_cases owners w x j d))
       (push_cases thieves t u j e);
   low = λ j x d l. ⊎_elim
       (λ (b : (j < length owners) × (get_elem? owners j ≡ some x)). s.low j x b.1 (omega arith))
-      (λ (b : (j ≡ length owners) × (w ≡ x)). subst (λ (y : Owner). (worker_view y).parts ≡ p) b.1 parts)
+      (λ (b : (j ≡ length owners) × (w ≡ x)). subst (λ (y : Owner). (worker_view y).parts ≡ p) b.1 one.parts)
       (push_cases owners w x j d);
   high = λ j x d l. absurd (let h = at_low (owners ++ w ∷ []) j x d in omega (arith, length-append owners (w ∷ [])));
 }
@@ -49,38 +55,57 @@ stage_push thieves owners p k t w ol tl s deque fw ft parts = record {
 pub fresh_push : (c : ℕ) (owners : List Owner) (w : Owner) → AllFresh c owners → IsFresh c w → AllFresh c (owners ++ w ∷ [])
 fresh_push c owners w all one j x e = ⊎_elim (λ (b : (j < length owners) × (get_elem? owners j ≡ some x)). all j x b.1) (λ (b : (j ≡ length owners) × (w ≡ x)). subst (IsFresh c) b.1 one) (push_cases owners w x j e)
 
+-- x takes the place of w at j₀, an owner of the same deque: then those below m have p parts, the others one more
+record TakesPlace (owners : List Owner) (p m j₀ : ℕ) (w x : Owner) : Type 0 where
+  at : get_elem? owners j₀ ≡ some w
+  deque : worker_deque x ≡ worker_deque w
+  flavor : worker_flavor x ≡ worker_flavor w
+  others : (j : ℕ) (u : Owner) → j ≢ j₀ → get_elem? owners j ≡ some u → (j < m → (worker_view u).parts ≡ p) × (m ≤ j → (worker_view u).parts ≡ p + 1)
+  low : j₀ < m → (worker_view x).parts ≡ p
+  high : m ≤ j₀ → (worker_view x).parts ≡ p + 1
+
 -- the owner at k has changed its parts
-stage_set : (thieves : List Thief) (owners : List Owner) (p k m j₀ : ℕ) (w x : Owner) → get_elem? owners j₀ ≡ some w → worker_deque x ≡ worker_deque w → worker_flavor x ≡ worker_flavor w
-    → IsStage thieves p k owners → ((j : ℕ) (u : Owner) → j ≢ j₀ → get_elem? owners j ≡ some u → (j < m → (worker_view u).parts ≡ p) × (m ≤ j → (worker_view u).parts ≡ p + 1))
-    → (j₀ < m → (worker_view x).parts ≡ p) → (m ≤ j₀ → (worker_view x).parts ≡ p + 1) → IsStage thieves p m (set owners j₀ x)
-stage_set thieves owners p k m j₀ w x at deque flavor s others low high = record {
+stage_set : (thieves : List Thief) (owners : List Owner) (p k m j₀ : ℕ) (w x : Owner) → IsStage thieves p k owners → TakesPlace owners p m j₀ w x → IsStage thieves p m (set owners j₀ x)
+stage_set thieves owners p k m j₀ w x s new = record {
   len = length-set owners j₀ x ∙ s.len;
   each = λ j t u e d. ⊎_elim
-      (λ (a : (j ≡ j₀) × (x ≡ u)). let was = s.each j t w e (ap (λ (n : ℕ). get_elem? owners n) a.0 ∙ at) in
-      subst (λ (y : Owner). (worker_deque y ≡ stealer_deque t) × (worker_flavor y ≡ 0) × (stealer_flavor t ≡ 0)) a.1 (deque ∙ was.0, flavor ∙ was.1, was.2))
+      (λ (a : (j ≡ j₀) × (x ≡ u)). let was = s.each j t w e (ap (λ (n : ℕ). get_elem? owners n) a.0 ∙ new.at) in
+      subst (λ (y : Owner). (worker_deque y ≡ stealer_deque t) × (worker_flavor y ≡ 0) × (stealer_flavor t ≡ 0)) a.1 (new.deque ∙ was.0, new.flavor ∙ was.1, was.2))
       (λ (a : (j ≢ j₀) × (get_elem? owners j ≡ some u)). s.each j t u e a.1)
       (at_set owners j₀ j x u d);
   low = λ j u d l. ⊎_elim
-      (λ (a : (j ≡ j₀) × (x ≡ u)). subst (λ (y : Owner). (worker_view y).parts ≡ p) a.1 (low (let e = a.0 in omega arith)))
-      (λ (a : (j ≢ j₀) × (get_elem? owners j ≡ some u)). (others j u a.0 a.1).0 l)
+      (λ (a : (j ≡ j₀) × (x ≡ u)). subst (λ (y : Owner). (worker_view y).parts ≡ p) a.1 (new.low (let e = a.0 in omega arith)))
+      (λ (a : (j ≢ j₀) × (get_elem? owners j ≡ some u)). (new.others j u a.0 a.1).0 l)
       (at_set owners j₀ j x u d);
   high = λ j u d l. ⊎_elim
-      (λ (a : (j ≡ j₀) × (x ≡ u)). subst (λ (y : Owner). (worker_view y).parts ≡ p + 1) a.1 (high (let e = a.0 in omega arith)))
-      (λ (a : (j ≢ j₀) × (get_elem? owners j ≡ some u)). (others j u a.0 a.1).1 l)
+      (λ (a : (j ≡ j₀) × (x ≡ u)). subst (λ (y : Owner). (worker_view y).parts ≡ p + 1) a.1 (new.high (let e = a.0 in omega arith)))
+      (λ (a : (j ≢ j₀) × (get_elem? owners j ≡ some u)). (new.others j u a.0 a.1).1 l)
       (at_set owners j₀ j x u d);
 }
 
 -- a part less at k
 pub stage_up : (thieves : List Thief) (owners : List Owner) (p k : ℕ) (w x : Owner) → get_elem? owners k ≡ some w → worker_deque x ≡ worker_deque w → worker_flavor x ≡ worker_flavor w
     → (worker_view x).parts ≡ p → IsStage thieves p k owners → IsStage thieves p (k + 1) (set owners k x)
-stage_up thieves owners p k w x at deque flavor parts s = stage_set thieves owners p k (k + 1) k w x at deque flavor s
-    (λ j u apart e. ((λ l. s.low j u e (omega arith)), λ l. s.high j u e (omega arith))) (λ _. parts) (λ l. absurd (omega arith))
+stage_up thieves owners p k w x at deque flavor parts s = stage_set thieves owners p k (k + 1) k w x s (record {
+  at = at;
+  deque = deque;
+  flavor = flavor;
+  others = λ j u apart e. ((λ l. s.low j u e (omega arith)), λ l. s.high j u e (omega arith));
+  low = λ _. parts;
+  high = λ l. absurd (omega arith);
+})
 
 -- a part more at k
 pub stage_down : (thieves : List Thief) (owners : List Owner) (p k : ℕ) (w x : Owner) → get_elem? owners k ≡ some w → worker_deque x ≡ worker_deque w → worker_flavor x ≡ worker_flavor w
     → (worker_view x).parts ≡ p + 1 → IsStage thieves p (k + 1) owners → IsStage thieves p k (set owners k x)
-stage_down thieves owners p k w x at deque flavor parts s = stage_set thieves owners p (k + 1) k k w x at deque flavor s
-    (λ j u apart e. ((λ l. s.low j u e (omega arith)), λ l. s.high j u e (omega arith))) (λ l. absurd (omega arith)) (λ _. parts)
+stage_down thieves owners p k w x at deque flavor parts s = stage_set thieves owners p (k + 1) k k w x s (record {
+  at = at;
+  deque = deque;
+  flavor = flavor;
+  others = λ j u apart e. ((λ l. s.low j u e (omega arith)), λ l. s.high j u e (omega arith));
+  low = λ l. absurd (omega arith);
+  high = λ _. parts;
+})
 
 -- all have p parts, or one more than q
 pub stage_turn : (thieves : List Thief) (owners : List Owner) (p q n : ℕ) → length owners ≤ n → q + 1 ≡ p → IsStage thieves p n owners → IsStage thieves q 0 owners

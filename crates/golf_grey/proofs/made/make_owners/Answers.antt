@@ -12,7 +12,7 @@ loop-i-preserved c =
       omega (arith, c.in_ok-push.ensures.len, c.loop-i.invariant.1),
       rw (c.in_ok-push.ensures.items, c.in_ok-push-2.ensures.items)
           (stage_push c.loop-i.thieves.items c.loop-i.owners.items all_parts c.loop-i._i c.in_ok-stealer.field-0 c.in_ok-owner.owner
-          (omega (arith, c.loop-i.owners.ok.0, c.loop-i.invariant.0)) (omega (arith, c.loop-i.thieves.ok.0, c.loop-i.invariant.1)) c.loop-i.invariant.2 (sym s.0) made.1 (s.1 ∙ made.1) (ap (λ (v : GreyView). v.parts) made.4)),
+          (omega (arith, c.loop-i.owners.ok.0, c.loop-i.invariant.0)) (omega (arith, c.loop-i.thieves.ok.0, c.loop-i.invariant.1)) c.loop-i.invariant.2 (record { deque = sym s.0; owner_flavor = made.1; thief_flavor = s.1 ∙ made.1; parts = ap (λ (v : GreyView). v.parts) made.4 })),
       rw c.in_ok-push-2.ensures.items (fresh_push c.args.capacity c.loop-i.owners.items c.in_ok-owner.owner c.loop-i.invariant.3
           (record { pushed = ap (λ (v : GreyView). v.pushed) made.4; taken = ap (λ (v : GreyView). v.taken) made.4; index = made.3; room = made.0.1 })),
     )

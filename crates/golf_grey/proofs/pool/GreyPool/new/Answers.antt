@@ -39,7 +39,15 @@ loop-own-preserved c =
     let plen : length c.push.new.self.items ≡ length c.loop-own.list.items + 1 = omega (arith, c.in_ok-push.ensures.len, c.push.new.self.ok.0, c.loop-own.list.ok.0) in
     let e = c.make_hand.ensures in
     let number : c.len-number.result ≡ length c.pop.new.self.items = omega (arith, c.len-number.ensures, c.pop.new.self.ok.0) in
-    let h = hand_fits thieves c.args.capacity (length c.pop.new.self.items) c.make_hand.result c.in-Some.own c.in-Some-pop.passes e.0 e.1 (e.2 ∙ number) (ap (λ v. v.items) e.3 ∙ c.in_ok-spare_owners.ensures.items) (omega (arith, i.2, ap vec_capacity e.3, c.in_ok-spare_owners.ensures.exact)) (ap (λ v. v.items) e.4 ∙ c.in_ok-spare_rows.ensures.items) (omega (arith, i.2, ap vec_capacity e.4, c.in_ok-spare_rows.ensures.exact)) (omega (arith, olen, i.1)) f r.0 r.1 in (
+    let h = hand_fits thieves c.args.capacity (length c.pop.new.self.items) c.make_hand.result c.in-Some.own c.in-Some-pop.passes (record {
+      own = e.0;
+      passes = e.1;
+      number = e.2 ∙ number;
+      no_owner = ap (λ v. v.items) e.3 ∙ c.in_ok-spare_owners.ensures.items;
+      owner_room = omega (arith, i.2, ap vec_capacity e.3, c.in_ok-spare_owners.ensures.exact);
+      no_row = ap (λ v. v.items) e.4 ∙ c.in_ok-spare_rows.ensures.items;
+      row_room = omega (arith, i.2, ap vec_capacity e.4, c.in_ok-spare_rows.ensures.exact);
+    }) (omega (arith, olen, i.1)) f r.0 r.1 in (
       omega (arith, i.0, olen, rlen),
       omega (arith, i.1, olen, plen),
       i.2,
