@@ -29,12 +29,20 @@ other : (keep : List Bool) (at i : ℕ) → get_or keep at false ≡ false → (
 other keep at i f (inl l) = λ same. omega (arith, l, same)
 other keep at i f (inr t) = λ same. cc
 
+-- the places rise from j and have their slots in s; the slot of the one at `at`, whose flag is false, is emptied now
+pub record Empties (s now after : Slots) (ps : List Place) (keep : List Bool) (j at : ℕ) (d : Place) : Type 0 where
+  pub rises : Rises j (keyed ps)
+  pub held : Holds s ps
+  pub within : at < length ps
+  pub flag : get_or keep at false ≡ false
+  pub updates : Updates now after (get_or ps at d).key None
+
 -- one of them, whose flag is false, is emptied
-pub spared-freed : (s now after : Slots) (ps : List Place) (keep : List Bool) (j at : ℕ) (d : Place) → Rises j (keyed ps) → Holds s ps → at < length ps → get_or keep at false ≡ false → Updates now after (get_or ps at d).key None → Spared s now ps keep (suc at) → Spared s after ps keep at
-spared-freed s now after ps keep j at d r h l f u p = λ i e m w.
+pub spared-freed : (s now after : Slots) (ps : List Place) (keep : List Bool) (j at : ℕ) (d : Place) → Empties s now after ps keep j at d → Spared s now ps keep (suc at) → Spared s after ps keep at
+spared-freed s now after ps keep j at d one p = λ i e m w.
     let differ : (get_or ps i e).key ≢ (get_or ps at d).key =
-    subst (λ (x : Place). (get_or ps i e).key ≢ x.key) (same_item ps at e d l) (apart s j ps i at e r h m l (other keep at i f w)) in
-    u.others (get_or ps i e).key differ ∙ spared-less s now ps keep at p i e m w
+    subst (λ (x : Place). (get_or ps i e).key ≢ x.key) (same_item ps at e d one.within) (apart s j ps i at e one.rises one.held m one.within (other keep at i one.flag w)) in
+    one.updates.others (get_or ps i e).key differ ∙ spared-less s now ps keep at p i e m w
   where
     same_item : (ps : List Place) (i : ℕ) (d e : Place) → i < length ps → get_or ps i d ≡ get_or ps i e
     same_item [] i d e l = absurd (omega arith)

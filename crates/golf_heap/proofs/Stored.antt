@@ -19,18 +19,24 @@ IsStored-room s after ps last e i =
       only = ap (λ (z : Slots). slab_len z) e ∙ i.only;
     }
 
-pub IsStored-made : (s after : Slots) (key n last : ℕ) (x : Object) (ps : List Place) → IsStored s ps last → get s key ≡ None → Updates s after key (Some (n, x)) → slab_len after ≡ slab_len s + 1 → n ≡ last + 1 → IsStored after (ps ++ record { number = n; key = key } ∷ []) n
-IsStored-made s after key n last x ps i v u l e = record {
+-- the object x is put into the vacant slot of the key, with the number after the last
+pub record IsPut (s after : Slots) (key n last : ℕ) (x : Object) : Type 0 where
+  pub vacant : get s key ≡ None
+  pub updates : Updates s after key (Some (n, x))
+  pub number : n ≡ last + 1
+
+pub IsStored-made : (s after : Slots) (key n last : ℕ) (x : Object) (ps : List Place) → IsStored s ps last → IsPut s after key n last x → slab_len after ≡ slab_len s + 1 → IsStored after (ps ++ record { number = n; key = key } ∷ []) n
+IsStored-made s after key n last x ps i put l = record {
   numbers =
-      subst (λ (es : List (ℕ × Object)). IsNumbered (record { objects = es; last = n })) (sym (gathered-added s after key n x ps i.held v u))
-      (subst (λ (m : ℕ). IsNumbered (record { objects = gathered s ps ++ (m, x) ∷ []; last = m })) (sym e) (IsNumbered-made (record { objects = gathered s ps; last = last }) x i.numbers));
-  held = Holds-added s after key n x ps i.held v u;
+      subst (λ (es : List (ℕ × Object)). IsNumbered (record { objects = es; last = n })) (sym (gathered-added s after key n x ps i.held put.vacant put.updates))
+      (subst (λ (m : ℕ). IsNumbered (record { objects = gathered s ps ++ (m, x) ∷ []; last = m })) (sym put.number) (IsNumbered-made (record { objects = gathered s ps; last = last }) x i.numbers));
+  held = Holds-added s after key n x ps i.held put.vacant put.updates;
   only = l ∙ omega (arith, i.only, length-append ps (record { number = n; key = key } ∷ []));
 }
 
-pub view-made : (s mid after : Slots) (key n last : ℕ) (x : Object) (ps : List Place) → mid ≡ record s { capacity = mid.capacity } → Holds mid ps → get mid key ≡ None → Updates mid after key (Some (n, x)) → n ≡ last + 1 → record { objects = gathered after (ps ++ record { number = n; key = key } ∷ []); last = n } ≡ made x (record { objects = gathered s ps; last = last })
-view-made s mid after key n last x ps room h v u e =
+pub view-made : (s mid after : Slots) (key n last : ℕ) (x : Object) (ps : List Place) → mid ≡ record s { capacity = mid.capacity } → Holds mid ps → IsPut mid after key n last x → record { objects = gathered after (ps ++ record { number = n; key = key } ∷ []); last = n } ≡ made x (record { objects = gathered s ps; last = last })
+view-made s mid after key n last x ps room h put =
     let first : gathered after (ps ++ record { number = n; key = key } ∷ []) ≡ gathered s ps ++ (n, x) ∷ [] =
-    gathered-added mid after key n x ps h v u ∙ ap (λ (es : List (ℕ × Object)). es ++ (n, x) ∷ []) (gathered-same s mid ps (λ k. ap (λ (z : Slots). get z k) room)) in
+    gathered-added mid after key n x ps h put.vacant put.updates ∙ ap (λ (es : List (ℕ × Object)). es ++ (n, x) ∷ []) (gathered-same s mid ps (λ k. ap (λ (z : Slots). get z k) room)) in
     ap (λ (es : List (ℕ × Object)). record { objects = es; last = n }) first
-    ∙ ap (λ (m : ℕ). record { objects = gathered s ps ++ (m, x) ∷ []; last = m }) e
+    ∙ ap (λ (m : ℕ). record { objects = gathered s ps ++ (m, x) ∷ []; last = m }) put.number

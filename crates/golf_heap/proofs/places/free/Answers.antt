@@ -28,7 +28,13 @@ loop-at-preserved-then-not-keep-at c =
     let spared : Spared c.args.slots.now c.loop-at.slots ps keep (suc at) = subst (Spared c.args.slots.now c.loop-at.slots ps keep) next c.loop-at.invariant.spared in
     record {
       within = omega (arith, c.loop-at.invariant.within);
-      spared = spared-freed c.args.slots.now c.loop-at.slots c.empty.new.slots ps keep 1 at d c.requires.rises c.requires.held within c.if-not-keep-at.true c.empty.ensures.updates spared;
+      spared = spared-freed c.args.slots.now c.loop-at.slots c.empty.new.slots ps keep 1 at d (record {
+        rises = c.requires.rises;
+        held = c.requires.held;
+        within = within;
+        flag = c.if-not-keep-at.true;
+        updates = c.empty.ensures.updates;
+      }) spared;
       only = omega (arith, c.empty.ensures.len, c.loop-at.invariant.only, ap (λ (n : ℕ). length (kept (drop n keep) (drop n ps))) next, ap length more);
     }
 

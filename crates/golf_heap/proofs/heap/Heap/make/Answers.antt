@@ -19,7 +19,7 @@ invariant_of-self-2 c =
     let u : Updates c.reserve.new.self c.insert_reserved.new.self key (Some (c.in_ok-number.number, c.args.object)) =
     subst (λ (k : ℕ). Updates c.reserve.new.self c.insert_reserved.new.self k (Some (c.in_ok-number.number, c.args.object))) (c.insert_reserved.ensures.key ∙ sym c.vacant_key-key.ensures.value) c.insert_reserved.ensures.updates in
     rw c.in_ok-push.ensures.items
-    (IsStored-made c.reserve.new.self c.insert_reserved.new.self key c.in_ok-number.number c.self.inside.last c.args.object c.self.inside.places.items room c.vacant_key-key.ensures.vacant u c.insert_reserved.ensures.len n)
+    (IsStored-made c.reserve.new.self c.insert_reserved.new.self key c.in_ok-number.number c.self.inside.last c.args.object c.self.inside.places.items room (record { vacant = c.vacant_key-key.ensures.vacant; updates = u; number = n }) c.insert_reserved.ensures.len)
 
 pub returns-clause-ok : goal.returns-clause-ok
 returns-clause-ok c =
@@ -29,4 +29,4 @@ returns-clause-ok c =
     let u : Updates c.reserve.new.self c.insert_reserved.new.self key (Some (c.in_ok-number.number, c.args.object)) =
     subst (λ (k : ℕ). Updates c.reserve.new.self c.insert_reserved.new.self k (Some (c.in_ok-number.number, c.args.object))) (c.insert_reserved.ensures.key ∙ sym c.vacant_key-key.ensures.value) c.insert_reserved.ensures.updates in
     rw (← c.self.view_is, c.in_ok-push.ensures.items)
-    (view-made c.self.inside.slots c.reserve.new.self c.insert_reserved.new.self key c.in_ok-number.number c.self.inside.last c.args.object c.self.inside.places.items c.reserve.ensures.rest_kept room.held c.vacant_key-key.ensures.vacant u n)
+    (view-made c.self.inside.slots c.reserve.new.self c.insert_reserved.new.self key c.in_ok-number.number c.self.inside.last c.args.object c.self.inside.places.items c.reserve.ensures.rest_kept room.held (record { vacant = c.vacant_key-key.ensures.vacant; updates = u; number = n }))
