@@ -62,16 +62,19 @@ begins-punctuation b s None e f = absurd (cc)
 begins-punctuation b s (Some m) e f = let same : states.Punctuation m ≡ s = cc in punctuation m (begun_punctuation-text b m e) (sym same)
 
 begins : (b : ℕ) (s : State) → begun b ≡ Some s → Begins b s
-begins b s = at (is_letter b) (nat_eq b 48) (is_digit b) (is_blank b) (nat_eq b 34) (nat_eq b 124) refl refl refl refl refl refl
+begins b s = worded (is_letter b) (nat_eq b 48) (is_digit b) refl refl refl
   where
-    at : (l z d k q v : Bool) → is_letter b ≡ l → nat_eq b 48 ≡ z → is_digit b ≡ d → is_blank b ≡ k → nat_eq b 34 ≡ q → nat_eq b 124 ≡ v → cond l (Some states.Word) (cond z (Some states.Zero) (cond d (Some states.Digits) (cond k (Some states.Blank) (cond q (Some states.Quoted) (cond v (Some states.Bar) (option_map states.Punctuation (begun_punctuation b))))))) ≡ Some s → Begins b s
-    at true z d k q v el ez ed ek eq ev e = let same : states.Word ≡ s = cc in letter el (sym same)
-    at false true d k q v el ez ed ek eq ev e = let same : states.Zero ≡ s = cc in nought (eqb-true b 48 ez) (sym same)
-    at false false true k q v el ez ed ek eq ev e = let same : states.Digits ≡ s = cc in digit ez ed (sym same)
-    at false false false true q v el ez ed ek eq ev e = let same : states.Blank ≡ s = cc in blank ek (sym same)
-    at false false false false true v el ez ed ek eq ev e = let same : states.Quoted ≡ s = cc in quote (eqb-true b 34 eq) (sym same)
-    at false false false false false true el ez ed ek eq ev e = let same : states.Bar ≡ s = cc in bar (eqb-true b 124 ev) (sym same)
-    at false false false false false false el ez ed ek eq ev e = begins-punctuation b s (begun_punctuation b) refl e
+    marked : (k q v : Bool) → is_blank b ≡ k → nat_eq b 34 ≡ q → nat_eq b 124 ≡ v → cond k (Some states.Blank) (cond q (Some states.Quoted) (cond v (Some states.Bar) (option_map states.Punctuation (begun_punctuation b)))) ≡ Some s → Begins b s
+    marked true q v ek eq ev e = let same : states.Blank ≡ s = cc in blank ek (sym same)
+    marked false true v ek eq ev e = let same : states.Quoted ≡ s = cc in quote (eqb-true b 34 eq) (sym same)
+    marked false false true ek eq ev e = let same : states.Bar ≡ s = cc in bar (eqb-true b 124 ev) (sym same)
+    marked false false false ek eq ev e = begins-punctuation b s (begun_punctuation b) refl e
+
+    worded : (l z d : Bool) → is_letter b ≡ l → nat_eq b 48 ≡ z → is_digit b ≡ d → cond l (Some states.Word) (cond z (Some states.Zero) (cond d (Some states.Digits) (cond (is_blank b) (Some states.Blank) (cond (nat_eq b 34) (Some states.Quoted) (cond (nat_eq b 124) (Some states.Bar) (option_map states.Punctuation (begun_punctuation b))))))) ≡ Some s → Begins b s
+    worded true z d el ez ed e = let same : states.Word ≡ s = cc in letter el (sym same)
+    worded false true d el ez ed e = let same : states.Zero ≡ s = cc in nought (eqb-true b 48 ez) (sym same)
+    worded false false true el ez ed e = let same : states.Digits ≡ s = cc in digit ez ed (sym same)
+    worded false false false el ez ed e = marked (is_blank b) (nat_eq b 34) (nat_eq b 124) refl refl refl e
 
 -- an ordinary byte is no quote and no backslash
 pub ordinary-other : (b : ℕ) → is_ordinary b ≡ true → (nat_eq b 34 ≡ false) × (nat_eq b 92 ≡ false)
