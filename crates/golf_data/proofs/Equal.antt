@@ -12,7 +12,6 @@ use denote.Enum.Bare.{sameb, same_true, true_same}
 use Rattle.golf_data.specs.declared.code.Instr.{Instr}
 use Rattle.golf_data.specs.declared.code.SelectCase.{SelectCase}
 use Rattle.golf_data.specs.declared.value.Value.{Value}
-use Rattle.golf_data.specs.declared.equality.Kind.{Kind}
 use Rattle.golf_data.specs.declared.equality.Payload.{Payload}
 use Rattle.golf_data.specs.Parts.{kind_of, payload_of, choice_of}
 use Rattle.golf_data.proofs.Rebuilt.{same-parts}
@@ -114,15 +113,26 @@ module _ (xs ys : List SelectCase) (x y : Option ℕ) where
   pub other-cases : (a : Bool) → a ≡ pointwise cases.eq-value.it xs ys → a ≡ false → Decides a (one ≡ other)
   other-cases a p f = (λ h. cc, λ h. p ∙ cases-decide.1 (ap cases_in h))
 
+-- what was read of two values was compared, and found to be the same
+pub record ReadTheSame {A : Type 0} (equal : A → A → Bool) (x y : A) : Type 0 where
+  pub left : A
+  pub right : A
+  pub answer : Bool
+  pub left_is : left ≡ x
+  pub right_is : right ≡ y
+  pub compared : answer ≡ equal left right
+  pub same : answer ≡ true
+
+told-same : {A : Type 0} (equal : A → A → Bool) (x y : A) → ReadTheSame equal x y → equal x y ≡ true
+told-same equal x y r = ap (λ z. equal z y) (sym r.left_is) ∙ ap (equal r.left) (sym r.right_is) ∙ sym r.compared ∙ r.same
+
 -- if names and payloads are the same
-pub same-but-choice : (i j : Instr) (k l : Kind) (p q : Payload) (same_kind same_payload same_choice : Bool)
-    → k ≡ kind_of i → l ≡ kind_of j → same_kind ≡ sameb name.the_type k l → same_kind ≡ true
-    → p ≡ payload_of i → q ≡ payload_of j → same_payload ≡ payloads.eq-value.it p q → same_payload ≡ true
+pub same-but-choice : (i j : Instr) (same_choice : Bool) → ReadTheSame (sameb name.the_type) (kind_of i) (kind_of j) → ReadTheSame payloads.eq-value.it (payload_of i) (payload_of j)
     → Decides same_choice (choice_of i ≡ choice_of j) → Decides same_choice (i ≡ j)
-same-but-choice i j k l p q a b c ki lj e t pi qj f s d =
-    let kinds = sym ki ∙ same_true name.the_type (search rules) k l (sym e ∙ t) ∙ lj in
-    let same = sym pi ∙ (payload-decides p q).0 (sym f ∙ s) ∙ qj in
-    (λ h. same-parts i j kinds same (d.0 h), λ g. d.1 (ap choice_of g))
+same-but-choice i j b kinds loads d =
+    let k : kind_of i ≡ kind_of j = same_true name.the_type (search rules) (kind_of i) (kind_of j) (told-same (sameb name.the_type) (kind_of i) (kind_of j) kinds) in
+    let p = (payload-decides (payload_of i) (payload_of j)).0 (told-same payloads.eq-value.it (payload_of i) (payload_of j) loads) in
+    (λ h. same-parts i j k p (d.0 h), λ g. d.1 (ap choice_of g))
 
 -- two lists that have the same items at the first places, and one place more
 pub same-so-far : {A : Type 0} (xs ys : List A) (n : ℕ) (x y : A) → n < length xs → n < length ys → x ≡ get_or xs n x → y ≡ get_or ys n y → x ≡ y
