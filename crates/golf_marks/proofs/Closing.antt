@@ -18,31 +18,35 @@ use Rattle.golf_marks.specs.Flags.{IsSet, HasMarked}
 use Rattle.golf_marks.specs.Seats.{claimed, known, parts, claim_count, part_count, IsSeatOf}
 use Rattle.golf_marks.proofs.Flags.{IsSet-below}
 
+-- the marking has the bits of the words, first those of the nodes, then those of the sleepers, and the marked nodes in order
+pub record HasBits (words : List ℕ) (nodes sleepers : ℕ) (m : Marked) : Type 0 where
+  pub flag_count : length m.flags ≡ nodes
+  pub flags : (k : ℕ) → k < nodes → get_or m.flags k false ≡ (bit_at words (0 + k) == 1)
+  pub awake_count : length m.awake ≡ sleepers
+  pub awake : (k : ℕ) → k < sleepers → get_or m.awake k false ≡ (bit_at words (nodes + k) == 1)
+  pub rising : IsStrictlyIncreasing m.order
+  pub members : (n : ℕ) → In n m.order ↔ IsSet m.flags n
+
 -- flags that say which bits are set, if the bits count
-pub HasMarked-words : (words : List ℕ) (count : ℕ → ℕ) (nodes sleepers : ℕ) (m : Marked)
-    → ((p : ℕ) → bit_at words p ≡ count p) → ((p : ℕ) → count p ≤ 1)
-    → length m.flags ≡ nodes → ((k : ℕ) → k < nodes → get_or m.flags k false ≡ (bit_at words (0 + k) == 1))
-    → length m.awake ≡ sleepers → ((k : ℕ) → k < sleepers → get_or m.awake k false ≡ (bit_at words (nodes + k) == 1))
-    → IsStrictlyIncreasing m.order → ((n : ℕ) → In n m.order ↔ IsSet m.flags n)
-    → HasMarked nodes sleepers (λ p. 0 < count p) m
-HasMarked-words words count nodes sleepers m is once flags_long flags awake_long awake rising members = record {
-  flag_count = flags_long;
-  awake_count = awake_long;
+pub HasMarked-words : (words : List ℕ) (count : ℕ → ℕ) (nodes sleepers : ℕ) (m : Marked) → ((p : ℕ) → bit_at words p ≡ count p) → ((p : ℕ) → count p ≤ 1) → HasBits words nodes sleepers m → HasMarked nodes sleepers (λ p. 0 < count p) m
+HasMarked-words words count nodes sleepers m is once has = record {
+  flag_count = has.flag_count;
+  awake_count = has.awake_count;
   flags = λ p. (
     λ h.
         let low : p < nodes = omega (arith, IsSet-below m.flags p h) in
-        let one : bit_at words (0 + p) ≡ 1 = eqb-true (bit_at words (0 + p)) 1 (sym (flags p low) ∙ h) in
+        let one : bit_at words (0 + p) ≡ 1 = eqb-true (bit_at words (0 + p)) 1 (sym (has.flags p low) ∙ h) in
         (low, omega (arith, one, is (0 + p), ap count (zero_plus p))),
     λ h.
         let one : bit_at words (0 + p) ≡ 1 = omega (arith, is (0 + p), ap count (zero_plus p), once p, h.1) in
-        flags p h.0 ∙ eq-eqb (bit_at words (0 + p)) 1 one,
+        has.flags p h.0 ∙ eq-eqb (bit_at words (0 + p)) 1 one,
   );
   awake = λ s low. (
-    λ h. let one : bit_at words (nodes + s) ≡ 1 = eqb-true (bit_at words (nodes + s)) 1 (sym (awake s low) ∙ h) in omega (arith, one, is (nodes + s)),
-    λ h. let one : bit_at words (nodes + s) ≡ 1 = omega (arith, is (nodes + s), once (nodes + s), h) in awake s low ∙ eq-eqb (bit_at words (nodes + s)) 1 one,
+    λ h. let one : bit_at words (nodes + s) ≡ 1 = eqb-true (bit_at words (nodes + s)) 1 (sym (has.awake s low) ∙ h) in omega (arith, one, is (nodes + s)),
+    λ h. let one : bit_at words (nodes + s) ≡ 1 = omega (arith, is (nodes + s), once (nodes + s), h) in has.awake s low ∙ eq-eqb (bit_at words (nodes + s)) 1 one,
   );
-  rising = rising;
-  order = members;
+  rising = has.rising;
+  order = has.members;
 }
   where
     zero_plus : (p : ℕ) → 0 + p ≡ p
@@ -71,24 +75,30 @@ gathers_first m all rest s seats is =
       ];
     }
 
+-- the seat u has what the seats s and t had
+pub record IsJoint (m : Marks) (s t u : MarkSeat) : Type 0 where
+  pub seat : IsSeatOf m u
+  pub parts : parts u ≡ parts s + parts t
+  pub claimed : claimed u ≡ claimed s ++ claimed t
+  pub known : known u ≡ known s ++ known t
+
 -- one more is taken in
-pub gathers_next : (m : Marks) (all old rest : List MarkSeat) (s t u : MarkSeat) → IsGathered m all old s → old ≡ rest ++ t ∷ []
-    → IsSeatOf m u → parts u ≡ parts s + parts t → claimed u ≡ claimed s ++ claimed t → known u ≡ known s ++ known t → IsGathered m all rest u
-gathers_next m all old rest s t u g is seat same_parts same_claims same_known =
+pub gathers_next : (m : Marks) (all old rest : List MarkSeat) (s t u : MarkSeat) → IsGathered m all old s → old ≡ rest ++ t ∷ [] → IsJoint m s t u → IsGathered m all rest u
+gathers_next m all old rest s t u g is joint =
     let each = subst (λ (l : List MarkSeat). Every (IsSeatOf m) l) is g.seats in
     record {
       seats = Every-left (IsSeatOf m) rest (t ∷ []) each;
-      seat = seat;
-      parts = omega (arith, g.parts, same_parts, ap part_count is, sum_by_push (λ (x : MarkSeat). parts x) rest t);
-      claimed = λ p. omega (arith, g.claimed p, ap (times p) same_claims, times-append p (claimed s) (claimed t), ap (claim_count p) is, sum_by_push (λ (x : MarkSeat). times p (claimed x)) rest t);
+      seat = joint.seat;
+      parts = omega (arith, g.parts, joint.parts, ap part_count is, sum_by_push (λ (x : MarkSeat). parts x) rest t);
+      claimed = λ p. omega (arith, g.claimed p, ap (times p) joint.claimed, times-append p (claimed s) (claimed t), ap (claim_count p) is, sum_by_push (λ (x : MarkSeat). times p (claimed x)) rest t);
       known = λ p x h k. elim (g.known p x h k) [
         | inl i ↦ elim (In-cases x rest (t ∷ []) (subst (λ (l : List MarkSeat). In x l) is i)) [
           | inl j ↦ inl j
           | inr j ↦ elim j [
-            | inl e ↦ inr (subst (λ (l : List ℕ). In p l) (sym same_known) (In-right p (known s) (known t) (subst (λ (y : MarkSeat). In p (known y)) e k)))
+            | inl e ↦ inr (subst (λ (l : List ℕ). In p l) (sym joint.known) (In-right p (known s) (known t) (subst (λ (y : MarkSeat). In p (known y)) e k)))
             | inr none ↦ absurd none
           ]
         ]
-        | inr i ↦ inr (subst (λ (l : List ℕ). In p l) (sym same_known) (In-left p (known s) (known t) i))
+        | inr i ↦ inr (subst (λ (l : List ℕ). In p l) (sym joint.known) (In-left p (known s) (known t) i))
       ];
     }

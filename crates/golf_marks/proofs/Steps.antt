@@ -35,28 +35,47 @@ least_justified g known p all h = Derived-closed (Follows (λ q. In q g.roots) (
 abbrev WithWords : State (Unit {0}) View → List ℕ → ℕ → View → State (Unit {0}) View
 WithWords s words id w = record { words = words; homes = s.homes; views = set s.views id w }
 
+abbrev AllFit : GraphParts → List ℕ → List View → Type 0
+AllFit g words views = (k : ℕ) (v : View) → get_elem? views k ≡ some v → Fits g words v
+
 -- a view that is changed fits, and the others still do
-views_set : (g : GraphParts) (old words : List ℕ) (views : List View) (id : ℕ) (w : View) → ((x : ℕ) → bit_at old x ≡ 1 → bit_at words x ≡ 1)
-    → ((k : ℕ) (v : View) → get_elem? views k ≡ some v → Fits g old v) → Fits g words w → (k : ℕ) (v : View) → get_elem? (set views id w) k ≡ some v → Fits g words v
+views_set : (g : GraphParts) (old words : List ℕ) (views : List View) (id : ℕ) (w : View) → ((x : ℕ) → bit_at old x ≡ 1 → bit_at words x ≡ 1) → AllFit g old views → Fits g words w → AllFit g words (set views id w)
 views_set g old words views id w grows all mine k v e = ⊎_elim
     (λ (t : (k ≡ id) × (w ≡ v)). subst (Fits g words) t.1 mine)
     (λ (t : (k ≢ id) × (get_elem? views k ≡ some v)). let f = all k v t.1 in record { idle = f.idle; ignorant = f.ignorant; graph = f.graph; own = f.own; known = λ x h. grows x (f.known x h) })
     (at_set views id k w v e)
 
+-- the view w and these words may come after the view v and the words of the state
+record MayFollow (plan : Plan) (s : State (Unit {0}) View) (v w : View) (words : List ℕ) : Type 0 where
+  long : length words ≡ length s.words
+  parts : w.parts ≡ v.parts
+  claims : (x : ℕ) → times x w.claimed + bit_at s.words x ≡ times x v.claimed + bit_at words x
+  grows : (x : ℕ) → bit_at s.words x ≡ 1 → bit_at words x ≡ 1
+  fits : Fits (graph_of plan) words w
+  low : (x : ℕ) → bit_at words x ≡ 1 → x < place_count (graph_of plan)
+  sound : (x : ℕ) → bit_at words x ≡ 1 → Least (graph_of plan) x
+
 -- a step by which a view and the words change
-stepped : (plan : Plan) (s : State (Unit {0}) View) (id : ℕ) (v w : View) (words : List ℕ) → Holds plan s → get_elem? s.views id ≡ some v
-    → length words ≡ length s.words → w.parts ≡ v.parts
-    → ((x : ℕ) → times x w.claimed + bit_at s.words x ≡ times x v.claimed + bit_at words x)
-    → ((x : ℕ) → bit_at s.words x ≡ 1 → bit_at words x ≡ 1) → Fits (graph_of plan) words w
-    → ((x : ℕ) → bit_at words x ≡ 1 → x < place_count (graph_of plan))
-    → ((x : ℕ) → bit_at words x ≡ 1 → Least (graph_of plan) x) → Holds plan (WithWords s words id w)
-stepped plan s id v w words h at long same claims grows fits low sound = record {
-  size = long ∙ h.size;
-  claims = λ x. omega (arith, total_set (λ (u : View). times x u.claimed) s.views id v w at, h.claims x, claims x);
-  parts = omega (arith, total_set (λ (u : View). u.parts) s.views id v w at, h.parts, same);
-  views = views_set (graph_of plan) s.words words s.views id w grows h.views fits;
-  low = low;
-  sound = sound;
+stepped : (plan : Plan) (s : State (Unit {0}) View) (id : ℕ) (v w : View) (words : List ℕ) → Holds plan s → get_elem? s.views id ≡ some v → MayFollow plan s v w words → Holds plan (WithWords s words id w)
+stepped plan s id v w words h at m = record {
+  size = m.long ∙ h.size;
+  claims = λ x. omega (arith, total_set (λ (u : View). times x u.claimed) s.views id v w at, h.claims x, m.claims x);
+  parts = omega (arith, total_set (λ (u : View). u.parts) s.views id v w at, h.parts, m.parts);
+  views = views_set (graph_of plan) s.words words s.views id w m.grows h.views m.fits;
+  low = m.low;
+  sound = m.sound;
+}
+
+-- a view that has claimed the same may follow with the same words
+words_stay : (plan : Plan) (s : State (Unit {0}) View) (v w : View) → Holds plan s → w.parts ≡ v.parts → w.claimed ≡ v.claimed → Fits (graph_of plan) s.words w → MayFollow plan s v w s.words
+words_stay plan s v w h parts claimed fits = record {
+  long = refl;
+  parts = parts;
+  claims = λ x. ap (λ (l : List ℕ). times x l + bit_at s.words x) claimed;
+  grows = λ x e. e;
+  fits = fits;
+  low = h.low;
+  sound = h.sound;
 }
 
 -- a view has claimed no more places than there are
@@ -140,26 +159,38 @@ module _ (plan : Plan) (s : State (Unit {0}) View) (id : ℕ) (v : View) (i : �
 
   -- the claim found the bit clear
   claim_won : IsJustified v.graph v.known i → bit_in i found ≡ 0 → Holds plan (WithWords s (with_place s.words i) id (view_of v.graph v.parts (v.claimed ++ i ∷ []) (v.known ++ i ∷ [])))
-  claim_won just zero_is = stepped plan s id v (view_of v.graph v.parts (v.claimed ++ i ∷ []) (v.known ++ i ∷ [])) (with_place s.words i) h at same_length refl
-      (λ x. elim (bit_with s.words i x here) [
-        | inl t ↦
-            let one = ap (λ (b : Bool). let n : ℕ = cond b 1 0 in n) (eq-eqb i x (sym t.0)) in
-            let z : bit_at s.words x ≡ 0 = ap (λ (k : ℕ). bit_at s.words k) t.0 ∙ zero_is in
-            omega (arith, times-push x v.claimed i, one, z, t.1)
-        | inr t ↦
-            let none = ap (λ (b : Bool). let n : ℕ = cond b 1 0 in n) (ne_eqb i x (λ e. t.0 (sym e))) in
-            omega (arith, times-push x v.claimed i, none, t.1)
-      ])
-      grows_one (fits_more (v.claimed ++ i ∷ []) own_push) low_one (sound_one (claim_known just))
+  claim_won just zero_is = stepped plan s id v (view_of v.graph v.parts (v.claimed ++ i ∷ []) (v.known ++ i ∷ [])) (with_place s.words i) h at (record {
+    long = same_length;
+    parts = refl;
+    claims = λ x. elim (bit_with s.words i x here) [
+      | inl t ↦
+          let one = ap (λ (b : Bool). let n : ℕ = cond b 1 0 in n) (eq-eqb i x (sym t.0)) in
+          let z : bit_at s.words x ≡ 0 = ap (λ (k : ℕ). bit_at s.words k) t.0 ∙ zero_is in
+          omega (arith, times-push x v.claimed i, one, z, t.1)
+      | inr t ↦
+          let none = ap (λ (b : Bool). let n : ℕ = cond b 1 0 in n) (ne_eqb i x (λ e. t.0 (sym e))) in
+          omega (arith, times-push x v.claimed i, none, t.1)
+    ];
+    grows = grows_one;
+    fits = fits_more (v.claimed ++ i ∷ []) own_push;
+    low = low_one;
+    sound = sound_one (claim_known just);
+  })
 
   -- the claim found it set
   claim_lost : bit_in i found ≡ 1 → Holds plan (WithWords s (with_place s.words i) id (view_of v.graph v.parts v.claimed (v.known ++ i ∷ [])))
-  claim_lost one_is = stepped plan s id v (view_of v.graph v.parts v.claimed (v.known ++ i ∷ [])) (with_place s.words i) h at same_length refl
-      (λ x. elim (bit_with s.words i x here) [
-        | inl t ↦ let z : bit_at s.words x ≡ 1 = ap (λ (k : ℕ). bit_at s.words k) t.0 ∙ one_is in omega (arith, z, t.1)
-        | inr t ↦ omega (arith, t.1)
-      ])
-      grows_one (fits_more v.claimed own_more) low_one (sound_one (h.sound i one_is))
+  claim_lost one_is = stepped plan s id v (view_of v.graph v.parts v.claimed (v.known ++ i ∷ [])) (with_place s.words i) h at (record {
+    long = same_length;
+    parts = refl;
+    claims = λ x. elim (bit_with s.words i x here) [
+      | inl t ↦ let z : bit_at s.words x ≡ 1 = ap (λ (k : ℕ). bit_at s.words k) t.0 ∙ one_is in omega (arith, z, t.1)
+      | inr t ↦ omega (arith, t.1)
+    ];
+    grows = grows_one;
+    fits = fits_more v.claimed own_more;
+    low = low_one;
+    sound = sound_one (h.sound i one_is);
+  })
 
   bounded_after : (words : List ℕ) (w : View) → Holds plan (WithWords s words id w) → length w.claimed ≤ place_count v.graph
   bounded_after words w k = omega (arith, claimed_bound plan (WithWords s words id w) id w k (still_there s.views id v w at), ap place_count same_graph)
@@ -210,7 +241,7 @@ module _ (plan : Plan) (s : State (Unit {0}) View) (id : ℕ) (v : View) (i : �
       let w : View = view_of v.graph v.parts v.claimed known in
       let f = h.views id v at in
       subst (λ (ws : List ℕ). Holds plan (WithWords s ws id w)) (sym words_same)
-      (stepped plan s id v w s.words h at refl refl (λ x. refl) (λ x e. e) (record { idle = f.idle; ignorant = λ none. absurd (omega arith); graph = f.graph; own = own; known = k }) h.low h.sound)
+      (stepped plan s id v w s.words h at (words_stay plan s v w h refl refl (record { idle = f.idle; ignorant = λ none. absurd (omega arith); graph = f.graph; own = own; known = k })))
 
   looks_at : (w : View) × Holds plan (WithWords s (set s.words (word_of i) found) id w) × Looks i v (bit_in i found) w
   looks_at = elim (cases_eq (bit_in i found) 1) [
@@ -259,8 +290,7 @@ glances_at plan s id v i h at live here =
     let same : set s.words i n ≡ s.words = set_again s.words i n (at_index s.words i n here (get_or_default s.words i 0 n here)) in (
       w,
       subst (λ (ws : List ℕ). Holds plan (WithWords s ws id w)) (sym same)
-          (stepped plan s id v w s.words h at refl refl (λ x. refl) (λ x e. e)
-          (record {
+          (stepped plan s id v w s.words h at (words_stay plan s v w h refl refl (record {
             idle = f.idle;
             ignorant = λ none. absurd (omega arith);
             graph = f.graph;
@@ -269,8 +299,7 @@ glances_at plan s id v i h at live here =
               | inl k ↦ f.known x k
               | inr k ↦ let t = told_set i n 64 x (omega arith) k in bit_of x t.0 ∙ t.1
             ];
-          })
-          h.low h.sound),
+          }))),
       record {
         view = refl;
         known = λ p e k. sym (bit_of p e) ∙ f.known p k;

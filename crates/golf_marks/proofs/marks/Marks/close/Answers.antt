@@ -22,13 +22,14 @@ returns-clause-marked c =
     let all = c.gather-seat.ensures.parts ∙ c.requires.all in
     let is : (p : ℕ) → bit_at words p ≡ count p = λ p. ap (λ (ws : List ℕ). bit_at ws p) (sym last.2) ∙ closes self.table.shared.key last.0 seat.id seat.me.0 last.1.0 last.1.1 all p ∙ c.gather-seat.ensures.claimed p in
     let once : (p : ℕ) → count p ≤ 1 = λ p. omega (arith, is p, bit_small p (slice_index words (word_of p))) in
-    HasMarked-words words count (node_count (graph_in self)) (sleeper_count (graph_in self)) _ is once
-    (c.fill-flags.ensures.length ∙ self.flag_for_each)
-    (λ k h. c.fill-flags.ensures.flags k (omega (arith, self.flag_for_each)))
-    (c.fill-awake.ensures.length ∙ self.awake_for_each)
-    (λ k h. c.fill-awake.ensures.flags k (omega (arith, self.awake_for_each)) ∙ ap (λ (n : ℕ). bit_at words (n + k) == 1) (c.len-nodes.ensures ∙ self.flag_for_each))
-    c.numbers_of-order.ensures.rising
-    (subst (λ (l : List Bool). (n : ℕ) → In n c.numbers_of-order.result ↔ IsSet l n) c.as_slice.ensures c.numbers_of-order.ensures.members)
+    HasMarked-words words count (node_count (graph_in self)) (sleeper_count (graph_in self)) _ is once (record {
+      flag_count = c.fill-flags.ensures.length ∙ self.flag_for_each;
+      flags = λ k h. c.fill-flags.ensures.flags k (omega (arith, self.flag_for_each));
+      awake_count = c.fill-awake.ensures.length ∙ self.awake_for_each;
+      awake = λ k h. c.fill-awake.ensures.flags k (omega (arith, self.awake_for_each)) ∙ ap (λ (n : ℕ). bit_at words (n + k) == 1) (c.len-nodes.ensures ∙ self.flag_for_each);
+      rising = c.numbers_of-order.ensures.rising;
+      members = subst (λ (l : List Bool). (n : ℕ) → In n c.numbers_of-order.result ↔ IsSet l n) c.as_slice.ensures c.numbers_of-order.ensures.members;
+    })
 
 pub returns-clause-once : goal.returns-clause-once
 returns-clause-once c = λ p.

@@ -17,7 +17,7 @@ join-requires-clause-other c =
 pub loop-other-preserved : goal.loop-other-preserved
 loop-other-preserved c =
     gathers_next c.args.self.now c.args.seats c.loop-other.seats c.pop-in-loop-other.new.self c.loop-other.seat c.in-Some-pop.other c.join.new.seat
-    c.loop-other.invariant c.in-Some-pop.ensures c.join.ensures.seat c.join.ensures.parts c.join.ensures.claimed c.join.ensures.known
+    c.loop-other.invariant c.in-Some-pop.ensures (record { seat = c.join.ensures.seat; parts = c.join.ensures.parts; claimed = c.join.ensures.claimed; known = c.join.ensures.known })
 
 pub returns-clause-known : goal.returns-clause-known
 returns-clause-known c = λ p. Every-from (λ s. In p (known s) → In p (known c.loop-other.seat)) c.args.seats (λ s h k.
