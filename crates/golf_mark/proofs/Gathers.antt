@@ -47,24 +47,31 @@ gathered_first marks ms rest m todo is seat size notes = record {
 pub last_in : (marks : Marks) (ms rest more : List Marker) (m : Marker) (f : Finisher) → rest ≡ more ++ m ∷ [] → IsGathered marks ms rest f → get_elem? ms (length more) ≡ some m
 last_in marks ms rest more m f is g = g.begins (length more) m (subst (λ (l : List Marker). get_elem? l (length more) ≡ some m) (sym is) (at_last more m (length more) refl))
 
-pub gathered_more : (marks : Marks) (ms rest more : List Marker) (m : Marker) (f e : Finisher) → rest ≡ more ++ m ∷ [] → IsGathered marks ms rest f → IsFinisherOf marks e
-    → ((h : ℕ → ℕ) → sum_by h (claimed e.seat) ≡ sum_by h (claimed f.seat) + sum_by h (claimed m.scanner.seat)) → parts e.seat ≡ parts f.seat + parts m.scanner.seat
-    → ((x : ℕ) → In x (known f.seat) → In x (known e.seat)) → ((x : ℕ) → In x (known m.scanner.seat) → In x (known e.seat))
-    → ((x : ℕ) → IsSet f.todo x → IsSet e.todo x) → ((x : ℕ) → x < place_count (graph_in marks) → IsNoted m x → IsSet e.todo x) → IsGathered marks ms more e
-gathered_more marks ms rest more m f e is g fits sums count kept new still todo = record {
-  fits = fits;
+-- the finisher e has what f had, and what the marker m had
+pub record TakesIn (marks : Marks) (m : Marker) (f e : Finisher) : Type 0 where
+  pub fits : IsFinisherOf marks e
+  pub sums : (h : ℕ → ℕ) → sum_by h (claimed e.seat) ≡ sum_by h (claimed f.seat) + sum_by h (claimed m.scanner.seat)
+  pub parts : parts e.seat ≡ parts f.seat + parts m.scanner.seat
+  pub knew : (x : ℕ) → In x (known f.seat) → In x (known e.seat)
+  pub learns : (x : ℕ) → In x (known m.scanner.seat) → In x (known e.seat)
+  pub kept : (x : ℕ) → IsSet f.todo x → IsSet e.todo x
+  pub noted : (x : ℕ) → x < place_count (graph_in marks) → IsNoted m x → IsSet e.todo x
+
+pub gathered_more : (marks : Marks) (ms rest more : List Marker) (m : Marker) (f e : Finisher) → rest ≡ more ++ m ∷ [] → IsGathered marks ms rest f → TakesIn marks m f e → IsGathered marks ms more e
+gathered_more marks ms rest more m f e is g taken = record {
+  fits = taken.fits;
   begins = λ k x d. g.begins k x (subst (λ (l : List Marker). get_elem? l k ≡ some x) (sym is) (at_longer more (m ∷ []) k x d));
   all = λ k x d low. ⊎_elim (λ (t : (k < length more) × (get_elem? more k ≡ some x)). t.1) (λ (t : (k ≡ length more) × (m ≡ x)). absurd (omega arith))
       (push_cases more m x k (subst (λ (l : List Marker). get_elem? l k ≡ some x) is (g.all k x d (omega (arith, len)))));
-  sums = λ h. omega (arith, g.sums h, sums h, sum_by_push (λ (y : Marker). sum_by h (claimed y.scanner.seat)) more m, ap (sum_by (λ (y : Marker). sum_by h (claimed y.scanner.seat))) is);
-  counted = omega (arith, g.counted, count, sum_by_push (λ (y : Marker). parts y.scanner.seat) more m, ap (sum_by (λ (y : Marker). parts y.scanner.seat)) is);
+  sums = λ h. omega (arith, g.sums h, taken.sums h, sum_by_push (λ (y : Marker). sum_by h (claimed y.scanner.seat)) more m, ap (sum_by (λ (y : Marker). sum_by h (claimed y.scanner.seat))) is);
+  counted = omega (arith, g.counted, taken.parts, sum_by_push (λ (y : Marker). parts y.scanner.seat) more m, ap (sum_by (λ (y : Marker). parts y.scanner.seat)) is);
   told = λ k x d low y h. ⊎_elim
-      (λ (old : k < length rest). new y (subst (λ (z : Marker). In y (known z.scanner.seat)) (sym (is_last k x d low old)) h))
-      (λ (past : length rest ≤ k). kept y (g.told k x d past y h))
+      (λ (old : k < length rest). taken.learns y (subst (λ (z : Marker). In y (known z.scanner.seat)) (sym (is_last k x d low old)) h))
+      (λ (past : length rest ≤ k). taken.knew y (g.told k x d past y h))
       (cases_lt k (length rest));
   noted = λ k x d low y in_range h. ⊎_elim
-      (λ (old : k < length rest). todo y in_range (subst (λ (z : Marker). IsNoted z y) (sym (is_last k x d low old)) h))
-      (λ (past : length rest ≤ k). still y (g.noted k x d past y in_range h))
+      (λ (old : k < length rest). taken.noted y in_range (subst (λ (z : Marker). IsNoted z y) (sym (is_last k x d low old)) h))
+      (λ (past : length rest ≤ k). taken.kept y (g.noted k x d past y in_range h))
       (cases_lt k (length rest));
 }
   where
@@ -98,32 +105,41 @@ no_items : {A : Type 0} (f : A → ℕ) (l : List A) → length l ≡ 0 → sum_
 no_items f [] e = refl
 no_items f (x ∷ xs) e = absurd (omega arith)
 
+-- all markers have run and none is left to take in, and what f has to do and what was left is noted
+pub record AllTakenIn (marks : Marks) (pool : GreyPool) (ms rest : List Marker) (left : List ℕ) (f : Finisher) (todo : List Bool) : Type 0 where
+  pub none : length rest ≡ 0
+  pub run : AllRun marks pool ms
+  pub even : IsEvenWith ms left
+  pub gathered : IsGathered marks ms rest f
+  pub kept : (x : ℕ) → IsSet f.todo x → IsSet todo x
+  pub noted : (x : ℕ) → x < place_count (graph_in marks) → In x left → IsSet todo x
+
 -- a place that was shared is scanned or noted, once what is left is noted
-shared_covers : (marks : Marks) (pool : GreyPool) (ms rest : List Marker) (left : List ℕ) (f : Finisher) (todo : List Bool) → length rest ≡ 0 → AllRun marks pool ms → IsEvenWith ms left → IsGathered marks ms rest f
-    → ((x : ℕ) → IsSet f.todo x → IsSet todo x) → ((x : ℕ) → x < place_count (graph_in marks) → In x left → IsSet todo x) → (x : ℕ) → x < place_count (graph_in marks)
+shared_covers : {marks : Marks} {pool : GreyPool} {ms rest : List Marker} {left : List ℕ} {f : Finisher} {todo : List Bool} → AllTakenIn marks pool ms rest left f todo → (x : ℕ) → x < place_count (graph_in marks)
     → 0 < sum_by (λ m. sum_by (is_one x) (pushed m.hand)) ms → IsScanned (graph_in marks) (known f.seat) x ⊎ IsSet todo x
-shared_covers marks pool ms rest left f todo none run even g kept noted x low pos = ⊎_elim
-    (λ (some_left : 0 < sum_by (is_one x) left). inr (noted x low (in_left left x some_left)))
+shared_covers {ms = ms} {rest = rest} {left = left} all x low pos = ⊎_elim
+    (λ (some_left : 0 < sum_by (is_one x) left). inr (all.noted x low (in_left left x some_left)))
     (λ (no_left : sum_by (is_one x) left ≤ 0).
-    let t = some_of (λ m. took (is_one x) m.hand) ms (omega (arith, even (is_one x))) in
-    elim ((run t.0 t.1 t.2).attended x low t.3) [
-      | inl s ↦ inl (λ q l. g.told t.0 t.1 t.2 (omega arith) q (s q l))
-      | inr m ↦ inr (kept x (g.noted t.0 t.1 t.2 (omega arith) x low (inl m)))
+    let t = some_of (λ m. took (is_one x) m.hand) ms (omega (arith, all.even (is_one x))) in
+    let past : length rest ≤ t.0 = omega (arith, all.none) in
+    elim ((all.run t.0 t.1 t.2).attended x low t.3) [
+      | inl s ↦ inl (λ q l. all.gathered.told t.0 t.1 t.2 past q (s q l))
+      | inr m ↦ inr (all.kept x (all.gathered.noted t.0 t.1 t.2 past x low (inl m)))
     ])
     (cases_lt 0 (sum_by (is_one x) left))
 
 -- each place that was claimed is scanned or noted, once all markers are taken in and what is left is noted
-pub covers : (marks : Marks) (pool : GreyPool) (ms rest : List Marker) (left : List ℕ) (f : Finisher) (todo : List Bool) → length rest ≡ 0 → AllRun marks pool ms → IsEvenWith ms left → IsGathered marks ms rest f
-    → ((x : ℕ) → IsSet f.todo x → IsSet todo x) → ((x : ℕ) → x < place_count (graph_in marks) → In x left → IsSet todo x) → (x : ℕ) → x < place_count (graph_in marks)
+pub covers : {marks : Marks} {pool : GreyPool} {ms rest : List Marker} {left : List ℕ} {f : Finisher} {todo : List Bool} → AllTakenIn marks pool ms rest left f todo → (x : ℕ) → x < place_count (graph_in marks)
     → 0 < times x (claimed f.seat) → IsScanned (graph_in marks) (known f.seat) x ⊎ IsSet todo x
-covers marks pool ms rest left f todo none run even g kept noted x low pos =
-    let t = some_of (λ m. sum_by (is_one x) (claimed m.scanner.seat)) ms (omega (arith, g.sums (is_one x), no_items (λ (m : Marker). sum_by (is_one x) (claimed m.scanner.seat)) rest none)) in
+covers {ms = ms} {rest = rest} all x low pos =
+    let t = some_of (λ m. sum_by (is_one x) (claimed m.scanner.seat)) ms (omega (arith, all.gathered.sums (is_one x), no_items (λ (m : Marker). sum_by (is_one x) (claimed m.scanner.seat)) rest all.none)) in
     let m : Marker = t.1 in
-    elim ((run t.0 m t.2).fits.covered x low (In-times x (claimed m.scanner.seat) t.3)) [
-      | inl s ↦ inl (λ q l. g.told t.0 m t.2 (omega arith) q (s q l))
+    let past : length rest ≤ t.0 = omega (arith, all.none) in
+    elim ((all.run t.0 m t.2).fits.covered x low (In-times x (claimed m.scanner.seat) t.3)) [
+      | inl s ↦ inl (λ q l. all.gathered.told t.0 m t.2 past q (s q l))
       | inr j ↦ elim j [
-        | inl k ↦ inr (kept x (g.noted t.0 m t.2 (omega arith) x low (inr k)))
-        | inr k ↦ shared_covers marks pool ms rest left f todo none run even g kept noted x low
+        | inl k ↦ inr (all.kept x (all.gathered.noted t.0 m t.2 past x low (inr k)))
+        | inr k ↦ shared_covers all x low
             (omega (arith, times-In x (pushed m.hand) k, at_most_all (λ y. sum_by (is_one x) (pushed y.hand)) ms t.0 m t.2))
       ]
     ]

@@ -122,11 +122,16 @@ pub record IsEquipping (marks : Marks) (pool : GreyPool) (total : ℕ) (seats : 
   pub parts : marker_parts ms + length hands ≡ total
   pub fresh : AllFresh marks pool ms
 
-pub equipped : (marks : Marks) (pool : GreyPool) (total : ℕ) (seats some_seats : List MarkSeat) (hands some_hands : List GreyHand) (ms : List Marker) (m : Marker)
-    → IsEquipping marks pool total seats hands ms → seats ≡ some_seats ++ m.scanner.seat ∷ [] → hands ≡ some_hands ++ m.hand ∷ []
-    → length m.deferred ≡ place_count (graph_in marks) → m.scanner.won.items ≡ [] → place_count (graph_in marks) ≤ m.scanner.won.spare → m.budget ≤ capacity_of pool
-    → IsEquipping marks pool total some_seats some_hands (ms ++ m ∷ [])
-equipped marks pool total seats some_seats hands some_hands ms m q seat_is hand_is deferred idle room capacity =
+-- besides its seat and its hand the marker has nothing, and room for all places
+pub record HasRoom (marks : Marks) (pool : GreyPool) (m : Marker) : Type 0 where
+  pub deferred : length m.deferred ≡ place_count (graph_in marks)
+  pub idle : m.scanner.won.items ≡ []
+  pub room : place_count (graph_in marks) ≤ m.scanner.won.spare
+  pub budget : m.budget ≤ capacity_of pool
+
+pub equipped : {total : ℕ} {seats : List MarkSeat} {hands : List GreyHand} (marks : Marks) (pool : GreyPool) (some_seats : List MarkSeat) (some_hands : List GreyHand) (ms : List Marker) (m : Marker)
+    → IsEquipping marks pool total seats hands ms → seats ≡ some_seats ++ m.scanner.seat ∷ [] → hands ≡ some_hands ++ m.hand ∷ [] → HasRoom marks pool m → IsEquipping marks pool total some_seats some_hands (ms ++ m ∷ [])
+equipped {total} {seats} {hands} marks pool some_seats some_hands ms m q seat_is hand_is has =
     let seat_facts = subst (λ (l : List MarkSeat). Every (IsNewSeatOf marks) l) seat_is q.all_seats in
     let seat = (Every-right (IsNewSeatOf marks) some_seats (m.scanner.seat ∷ []) seat_facts).0 in
     let hand_facts = subst (λ (l : List GreyHand). Every IsNewHand l) hand_is q.new_hands in
@@ -149,13 +154,13 @@ equipped marks pool total seats some_seats hands some_hands ms m q seat_is hand_
               scanner = record {
                 seat = seat.seat;
                 bounded = omega (arith, ap length seat.claimed);
-                room = omega (arith, room);
+                room = omega (arith, has.room);
               };
-              own = λ p h. absurd (subst (λ (l : List ℕ). In p l) idle h);
+              own = λ p h. absurd (subst (λ (l : List ℕ). In p l) has.idle h);
               hand = mine.0;
               covered = λ p low h. absurd (subst (λ (l : List ℕ). In p l) seat.claimed h);
-              budget = omega (arith, capacity, ap length hand.none_pushed);
-              deferred = deferred;
+              budget = omega (arith, has.budget, ap length hand.none_pushed);
+              deferred = has.deferred;
             };
             none = hand.none_taken;
             number = omega (arith, mine.1, q.count, hands_long, t.0);

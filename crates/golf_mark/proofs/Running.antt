@@ -68,23 +68,29 @@ IsMarkerOf-hand marks pool a hand fits its_hand pushes = record {
   deferred = fits.deferred;
 }
 
+-- the hand has pushed these places, and has taken what the old one took
+pub record HasPushed (pool : GreyPool) (old hand : GreyHand) (places : List ℕ) : Type 0 where
+  pub fits : IsHandOf pool hand
+  pub pushed : pushed hand ≡ places
+  pub took : (f : ℕ → ℕ) → took f hand ≡ took f old
+  pub number : hand.number ≡ old.number
+
 -- its own list is the same, and so is what its hand pushed and took
-pub Runs-idle : (marks : Marks) (pool : GreyPool) (a : Marker) (won : Roomy ℕ) (hand : GreyHand) → IsMarkerOf marks pool a → won.items ≡ a.scanner.won.items → won.spare ≡ a.scanner.won.spare
-    → IsHandOf pool hand → pushed hand ≡ pushed a.hand → ((f : ℕ → ℕ) → took f hand ≡ took f a.hand) → hand.number ≡ a.hand.number
+pub Runs-idle : (marks : Marks) (pool : GreyPool) (a : Marker) (won : Roomy ℕ) (hand : GreyHand) → IsMarkerOf marks pool a → won.items ≡ a.scanner.won.items → won.spare ≡ a.scanner.won.spare → HasPushed pool a.hand hand (pushed a.hand)
     → Runs marks pool a (record a { scanner = with_won a.scanner won; hand = hand })
-Runs-idle marks pool a won hand fits items spare its_hand pushes same number =
+Runs-idle marks pool a won hand fits items spare same =
     let s : Scanner = with_won a.scanner won in
     Runs-still marks pool a (record a { scanner = s; hand = hand })
     (record {
       scanner = record { seat = fits.scanner.seat; bounded = fits.scanner.bounded; room = omega (arith, fits.scanner.room, spare) };
       own = own_less marks a.scanner s (λ p h. h) (λ p h. subst (λ (l : List ℕ). In p l) items h) fits.own;
-      hand = its_hand;
-      covered = subst (λ (l : List ℕ). IsCovered marks (λ p. In p l) s) (sym pushes) (covered_same (λ p. In p (pushed a.hand)) marks a.scanner s refl (λ p h. h) items fits.covered);
-      budget = omega (arith, fits.budget, ap (λ (l : List ℕ). length l) pushes);
+      hand = same.fits;
+      covered = subst (λ (l : List ℕ). IsCovered marks (λ p. In p l) s) (sym same.pushed) (covered_same (λ p. In p (pushed a.hand)) marks a.scanner s refl (λ p h. h) items fits.covered);
+      budget = omega (arith, fits.budget, ap (λ (l : List ℕ). length l) same.pushed);
       deferred = fits.deferred;
     })
-    (record { known = λ p h. h; parts = refl; number = number })
-    same refl
+    (record { known = λ p h. h; parts = refl; number = same.number })
+    same.took refl
 
 -- the last place of its own list is scanned
 pub Runs-own : (marks : Marks) (pool : GreyPool) (place : ℕ) (a : Marker) (won : Roomy ℕ) (s : Scanner) → IsMarkerOf marks pool a → a.scanner.won.items ≡ won.items ++ place ∷ []
@@ -104,22 +110,22 @@ Runs-own marks pool place a won s fits items wins scanned =
     (λ f. refl) refl
 
 -- the first place of its own list is shared
-pub Runs-shared : (marks : Marks) (pool : GreyPool) (place budget : ℕ) (a : Marker) (won : Roomy ℕ) (hand : GreyHand) → IsMarkerOf marks pool a → a.scanner.won.items ≡ place ∷ won.items → won.spare ≡ a.scanner.won.spare
-    → IsHandOf pool hand → pushed hand ≡ pushed a.hand ++ place ∷ [] → ((f : ℕ → ℕ) → took f hand ≡ took f a.hand) → hand.number ≡ a.hand.number → budget + 1 ≡ a.budget
+pub Runs-shared : {place : ℕ} (marks : Marks) (pool : GreyPool) (budget : ℕ) (a : Marker) (won : Roomy ℕ) (hand : GreyHand) → IsMarkerOf marks pool a → a.scanner.won.items ≡ place ∷ won.items → won.spare ≡ a.scanner.won.spare
+    → HasPushed pool a.hand hand (pushed a.hand ++ place ∷ []) → budget + 1 ≡ a.budget
     → Runs marks pool a (record a { scanner = with_won a.scanner won; hand = hand; budget = budget })
-Runs-shared marks pool place budget a won hand fits items spare its_hand pushes same number less =
+Runs-shared {place} marks pool budget a won hand fits items spare more less =
     let s : Scanner = with_won a.scanner won in
     Runs-still marks pool a (record a { scanner = s; hand = hand; budget = budget })
     (record {
       scanner = record { seat = fits.scanner.seat; bounded = fits.scanner.bounded; room = omega (arith, fits.scanner.room, spare) };
       own = own_less marks a.scanner s (λ p h. h) (λ p h. subst (λ (l : List ℕ). In p l) (sym items) (inr h)) fits.own;
-      hand = its_hand;
-      covered = covered_share marks place a.scanner s (pushed a.hand) (pushed hand) refl items pushes fits.covered;
-      budget = omega (arith, fits.budget, less, ap (λ (l : List ℕ). length l) pushes, length_push (pushed a.hand) place);
+      hand = more.fits;
+      covered = covered_share marks place a.scanner s (pushed a.hand) (pushed hand) refl items more.pushed fits.covered;
+      budget = omega (arith, fits.budget, less, ap (λ (l : List ℕ). length l) more.pushed, length_push (pushed a.hand) place);
       deferred = fits.deferred;
     })
-    (record { known = λ p h. h; parts = refl; number = number })
-    same refl
+    (record { known = λ p h. h; parts = refl; number = more.number })
+    more.took refl
 
 pub EachRuns-append : (marks : Marks) (pool : GreyPool) (a b c d : List Marker) → EachRuns marks pool a c → EachRuns marks pool b d → EachRuns marks pool (a ++ b) (c ++ d)
 EachRuns-append marks pool [] b [] d x y = y

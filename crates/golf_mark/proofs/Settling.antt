@@ -16,6 +16,7 @@ use Rattle.golf_mark.specs.declared.scanner.Scanner.{Scanner}
 use Rattle.golf_mark.specs.Finishing.{IsIdle, IsPending, KeepsSeat}
 use Rattle.golf_mark.specs.Scanning.{IsScannerOf, IsCovered, KnowsWon, Wins, with_won, with_seat}
 use Rattle.golf_mark.specs.Working.{IsScanned}
+use Rattle.golf_mark.proofs.Winning.{HasLooked}
 use Rattle.golf_mark.proofs.Covering.{own_wins, own_less, last_or, covered_scan}
 
 -- what is left to do
@@ -66,12 +67,12 @@ pub looked : (marks : Marks) (s : Scanner) → length (claimed s.seat) ≤ place
 looked marks s bounded idle = record { seat = idle.seat; bounded = bounded; room = idle.room }
 
 -- a place that is not noted, or not claimed
-pub passes_over : (marks : Marks) (todo : List Bool) (place : ℕ) (a b : Scanner) → claimed b.seat ≡ claimed a.seat → ((p : ℕ) → In p (known a.seat) → In p (known b.seat)) → b.won ≡ a.won → (In place (claimed a.seat) → IsSet todo place → ⊥)
+pub passes_over : (marks : Marks) (todo : List Bool) (place : ℕ) (a b : Scanner) → HasLooked a.seat b.seat → b.won ≡ a.won → (In place (claimed a.seat) → IsSet todo place → ⊥)
     → IsCovered marks (IsPending todo place) a → IsCovered marks (IsPending todo (place + 1)) b
-passes_over marks todo place a b claims knows won none covered p low h =
-    let h' = subst (λ (l : List ℕ). In p l) claims h in
+passes_over marks todo place a b look won none covered p low h =
+    let h' = subst (λ (l : List ℕ). In p l) look.claimed h in
     elim (covered p low h') [
-      | inl done ↦ inl (λ q j. knows q (done q j))
+      | inl done ↦ inl (λ q j. look.known q (done q j))
       | inr j ↦ elim j [
         | inl k ↦ inr (inl (subst (λ (r : Roomy ℕ). In p r.items) (sym won) k))
         | inr k ↦ elim (cases_eq p place) [
@@ -82,12 +83,12 @@ passes_over marks todo place a b claims knows won none covered p low h =
     ]
 
 -- the place is scanned
-pub settled_at : (marks : Marks) (todo : List Bool) (place : ℕ) (a b : Scanner) (seat : MarkSeat) → a.won.items ≡ [] → claimed seat ≡ claimed a.seat → ((p : ℕ) → In p (known a.seat) → In p (known seat))
+pub settled_at : (marks : Marks) (todo : List Bool) (place : ℕ) (a b : Scanner) (seat : MarkSeat) → a.won.items ≡ [] → HasLooked a.seat seat
     → Wins marks (with_seat a seat) b → IsScanned (graph_in marks) (known b.seat) place → IsCovered marks (IsPending todo place) a → IsCovered marks (IsPending todo (place + 1)) b
-settled_at marks todo place a b seat idle claims knows w scanned covered p low h =
+settled_at marks todo place a b seat idle look w scanned covered p low h =
     elim (In-cases p (claimed seat) w.won.0 (subst (λ (l : List ℕ). In p l) w.won.1 h)) [
-      | inl i ↦ elim (covered p low (subst (λ (l : List ℕ). In p l) claims i)) [
-        | inl done ↦ inl (λ q j. w.known q (knows q (done q j)))
+      | inl i ↦ elim (covered p low (subst (λ (l : List ℕ). In p l) look.claimed i)) [
+        | inl done ↦ inl (λ q j. w.known q (look.known q (done q j)))
         | inr j ↦ elim j [
           | inl k ↦ absurd (subst (λ (l : List ℕ). In p l) idle k)
           | inr k ↦ elim (cases_eq p place) [

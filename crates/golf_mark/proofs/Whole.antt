@@ -19,21 +19,27 @@ use Rattle.golf_mark.specs.Finishing.{IsPending}
 use Rattle.golf_mark.specs.Scanning.{IsCovered}
 use Rattle.golf_mark.proofs.Ranges.{Least-below}
 
-pub claimed_least : (marks : Marks) (todo : List Bool) (s : Scanner) (seats : List MarkSeat) → IsInRange (graph_in marks) → seats ≡ s.seat ∷ []
-    → ((p : ℕ) → 0 < claim_count p seats → Least (graph_in marks) p) → ((p : ℕ) → Every (λ t. In p (known t) → 0 < claim_count p seats) seats)
-    → IsCovered marks (IsPending todo (place_count (graph_in marks))) s → s.won.items ≡ [] → ((p : ℕ) → In p (graph_in marks).roots → In p (known s.seat))
-    → (p : ℕ) → 0 < claim_count p seats ↔ Least (graph_in marks) p
-claimed_least marks todo s seats fit is sound knows covered none roots p = (
-  sound p,
+-- the only seat is that of the scanner: what it claimed is of the least closed set and scanned, and it knows the roots
+pub record HasScannedAll (marks : Marks) (todo : List Bool) (s : Scanner) (seats : List MarkSeat) : Type 0 where
+  pub one : seats ≡ s.seat ∷ []
+  pub sound : (p : ℕ) → 0 < claim_count p seats → Least (graph_in marks) p
+  pub covered : IsCovered marks (IsPending todo (place_count (graph_in marks))) s
+  pub idle : s.won.items ≡ []
+  pub roots : (p : ℕ) → In p (graph_in marks).roots → In p (known s.seat)
+  pub known : (p : ℕ) → Every (λ t. In p (known t) → 0 < claim_count p seats) seats
+
+pub claimed_least : (marks : Marks) (todo : List Bool) (s : Scanner) (seats : List MarkSeat) → IsInRange (graph_in marks) → HasScannedAll marks todo s seats → (p : ℕ) → 0 < claim_count p seats ↔ Least (graph_in marks) p
+claimed_least marks todo s seats fit all p = (
+  all.sound p,
   Reached-least (λ q. In q g.roots) (Justifies g) (λ q. 0 < claim_count q seats)
-      (λ q r. known_claimed q (roots q r))
+      (λ q r. known_claimed q (all.roots q r))
       (λ q x c j.
-      let mine : In q (claimed s.seat) = In-times q (claimed s.seat) (omega (arith, c, ap (claim_count q) is, sum_by-cons (λ (t : MarkSeat). times q (claimed t)) s.seat [])) in
-      let low : q < place_count g = Least-below g fit q (sound q c) in
-      elim (covered q low mine) [
+      let mine : In q (claimed s.seat) = In-times q (claimed s.seat) (omega (arith, c, ap (claim_count q) all.one, sum_by-cons (λ (t : MarkSeat). times q (claimed t)) s.seat [])) in
+      let low : q < place_count g = Least-below g fit q (all.sound q c) in
+      elim (all.covered q low mine) [
         | inl done ↦ known_claimed x (done x j)
         | inr k ↦ elim k [
-          | inl w ↦ absurd (subst (λ (l : List ℕ). In q l) none w)
+          | inl w ↦ absurd (subst (λ (l : List ℕ). In q l) all.idle w)
           | inr pending ↦ absurd (omega (arith, pending.0, low))
         ]
       ]) p,
@@ -43,4 +49,4 @@ claimed_least marks todo s seats fit is sound knows covered none roots p = (
     g = graph_in marks
 
     known_claimed : (q : ℕ) → In q (known s.seat) → 0 < claim_count q seats
-    known_claimed q h = (subst (λ (l : List MarkSeat). Every (λ t. In q (known t) → 0 < claim_count q seats) l) is (knows q)).0 h
+    known_claimed q h = (subst (λ (l : List MarkSeat). Every (λ t. In q (known t) → 0 < claim_count q seats) l) all.one (all.known q)).0 h

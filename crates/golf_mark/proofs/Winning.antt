@@ -28,39 +28,52 @@ Wins-trans marks a b c f g = record {
 same_seat : (marks : Marks) (a b : Scanner) → IsScannerOf marks a → IsSameSeat a.seat b.seat → IsSeatOf marks b.seat
 same_seat marks a b fits same = record { table = same.table ∙ fits.seat.table; graph = same.graph ∙ fits.seat.graph }
 
-keeps_known : (a b : Scanner) (place : ℕ) → known b.seat ≡ known a.seat ++ place ∷ [] → (p : ℕ) → In p (known a.seat) → In p (known b.seat)
-keeps_known a b place is p h = subst (λ (l : List ℕ). In p l) (sym is) (In-left p (known a.seat) (place ∷ []) h)
+-- a seat that has claimed nothing, and knows what it knew
+pub record HasLooked (old new : MarkSeat) : Type 0 where
+  pub claimed : claimed new ≡ claimed old
+  pub known : (p : ℕ) → In p (known old) → In p (known new)
+
+pub keeps_known : (old new : MarkSeat) (place : ℕ) → known new ≡ known old ++ place ∷ [] → (p : ℕ) → In p (known old) → In p (known new)
+keeps_known old new place is p h = subst (λ (l : List ℕ). In p l) (sym is) (In-left p (known old) (place ∷ []) h)
 
 -- it looks at a place
-pub Wins-looked : (marks : Marks) (a : Scanner) (seat : MarkSeat) → IsScannerOf marks a → IsSameSeat a.seat seat → claimed seat ≡ claimed a.seat → ((p : ℕ) → In p (known a.seat) → In p (known seat)) → Wins marks a (with_seat a seat)
-Wins-looked marks a seat fits same claims keep = record {
+pub Wins-looked : (marks : Marks) (a : Scanner) (seat : MarkSeat) → IsScannerOf marks a → IsSameSeat a.seat seat → HasLooked a.seat seat → Wins marks a (with_seat a seat)
+Wins-looked marks a seat fits same looked = record {
   fits = record {
     seat = record { table = same.table ∙ fits.seat.table; graph = same.graph ∙ fits.seat.graph };
-    bounded = omega (arith, fits.bounded, ap length claims);
-    room = omega (arith, fits.room, ap length claims);
+    bounded = omega (arith, fits.bounded, ap length looked.claimed);
+    room = omega (arith, fits.room, ap length looked.claimed);
   };
-  known = keep;
+  known = looked.known;
   parts = same.parts;
-  won = ([], claims ∙ sym (append-nil (claimed a.seat)), sym (append-nil a.won.items), λ p h. absurd h);
+  won = ([], looked.claimed ∙ sym (append-nil (claimed a.seat)), sym (append-nil a.won.items), λ p h. absurd h);
 }
 
+-- the seat has claimed the place, and the list of what was won has it at its end
+pub record HasWon (marks : Marks) (a b : Scanner) (place : ℕ) : Type 0 where
+  pub same : IsSameSeat a.seat b.seat
+  pub bounded : length (claimed b.seat) ≤ place_count (graph_in marks)
+  pub claimed : claimed b.seat ≡ claimed a.seat ++ place ∷ []
+  pub known : known b.seat ≡ known a.seat ++ place ∷ []
+  pub items : b.won.items ≡ a.won.items ++ place ∷ []
+  pub spare : b.won.spare + 1 ≡ a.won.spare
+
 -- the claim is won
-pub Wins-won : (marks : Marks) (a b : Scanner) (place : ℕ) → place < place_count (graph_in marks) → IsScannerOf marks a → IsSameSeat a.seat b.seat → claimed b.seat ≡ claimed a.seat ++ place ∷ [] → known b.seat ≡ known a.seat ++ place ∷ []
-    → length (claimed b.seat) ≤ place_count (graph_in marks) → b.won.items ≡ a.won.items ++ place ∷ [] → b.won.spare + 1 ≡ a.won.spare → Wins marks a b
-Wins-won marks a b place low fits same claims knows bounded items spare = record {
+pub Wins-won : (marks : Marks) (a b : Scanner) (place : ℕ) → place < place_count (graph_in marks) → IsScannerOf marks a → HasWon marks a b place → Wins marks a b
+Wins-won marks a b place low fits has = record {
   fits = record {
-    seat = same_seat marks a b fits same;
-    bounded = bounded;
-    room = omega (arith, fits.room, spare, ap length claims, length_push (claimed a.seat) place);
+    seat = same_seat marks a b fits has.same;
+    bounded = has.bounded;
+    room = omega (arith, fits.room, has.spare, ap length has.claimed, length_push (claimed a.seat) place);
   };
-  known = keeps_known a b place knows;
-  parts = same.parts;
+  known = keeps_known a.seat b.seat place has.known;
+  parts = has.same.parts;
   won = (
     place ∷ [],
-    claims,
-    items,
+    has.claimed,
+    has.items,
     λ p h. elim h [
-      | inl e ↦ (omega (arith, e, low), subst (λ (l : List ℕ). In p l) (sym knows) (In-right p (known a.seat) (place ∷ []) (inl e)))
+      | inl e ↦ (omega (arith, e, low), subst (λ (l : List ℕ). In p l) (sym has.known) (In-right p (known a.seat) (place ∷ []) (inl e)))
       | inr none ↦ absurd none
     ],
   );
@@ -75,7 +88,7 @@ Wins-lost marks a b place fits same claims knows won = record {
     bounded = omega (arith, fits.bounded, ap length claims);
     room = omega (arith, fits.room, ap length claims, ap (λ r. r.spare) won);
   };
-  known = keeps_known a b place knows;
+  known = keeps_known a.seat b.seat place knows;
   parts = same.parts;
   won = ([], claims ∙ sym (append-nil (claimed a.seat)), ap (λ r. r.items) won ∙ sym (append-nil a.won.items), λ p h. absurd h);
 }

@@ -14,7 +14,7 @@ use Rattle.golf_grey.specs.Hands.{AreAllHands, pushed_by, taken_by}
 use Rattle.golf_grey.proofs.Stages.{at_end}
 use Rattle.golf_mark.specs.Marking.{MarksLeast}
 use Rattle.golf_mark.specs.Gathering.{Finisher, IsHandedOver}
-use Rattle.golf_mark.proofs.Gathers.{gathered_first, gathered_more, last_in, covers, handed_first, handed_more, hands_of, even_of}
+use Rattle.golf_mark.proofs.Gathers.{gathered_first, gathered_more, last_in, AllTakenIn, covers, handed_first, handed_more, hands_of, even_of}
 use Rattle.golf_mark.proofs.Marked.{HasMarked-same}
 use Rattle.golf_mark.proofs.Whole.{claimed_least}
 use Rattle.golf_mark.proofs.conclude.conclude.Goals as goal
@@ -62,16 +62,18 @@ loop-marker-preserved c =
     let f : Finisher = record { seat = c.loop-marker.scanner.seat; todo = c.loop-marker.todo } in
     let e : Finisher = record { seat = c.join.new.seat; todo = c.add_all-in-Some-pop.new.self } in
     record {
-      gathered = gathered_more c.args.marks ms rest more m f e is g (record { seat = c.join.ensures.seat; todo = c.add_all-in-Some-pop.ensures.length ∙ (c.merge.ensures.length ∙ g.fits.todo) })
-          (λ h. ap (sum_by h) c.join.ensures.claimed ∙ sum_by-append h (claimed f.seat) (claimed m.scanner.seat))
-          c.join.ensures.parts
-          (λ x h. subst (λ (l : List ℕ). In x l) (sym c.join.ensures.known) (In-left x (known f.seat) (known m.scanner.seat) h))
-          (λ x h. subst (λ (l : List ℕ). In x l) (sym c.join.ensures.known) (In-right x (known f.seat) (known m.scanner.seat) h))
-          (λ x h. c.add_all-in-Some-pop.ensures.kept x (c.merge.ensures.kept x h))
-          (λ x low n. elim n [
-            | inl d ↦ c.add_all-in-Some-pop.ensures.kept x (c.merge.ensures.noted x d)
-            | inr w ↦ c.add_all-in-Some-pop.ensures.noted x (omega (arith, low, c.merge.ensures.length, g.fits.todo)) (subst (λ (l : List ℕ). In x l) (sym c.as_slice-in-Some-pop.ensures) w)
-          ]);
+      gathered = gathered_more c.args.marks ms rest more m f e is g (record {
+        fits = record { seat = c.join.ensures.seat; todo = c.add_all-in-Some-pop.ensures.length ∙ (c.merge.ensures.length ∙ g.fits.todo) };
+        sums = λ h. ap (sum_by h) c.join.ensures.claimed ∙ sum_by-append h (claimed f.seat) (claimed m.scanner.seat);
+        parts = c.join.ensures.parts;
+        knew = λ x h. subst (λ (l : List ℕ). In x l) (sym c.join.ensures.known) (In-left x (known f.seat) (known m.scanner.seat) h);
+        learns = λ x h. subst (λ (l : List ℕ). In x l) (sym c.join.ensures.known) (In-right x (known f.seat) (known m.scanner.seat) h);
+        kept = λ x h. c.add_all-in-Some-pop.ensures.kept x (c.merge.ensures.kept x h);
+        noted = λ x low n. elim n [
+          | inl d ↦ c.add_all-in-Some-pop.ensures.kept x (c.merge.ensures.noted x d)
+          | inr w ↦ c.add_all-in-Some-pop.ensures.noted x (omega (arith, low, c.merge.ensures.length, g.fits.todo)) (subst (λ (l : List ℕ). In x l) (sym c.as_slice-in-Some-pop.ensures) w)
+        ];
+      });
       handed = subst (λ (l : List GreyHand). IsHandedOver ms more l) (sym c.push_ready-in-Some-pop.ensures.items)
           (handed_more ms rest more m c.loop-marker.hands.items is (last_in c.args.marks ms rest more m f is g) c.loop-marker.invariant.handed);
       idle = c.loop-marker.invariant.idle;
@@ -96,9 +98,15 @@ settle-requires-clause-covered c = λ p low h.
     let closed = c.close-left.ensures in
     let even = even_of c.args.markers.items rest c.loop-marker.hands.items left none c.loop-marker.invariant.handed
     (subst (λ (l : List GreyHand). (w : ℕ → ℕ) → pushed_by w l ≡ taken_by w l + sum_by w left) c.into_list.ensures closed) in
-    elim (covers c.args.marks c.args.pool c.args.markers.items rest left f c.add_all-2.new.self none c.requires.run even g c.add_all-2.ensures.kept
-    (λ x small i. c.add_all-2.ensures.noted x (omega (arith, g.fits.todo, small)) (subst (λ (l : List ℕ). In x l) (sym c.as_slice-2.ensures) i))
-    p low (times-In p (claimed f.seat) h)) [
+    let all : AllTakenIn c.args.marks c.args.pool c.args.markers.items rest left f c.add_all-2.new.self = record {
+      none = none;
+      run = c.requires.run;
+      even = even;
+      gathered = g;
+      kept = c.add_all-2.ensures.kept;
+      noted = λ x small i. c.add_all-2.ensures.noted x (omega (arith, g.fits.todo, small)) (subst (λ (l : List ℕ). In x l) (sym c.as_slice-2.ensures) i);
+    } in
+    elim (covers all p low (times-In p (claimed f.seat) h)) [
       | inl done ↦ inl done
       | inr set ↦ inr (inr (omega arith, set))
     ]
@@ -112,8 +120,15 @@ returns c =
     let s = c.settle.new.scanner in
     let seats = c.into_list-2.result in
     let one : seats ≡ s.seat ∷ [] = c.into_list-2.ensures ∙ c.push_ready-2.ensures.items ∙ ap (λ (l : List MarkSeat). l ++ s.seat ∷ []) c.requires.seats.0 in
-    let same = claimed_least marks c.add_all-2.new.self s seats (subst IsInRange (sym c.requires.graph) c.requires.in_range) one c.close.ensures.sound c.close.ensures.known c.settle.ensures.covered c.settle.ensures.idle.none
-    (λ p r. let t = c.requires.rooted p (subst (λ (d : GraphParts). In p d.roots) c.requires.graph r) in
-    c.settle.ensures.keeps.known p (c.loop-marker.invariant.gathered.told t.0 t.1 t.2 (omega (arith, none)) p t.3)) in
+    let same = claimed_least marks c.add_all-2.new.self s seats (subst IsInRange (sym c.requires.graph) c.requires.in_range) (record {
+      one = one;
+      sound = c.close.ensures.sound;
+      covered = c.settle.ensures.covered;
+      idle = c.settle.ensures.idle.none;
+      roots = λ p r.
+          let t = c.requires.rooted p (subst (λ (d : GraphParts). In p d.roots) c.requires.graph r) in
+          c.settle.ensures.keeps.known p (c.loop-marker.invariant.gathered.told t.0 t.1 t.2 (omega (arith, none)) p t.3);
+      known = c.close.ensures.known;
+    }) in
     subst (λ (d : GraphParts). MarksLeast d c.close.result) c.requires.graph
     (HasMarked-same (node_count (graph_in marks)) (sleeper_count (graph_in marks)) (sleeper_count (graph_in marks)) (λ p. 0 < claim_count p seats) (Least (graph_in marks)) c.close.result refl same c.close.ensures.marked)

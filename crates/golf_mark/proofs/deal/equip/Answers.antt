@@ -22,10 +22,12 @@ loop-hand-init c =
 pub loop-hand-preserved : goal.loop-hand-preserved
 loop-hand-preserved c =
     rw c.in_ok-push.ensures.items
-    (equipped c.args.marks.now c.args.pool.now (length c.args.seats) c.loop-hand.seats c.pop-in-Some.new.self c.loop-hand.hands c.pop.new.self c.loop-hand.markers.items _
-    c.loop-hand.invariant c.in-Some-pop.ensures c.in-Some.ensures
-    (omega (arith, c.in_ok-deferred.ensures, c.requires.places)) c.in_ok-won.ensures.items
-    (omega (arith, c.in_ok-won.ensures.room, c.requires.places)) c.requires.capacity)
+    (equipped c.args.marks.now c.args.pool.now c.pop-in-Some.new.self c.pop.new.self c.loop-hand.markers.items _ c.loop-hand.invariant c.in-Some-pop.ensures c.in-Some.ensures (record {
+      deferred = omega (arith, c.in_ok-deferred.ensures, c.requires.places);
+      idle = c.in_ok-won.ensures.items;
+      room = omega (arith, c.in_ok-won.ensures.room, c.requires.places);
+      budget = c.requires.capacity;
+    }))
 
 pub returns-clause-count : goal.returns-clause-count
 returns-clause-count c = omega (arith, c.loop-hand.invariant.count, ap length c.in_default.ensures.0)

@@ -1,11 +1,12 @@
-use Rattle.std.proofs.Common.{◌∷◌, [], ◌∙◌, ◌+◌, ℕ, List, length, refl, sym, ap, subst, arith}
+use Rattle.std.proofs.Common.{◌∙◌, ◌+◌, ℕ, List, length, refl, sym, ap, subst, arith}
 use Rattle.golf_theory.specs.Membership.{In}
-use Rattle.golf_theory.proofs.Lists.{In-push, In-left}
+use Rattle.golf_theory.proofs.Lists.{In-push}
 use Rattle.golf_theory.proofs.Times.{none-times}
 use Rattle.golf_model.specs.declared.graph.GraphParts.{GraphParts}
 use Rattle.golf_marks.specs.Seats.{known, claimed}
 use Rattle.golf_mark.specs.Scanning.{with_seat}
 use Rattle.golf_mark.specs.Working.{IsScanned}
+use Rattle.golf_mark.proofs.Winning.{keeps_known}
 use Rattle.golf_mark.proofs.Settling.{looked, idle_looked, passes_over, settled_at, won_known}
 use Rattle.golf_mark.proofs.finish.settle_at.Goals as goal
 
@@ -16,8 +17,8 @@ returns-then-not-is_marked-clause-idle c =
 pub returns-then-not-is_marked-clause-covered : goal.returns-then-not-is_marked-clause-covered
 returns-then-not-is_marked-clause-covered c =
     let a = c.args.scanner.now in
-    passes_over c.args.marks.now c.args.todo.now c.args.place a (with_seat a c.is_marked.new.seat) c.is_marked.ensures.claimed
-    (λ p h. subst (λ (l : List ℕ). In p l) (sym c.if-not-is_marked.ensures.known) h) refl
+    passes_over c.args.marks.now c.args.todo.now c.args.place a (with_seat a c.is_marked.new.seat)
+    (record { claimed = c.is_marked.ensures.claimed; known = λ p h. subst (λ (l : List ℕ). In p l) (sym c.if-not-is_marked.ensures.known) h }) refl
     (λ i _. none-times c.args.place (claimed a.seat) (c.is_marked.ensures.unclaimed c.if-not-is_marked.true) i)
     c.requires.covered
 
@@ -36,14 +37,14 @@ settle_won-requires-clause-won c =
 
 pub returns-clause-covered : goal.returns-clause-covered
 returns-clause-covered c =
-    c.settle_won.ensures.covered c.args.todo.now (c.args.place + 1) (settled_at c.args.marks.now c.args.todo.now c.args.place c.args.scanner.now c.scan.new.scanner c.is_marked.new.seat c.requires.idle.none c.is_marked.ensures.claimed
-    (λ p h. subst (λ (l : List ℕ). In p l) (sym c.if-not-is_marked.ensures.known) (In-left p (known c.args.scanner.now.seat) (c.args.place ∷ []) h))
+    c.settle_won.ensures.covered c.args.todo.now (c.args.place + 1) (settled_at c.args.marks.now c.args.todo.now c.args.place c.args.scanner.now c.scan.new.scanner c.is_marked.new.seat c.requires.idle.none
+    (record { claimed = c.is_marked.ensures.claimed; known = keeps_known c.args.scanner.now.seat c.is_marked.new.seat c.args.place c.if-not-is_marked.ensures.known })
     c.scan.ensures.wins
     (subst (λ (d : GraphParts). IsScanned d (known c.scan.new.scanner.seat) c.args.place) (sym c.requires.graph) c.scan.ensures.scanned)
     c.requires.covered)
 
 pub returns-clause-keeps : goal.returns-clause-keeps
 returns-clause-keeps c = record {
-  known = λ p h. c.settle_won.ensures.keeps.known p (c.scan.ensures.wins.known p (subst (λ (l : List ℕ). In p l) (sym c.if-not-is_marked.ensures.known) (In-left p (known c.args.scanner.now.seat) (c.args.place ∷ []) h)));
+  known = λ p h. c.settle_won.ensures.keeps.known p (c.scan.ensures.wins.known p (keeps_known c.args.scanner.now.seat c.is_marked.new.seat c.args.place c.if-not-is_marked.ensures.known p h));
   parts = c.settle_won.ensures.keeps.parts ∙ c.scan.ensures.wins.parts ∙ c.is_marked.ensures.same.parts;
 }

@@ -22,7 +22,8 @@ scan-requires-clause-known c =
 pub returns-in_default : goal.returns-in_default
 returns-in_default c =
     let a = c.args.marker.now in
-    Runs-idle c.args.shared.now.marks.now c.args.shared.now.pool.now a c.pop.new.self a.hand c.requires.fits (ap (λ (r : Roomy ℕ). r.items) c.in_default.ensures.items.1) (ap (λ (r : Roomy ℕ). r.spare) c.in_default.ensures.items.1) c.requires.fits.hand refl (λ f. refl) refl
+    Runs-idle c.args.shared.now.marks.now c.args.shared.now.pool.now a c.pop.new.self a.hand c.requires.fits (ap (λ (r : Roomy ℕ). r.items) c.in_default.ensures.items.1) (ap (λ (r : Roomy ℕ). r.spare) c.in_default.ensures.items.1)
+    (record { fits = c.requires.fits.hand; pushed = refl; took = λ f. refl; number = refl })
 
 pub returns : goal.returns
 returns c =

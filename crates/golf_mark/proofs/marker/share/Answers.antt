@@ -5,10 +5,15 @@ use Rattle.golf_mark.proofs.marker.share.Goals as goal
 pub returns-then-len-ge-SHARED : goal.returns-then-len-ge-SHARED
 returns-then-len-ge-SHARED c =
     let a = c.args.marker.now in
-    Runs-idle c.args.shared.now.marks.now c.args.shared.now.pool.now a a.scanner.won c.len-2.new.hand c.requires refl refl c.len-2.ensures.hand c.len-2.ensures.pushed c.len-2.ensures.took c.len-2.ensures.number
+    Runs-idle c.args.shared.now.marks.now c.args.shared.now.pool.now a a.scanner.won c.len-2.new.hand c.requires refl refl
+    (record { fits = c.len-2.ensures.hand; pushed = c.len-2.ensures.pushed; took = c.len-2.ensures.took; number = c.len-2.ensures.number })
 
 pub returns : goal.returns
 returns c =
     let a = c.args.marker.now in
-    Runs-shared c.args.shared.now.marks.now c.args.shared.now.pool.now c.in-Some.place (a.budget - 1) a c.shift.new.self c.push.new.hand c.requires c.in-Some.ensures.items c.in-Some.ensures.spare
-    c.push.ensures.hand (c.push.ensures.pushed ∙ ap (λ (l : List ℕ). l ++ c.in-Some.place ∷ []) c.len-2.ensures.pushed) (λ f. c.push.ensures.took f ∙ c.len-2.ensures.took f) (c.push.ensures.number ∙ c.len-2.ensures.number) (omega arith)
+    Runs-shared c.args.shared.now.marks.now c.args.shared.now.pool.now (a.budget - 1) a c.shift.new.self c.push.new.hand c.requires c.in-Some.ensures.items c.in-Some.ensures.spare (record {
+      fits = c.push.ensures.hand;
+      pushed = c.push.ensures.pushed ∙ ap (λ (l : List ℕ). l ++ c.in-Some.place ∷ []) c.len-2.ensures.pushed;
+      took = λ f. c.push.ensures.took f ∙ c.len-2.ensures.took f;
+      number = c.push.ensures.number ∙ c.len-2.ensures.number;
+    }) (omega arith)

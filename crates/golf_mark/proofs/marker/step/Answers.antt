@@ -11,7 +11,8 @@ returns-in_default c =
     let pool = c.args.shared.now.pool.now in
     let b = c.scan_own.new.marker in
     Runs-trans marks pool c.args.marker.now b (record b { hand = c.seek.new.hand }) c.scan_own.ensures
-    (Runs-idle marks pool b b.scanner.won c.seek.new.hand c.scan_own.ensures.fits refl refl c.in_default.ensures.hand c.in_default.ensures.pushed (λ f. omega (arith, c.in_default.ensures.took f)) c.in_default.ensures.number)
+    (Runs-idle marks pool b b.scanner.won c.seek.new.hand c.scan_own.ensures.fits refl refl
+    (record { fits = c.in_default.ensures.hand; pushed = c.in_default.ensures.pushed; took = λ f. omega (arith, c.in_default.ensures.took f); number = c.in_default.ensures.number }))
 
 pub scan_or_defer-requires-clause-fits : goal.scan_or_defer-requires-clause-fits
 scan_or_defer-requires-clause-fits c =
