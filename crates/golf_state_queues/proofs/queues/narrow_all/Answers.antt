@@ -7,16 +7,22 @@ use Rattle.golf_state_queues.specs.declared.queues.Queue.{Queue}
 use Rattle.golf_state_queues.proofs.Narrowing.{changed_to, changed-read, changed-more, changed-all, map-set}
 use Rattle.golf_state_queues.proofs.queues.narrow_all.Goals as goal
 
+-- the queue r is q, but for holders that are not among these goroutines
+record IsNarrowed (gs : List ℕ) (q r : Queue) : Type 0 where
+  object : r.object ≡ q.object
+  side : r.side ≡ q.side
+  holders : held r.holders.items ≡ among gs (held q.holders.items)
+
 -- one queue more
 more : (gs : List ℕ) (at n : ℕ) (qs : List Queue) (ls : WaitQueues) (q r : Queue) → wait_queues_of qs ≡ changed_to (λ (e : ℕ × List (ℕ × ℕ)). (e.0, among gs e.1)) at ls → slice_get qs at ≡ Some q
-    → r.object ≡ q.object → r.side ≡ q.side → held r.holders.items ≡ among gs (held q.holders.items) → n ≡ suc at → wait_queues_of (slice_set qs at r) ≡ changed_to (λ (e : ℕ × List (ℕ × ℕ)). (e.0, among gs e.1)) n ls
-more gs at n qs ls q r is here object side holders next =
+    → IsNarrowed gs q r → n ≡ suc at → wait_queues_of (slice_set qs at r) ≡ changed_to (λ (e : ℕ × List (ℕ × ℕ)). (e.0, among gs e.1)) n ls
+more gs at n qs ls q r is here narrowed next =
     let f : ℕ × List (ℕ × ℕ) → ℕ × List (ℕ × ℕ) = λ e. (e.0, among gs e.1) in
     let there : slice_get (wait_queues_of qs) at ≡ Some (key q.object.0 q.side, held q.holders.items) =
     slice_get-map (λ (q : Queue). (key q.object.0 q.side, held q.holders.items)) qs at ∙ ap (option_map (λ (q : Queue). (key q.object.0 q.side, held q.holders.items))) here in
     let first : slice_get ls at ≡ Some (key q.object.0 q.side, held q.holders.items) = sym (changed-read f at ls) ∙ ap (λ (ms : WaitQueues). slice_get ms at) (sym is) ∙ there in
     let changed : (key r.object.0 r.side, held r.holders.items) ≡ f (key q.object.0 q.side, held q.holders.items) =
-    ap (λ (o : ℕ). (o, held r.holders.items)) (ap (λ o. key o.0 r.side) object ∙ ap (λ d. key q.object.0 d) side) ∙ ap (λ (es : List (ℕ × ℕ)). (key q.object.0 q.side, es)) holders in
+    ap (λ (o : ℕ). (o, held r.holders.items)) (ap (λ o. key o.0 r.side) narrowed.object ∙ ap (λ d. key q.object.0 d) narrowed.side) ∙ ap (λ (es : List (ℕ × ℕ)). (key q.object.0 q.side, es)) narrowed.holders in
     map-set (λ (q : Queue). (key q.object.0 q.side, held q.holders.items)) qs at r
     ∙ ap (λ (ms : WaitQueues). slice_set ms at (key r.object.0 r.side, held r.holders.items)) is
     ∙ ap (λ (e : ℕ × List (ℕ × ℕ)). slice_set (changed_to f at ls) at e) changed
@@ -35,7 +41,7 @@ loop-at-preserved c =
     record {
       size = length-set qs c.loop-at.at r ∙ c.loop-at.invariant.size;
       queues = more (map (λ g. g.0) c.args.goroutines.now) c.loop-at.at (c.loop-at.at + 1) qs (wait_queues_of c.args.queues.now.items) q r
-          c.loop-at.invariant.queues (slice_get_read qs (length qs) c.loop-at.at q refl within c.index_mut.ensures.value) refl refl c.narrow.ensures (omega arith);
+          c.loop-at.invariant.queues (slice_get_read qs (length qs) c.loop-at.at q refl within c.index_mut.ensures.value) (record { object = refl; side = refl; holders = c.narrow.ensures }) (omega arith);
     }
 
 pub returns : goal.returns
