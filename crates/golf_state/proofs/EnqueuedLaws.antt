@@ -62,9 +62,9 @@ pub always-enqueued : (listed : Bool) (side : Side) → has_queue false side ≡
 always-enqueued listed side q = fewer-enqueued listed false side (λ e. absurd (true≢false (sym e))) q
 
 -- each goroutine stands in its queues, or stays
-pub enqueued : (listed still : Bool) (gs hs : List (ℕ × GoroutineView)) (old new : WaitQueues) (m n : ℕ) → AreEnqueued listed gs old m → (still ≡ true → listed ≡ true) → m ≤ n → AreBelow (n + 1) new
+pub enqueued : {listed still : Bool} {gs hs : List (ℕ × GoroutineView)} {old new : WaitQueues} {m n : ℕ} → AreEnqueued listed gs old m → (still ≡ true → listed ≡ true) → m ≤ n → AreBelow (n + 1) new
     → ((g : ℕ) (r : GoroutineView) → Entry hs g r → Stands still new n g r ⊎ Stays gs old new g r) → AreEnqueued still hs new n
-enqueued listed still gs hs old new m n a more l b each = record {
+enqueued {listed} {still} {gs} {hs} {old} {new} {m} {n} a more l b each = record {
   below = b;
   early = λ g r i. elim (each g r i) [
     | inl f ↦ f.early
@@ -115,11 +115,17 @@ put-there g v old gs r rises f i =
 
 -- ---- changes
 
+-- whoever else has an earlier ticket stands where he stood, and g stands in the line of the mutex k, if mutexes have lines
+pub record EntersLine (still : Bool) (old new : WaitQueues) (m g k : ℕ) : Type 0 where
+  pub below : AreBelow (m + 1) new
+  pub kept : (j t h : ℕ) → (h ≡ g → ⊥) → t < m → Entry (wait_queue_at j old) t h → Entry (wait_queue_at j new) t h
+  pub there : still ≡ true → Entry (wait_queue_at (key k Side.Lock) new) m g
+
 module _ (listed : Bool) (gs : List (ℕ × GoroutineView)) (old new : WaitQueues) (m : ℕ) (a : AreEnqueued listed gs old m) (rises : IsRising gs) where
   -- one goroutine changes, and the others stand where they stood
   pub enqueued-put : (n g : ℕ) (was v : GoroutineView) → find g gs ≡ Some was → m ≤ n → AreBelow (n + 1) new → Keeps (λ t h. h ≡ g → ⊥) old new → Stands listed new n g v ⊎ Stays gs old new g v → AreEnqueued listed (put g v gs) new n
   enqueued-put n g was v f l b kept here =
-      enqueued listed listed gs (put g v gs) old new m n a (λ e. e) l b (λ k r i. elim (cases_eq k g) [
+      enqueued a (λ e. e) l b (λ k r i. elim (cases_eq k g) [
         | inl e ↦
             let is = put-there g v was gs r rises f (subst (λ (j : ℕ). Entry (put g v gs) j r) e i) in
             subst (λ (j : ℕ). Stands listed new n j r ⊎ Stays gs old new j r) (sym e) (subst (λ (x : GoroutineView). Stands listed new n g x ⊎ Stays gs old new g x) (sym is) here)
@@ -162,10 +168,9 @@ module _ (listed : Bool) (gs : List (ℕ × GoroutineView)) (old new : WaitQueue
   moved-stands still o k g n side x (Mode.Blocked kind line (w ∷ ws) ticket) q h there = moved-side still o k g n side (record w { object = record { 0 = k }; side = Side.Lock }) x q h there
 
   -- a goroutine waits for a mutex from now on, with the next ticket
-  pub enqueued-moved : (still : Bool) (g k : ℕ) (was v : GoroutineView) (md : Mode) → (still ≡ true → listed ≡ true) → find g gs ≡ Some was → v.mode ≡ moved k m md → AreBelow (m + 1) new
-      → ((j t h : ℕ) → (h ≡ g → ⊥) → t < m → Entry (wait_queue_at j old) t h → Entry (wait_queue_at j new) t h) → (still ≡ true → Entry (wait_queue_at (key k Side.Lock) new) m g) → AreEnqueued still (put g v gs) new (m + 1)
-  enqueued-moved still g k was v md more f e b kept there =
-      enqueued listed still gs (put g v gs) old new m (m + 1) a more (omega arith) (more-below (m + 1) (m + 1 + 1) new (omega arith) b) (λ j r i. elim (cases_eq j g) [
+  pub enqueued-moved : (still : Bool) (g k : ℕ) (was v : GoroutineView) (md : Mode) → (still ≡ true → listed ≡ true) → find g gs ≡ Some was → v.mode ≡ moved k m md → EntersLine still old new m g k → AreEnqueued still (put g v gs) new (m + 1)
+  enqueued-moved still g k was v md more f e line =
+      enqueued a more (omega arith) (more-below (m + 1) (m + 1 + 1) new (omega arith) line.below) (λ j r i. elim (cases_eq j g) [
         | inl q ↦
             let is = put-there g v was gs r rises f (subst (λ (h : ℕ). Entry (put g v gs) h r) q i) in
             inl (subst (λ (h : ℕ). Stands still new (m + 1) h r) (sym q) (subst (λ (x : GoroutineView). Stands still new (m + 1) g x) (sym is) here))
@@ -179,27 +184,27 @@ module _ (listed : Bool) (gs : List (ℕ × GoroutineView)) (old new : WaitQueue
       here = record {
         stands = λ o side w q h.
             let y = waiting-for o side g v w h in
-            subst (λ (z : Mode). Entry (wait_queue_at (key o side) new) (ticket_of z) g) (sym e) (moved-stands still o k g m side y.0 md q (ap (λ (z : Mode). wait_for o side (waits_of z)) (sym e) ∙ y.1) there);
+            subst (λ (z : Mode). Entry (wait_queue_at (key o side) new) (ticket_of z) g) (sym e) (moved-stands still o k g m side y.0 md q (ap (λ (z : Mode). wait_for o side (waits_of z)) (sym e) ∙ y.1) line.there);
         early = subst (IsEarly (m + 1)) (sym e) (moved-early k m md);
       }
 
       other : (j : ℕ) (r : GoroutineView) → (j ≡ g → ⊥) → Entry gs j r → Stands still new (m + 1) j r ⊎ Stays gs old new j r
       other j r d x = elim (is_running r.mode) as (λ b. is_running r.mode ≡ b → Stands still new (m + 1) j r ⊎ Stays gs old new j r) [
         | true ↦ λ q. inl (runs-stands still new (m + 1) j r q)
-        | false ↦ λ q. inr (record { was = r; there = x; mode = refl; kept = λ h y. kept h (ticket_of r.mode) j d (early-ticket m r.mode q (a.early j r x)) y })
+        | false ↦ λ q. inr (record { was = r; there = x; mode = refl; kept = λ h y. line.kept h (ticket_of r.mode) j d (early-ticket m r.mode q (a.early j r x)) y })
       ] refl
 
   -- a goroutine is gone
   pub enqueued-left : (g : ℕ) → ((n : ℕ) → AreBelow n old → AreBelow n new) → Keeps (λ t h. h ≡ g → ⊥) old new → AreEnqueued listed (only (λ h. not (h == g)) gs) new m
   enqueued-left g b kept =
-      enqueued listed listed gs (only (λ h. not (h == g)) gs) old new m m a (λ e. e) (omega arith) (b (m + 1) a.below) (λ k r i.
+      enqueued a (λ e. e) (omega arith) (b (m + 1) a.below) (λ k r i.
       let p = Entry-only (λ h. not (h == g)) gs k r i in
       inr (record { was = r; there = p.1; mode = refl; kept = λ j y. kept j (ticket_of r.mode) k (λ e. true≢false (sym p.0 ∙ ap not (eq-eqb k g e))) y }))
 
 -- one goroutine more, which runs
 pub enqueued-spawned : (listed : Bool) (gs : List (ℕ × GoroutineView)) (ls : WaitQueues) (m g : ℕ) (v : GoroutineView) → AreEnqueued listed gs ls m → is_running v.mode ≡ true → AreEnqueued listed (add g v gs) ls m
 enqueued-spawned listed gs ls m g v a h =
-    enqueued listed listed gs (add g v gs) ls ls m m a (λ e. e) (omega arith) a.below (λ k r i. elim (Entry-add g v gs k r i) [
+    enqueued a (λ e. e) (omega arith) a.below (λ k r i. elim (Entry-add g v gs k r i) [
       | inl x ↦ inl (runs-stands listed ls m k r (ap (λ (y : GoroutineView). is_running y.mode) x.1 ∙ h))
       | inr x ↦ inr (record { was = r; there = x; mode = refl; kept = λ j y. y })
     ])
@@ -238,14 +243,19 @@ enqueued-joined listed gs old new m a b kept = record {
       kept (key o side) (ticket_of r.mode) g (early-ticket m r.mode y.2 (a.early g r i)) (a.all o side q g r w i h);
 }
 
-pub enqueued-blocked : (listed : Bool) (gs : List (ℕ × GoroutineView)) (old new : WaitQueues) (m : ℕ) (g : ℕ) (was v : GoroutineView) (kind : WaitKind) (line : ℕ) (waits : List Wait)
-    → AreEnqueued listed gs old m → IsRising gs → find g gs ≡ Some was → v.mode ≡ Mode.Blocked kind line waits m
-    → AreBelow (m + 1) new → Keeps (λ t h. t < m) old new → StandsInAll m g waits new → AreEnqueued listed (put g v gs) new (m + 1)
-enqueued-blocked listed gs old new m g was v kind line waits a rises f e b kept stands =
-    let base = enqueued-joined listed gs old new m a b kept in
+-- whoever has an earlier ticket stands where he stood, and g stands in the queues of all its waits
+pub record JoinsAll (old new : WaitQueues) (m g : ℕ) (waits : List Wait) : Type 0 where
+  pub below : AreBelow (m + 1) new
+  pub kept : Keeps (λ t h. t < m) old new
+  pub stands : StandsInAll m g waits new
+
+pub enqueued-blocked : {listed : Bool} {gs : List (ℕ × GoroutineView)} {old : WaitQueues} (new : WaitQueues) (m g : ℕ) (v : GoroutineView) (kind : WaitKind) (line : ℕ) (waits : List Wait)
+    → AreEnqueued listed gs old m → v.mode ≡ Mode.Blocked kind line waits m → JoinsAll old new m g waits → AreEnqueued listed (put g v gs) new (m + 1)
+enqueued-blocked {listed} {gs} {old} new m g v kind line waits a e joins =
+    let base = enqueued-joined listed gs old new m a joins.below joins.kept in
     let there : (k : ℕ) (r : GoroutineView) → Entry (put g v gs) k r → ((k ≡ g) × (r ≡ v)) ⊎ Entry gs k r = λ k r i. Entry-put g v gs k r i in
     record {
-      below = more-below (m + 1) (m + 1 + 1) new (omega arith) b;
+      below = more-below (m + 1) (m + 1 + 1) new (omega arith) joins.below;
       early = λ k r i. elim (there k r i) [
         | inl x ↦ subst (IsEarly (m + 1)) (sym (ap (λ (y : GoroutineView). y.mode) x.1 ∙ e)) (omega arith)
         | inr x ↦ early-more m (m + 1) r.mode (omega arith) (a.early k r x)
@@ -256,6 +266,6 @@ enqueued-blocked listed gs old new m g was v kind line waits a rises f e b kept 
             let mode : r.mode ≡ Mode.Blocked kind line waits m = ap (λ (y : GoroutineView). y.mode) x.1 ∙ e in
             let y = waiting-for o side k r w h in
             let fits : wait_for o side waits ≡ Some y.0 = ap (λ (z : Mode). wait_for o side (waits_of z)) (sym mode) ∙ y.1 in
-            subst (λ (z : Mode). Entry (wait_queue_at (key o side) new) (ticket_of z) k) (sym mode) (subst (λ (j : ℕ). Entry (wait_queue_at (key o side) new) m j) (sym x.0) (in-queue m g o side waits y.0 new stands fits))
+            subst (λ (z : Mode). Entry (wait_queue_at (key o side) new) (ticket_of z) k) (sym mode) (subst (λ (j : ℕ). Entry (wait_queue_at (key o side) new) m j) (sym x.0) (in-queue m g o side waits y.0 new joins.stands fits))
       ];
     }

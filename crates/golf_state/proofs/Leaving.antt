@@ -46,9 +46,9 @@ enqueued-kept listed flags es old new next a others below = record {
 -- ---- who leaves
 
 -- a blocked goroutine leaves the queues of its waits
-pub left-blocked : (g : ℕ) (m : Mode) (kind : WaitKind) (line : ℕ) (waits seen : List Wait) (ticket : ℕ) (old new : WaitQueues) → m ≡ Mode.Blocked kind line waits ticket → seen ≡ waits
+pub left-blocked : {kind : WaitKind} {line ticket : ℕ} {waits : List Wait} (g : ℕ) (m : Mode) (seen : List Wait) (old new : WaitQueues) → m ≡ Mode.Blocked kind line waits ticket → seen ≡ waits
     → IsWithout (leaves ticket g (keys_of seen)) old new → IsWithout (leaves_in g m) old new
-left-blocked g m kind line waits seen ticket old new e s w =
+left-blocked {ticket = ticket} g m seen old new e s w =
     subst (λ (n : Mode). IsWithout (leaves_in g n) old new) (sym e) (subst (λ (ws : List Wait). IsWithout (leaves ticket g (keys_of ws)) old new) s w)
 
 -- a running one stands in none

@@ -124,11 +124,11 @@ pub push-at : (gs : List Place) (q : Place) (k : ℕ) (v : GoroutineView) → pl
 push-at gs q k v e = map-append plain_entry gs (q ∷ []) ∙ ap (λ (p : ℕ × GoroutineView). plain_entries gs ++ p ∷ []) e
 
 -- a goroutine becomes another one, and those that run with it
-pub kept-set : (gs : List Place) (present running runs : List ℕ) (room more next g at : ℕ) (p q : Place) (v : GoroutineView)
+pub kept-set : {present running runs : List ℕ} {room more next : ℕ} {v : GoroutineView} (gs : List Place) (g at : ℕ) (p q : Place)
     → AreKept gs present running room next → Standing gs g at p v → q.number ≡ p.number → IsReady q
     → runs ≡ running_of (put g (goroutine_view q.goroutine) (plain_entries gs)) → room ≤ more
     → AreKept (slice_set gs at q) present runs more next
-kept-set gs present running runs room more next g at p q v k s n ready is l =
+kept-set {next = next} {v = v} gs g at p q k s n ready is l =
     let w = goroutine_view q.goroutine in
     let es = plain_entries gs in
     let e = set-at gs g at p q v k.rises s n in
@@ -144,10 +144,10 @@ kept-set gs present running runs room more next g at p q v k s n ready is l =
     }
 
 -- a place is seen as before
-pub kept-same : (gs : List Place) (present running : List ℕ) (room next at : ℕ) (p q : Place)
+pub kept-same : {present running : List ℕ} {room next : ℕ} (gs : List Place) (at : ℕ) (p q : Place)
     → AreKept gs present running room next → p ≡ get_or gs at p → plain_entry q ≡ plain_entry p → IsReady q
     → AreKept (slice_set gs at q) present running room next
-kept-same gs present running room next at p q k h is ready =
+kept-same {next = next} gs at p q k h is ready =
     let e = same-at gs at p q h is in
     record {
       rises = subst (Rises 0) (sym e) k.rises;

@@ -92,16 +92,24 @@ module _ {X : Type 0} (os ts : List X) (n : ℕ) (kept : ts ≡ take (length os 
 
 -- ---- a frame more
 
+-- of n frames f is the last, and on top of it stands the new one
+pub record IsBelow (fs gs : List Frame) (n : ℕ) (new f : Frame) : Type 0 where
+  pub count : n ≡ length fs
+  pub some : 0 < n
+  pub pushed : gs ≡ fs ++ new ∷ []
+  pub at : slice_get gs (n - 1) ≡ Some f
+
 -- under a new frame the one below it changes
-pub below_changed : (fs gs : List Frame) (n : ℕ) (new f w : Frame) (change : FrameView → FrameView) → n ≡ length fs → 0 < n → gs ≡ fs ++ new ∷ [] → slice_get gs (n - 1) ≡ Some f → frame_view w ≡ change (frame_view f)
+pub below_changed : (fs gs : List Frame) (n : ℕ) (new f w : Frame) (change : FrameView → FrameView) → IsBelow fs gs n new f → frame_view w ≡ change (frame_view f)
     → frame_views (slice_set gs (n - 1) w) ≡ frame_view new ∷ on_top change (frame_views fs)
-below_changed fs gs n new f w change same l more at e =
+below_changed fs gs n new f w change below e =
     let i = length fs - 1 in
-    let here : n - 1 ≡ i = ap (λ k. k - 1) same in
-    let was : slice_get fs i ≡ Some f = sym (slice_get-append fs (new ∷ []) i (omega arith)) ∙ ap (λ (xs : List Frame). slice_get xs i) (sym more) ∙ ap (slice_get gs) (sym here) ∙ at in
+    let here : n - 1 ≡ i = ap (λ k. k - 1) below.count in
+    let some : i < length fs = omega (arith, below.count, below.some) in
+    let was : slice_get fs i ≡ Some f = sym (slice_get-append fs (new ∷ []) i some) ∙ ap (λ (xs : List Frame). slice_get xs i) (sym below.pushed) ∙ ap (slice_get gs) (sym here) ∙ below.at in
     ap (λ k. frame_views (slice_set gs k w)) here
-    ∙ ap (λ (xs : List Frame). frame_views (slice_set xs i w)) more
-    ∙ ap frame_views (set-append_left fs (new ∷ []) i w (omega arith))
+    ∙ ap (λ (xs : List Frame). frame_views (slice_set xs i w)) below.pushed
+    ∙ ap frame_views (set-append_left fs (new ∷ []) i w some)
     ∙ frame_views-push (slice_set fs i w) new
     ∙ ap (λ (xs : List FrameView). frame_view new ∷ xs) (top_changed fs f w change was e)
 
@@ -126,31 +134,43 @@ handed_nowhere v fs t at d =
     let parts = without_last fs below t (split_last fs t at) in
     parts ∙ ap (λ (xs : List FrameView). frame_view t ∷ xs) (same_top t.discards v (frame_views below) d) ∙ sym (ap (handed v) parts)
 
+-- of n frames t is the last, and f the one below it
+pub record IsCalledBy (fs : List Frame) (n : ℕ) (t f : Frame) : Type 0 where
+  pub count : n ≡ length fs
+  pub two : 2 ≤ n
+  pub last : slice_get fs (length fs - 1) ≡ Some t
+  pub caller : slice_get fs (n - 2) ≡ Some f
+
 -- the caller's frame changes
-pub caller_changed : (fs : List Frame) (t f w : Frame) (n : ℕ) (change : FrameView → FrameView) → n ≡ length fs → 2 ≤ n → slice_get fs (length fs - 1) ≡ Some t → slice_get fs (n - 2) ≡ Some f → frame_view w ≡ change (frame_view f)
+pub caller_changed : (fs : List Frame) (t f w : Frame) (n : ℕ) (change : FrameView → FrameView) → IsCalledBy fs n t f → frame_view w ≡ change (frame_view f)
     → frame_views (slice_set fs (n - 2) w) ≡ frame_view t ∷ on_top change (frame_views (take (length fs - 1) fs))
-caller_changed fs t f w n change same l top at e =
+caller_changed fs t f w n change called e =
     let below = take (length fs - 1) fs in
     let size = length-take-le (length fs - 1) fs (omega arith) in
     let one : n - 2 ≡ n - 1 - 1 = omega arith in
     ap (λ k. frame_views (slice_set fs k w)) one
-    ∙ below_changed below fs (n - 1) t f w change (omega arith) (omega arith) (split_last fs t top) (ap (slice_get fs) (sym one) ∙ at) e
+    ∙ below_changed below fs (n - 1) t f w change (record {
+      count = omega (arith, size, called.count);
+      some = omega (arith, called.two);
+      pushed = split_last fs t called.last;
+      at = ap (slice_get fs) (sym one) ∙ called.caller;
+    }) e
 
-pub handed_to : (v : Value) (fs : List Frame) (t f w : Frame) (n : ℕ) → n ≡ length fs → 2 ≤ n → slice_get fs (length fs - 1) ≡ Some t → t.discards ≡ false → slice_get fs (n - 2) ≡ Some f → frame_view w ≡ given_back v (frame_view f)
+pub handed_to : (v : Value) (fs : List Frame) (t f w : Frame) (n : ℕ) → IsCalledBy fs n t f → t.discards ≡ false → frame_view w ≡ given_back v (frame_view f)
     → frame_views (slice_set fs (n - 2) w) ≡ handed v (frame_views fs)
-handed_to v fs t f w n same l top d at e =
+handed_to v fs t f w n called d e =
     let below = take (length fs - 1) fs in
-    caller_changed fs t f w n (given_back v) same l top at e
+    caller_changed fs t f w n (given_back v) called e
     ∙ ap (λ (b : Bool). frame_view t ∷ on_top (handed_back b (Some v)) (frame_views below)) (sym d)
-    ∙ sym (ap (handed v) (without_last fs below t (split_last fs t top)))
+    ∙ sym (ap (handed v) (without_last fs below t (split_last fs t called.last)))
 
 same_on_top : (fs : List FrameView) → on_top (λ f. f) fs ≡ fs
 same_on_top [] = refl
 same_on_top (f ∷ fs) = refl
 
-pub handed_not : (fs : List Frame) (t f w : Frame) (n : ℕ) → n ≡ length fs → 2 ≤ n → slice_get fs (length fs - 1) ≡ Some t → slice_get fs (n - 2) ≡ Some f → frame_view w ≡ frame_view f → frame_views (slice_set fs (n - 2) w) ≡ frame_views fs
-handed_not fs t f w n same l top at e =
+pub handed_not : (fs : List Frame) (t f w : Frame) (n : ℕ) → IsCalledBy fs n t f → frame_view w ≡ frame_view f → frame_views (slice_set fs (n - 2) w) ≡ frame_views fs
+handed_not fs t f w n called e =
     let below = take (length fs - 1) fs in
-    caller_changed fs t f w n (λ g. g) same l top at e
+    caller_changed fs t f w n (λ g. g) called e
     ∙ ap (λ (xs : List FrameView). frame_view t ∷ xs) (same_on_top (frame_views below))
-    ∙ sym (without_last fs below t (split_last fs t top))
+    ∙ sym (without_last fs below t (split_last fs t called.last))

@@ -112,28 +112,34 @@ holder-below n o side gs line (Some h) rises all last = (
       ],
 )
 
+-- all who are woken have tickets below n, and of those with tickets below n the holder is the last
+pub record IsLastWoken (n o : ℕ) (side : Side) (how : Waking) (gs : List (ℕ × GoroutineView)) (h : TicketHolder) : Type 0 where
+  pub rises : IsRising gs
+  pub last : IsHolderBelow n o side gs (Some h)
+  pub below : AreWokenBelow n o side how gs
+
 -- the one with this ticket is not woken
-pub passed : (n o : ℕ) (side : Side) (how : Waking) (gs : List (ℕ × GoroutineView)) (h : TicketHolder) → IsRising gs → IsHolderBelow n o side gs (Some h) → AreWokenBelow n o side how gs → wakening_in (find h.goroutine.0 gs) o how ≡ None → AreWokenBelow h.ticket o side how gs
-passed n o side how gs h rises last below none = λ g r w k i q z.
-    elim (last.1 g r w i q (below g r w k i q z)) [
-      | inl l ↦ l
+pub passed : (n o : ℕ) (side : Side) (how : Waking) (gs : List (ℕ × GoroutineView)) (h : TicketHolder) → IsLastWoken n o side how gs h → wakening_in (find h.goroutine.0 gs) o how ≡ None → AreWokenBelow h.ticket o side how gs
+passed n o side how gs h l none = λ g r w k i q z.
+    elim (l.last.1 g r w i q (l.below g r w k i q z)) [
+      | inl m ↦ m
       | inr e ↦
-          let f : find h.goroutine.0 gs ≡ Some r = ap (λ (j : ℕ). find j gs) (sym e.0) ∙ find-Entry gs g r rises i in
+          let f : find h.goroutine.0 gs ≡ Some r = ap (λ (j : ℕ). find j gs) (sym e.0) ∙ find-Entry gs g r l.rises i in
           let some : wakening_in (find h.goroutine.0 gs) o how ≡ Some k = ap (λ (m : Option GoroutineView). wakening_in m o how) f ∙ z in
           absurd (cc)
     ]
 
 -- and if it is, it has gone on
-pub woken-passed : (n o : ℕ) (side : Side) (how : Waking) (gs : List (ℕ × GoroutineView)) (h : TicketHolder) (r : GoroutineView) (k : Wakening) → IsRising gs → IsHolderBelow n o side gs (Some h) → AreWokenBelow n o side how gs → find h.goroutine.0 gs ≡ Some r
+pub woken-passed : (n o : ℕ) (side : Side) (how : Waking) (gs : List (ℕ × GoroutineView)) (h : TicketHolder) (r : GoroutineView) (k : Wakening) → IsLastWoken n o side how gs h → find h.goroutine.0 gs ≡ Some r
     → AreWokenBelow h.ticket o side how (put h.goroutine.0 (wakened k r) gs)
-woken-passed n o side how gs h r k rises last below f = λ g x w l i q z.
+woken-passed n o side how gs h r k l f = λ g x w y i q z.
     let v = wakened k r in
     let runs-absurd : x ≡ v → ⊥ = λ e. waits-not o side g x w q (ap (λ (u : GoroutineView). is_running u.mode) e ∙ wakened-runs k r) in
     elim (cases_eq g h.goroutine.0) [
-      | inl e ↦ absurd (runs-absurd (put-there h.goroutine.0 v r gs x rises f (subst (λ (j : ℕ). Entry (put h.goroutine.0 v gs) j x) e i)))
+      | inl e ↦ absurd (runs-absurd (put-there h.goroutine.0 v r gs x l.rises f (subst (λ (j : ℕ). Entry (put h.goroutine.0 v gs) j x) e i)))
       | inr d ↦ elim (Entry-put h.goroutine.0 v gs g x i) [
         | inl e ↦ absurd (d e.0)
-        | inr y ↦ elim (last.1 g x w y q (below g x w l y q z)) [
+        | inr j ↦ elim (l.last.1 g x w j q (l.below g x w y j q z)) [
           | inl m ↦ m
           | inr m ↦ absurd (d m.0)
         ]
@@ -229,14 +235,14 @@ pub record Stepped (h : TicketHolder) (o : ℕ) (side : Side) (how : Waking) (s 
   pub woken : HasWoken o how s t
   pub below : AreWokenBelow h.ticket o side how t.goroutines
 
-pub stepped : (n o : ℕ) (side : Side) (how : Waking) (s t : State) (h : TicketHolder) (k : Wakening) → IsRising s.goroutines → IsHolderBelow n o side s.goroutines (Some h) → AreWokenBelow n o side how s.goroutines
+pub stepped : (n o : ℕ) (side : Side) (how : Waking) (s t : State) (h : TicketHolder) (k : Wakening) → IsLastWoken n o side how s.goroutines h
     → Some k ≡ wakening_in (find h.goroutine.0 s.goroutines) o how → t ≡ looked_up h.goroutine.0 (λ r. become h.goroutine.0 (wakened k r)) s → Stepped h o side how s t
-stepped n o side how s t h k rises last below some new =
+stepped n o side how s t h k l some new =
     elim (find h.goroutine.0 s.goroutines) as (λ m. find h.goroutine.0 s.goroutines ≡ m → Some k ≡ wakening_in m o how → t ≡ on_goroutine (λ r. become h.goroutine.0 (wakened k r)) m s → Stepped h o side how s t) [
       | None ↦ λ f i e. absurd (cc)
       | Some r ↦ λ f i e. record {
-        woken = subst (HasWoken o how s) (sym e) (one-woken o h.goroutine.0 how s r k rises f (sym i));
-        below = subst (λ (u : State). AreWokenBelow h.ticket o side how u.goroutines) (sym e) (woken-passed n o side how s.goroutines h r k rises last below f);
+        woken = subst (HasWoken o how s) (sym e) (one-woken o h.goroutine.0 how s r k l.rises f (sym i));
+        below = subst (λ (u : State). AreWokenBelow h.ticket o side how u.goroutines) (sym e) (woken-passed n o side how s.goroutines h r k l f);
       }
     ] refl some new
 

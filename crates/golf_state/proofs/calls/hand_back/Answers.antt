@@ -28,7 +28,9 @@ returns-clause-ok c =
     let t = c.index-as_slice-count.result in
     let at = slice_get_read c.as_slice.result.now (length c.as_slice.result.now) (c.len-count.result - 1) t refl (omega (arith, c.len-count.ensures, c.if-count-lt2.false, ap length c.as_slice.ensures)) c.index-as_slice-count.is in
     let last = top fs c.as_slice.result.now c.len-count.result t c.len-count.ensures (omega (arith, c.if-count-lt2.false)) c.as_slice.ensures (sym at) in
-    on_ok_weaker c.add_operand.result (handed_to c.args.value fs t c.item_mut.result.now c.add_operand.new.frame c.len-count.result c.len-count.ensures c.if-count-lt2.false last (ap (λ (f : Frame). f.discards) c.index-as_slice-count.is ∙ c.if-as_slice-count.false) c.item_mut.ensures.value) c.add_operand.ensures.ok
+    on_ok_weaker c.add_operand.result (handed_to c.args.value fs t c.item_mut.result.now c.add_operand.new.frame c.len-count.result
+    (record { count = c.len-count.ensures; two = c.if-count-lt2.false; last = last; caller = c.item_mut.ensures.value })
+    (ap (λ (f : Frame). f.discards) c.index-as_slice-count.is ∙ c.if-as_slice-count.false)) c.add_operand.ensures.ok
 
 pub returns-clause-err : goal.returns-clause-err
 returns-clause-err c =
@@ -36,4 +38,5 @@ returns-clause-err c =
     let t = c.index-as_slice-count.result in
     let at = slice_get_read c.as_slice.result.now (length c.as_slice.result.now) (c.len-count.result - 1) t refl (omega (arith, c.len-count.ensures, c.if-count-lt2.false, ap length c.as_slice.ensures)) c.index-as_slice-count.is in
     let last = top fs c.as_slice.result.now c.len-count.result t c.len-count.ensures (omega (arith, c.if-count-lt2.false)) c.as_slice.ensures (sym at) in
-    on_err_weaker c.add_operand.result (handed_not fs t c.item_mut.result.now c.add_operand.new.frame c.len-count.result c.len-count.ensures c.if-count-lt2.false last c.item_mut.ensures.value) c.add_operand.ensures.err
+    on_err_weaker c.add_operand.result (handed_not fs t c.item_mut.result.now c.add_operand.new.frame c.len-count.result
+    (record { count = c.len-count.ensures; two = c.if-count-lt2.false; last = last; caller = c.item_mut.ensures.value })) c.add_operand.ensures.err

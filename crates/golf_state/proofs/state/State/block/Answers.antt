@@ -78,7 +78,7 @@ invariant_of-self-in_err-settle c =
     let mode : IsReadyIn c.settle.new.goroutine.mode c.settle.new.goroutine.frames = subst (λ (m : Mode). IsReadyIn m c.settle.new.goroutine.frames) (sym c.in_err-settle.ensures.mode) (still lent.mode lent.frames c.settle.new.goroutine.frames c.in_err-settle.ensures.kept was) in
     let seen = ap (λ (r : GoroutineView). (p.number, r)) (c.in_err-settle.ensures.err ∙ ap goroutine_view c.get_mut-goroutine.ensures.value) in
     record {
-      kept = kept-same gs _ _ _ s.next_goroutine c.rank_of-at.result p q k h seen mode;
+      kept = kept-same gs c.rank_of-at.result p q k h seen mode;
       enqueued = subst (λ (es : List (ℕ × GoroutineView)). AreEnqueued s.are_mutexes_enqueued es c.enter_all.new.self s.next_ticket) (sym (same-at gs c.rank_of-at.result p q h seen))
           (enqueued-joined s.are_mutexes_enqueued (plain_entries gs) s.waiting c.enter_all.new.self s.next_ticket c.self.invariant.enqueued c.enter_all.ensures.below c.enter_all.ensures.kept);
       finalisers = c.self.invariant.finalisers;
@@ -116,9 +116,9 @@ invariant_of-self-2 c =
     let q : Place = record { number = p.number; goroutine = record { frames = c.settle.new.goroutine.frames; mode = mode; started = c.settle.new.goroutine.started } } in
     let next : c.in_ok-next_ticket.next_ticket ≡ s.next_ticket + 1 = search rules in
     let joins : StandsInAll s.next_ticket g c.args.waits c.enter_all.new.self = subst (λ (ws : List Wait). StandsInAll s.next_ticket g ws c.enter_all.new.self) c.as_slice-2.ensures c.in_ok-enter_all.ensures.joins in
-    let line = enqueued-blocked s.are_mutexes_enqueued (plain_entries gs) s.waiting c.enter_all.new.self s.next_ticket g (goroutine_view p.goroutine) (goroutine_view q.goroutine) c.args.kind c.args.line c.args.waits c.self.invariant.enqueued k.rises found refl c.enter_all.ensures.below c.enter_all.ensures.kept joins in
+    let line = enqueued-blocked c.enter_all.new.self s.next_ticket g (goroutine_view q.goroutine) c.args.kind c.args.line c.args.waits c.self.invariant.enqueued refl (record { below = c.enter_all.ensures.below; kept = c.enter_all.ensures.kept; stands = joins }) in
     record {
-      kept = kept-set gs _ _ _ _ _ s.next_goroutine g c.rank_of-at.result p q (goroutine_view p.goroutine) k stands refl c.in_ok-settle.ensures.room
+      kept = kept-set gs g c.rank_of-at.result p q k stands refl c.in_ok-settle.ensures.room
           (c.leave_out.ensures.others ∙ ap (without g) k.running ∙ runs-blocked (plain_entries gs) g (goroutine_view q.goroutine) refl) (omega (arith, c.leave_out.ensures.room));
       enqueued = subst (λ (n : ℕ). AreEnqueued s.are_mutexes_enqueued (plain_entries (slice_set gs c.rank_of-at.result q)) c.enter_all.new.self n) (sym next)
           (subst (λ (es : List (ℕ × GoroutineView)). AreEnqueued s.are_mutexes_enqueued es c.enter_all.new.self (s.next_ticket + 1)) (sym (set-at gs g c.rank_of-at.result p q (goroutine_view p.goroutine) k.rises stands refl)) line);

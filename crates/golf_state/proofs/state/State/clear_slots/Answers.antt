@@ -63,7 +63,7 @@ invariant_of-self c =
     let mode : was.mode ≡ v.mode = sym (c.clear_goroutine.ensures.mode ∙ ap (λ (r : Goroutine). r.mode) c.get_mut.ensures.value) in
     let ready : IsReadyIn q.goroutine.mode q.goroutine.frames = c.clear_goroutine.ensures.ready (subst (λ (r : Goroutine). IsReadyIn r.mode r.frames) (sym c.get_mut.ensures.value) (ready-read gs c.rank_of-at.result p k.ready l c.index_mut-place.ensures.value)) in
     record {
-      kept = kept-set gs _ _ _ _ _ s.next_goroutine g c.rank_of-at.result p q was k stands refl ready
+      kept = kept-set gs g c.rank_of-at.result p q k stands refl ready
           (k.running ∙ runs-same (plain_entries gs) g was v k.rises found (ap is_running mode)) (omega arith);
       enqueued = subst (λ (es : List (ℕ × GoroutineView)). AreEnqueued s.are_mutexes_enqueued es s.waiting s.next_ticket) (sym (set-at gs g c.rank_of-at.result p q was k.rises stands refl)) (enqueued-same s.are_mutexes_enqueued (plain_entries gs) s.waiting s.next_ticket g was v c.self.invariant.enqueued k.rises found mode);
       finalisers = c.self.invariant.finalisers;

@@ -38,7 +38,7 @@ invariant_of-self-lent c = λ w.
     let q : Place = record { number = p.number; goroutine = record { frames = w; mode = lent.mode; started = lent.started } } in
     let v : GoroutineView = record { frames = frame_views w; mode = lent.mode; started = lent.started } in
     record {
-      kept = kept-set gs _ _ _ _ _ s.next_goroutine g c.rank_of-at.result p q f.0 k stands refl (running-ready lent.mode w (runs ∙ f.2)) (k.running ∙ runs-same (plain_entries gs) g f.0 v k.rises f.1 (sym runs)) (omega arith);
+      kept = kept-set gs g c.rank_of-at.result p q k stands refl (running-ready lent.mode w (runs ∙ f.2)) (k.running ∙ runs-same (plain_entries gs) g f.0 v k.rises f.1 (sym runs)) (omega arith);
       enqueued = subst (λ (es : List (ℕ × GoroutineView)). AreEnqueued s.are_mutexes_enqueued es s.waiting s.next_ticket) (sym (set-at gs g c.rank_of-at.result p q f.0 k.rises stands refl)) (enqueued-same s.are_mutexes_enqueued (plain_entries gs) s.waiting s.next_ticket g f.0 v c.self.invariant.enqueued k.rises f.1 (sym (ap (λ (r : GoroutineView). r.mode) seen)));
       finalisers = c.self.invariant.finalisers;
     }

@@ -61,10 +61,13 @@ invariant_of-self c =
     let was : IsReadyIn lent.mode lent.frames = subst (λ (r : Goroutine). IsReadyIn r.mode r.frames) (sym c.get_mut-goroutine.ensures.value) (ready-at gs c.rank_of-at.result p k.ready stands.here) in
     let ready : IsReadyIn c.move_mode.new.mode lent.frames = subst (λ (k : Mode). IsReadyIn k lent.frames) (sym c.move_mode.ensures) (moved-ready m s.next_ticket lent.mode lent.frames was) in
     record {
-      kept = kept-set gs _ _ _ _ _ s.next_goroutine g c.rank_of-at.result p q f.0 k stands refl ready (k.running ∙ runs-same (plain_entries gs) g f.0 w k.rises f.1 same) (omega arith);
+      kept = kept-set gs g c.rank_of-at.result p q k stands refl ready (k.running ∙ runs-same (plain_entries gs) g f.0 w k.rises f.1 same) (omega arith);
       enqueued = subst (λ (es : List (ℕ × GoroutineView)). AreEnqueued c.enter_for_mutex-self-inside.result es c.enter_for_mutex-self-inside.new.queues (s.next_ticket + 1)) (sym (set-at gs g c.rank_of-at.result p q f.0 k.rises stands refl))
-          (enqueued-moved s.are_mutexes_enqueued (plain_entries gs) s.waiting c.enter_for_mutex-self-inside.new.queues s.next_ticket c.self.invariant.enqueued k.rises c.enter_for_mutex-self-inside.result g m f.0 w lent.mode c.enter_for_mutex-self-inside.ensures.still f.1 c.move_mode.ensures c.enter_for_mutex-self-inside.ensures.below
-          (λ j t h d l i. c.enter_for_mutex-self-inside.ensures.kept j t h l (others-stay g lent.mode s.waiting c.leave_queues.new.queues c.leave_queues.ensures j t h d i)) c.enter_for_mutex-self-inside.ensures.joins);
+          (enqueued-moved s.are_mutexes_enqueued (plain_entries gs) s.waiting c.enter_for_mutex-self-inside.new.queues s.next_ticket c.self.invariant.enqueued k.rises c.enter_for_mutex-self-inside.result g m f.0 w lent.mode c.enter_for_mutex-self-inside.ensures.still f.1 c.move_mode.ensures (record {
+            below = c.enter_for_mutex-self-inside.ensures.below;
+            kept = λ j t h d l i. c.enter_for_mutex-self-inside.ensures.kept j t h l (others-stay g lent.mode s.waiting c.leave_queues.new.queues c.leave_queues.ensures j t h d i);
+            there = c.enter_for_mutex-self-inside.ensures.joins;
+          }));
       finalisers = c.self.invariant.finalisers;
     }
 

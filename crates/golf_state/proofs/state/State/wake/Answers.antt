@@ -70,7 +70,7 @@ invariant_of-self c =
     let w = goroutine_view c.waken.new.goroutine in
     let runs : is_running w.mode ≡ true = ap (λ (r : GoroutineView). is_running r.mode) c.waken.ensures ∙ wakened-runs c.args.how (goroutine_view lent) in
     record {
-      kept = kept-set gs _ _ _ _ _ s.next_goroutine g c.rank_of-at.result p q f.0 k stands refl (running-ready c.waken.new.goroutine.mode c.waken.new.goroutine.frames runs)
+      kept = kept-set gs g c.rank_of-at.result p q k stands refl (running-ready c.waken.new.goroutine.mode c.waken.new.goroutine.frames runs)
           (c.put_in.ensures.all ∙ ap (placed g) k.running ∙ runs-woken (plain_entries gs) g f.0 w k.rises f.1 f.2 runs) c.put_in.ensures.room;
       enqueued = subst (λ (es : List (ℕ × GoroutineView)). AreEnqueued s.are_mutexes_enqueued es c.leave_queues.new.queues s.next_ticket) (sym (set-at gs g c.rank_of-at.result p q f.0 k.rises stands refl)) (enqueued-woken s.are_mutexes_enqueued (plain_entries gs) s.waiting c.leave_queues.new.queues s.next_ticket c.self.invariant.enqueued k.rises g f.0 w f.1 (below-without (leaves_in g lent.mode) s.waiting c.leave_queues.new.queues c.leave_queues.ensures) (others-stay g lent.mode s.waiting c.leave_queues.new.queues c.leave_queues.ensures) runs);
       finalisers = c.self.invariant.finalisers;
