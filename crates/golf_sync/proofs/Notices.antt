@@ -115,9 +115,9 @@ runs-out o side k r h = elim r.mode as (λ m. is_running m ≡ true → option_m
   | Mode.Blocked kind line waits ticket ↦ λ i. cc
 ] h
 
-pub notified-same : (all : Bool) (o g : ℕ) (s t : State) (old v : GoroutineView) → IsRising s.goroutines → find g s.goroutines ≡ Some old → is_running old.mode ≡ true → is_running v.mode ≡ true → t.goroutines ≡ put g v s.goroutines
+pub notified-same : {old : GoroutineView} (all : Bool) (o g : ℕ) (s t : State) (v : GoroutineView) → IsRising s.goroutines → find g s.goroutines ≡ Some old → is_running old.mode ≡ true → is_running v.mode ≡ true → t.goroutines ≡ put g v s.goroutines
     → notified all o t.goroutines ≡ notified all o s.goroutines
-notified-same all o g s t old v rising found ran runs e =
+notified-same {old} all o g s t v rising found ran runs e =
     let same : waiters o Side.Cond t.goroutines ≡ waiters o Side.Cond s.goroutines =
     ap (waiters o Side.Cond) e
     ∙ waiters-same o Side.Cond g v (runs-out o Side.Cond g v runs) s.goroutines (λ x i.
@@ -141,19 +141,26 @@ pub record Passed (o m : ℕ) (s t : State) (ws : List Waiter) : Type 0 where
   pub tickets : t.next_ticket ≤ s.next_ticket + 1
   pub mutex : IsSome (mutex_of (find m t.objects))
 
-pub passed : (o m : ℕ) (s : State) (w : Waiter) (ws : List Waiter) (r : Option GoroutineView) (x : Option Object) → IsRising s.goroutines → r ≡ Some w.goroutine → find m s.objects ≡ x → IsSome (mutex_of x) → waiters o Side.Cond s.goroutines ≡ w ∷ ws
-    → Passed o m s (pass_on w.number m r x s) ws
-passed o m s w ws (Some r) (Some (Object.Mutex false)) rising f q h i = record {
-  waiters = waiters-less o Side.Cond w.number (released r) refl 0 s.goroutines w ws rising refl i;
+-- w is the first who waits, r its goroutine, and x the mutex
+pub record WaitsFirst (o m : ℕ) (s : State) (w : Waiter) (ws : List Waiter) (r : Option GoroutineView) (x : Option Object) : Type 0 where
+  pub rises : IsRising s.goroutines
+  pub goroutine : r ≡ Some w.goroutine
+  pub object : find m s.objects ≡ x
+  pub mutex : IsSome (mutex_of x)
+  pub first : waiters o Side.Cond s.goroutines ≡ w ∷ ws
+
+pub passed : (o m : ℕ) (s : State) (w : Waiter) (ws : List Waiter) (r : Option GoroutineView) (x : Option Object) → WaitsFirst o m s w ws r x → Passed o m s (pass_on w.number m r x s) ws
+passed o m s w ws (Some r) (Some (Object.Mutex false)) h = record {
+  waiters = waiters-less o Side.Cond w.number (released r) refl 0 s.goroutines w ws h.rises refl h.first;
   tickets = omega arith;
-  mutex = rw (find-put m (Object.Mutex true) s.objects (Object.Mutex false) q) refl;
+  mutex = rw (find-put m (Object.Mutex true) s.objects (Object.Mutex false) h.object) refl;
 }
-passed o m s w ws (Some r) (Some (Object.Mutex true)) rising f q h i = record {
-  waiters = waiters-less o Side.Cond w.number (record r { mode = moved m s.next_ticket r.mode }) (moved-out o w.number m s.next_ticket (record r { mode = moved m s.next_ticket r.mode }) r.mode) 0 s.goroutines w ws rising refl i;
+passed o m s w ws (Some r) (Some (Object.Mutex true)) h = record {
+  waiters = waiters-less o Side.Cond w.number (record r { mode = moved m s.next_ticket r.mode }) (moved-out o w.number m s.next_ticket (record r { mode = moved m s.next_ticket r.mode }) r.mode) 0 s.goroutines w ws h.rises refl h.first;
   tickets = omega arith;
-  mutex = rw q refl;
+  mutex = rw h.object refl;
 }
-passed o m s w ws _ _ rising f q h i = cc
+passed o m s w ws _ _ h = let same = h.goroutine in let mutex = h.mutex in cc
 
 by_ticket-count : (w : Waiter) (ws : List Waiter) → length (by_ticket w ws) ≡ suc (length ws)
 by_ticket-count w [] = refl
@@ -212,6 +219,6 @@ module _ (g after line : ℕ) (s t : State) (st : Stands g after s) (is : t ≡ 
   pub passed-on : (all : Bool) (o m : ℕ) (u : State) → IsRising s.goroutines → runs g t ≡ true → u ≡ apply_all (passes_on m (notified all o t.goroutines)) t
       → (u ≡ apply_all (passes_on m (notified all o s.goroutines)) t) × (runs g u ≡ true)
   passed-on all o m u rising ran e =
-      let same = notified-same all o g s t _ _ rising st.found refl refl (ap (λ (v : State). v.goroutines) gone-on) in
+      let same = notified-same all o g s t _ rising st.found refl refl (ap (λ (v : State). v.goroutines) gone-on) in
       let then = e ∙ ap (λ (ws : List Waiter). apply_all (passes_on m ws) t) same in
       (then, ap (runs g) then ∙ passes-run g m (notified all o s.goroutines) t ran)

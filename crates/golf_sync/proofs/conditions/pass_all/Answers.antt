@@ -39,7 +39,7 @@ loop-waiting-smaller c =
     let o = c.args.condition.0 in
     let w = served-from s (first o Side.Cond s.goroutines) c.in-Some.waiting c.in-Some.ensures.first c.in-Some.ensures.blocked in
     let rest = notified-some true o s.goroutines w.waiter w.is in
-    let p = passed o c.args.mutex.0 s w.waiter rest.0 (find w.waiter.number s.goroutines) (find c.args.mutex.0 s.objects) c.in-Some.ensures.rises w.found refl c.loop-waiting.invariant.mutex rest.1 in
+    let p = passed o c.args.mutex.0 s w.waiter rest.0 (find w.waiter.number s.goroutines) (find c.args.mutex.0 s.objects) (record { rises = c.in-Some.ensures.rises; goroutine = w.found; object = refl; mutex = c.loop-waiting.invariant.mutex; first = rest.1 }) in
     let e = c.pass_on.ensures ∙ ap (λ (x : Waiting). pass_on x.goroutine.0 c.args.mutex.0 (find x.goroutine.0 s.goroutines) (find c.args.mutex.0 s.objects) s) w.told in
     omega (arith, ap (λ (ws : List Waiter). length ws) rest.1, ap (λ (t : State). length (waiters o Side.Cond t.goroutines)) e, ap (λ (ws : List Waiter). length ws) p.waiters)
 
@@ -50,7 +50,7 @@ loop-waiting-preserved c =
     let m = c.args.mutex.0 in
     let w = served-from s (first o Side.Cond s.goroutines) c.in-Some.waiting c.in-Some.ensures.first c.in-Some.ensures.blocked in
     let rest = notified-some true o s.goroutines w.waiter w.is in
-    let p = passed o m s w.waiter rest.0 (find w.waiter.number s.goroutines) (find m s.objects) c.in-Some.ensures.rises w.found refl c.loop-waiting.invariant.mutex rest.1 in
+    let p = passed o m s w.waiter rest.0 (find w.waiter.number s.goroutines) (find m s.objects) (record { rises = c.in-Some.ensures.rises; goroutine = w.found; object = refl; mutex = c.loop-waiting.invariant.mutex; first = rest.1 }) in
     let t = pass_on w.waiter.number m (find w.waiter.number s.goroutines) (find m s.objects) s in
     let e = c.pass_on.ensures ∙ ap (λ (x : Waiting). pass_on x.goroutine.0 m (find x.goroutine.0 s.goroutines) (find m s.objects) s) w.told in
     record {
