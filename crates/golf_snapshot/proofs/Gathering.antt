@@ -135,8 +135,8 @@ module _ (objects : List (ℕ × Object)) where
       ∙ map-append (sleeper_of objects) (filter (λ e. not (is_awake e.0 e.1)) xs) (filter (λ e. not (is_awake e.0 e.1)) ys)
 
   -- four pieces one after another are one
-  pub four-pieces : (old a b c d : List ℕ) (xs ys zs ws : List ℕ) → a ≡ old ++ ranks objects xs → b ≡ a ++ ranks objects ys → c ≡ b ++ ranks objects zs → d ≡ c ++ ranks objects ws → d ≡ old ++ ranks objects (xs ++ (ys ++ (zs ++ ws)))
-  four-pieces old a b c d xs ys zs ws p q r s =
+  pub four-pieces : {a b c d : List ℕ} (old xs ys zs ws : List ℕ) → a ≡ old ++ ranks objects xs → b ≡ a ++ ranks objects ys → c ≡ b ++ ranks objects zs → d ≡ c ++ ranks objects ws → d ≡ old ++ ranks objects (xs ++ (ys ++ (zs ++ ws)))
+  four-pieces old xs ys zs ws p q r s =
       s ∙ ap (λ l. l ++ ranks objects ws) (r ∙ ap (λ l. l ++ ranks objects zs) (q ∙ ap (λ l. l ++ ranks objects ys) p))
       ∙ append_assoc ((old ++ ranks objects xs) ++ ranks objects ys) (ranks objects zs) (ranks objects ws)
       ∙ append_assoc (old ++ ranks objects xs) (ranks objects ys) (ranks objects zs ++ ranks objects ws)

@@ -128,9 +128,9 @@ rows-next (c ∷ bs) (r ∷ rows) zero b row e f =
 rows-next (c ∷ bs) (r ∷ rows) (suc i) b row e f =
     ap (λ (l : List ℕ). refs_if c r ++ l) (rows-next bs rows i b row e f) ∙ sym (append_assoc (refs_if c r) (finalised_rows (take i bs) (take i rows)) (refs_if b row))
 
-pub rows-more : (bs : List Bool) (rows : List (List ℕ)) (i : ℕ) (b : Bool) (row old text later : List ℕ) → slice_get bs i ≡ Some b → slice_get rows i ≡ Some row → text ≡ old ++ finalised_rows (take i bs) (take i rows) → later ≡ text ++ refs_if b row
+pub rows-more : {text later : List ℕ} (bs : List Bool) (rows : List (List ℕ)) (i : ℕ) (b : Bool) (row old : List ℕ) → slice_get bs i ≡ Some b → slice_get rows i ≡ Some row → text ≡ old ++ finalised_rows (take i bs) (take i rows) → later ≡ text ++ refs_if b row
     → later ≡ old ++ finalised_rows (take (i + 1) bs) (take (i + 1) rows)
-rows-more bs rows i b row old text later e f so is =
+rows-more bs rows i b row old e f so is =
     let next : suc i ≡ i + 1 = omega arith in
     is ∙ ap (λ (l : List ℕ). l ++ refs_if b row) so ∙ append_assoc old (finalised_rows (take i bs) (take i rows)) (refs_if b row)
     ∙ ap (λ (l : List ℕ). old ++ l) (sym (rows-next bs rows i b row e f) ∙ ap (λ k. finalised_rows (take k bs) (take k rows)) next)

@@ -80,9 +80,9 @@ module _ {X Y : Type 0} (G : List (ℕ × X) → List Y) (nil : G [] ≡ []) (ap
   gather-done old all es i l e = e ∙ ap (λ (z : List (ℕ × X)). old ++ G z) (take_all i es l)
 
   -- the same along the list of the keys
-  pub gather-listed : (old text later : List Y) (es : List (ℕ × X)) (gs : List GoroutineId) (i : ℕ) (d : GoroutineId) → IsRising es → numbers gs ≡ keys es → i < length gs → text ≡ old ++ G (take i es)
+  pub gather-listed : {text later : List Y} (old : List Y) (es : List (ℕ × X)) (gs : List GoroutineId) (i : ℕ) (d : GoroutineId) → IsRising es → numbers gs ≡ keys es → i < length gs → text ≡ old ++ G (take i es)
       → later ≡ text ++ G (entry_at (get_or gs i d).0 (find (get_or gs i d).0 es)) → later ≡ old ++ G (take (i + 1) es)
-  gather-listed old text later es gs i d r e l so is = gather-next old text later es i (get_or gs i d).0 r (listed-at es gs i d e l) so is
+  gather-listed {text} {later} old es gs i d r e l so is = gather-next old text later es i (get_or gs i d).0 r (listed-at es gs i d e l) so is
 
   pub gather-end : (old all : List Y) (es : List (ℕ × X)) (gs : List GoroutineId) (i : ℕ) → numbers gs ≡ keys es → length gs ≤ i → all ≡ old ++ G (take i es) → all ≡ old ++ G es
   gather-end old all es gs i e l is =

@@ -17,8 +17,8 @@ loop-g-preserved c =
     let s = c.args.state.now in
     let d : GoroutineId = record { 0 = 0 } in
     let listed = c.goroutines-g-items.ensures in (
-      gather-listed (AwakeNodes s.objects) refl (awake-append s.objects) c.args.nodes.now c.loop-g.nodes c.add_one.new.nodes s.goroutines c.goroutines-g-items.result.now c.loop-g.g-index d listed.rises listed.present c.loop-g-test.true c.loop-g.invariant.0 c.in_ok-add_one.ensures.nodes,
-      gather-listed (sleepers_of s.objects) refl (sleepers-append s.objects) [] c.loop-g.sleepers c.add_one.new.sleepers s.goroutines c.goroutines-g-items.result.now c.loop-g.g-index d listed.rises listed.present c.loop-g-test.true c.loop-g.invariant.1 c.in_ok-add_one.ensures.sleepers,
+      gather-listed (AwakeNodes s.objects) refl (awake-append s.objects) c.args.nodes.now s.goroutines c.goroutines-g-items.result.now c.loop-g.g-index d listed.rises listed.present c.loop-g-test.true c.loop-g.invariant.0 c.in_ok-add_one.ensures.nodes,
+      gather-listed (sleepers_of s.objects) refl (sleepers-append s.objects) [] s.goroutines c.goroutines-g-items.result.now c.loop-g.g-index d listed.rises listed.present c.loop-g-test.true c.loop-g.invariant.1 c.in_ok-add_one.ensures.sleepers,
     )
 
 pub returns-clause-nodes : goal.returns-clause-nodes

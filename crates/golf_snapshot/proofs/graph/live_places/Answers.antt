@@ -11,7 +11,7 @@ use Rattle.golf_snapshot.proofs.graph.live_places.Goals as goal
 pub returns-clause-roots : goal.returns-clause-roots
 returns-clause-roots c =
     let s = c.args.state.now in
-    four-pieces s.objects c.new-roots.result c.add_values.new.nodes c.add_queue.new.nodes c.add_awake.new.nodes c.add_finalised.new.nodes (refs s.globals) (queue_refs s.queue) (awake_refs s.goroutines) (refs_where (has_finaliser s) s.objects)
+    four-pieces s.objects c.new-roots.result (refs s.globals) (queue_refs s.queue) (awake_refs s.goroutines) (refs_where (has_finaliser s) s.objects)
     (c.in_ok-add_values.ensures
     ∙ ap (λ (h : NumberedObjects). c.new-roots.result ++ ranks h.objects (refs c.globals.result.now)) c.heap.ensures
     ∙ ap (λ (vs : List Value). c.new-roots.result ++ ranks s.objects (refs vs)) c.globals.ensures)

@@ -16,10 +16,10 @@ loop-node-preserved c =
     let at = slice_get-get_or g.children i [] within in
     elim c.if-finalised.branch [
       | then-finalised+in_ok-extend_from_slice w ↦
-          rows-more g.finalised g.children i true row c.args.nodes.now c.loop-node.nodes c.if-finalised.nodes (c.finalised.ensures ∙ ap Some w.if-finalised.true) at c.loop-node.invariant
+          rows-more g.finalised g.children i true row c.args.nodes.now (c.finalised.ensures ∙ ap Some w.if-finalised.true) at c.loop-node.invariant
           (w.nodes-is ∙ w.in_ok-extend_from_slice.ensures.ok ∙ ap (λ (l : List ℕ). c.loop-node.nodes ++ l) (w.children.ensures ∙ ap (λ (o : Option (List ℕ)). unwrap_or o []) at))
       | else-finalised w ↦
-          rows-more g.finalised g.children i false row c.args.nodes.now c.loop-node.nodes c.if-finalised.nodes (c.finalised.ensures ∙ ap Some w.if-finalised.false) at c.loop-node.invariant (w.nodes-is ∙ sym (append-nil c.loop-node.nodes))
+          rows-more g.finalised g.children i false row c.args.nodes.now (c.finalised.ensures ∙ ap Some w.if-finalised.false) at c.loop-node.invariant (w.nodes-is ∙ sym (append-nil c.loop-node.nodes))
     ]
 
 pub returns : goal.returns

@@ -38,7 +38,7 @@ loop-g-preserved c =
       | then-is_next+in_ok-add_sleeper_unless_gone w ↦ (
           let yes = next-sleeps s live c.requires.live c.loop-g.sleeper g listed.rises (c.is_next.ensures.next.0 w.if-is_next.true) in
           let more : length (sleepers_of s.objects (take (i + 1) s.goroutines)) ≡ c.loop-g.sleeper + 1 = count-next s live c.requires.live i g.0 c.loop-g.sleeper here.0 here.1 here.2 old.1 true yes in (
-            gather-listed (TestedNodes s.objects test) refl (tested-append s.objects test) c.args.nodes.now c.loop-g.nodes c.if-is_next.nodes s.goroutines gs i d listed.rises listed.present c.loop-g-test.true old.0
+            gather-listed (TestedNodes s.objects test) refl (tested-append s.objects test) c.args.nodes.now s.goroutines gs i d listed.rises listed.present c.loop-g-test.true old.0
                 (sleeper-nodes s live c.requires.live i g.0 c.loop-g.sleeper here.0 here.1 here.2 old.1 test c.loop-g.nodes c.if-is_next.nodes yes (w.nodes-is ∙ w.in_ok-add_sleeper_unless_gone.ensures)),
             omega (arith, w.sleeper-is, more),
           )
@@ -46,7 +46,7 @@ loop-g-preserved c =
       | else-is_next+in_ok-add_unless_gone w ↦ (
           let awake = else-awake s live c.requires.live i g.0 c.loop-g.sleeper here.0 here.1 here.2 old.1 (λ e. let yes = c.is_next.ensures.next.1 e in let no = w.if-is_next.false in cc) in
           let same : length (sleepers_of s.objects (take (i + 1) s.goroutines)) ≡ c.loop-g.sleeper + 0 = count-next s live c.requires.live i g.0 c.loop-g.sleeper here.0 here.1 here.2 old.1 false awake in (
-            gather-listed (TestedNodes s.objects test) refl (tested-append s.objects test) c.args.nodes.now c.loop-g.nodes c.if-is_next.nodes s.goroutines gs i d listed.rises listed.present c.loop-g-test.true old.0
+            gather-listed (TestedNodes s.objects test) refl (tested-append s.objects test) c.args.nodes.now s.goroutines gs i d listed.rises listed.present c.loop-g-test.true old.0
                 (w.nodes-is ∙ w.in_ok-add_unless_gone.ensures),
             omega (arith, w.sleeper-is, same),
           )

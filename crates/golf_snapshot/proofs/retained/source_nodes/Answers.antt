@@ -19,7 +19,7 @@ returns c =
     let test : ℕ → Bool = λ g. not (is_in g (map (λ h. h.0) c.args.gone.now)) in
     let others : goroutine_refs_where (λ g. not (is_in g c.as_slice.result.now)) s.goroutines ≡ goroutine_refs_where test s.goroutines =
     refs_where-alike (λ g. not (is_in g c.as_slice.result.now)) test s.goroutines (λ g. ap (λ (ns : List ℕ). not (is_in g ns)) c.as_slice.ensures.value ∙ ap not (c.in_ok-gone.ensures.members g)) in
-    four-pieces s.objects c.new-roots.result c.add_values.new.nodes c.add_queue.new.nodes c.add_others.new.nodes c.add_finalised_rows.new.nodes (refs s.globals) (queue_refs s.queue) (goroutine_refs_where test s.goroutines) (refs_where (has_finaliser s) s.objects)
+    four-pieces s.objects c.new-roots.result (refs s.globals) (queue_refs s.queue) (goroutine_refs_where test s.goroutines) (refs_where (has_finaliser s) s.objects)
     (c.in_ok-add_values.ensures
     ∙ ap (λ (h : NumberedObjects). c.new-roots.result ++ ranks h.objects (refs c.globals.result.now)) c.heap.ensures
     ∙ ap (λ (vs : List Value). c.new-roots.result ++ ranks s.objects (refs vs)) c.globals.ensures)
