@@ -50,9 +50,9 @@ after_place old inner new x at e h =
 filled : (count : ℕ → Fact) (old inner new : List Fact) (x : Fact) (at n : ℕ) → at ≡ length old → new ≡ (old ++ x ∷ []) ++ inner → n ≡ length new - at - 1 → slice_set new at (count n) ≡ old ++ count (length inner) ∷ inner
 filled count old inner new x at n e h i = slot old inner new x (count n) at e h ∙ ap (λ k. old ++ count k ∷ inner) (i ∙ after_place old inner new x at e h)
 
-pub expression_filled : (old inner new : List Fact) (x : Fact) (m k : Operand) (at n : ℕ) → at ≡ length old → new ≡ (old ++ x ∷ []) ++ inner → k ≡ m → n ≡ length new - at - 1
+pub expression_filled : {m k : Operand} (old inner new : List Fact) (x : Fact) (at n : ℕ) → at ≡ length old → new ≡ (old ++ x ∷ []) ++ inner → k ≡ m → n ≡ length new - at - 1
     → slice_set new at (fact.Expression k n) ≡ old ++ with_parts m inner
-expression_filled old inner new x m k at n e h i j = filled (fact.Expression k) old inner new x at n e h j ∙ ap (λ z. old ++ fact.Expression z (length inner) ∷ inner) i
+expression_filled {k = k} old inner new x at n e h i j = filled (fact.Expression k) old inner new x at n e h j ∙ ap (λ z. old ++ fact.Expression z (length inner) ∷ inner) i
 
 pub part_filled : (old inner new : List Fact) (x : Fact) (at n : ℕ) → at ≡ length old → new ≡ (old ++ x ∷ []) ++ inner → n ≡ length new - at - 1 → slice_set new at (fact.Part n) ≡ old ++ part inner
 part_filled old inner new x at n e h j = filled fact.Part old inner new x at n e h j
