@@ -10,9 +10,9 @@ use Rattle.golf_check_types.specs.declared.operands.Given.{Given}
 use Rattle.golf_check_types.specs.declared.scopes.FileScope.{FileScope}
 use Rattle.golf_check_types.specs.Expressions.{field_type, put_faults, all_put_faults}
 
-pub first_put : (l : ℕ) (f : FileScope) (b : Option Base) (xs : List Element) (vs : List Given) (i : ℕ) (x : Element) (v : Given) → i < length xs → x ≡ get_or xs i x → 1 ≤ length vs → v ≡ get_or vs 0 v → all_put_faults l f b (map (λ e. e.field) (drop i xs)) vs ≡ put_faults l (field_type f b x.field) v ++ all_put_faults l f b (map (λ e. e.field) (drop (i + 1) xs)) (drop 1 vs)
-first_put l f b xs [] i x v lt is len at = absurd (omega arith)
-first_put l f b xs (w ∷ ws) i x v lt is len at =
+pub first_put : {x : Element} {v : Given} (l : ℕ) (f : FileScope) (b : Option Base) (xs : List Element) (vs : List Given) (i : ℕ) → i < length xs → x ≡ get_or xs i x → 1 ≤ length vs → v ≡ get_or vs 0 v → all_put_faults l f b (map (λ e. e.field) (drop i xs)) vs ≡ put_faults l (field_type f b x.field) v ++ all_put_faults l f b (map (λ e. e.field) (drop (i + 1) xs)) (drop 1 vs)
+first_put l f b xs [] i lt is len at = absurd (omega arith)
+first_put {x} {v} l f b xs (w ∷ ws) i lt is len at =
     at_drop_more (λ ds. all_put_faults l f b (map (λ e. e.field) ds) (w ∷ ws)) xs i x lt
     ∙ (ap (λ (y : Element). put_faults l (field_type f b y.field) w ++ all_put_faults l f b (map (λ e. e.field) (drop (i + 1) xs)) ws) (sym is)
     ∙ ap (λ (u : Given). put_faults l (field_type f b x.field) u ++ all_put_faults l f b (map (λ e. e.field) (drop (i + 1) xs)) ws) (sym at))
