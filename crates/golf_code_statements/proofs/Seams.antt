@@ -9,7 +9,6 @@ use Rattle.golf_code_layout.specs.Piece.{Piece}
 use Rattle.golf_code_of.specs.declared.making.Making.{Making}
 use Rattle.golf_code_of.specs.Statements.{laid}
 use Rattle.golf_code_layout.specs.declared.emitted.Emitted.{Emitted}
-use Rattle.golf_code_layout.specs.declared.emitted.Emitted.TheVariants as emit
 use Rattle.golf_code_layout.specs.Emission.{onto}
 use Rattle.golf_code_facts.specs.Statements.{LaidBy, by}
 use Rattle.golf_code_expressions.specs.declared.writer.Draft.{Draft}

@@ -34,30 +34,42 @@ clauses_are p (c ∷ cs) u fs d ms =
     clauses_are q cs u x.left e ms
     ∙ ap (written rest.left) (made_twice d (onto ms rest.laid.piece) x.laid.made rest.laid.made)
 
-pub select_lays : (l : ℕ) (cs : List ClauseBy) (u : Targets) (w : Writer) (m1 m2 m5 : List Emitted) (w3 w4 : Writer)
-    → m1 ≡ w.draft.emitted ++ emit.Block ∷ [] → m2 ≡ opened (length cs) m1 → w3 ≡ marked w.facts w.draft (onto m2 (choice l cs w.facts)) → w4 ≡ with_clauses cs u w3 → m5 ≡ w4.draft.emitted ++ emit.End ∷ []
+-- a block is emitted, then the blocks of the clauses; the choice is written, then the clauses; last the end is emitted
+pub record WritesSelect (l : ℕ) (cs : List ClauseBy) (u : Targets) (w chosen written : Writer) (block blocks ended : List Emitted) : Type 0 where
+  pub block_is : block ≡ w.draft.emitted ++ emit.Block ∷ []
+  pub blocks_are : blocks ≡ opened (length cs) block
+  pub chosen_is : chosen ≡ marked w.facts w.draft (onto blocks (choice l cs w.facts))
+  pub written_is : written ≡ with_clauses cs u chosen
+  pub ended_is : ended ≡ written.draft.emitted ++ emit.End ∷ []
+
+pub select_lays : {l : ℕ} {cs : List ClauseBy} {u : Targets} {w w3 w4 : Writer} {m1 m2 m5 : List Emitted} → WritesSelect l cs u w w3 w4 m1 m2 m5
     → written w4.facts (record w4.draft { emitted = m5 }) ≡ after w (select_lay l cs (around w u) w.facts)
-select_lays l cs u w m1 m2 m5 w3 w4 e1 e2 e3 e4 e5 =
+select_lays {l} {cs} {u} {w} {w3} {w4} {m1} {m2} {m5} how =
     let begin = w.draft.emitted ++ emit.Block ∷ [] in
     let p = choice l cs w.facts in
-    ap (λ ms. written w4.facts (record w4.draft { emitted = ms })) e5
+    ap (λ ms. written w4.facts (record w4.draft { emitted = ms })) how.ended_is
     ∙ ap (λ (v : Writer). written v.facts (record v.draft { emitted = v.draft.emitted ++ emit.End ∷ [] })) (
-    e4
-    ∙ ap (with_clauses cs u) (e3 ∙ ap (λ ms. marked w.facts w.draft (onto ms p)) (e2 ∙ ap (opened (length cs)) e1))
+    how.written_is
+    ∙ ap (with_clauses cs u) (how.chosen_is ∙ ap (λ ms. marked w.facts w.draft (onto ms p)) (how.blocks_are ∙ ap (opened (length cs)) how.block_is))
     ∙ clauses_are p cs u w.facts w.draft begin)
 
+-- the end of a block is emitted, the clause is written with its targets, and then the exit, past as many blocks as come later
+pub record WritesClause (later : ℕ) (c : ClauseBy) (u inner : Targets) (w written : Writer) (ended left : List Emitted) : Type 0 where
+  pub inner_is : inner ≡ record { breaks = later; continues = u.continues + (later + 1) }
+  pub ended_is : ended ≡ w.draft.emitted ++ emit.End ∷ []
+  pub written_is : written ≡ after (marked w.facts w.draft ended) (c.lay (around w inner) w.facts)
+  pub left_is : left ≡ onto written.draft.emitted (Piece.Exit c.line later)
+
 -- one clause and then the others
-pub clause_step : (later : ℕ) (c : ClauseBy) (cs : List ClauseBy) (u inner : Targets) (w w2 : Writer) (m1 m3 : List Emitted)
-    → later ≡ length cs → inner ≡ record { breaks = later; continues = u.continues + (later + 1) }
-    → m1 ≡ w.draft.emitted ++ emit.End ∷ [] → w2 ≡ after (marked w.facts w.draft m1) (c.lay (around w inner) w.facts) → m3 ≡ onto w2.draft.emitted (Piece.Exit c.line later)
+pub clause_step : {later : ℕ} {c : ClauseBy} {u inner : Targets} {w w2 : Writer} {m1 m3 : List Emitted} (cs : List ClauseBy) → later ≡ length cs → WritesClause later c u inner w w2 m1 m3
     → with_clauses cs u (marked w2.facts w2.draft m3) ≡ with_clauses (c ∷ cs) u w
-clause_step later c cs u inner w w2 m1 m3 counted deeper e1 e2 e3 =
+clause_step {later} {c} {u} {inner} {w} {w2} {m1} {m3} cs counted how =
     ap (with_clauses cs u) (
-    ap (marked w2.facts w2.draft) (e3 ∙ ap (λ k. onto w2.draft.emitted (Piece.Exit c.line k)) counted)
+    ap (marked w2.facts w2.draft) (how.left_is ∙ ap (λ k. onto w2.draft.emitted (Piece.Exit c.line k)) counted)
     ∙ ap (leaving c.line (length cs)) (
-    e2
-    ∙ ap (λ ms. after (marked w.facts w.draft ms) (c.lay (around w inner) w.facts)) e1
-    ∙ ap (λ i. after (ended w) (c.lay (around w i) w.facts)) (deeper ∙ ap inside counted)))
+    how.written_is
+    ∙ ap (λ ms. after (marked w.facts w.draft ms) (c.lay (around w inner) w.facts)) how.ended_is
+    ∙ ap (λ i. after (ended w) (c.lay (around w i) w.facts)) (how.inner_is ∙ ap inside counted)))
   where
     inside : ℕ → Targets
     inside k = record { breaks = k; continues = u.continues + (k + 1) }

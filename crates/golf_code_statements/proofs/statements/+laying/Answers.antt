@@ -9,7 +9,7 @@ use Rattle.golf_code_expressions.specs.declared.writer.Writer.{Writer}
 use Rattle.golf_code_statements.specs.Clauses.{opened, with_clauses}
 use Rattle.golf_code_statements.specs.Lays.{around, after}
 use Rattle.golf_code_statements.proofs.Seams.{written}
-use Rattle.golf_code_statements.proofs.Selects.{clause_step, select_lays, left_from}
+use Rattle.golf_code_statements.proofs.Selects.{WritesSelect, WritesClause, clause_step, select_lays, left_from}
 use Rattle.golf_code_statements.proofs.statements.+laying.Goals as goal
 
 pub select_at-returns : goal.select_at-returns
@@ -17,9 +17,14 @@ select_at-returns t c =
     let a = c.args in
     let by = clause_by a.writer.now.draft.tables.now in
     let cs = map by a.clauses.now in
-    select_lays a.line cs a.targets a.writer.now c.block.new.emitted c.begin_blocks.new.emitted c.end.new.emitted c.choose.new.writer c.clauses_at.new.writer
-    c.in_ok-block.ensures (c.in_ok-begin_blocks.ensures ∙ ap (λ n. opened n c.block.new.emitted) (sym (length-map a.clauses.now by))) c.in_ok-choose.ensures
-    (c.in_ok-clauses_at.ensures ∙ ap (λ (b : Bor Tables). with_clauses (map (clause_by b.now) a.clauses.now) a.targets c.choose.new.writer) (ap (λ (w : Writer). w.draft.tables) c.in_ok-choose.ensures)) c.in_ok-end.ensures
+    let how : WritesSelect a.line cs a.targets a.writer.now c.choose.new.writer c.clauses_at.new.writer c.block.new.emitted c.begin_blocks.new.emitted c.end.new.emitted = record {
+      block_is = c.in_ok-block.ensures;
+      blocks_are = c.in_ok-begin_blocks.ensures ∙ ap (λ n. opened n c.block.new.emitted) (sym (length-map a.clauses.now by));
+      chosen_is = c.in_ok-choose.ensures;
+      written_is = c.in_ok-clauses_at.ensures ∙ ap (λ (b : Bor Tables). with_clauses (map (clause_by b.now) a.clauses.now) a.targets c.choose.new.writer) (ap (λ (w : Writer). w.draft.tables) c.in_ok-choose.ensures);
+      ended_is = c.in_ok-end.ensures;
+    } in
+    select_lays how
 
 pub clauses_at-loop-clause-preserved : goal.clauses_at-loop-clause-preserved
 clauses_at-loop-clause-preserved t c =
@@ -38,12 +43,17 @@ clauses_at-loop-clause-preserved t c =
     let ended = written w.facts (record w.draft { emitted = c.end.new.emitted }) in
     let one_more : c.clause_at.new.writer ≡ after ended ((by one).lay (around ended c.in_ok-inner.inner) w.facts) =
     c.in_ok-clause_at.ensures ∙ ap (λ (b : Bor Tables). after ended ((clause_by b.now one).lay (around ended c.in_ok-inner.inner) w.facts)) v.invariant.tables in
+    let how : WritesClause later (by one) a.targets c.in_ok-inner.inner w c.clause_at.new.writer c.end.new.emitted c.exit.new.emitted = record {
+      inner_is = c.in_ok-inner.ensures;
+      ended_is = c.in_ok-end.ensures;
+      written_is = one_more;
+      left_is = c.in_ok-exit.ensures ∙ ap (λ (n : ℕ). onto c.clause_at.new.writer.draft.emitted (Piece.Exit n later)) (c.clause_line.ensures a.writer.now.draft.tables.now);
+    } in
     record {
       left = omega arith;
       tables = ap (λ (x : Writer). x.draft.tables) c.in_ok-clause_at.ensures ∙ v.invariant.tables;
       writer =
-          clause_step later (by one) others a.targets c.in_ok-inner.inner w c.clause_at.new.writer c.end.new.emitted c.exit.new.emitted counted c.in_ok-inner.ensures c.in_ok-end.ensures one_more
-          (c.in_ok-exit.ensures ∙ ap (λ (n : ℕ). onto c.clause_at.new.writer.draft.emitted (Piece.Exit n later)) (c.clause_line.ensures a.writer.now.draft.tables.now))
+          clause_step others counted how
           ∙ ap (λ (cs : List ClauseBy). with_clauses cs a.targets w) (sym left)
           ∙ v.invariant.writer;
     }
