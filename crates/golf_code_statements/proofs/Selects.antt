@@ -53,7 +53,7 @@ select_lays {l} {cs} {u} {w} {w3} {w4} {m1} {m2} {m5} how =
     ∙ ap (with_clauses cs u) (how.chosen_is ∙ ap (λ ms. marked w.facts w.draft (onto ms p)) (how.blocks_are ∙ ap (opened (length cs)) how.block_is))
     ∙ clauses_are p cs u w.facts w.draft begin)
 
--- the end of a block is emitted, the clause is written with its targets, and then the exit, past as many blocks as come later
+-- the end of a block is emitted, the clause is written with its targets, then the exit past the later blocks
 pub record WritesClause (later : ℕ) (c : ClauseBy) (u inner : Targets) (w written : Writer) (ended left : List Emitted) : Type 0 where
   pub inner_is : inner ≡ record { breaks = later; continues = u.continues + (later + 1) }
   pub ended_is : ended ≡ w.draft.emitted ++ emit.End ∷ []

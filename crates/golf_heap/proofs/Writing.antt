@@ -30,7 +30,7 @@ count-written [] k x y g = refl
 count-written (o ∷ os) zero x y g = omega (arith, sum_by-cons (λ o. cond (is_some o) 1 0) o os, sum_by-cons (λ o. cond (is_some o) 1 0) (Some x) os, weight o y g)
 count-written (o ∷ os) (suc k) x y g = omega (arith, count-written os k x y g, sum_by-cons (λ o. cond (is_some o) 1 0) o os, sum_by-cons (λ o. cond (is_some o) 1 0) o (set os k (Some x)))
 
--- the slot of the key, where e was, is another one
+-- the slot of the key had e, and is this one now
 pub record IsChanged (s after : Slots) (key : ℕ) (e : ℕ × Object) (slot : Option (ℕ × Object)) : Type 0 where
   pub was : get s key ≡ Some e
   pub updates : Updates s after key slot

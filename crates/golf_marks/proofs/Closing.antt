@@ -18,7 +18,7 @@ use Rattle.golf_marks.specs.Flags.{IsSet, HasMarked}
 use Rattle.golf_marks.specs.Seats.{claimed, known, parts, claim_count, part_count, IsSeatOf}
 use Rattle.golf_marks.proofs.Flags.{IsSet-below}
 
--- the marking has the bits of the words, first those of the nodes, then those of the sleepers, and the marked nodes in order
+-- the marking has the bits of the words, first of the nodes, then of the sleepers, and the marked nodes in order
 pub record HasBits (words : List ℕ) (nodes sleepers : ℕ) (m : Marked) : Type 0 where
   pub flag_count : length m.flags ≡ nodes
   pub flags : (k : ℕ) → k < nodes → get_or m.flags k false ≡ (bit_at words (0 + k) == 1)

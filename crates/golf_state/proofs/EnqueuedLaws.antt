@@ -115,7 +115,7 @@ put-there g v old gs r rises f i =
 
 -- ---- changes
 
--- whoever else has an earlier ticket stands where he stood, and g stands in the line of the mutex k, if mutexes have lines
+-- whoever else has an earlier ticket stands where he stood; g stands in the line of mutex k, if mutexes have lines
 pub record EntersLine (still : Bool) (old new : WaitQueues) (m g k : ℕ) : Type 0 where
   pub below : AreBelow (m + 1) new
   pub kept : (j t h : ℕ) → (h ≡ g → ⊥) → t < m → Entry (wait_queue_at j old) t h → Entry (wait_queue_at j new) t h
