@@ -32,10 +32,10 @@ passes-more : (code : Code) (globals : List Value) (cs : List ℕ) (c : ℕ) (fs
 passes-more code globals [] c fs ks hs e p = (hs, subst (λ (xs : List FrameView). PassesOnTop code globals xs hs) e p, refl)
 passes-more code globals (d ∷ cs) c fs ks hs e p = (e.0, e.1, passes-more code globals cs c e.0 ks hs e.2 p)
 
-pub one-kept : (b : Bool) (code : Code) (globals : List Value) (fs ks hs : List FrameView) (es later rest : List Event) (n k m c : ℕ) → b ≡ true → HasKeptOn code globals fs ks es later n k → later ≡ Event.Turn c ∷ rest → m ≡ k + 1 → HasPassedOnTop b code globals ks hs
+pub one-kept : {b : Bool} {code : Code} {globals : List Value} {fs ks hs : List FrameView} {es later rest : List Event} {n k m c : ℕ} → b ≡ true → HasKeptOn code globals fs ks es later n k → later ≡ Event.Turn c ∷ rest → m ≡ k + 1 → HasPassedOnTop b code globals ks hs
     → HasKeptOn code globals fs hs es rest n m
-one-kept false code globals fs ks hs es later rest n k m c t w next more p = cc
-one-kept true code globals fs ks hs es later rest n k m c t w next more p =
+one-kept {b = false} t w next more p = cc
+one-kept {b = true} {code} {globals} {fs} {ks} {hs} {rest = rest} {c = c} t w next more p =
     let size = length-append w.taken (c ∷ []) in
     let count = w.count in
     record {

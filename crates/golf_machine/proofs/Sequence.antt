@@ -26,14 +26,13 @@ events-more [] c es = refl
 events-more (d ∷ cs) c es = ap (λ (fs : List Event). Event.Turn d ∷ fs) (events-more cs c es)
 
 -- one turn more, after which the outside is not needed
-pub one-more : (code : Code) (old s t : State) (es later fs : List Event) (n k m c : ℕ) → HasGoneOn code old s es later n k → later ≡ Event.Turn c ∷ fs → m ≡ k + 1 → t ≡ step code s c → stops_after code s c ≡ false
-    → HasGoneOn code old t es fs n m
-one-more code old s t es later fs n k m c w next more is quiet =
+pub one-more : {code : Code} {old s t : State} {es fs : List Event} {n k m c : ℕ} → HasGoneOn code old s es (Event.Turn c ∷ fs) n k → m ≡ k + 1 → t ≡ step code s c → stops_after code s c ≡ false → HasGoneOn code old t es fs n m
+one-more {code} {old} {fs = fs} {c = c} w more is quiet =
     let size = length-append w.taken (c ∷ []) in
     let count = w.count in
     record {
       taken = w.taken ++ c ∷ [];
-      order = w.order ∙ ap (λ (xs : List Event). turn_events w.taken ++ xs) next ∙ events-more w.taken c fs;
+      order = w.order ∙ events-more w.taken c fs;
       count = omega (arith, size, count, more);
       silent = silent-more code old w.taken c w.silent (ap (λ (x : State). stops_after code x c) (sym w.state) ∙ quiet);
       state = is ∙ ap (λ (x : State). step code x c) w.state ∙ sym (steps-more code old w.taken c);
@@ -52,8 +51,8 @@ events-after [] ds es = refl
 events-after (c ∷ cs) ds es = ap (λ (fs : List Event). Event.Turn c ∷ fs) (events-after cs ds es)
 
 -- and then more turns
-gone-after : (code : Code) (old s t : State) (es later fs : List Event) (n k m : ℕ) → HasGoneOn code old s es later n k → HasGoneOn code s t later fs k m → HasGoneOn code old t es fs n m
-gone-after code old s t es later fs n k m v w =
+gone-after : {code : Code} {old s t : State} {es later fs : List Event} {n k m : ℕ} → HasGoneOn code old s es later n k → HasGoneOn code s t later fs k m → HasGoneOn code old t es fs n m
+gone-after {code} {old} {fs = fs} v w =
     let size = length-append v.taken w.taken in
     let first = v.count in
     let second = w.count in
@@ -65,31 +64,25 @@ gone-after code old s t es later fs n k m v w =
       state = w.state ∙ ap (λ (x : State). steps code x w.taken) v.state ∙ sym (steps-after code old v.taken w.taken);
     }
 
-pub asked-after : (o : Option ℕ) (code : Code) (old s t : State) (es later fs : List Event) (n k m : ℕ) → HasGoneOn code old s es later n k → HasAsked o (λ xs j. HasGoneOn code s t later xs k j) fs m → HasAsked o (λ xs j. HasGoneOn code old t es xs n j) fs m
-asked-after None code old s t es later fs n k m v a = (gone-after code old s t es later fs n k m v a.0, a.1)
-asked-after (Some c) code old s t es later fs n k m v a = (a.0, gone-after code old s t es later (Event.Turn c ∷ fs) n k a.0 v a.1, a.2)
+asked-after : {code : Code} {old s : State} {es later : List Event} {n k : ℕ} (o : Option ℕ) (t : State) (fs : List Event) (m : ℕ) → HasGoneOn code old s es later n k → HasAsked o (λ xs j. HasGoneOn code s t later xs k j) fs m → HasAsked o (λ xs j. HasGoneOn code old t es xs n j) fs m
+asked-after None t fs m v a = (gone-after v a.0, a.1)
+asked-after (Some c) t fs m v a = (a.0, gone-after v a.1, a.2)
 
-pub asked-turn : (o : Option ℕ) (c : ℕ) (code : Code) (old s t : State) (es later fs : List Event) (n k m : ℕ) → o ≡ Some c → HasGoneOn code old s es later n k → HasAsked o (λ xs j. HasGoneOn code s t later xs k j) fs m
+pub asked-turn : {c : ℕ} {code : Code} {old s t : State} {es later fs : List Event} {n k m : ℕ} (o : Option ℕ) → o ≡ Some c → HasGoneOn code old s es later n k → HasAsked o (λ xs j. HasGoneOn code s t later xs k j) fs m
     → (j : ℕ) × HasGoneOn code old t es (Event.Turn c ∷ fs) n j × (m ≡ j + 1)
-asked-turn o c code old s t es later fs n k m is v a = subst (λ x. HasAsked x (λ xs j. HasGoneOn code old t es xs n j) fs m) is (asked-after o code old s t es later fs n k m v a)
+asked-turn {code = code} {old = old} {t = t} {es = es} {fs = fs} {n = n} {m = m} o is v a = subst (λ x. HasAsked x (λ xs j. HasGoneOn code old t es xs n j) fs m) is (asked-after o t fs m v a)
 
-pub asked-end : (o : Option ℕ) (code : Code) (old s t : State) (es later fs : List Event) (n k m : ℕ) → o ≡ None → HasGoneOn code old s es later n k → HasAsked o (λ xs j. HasGoneOn code s t later xs k j) fs m
+pub asked-end : {code : Code} {old s t : State} {es later fs : List Event} {n k m : ℕ} (o : Option ℕ) → o ≡ None → HasGoneOn code old s es later n k → HasAsked o (λ xs j. HasGoneOn code s t later xs k j) fs m
     → HasGoneOn code old t es fs n m × (is_turn_next fs ≡ false)
-asked-end o code old s t es later fs n k m is v a = subst (λ x. HasAsked x (λ xs j. HasGoneOn code old t es xs n j) fs m) is (asked-after o code old s t es later fs n k m v a)
+asked-end {code} {old} {t = t} {es = es} {fs = fs} {n = n} {m = m} o is v a = subst (λ x. HasAsked x (λ xs j. HasGoneOn code old t es xs n j) fs m) is (asked-after o t fs m v a)
 
 -- memory ran out for the turn of the last number that was given
-pub failed-asked : (code : Code) (old t : State) (es fs : List Event) (n m : ℕ) → (c : ℕ) → HasAsked (Some c) (λ xs j. HasGoneOn code old t es xs n j) fs m → HasFailed code old t es fs n m
-failed-asked code old t es fs n m c a = (record { state = t; number = c; earlier = a.0; went = a.1; one_more = a.2 }, refl)
+pub failed-asked : {code : Code} {old t : State} {es fs : List Event} {n m : ℕ} (c : ℕ) → HasAsked (Some c) (λ xs j. HasGoneOn code old t es xs n j) fs m → HasFailed code old t es fs n m
+failed-asked {t = t} c a = (record { state = t; number = c; earlier = a.0; went = a.1; one_more = a.2 }, refl)
 
 -- one number more
-abbrev pub last-given : (code : Code) (old s : State) (es later fs : List Event) (n k m c : ℕ) → HasGoneOn code old s es later n k → later ≡ Event.Turn c ∷ fs → m ≡ k + 1 → HasCome code old es fs n m
-last-given code old s es later fs n k m c w next more = record {
-  state = s;
-  number = c;
-  earlier = k;
-  went = subst (λ (xs : List Event). HasGoneOn code old s es xs n k) next w;
-  one_more = more;
-}
+abbrev pub last-given : {code : Code} {old s : State} {es fs : List Event} {n k m c : ℕ} → HasGoneOn code old s es (Event.Turn c ∷ fs) n k → m ≡ k + 1 → HasCome code old es fs n m
+last-given {s = s} {k = k} {c = c} w more = record { state = s; number = c; earlier = k; went = w; one_more = more }
 
 -- what a turn came to, by the state after it
 pub outcome-is : (code : Code) (s t : State) (c : ℕ) (turned : Turned) → t ≡ step code s c → turned ≡ turned_of (ending t) (wants_collection code s c) → turned ≡ outcome_of code s c

@@ -1,7 +1,7 @@
 -- Operands that are taken from the top.
 -- For: `last_of` (golf_machine/specs/Acts.antt) and `taking` (golf_model/specs/Acting.antt)
 -- By: cases of whether there are operands enough; no induction
-use Rattle.std.proofs.Common.{◌≡◌, ℕ, ◌-◌, ◌<◌, ◌≤◌, cond, List, ◌++◌, length, take, drop, Some, None, sym, ap, ◌∙◌, inl, inr}
+use Rattle.std.proofs.Common.{◌≡◌, ℕ, ◌<◌, ◌≤◌, cond, List, ◌++◌, length, take, drop, Some, None, sym, ap, ◌∙◌, inl, inr}
 use Rattle.std.specs.Prelude.{reverse}
 use Rattle.std.proofs.lemmas.Bool.{lt-ltb, le-ltb, cases_lt}
 use Rattle.std.proofs.lemmas.List.{reverse-append, reverse-reverse, length-reverse, take-append-drop, length-take-le}
