@@ -71,7 +71,7 @@ kind_of word utf8 = go (bytes_eq word (45 ∷ 45 ∷ [])) (long_of word) (short_
     go false (Some p) s e is short =
         hyphen e (long_hyphen word p is) (λ h position rest whole. long_is generate_shape h idle position word rest p.0 p.1 None e is refl)
     go false None (Some flags) e is short =
-        hyphen e (short_hyphen word flags short) (λ h position rest whole. short_is generate_shape h idle position word rest flags e is short utf8 whole (λ x. refl))
+        hyphen e (short_hyphen word flags short) (λ h position rest whole. short_is generate_shape h idle position word rest (record { utf8 = utf8; no_dashes = e; no_long = is; is = short }) whole (λ x. refl))
     go false None None e is short = plain e is short
 
 -- the number is there, and nothing more may come

@@ -35,7 +35,7 @@ other_word word rest utf8 e = go (long_of word) (short_of word) refl refl
   where
     go : (l : Option (Text × Option Text)) (s : Option Text) → long_of word ≡ l → short_of word ≡ s → from_start (word ∷ rest) ≡ None
     go (Some p) s is short = long_is meaning_shape nothing_held idle 1 word rest p.0 p.1 None e is refl
-    go None (Some flags) is short = short_is meaning_shape nothing_held idle 1 word rest flags e is short utf8 refl (λ x. refl)
+    go None (Some flags) is short = short_is meaning_shape nothing_held idle 1 word rest (record { utf8 = utf8; no_dashes = e; no_long = is; is = short }) refl (λ x. refl)
     go None None is short = plain_is meaning_shape nothing_held idle 1 word rest e is short
 
 dashes_then : (word : Text) (rest : List Text) → bytes_eq word (45 ∷ 45 ∷ []) ≡ true → from_start (word ∷ rest) ≡ outcome meaning_shape (trailed meaning_shape nothing_held idle 1) rest

@@ -33,12 +33,17 @@ gains_first : (o : Option (List ℕ)) (list new : List ℕ) (n : ℕ) (b : Bool)
 gains_first None list new n b h = h
 gains_first (Some ns) list new n b h = (h.0, h.1 ∙ append_assoc list (n ∷ []) ns)
 
-pub gains_more : (more : ℕ) (text first rest : Text) (list new : List ℕ) (n : ℕ) (b : Bool) → (more ≡ 0 → ⊥) → Some (first, rest) ≡ cut 44 text → Some n ≡ number_of first
-    → Gains (numbers_of (more - 1) rest) (list ++ n ∷ []) new b → Gains (numbers_of more text) list new b
-gains_more more text first rest list new n b some parts is h =
+-- one number at least may come, and the text is a number, a comma and the rest
+pub record IsNumberAndRest (more : ℕ) (text first rest : Text) (n : ℕ) : Type 0 where
+  pub some : more ≡ 0 → ⊥
+  pub parts : Some (first, rest) ≡ cut 44 text
+  pub number : Some n ≡ number_of first
+
+gains_more : {more : ℕ} {text first rest : Text} {n : ℕ} (list new : List ℕ) (b : Bool) → IsNumberAndRest more text first rest n → Gains (numbers_of (more - 1) rest) (list ++ n ∷ []) new b → Gains (numbers_of more text) list new b
+gains_more {more} {text} {rest = rest} {n = n} list new b is h =
     subst (λ o. Gains o list new b)
-    (ap (option_and_then (λ (m : ℕ). option_map (λ (ns : List ℕ). m ∷ ns) (numbers_of (more - 1) rest))) is
-    ∙ ap (λ o. after_comma o text (numbers_of (more - 1))) parts ∙ sym (numbers_more more text some))
+    (ap (option_and_then (λ (m : ℕ). option_map (λ (ns : List ℕ). m ∷ ns) (numbers_of (more - 1) rest))) is.number
+    ∙ ap (λ o. after_comma o text (numbers_of (more - 1))) is.parts ∙ sym (numbers_more more text is.some))
     (gains_first (numbers_of (more - 1) rest) list new n b h)
 
 pub gains_no_first : (more : ℕ) (text first rest : Text) (list : List ℕ) → (more ≡ 0 → ⊥) → Some (first, rest) ≡ cut 44 text → None ≡ number_of first
@@ -49,8 +54,7 @@ gains_no_first more text first rest list some parts is =
     ∙ ap (λ o. after_comma o text (numbers_of (more - 1))) parts ∙ sym (numbers_more more text some))
     refl
 
-pub gains_result : {E : Type 0} (more : ℕ) (text first rest : Text) (list pushed new : List ℕ) (n : ℕ) (r : Result Bool E) → (more ≡ 0 → ⊥) → Some (first, rest) ≡ cut 44 text
-    → Some n ≡ number_of first → pushed ≡ list ++ n ∷ [] → IfOk r (Gains (numbers_of (more - 1) rest) pushed new) → IfOk r (Gains (numbers_of more text) list new)
-gains_result more text first rest list pushed new n (Ok b) some parts is put h =
-    gains_more more text first rest list new n b some parts is (subst (λ old. Gains (numbers_of (more - 1) rest) old new b) put h)
-gains_result more text first rest list pushed new n (Err e) some parts is put h = tt
+pub gains_result : {E : Type 0} {more : ℕ} {text first rest : Text} {pushed : List ℕ} {n : ℕ} (list new : List ℕ) (r : Result Bool E) → IsNumberAndRest more text first rest n → pushed ≡ list ++ n ∷ []
+    → IfOk r (Gains (numbers_of (more - 1) rest) pushed new) → IfOk r (Gains (numbers_of more text) list new)
+gains_result {more = more} {rest = rest} list new (Ok b) is put h = gains_more list new b is (subst (λ old. Gains (numbers_of (more - 1) rest) old new b) put h)
+gains_result list new (Err e) is put h = tt

@@ -111,6 +111,13 @@ bundle_fails c again flags h text whole shorts = go flags text.first text.rest t
         ∙ ap (λ o. fails (bundle_step_fault c again o (y ∷ ys) 0 bare next)) char.1
         ∙ ap (λ o. fails (short_fault c again o (drop (length (encode_utf8 char.0)) (y ∷ ys)) bare (next (drop (length (encode_utf8 char.0)) (y ∷ ys)) 0))) (shorts char.0)
 
+-- the word is `-x..` with these bytes after the hyphen
+pub record IsBundle (word flags : Text) : Type 0 where
+  pub utf8 : IsUtf8 word
+  pub no_dashes : bytes_eq word (45 ∷ 45 ∷ []) ≡ false
+  pub no_long : long_of word ≡ None
+  pub is : short_of word ≡ Some flags
+
 module _ (s : Shape) where
   -- the rows at the end of the words
   abbrev pub ended : Held → Option (List Row)
@@ -192,14 +199,13 @@ module _ (s : Shape) where
       (after_flag s.rules waiting word (long_met s.rules a text h).0 (long_met s.rules a text h).1)) by
 
   -- a word `-x..` of a command without short options
-  pub short_is : (h : Held) (waiting : Waiting) (position : ℕ) (word : Text) (rest : List Text) (flags : Text) → bytes_eq word (45 ∷ 45 ∷ []) ≡ false
-      → long_of word ≡ None → short_of word ≡ Some flags → IsUtf8 word → h.skip ≡ 0 → ((x : ℕ) → arg_by_short s.rules x ≡ None)
+  pub short_is : {flags : Text} (h : Held) (waiting : Waiting) (position : ℕ) (word : Text) (rest : List Text) → IsBundle word flags → h.skip ≡ 0 → ((x : ℕ) → arg_by_short s.rules x ≡ None)
       → outcome (standing h waiting position) (word ∷ rest) ≡ None
-  short_is h waiting position word rest flags e none is utf8 whole shorts =
-      by_long h waiting position word rest None e none
-      ∙ ap (λ o. turned h waiting position word rest (option_map_or (λ t. bundle_fault s.rules s.args_override_self t h) o []) (short_or_plain s.rules waiting word o h)) is
+  short_is {flags} h waiting position word rest short whole shorts =
+      by_long h waiting position word rest None short.no_dashes short.no_long
+      ∙ ap (λ o. turned h waiting position word rest (option_map_or (λ t. bundle_fault s.rules s.args_override_self t h) o []) (short_or_plain s.rules waiting word o h)) short.is
       ∙ unless_or (bundle_fault s.rules s.args_override_self flags h) (step_fault s position met.0 met.1) (outcome (after_step s.rules word (standing h waiting position) met.0 met.1) rest)
-      ∙ unless_fails (bundle_fault s.rules s.args_override_self flags h) _ (bundle_fails s.rules s.args_override_self flags h (short_text word flags is utf8) whole shorts)
+      ∙ unless_fails (bundle_fault s.rules s.args_override_self flags h) _ (bundle_fails s.rules s.args_override_self flags h (short_text word flags short.is short.utf8) whole shorts)
     where
       met : Held × Step
       met = short_or_plain s.rules waiting word (Some flags) h

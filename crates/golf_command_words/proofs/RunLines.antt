@@ -13,7 +13,7 @@ use Rattle.clap.specs.declared.error.kind.ErrorKind.TheVariants.{TooManyValues}
 use Rattle.golf_command_words.specs.Values.{Text}
 use Rattle.golf_command_words.specs.Words.{Use, is_last, option_in, option_met, run_of, uses_after, with_use}
 use Rattle.golf_command_words.specs.Splitting.{run_by, unless_fault}
-use Rattle.golf_command_words.proofs.Outcomes.{fails, long_is, outcome, plain_is, short_is, standing, turned, unless_fails, unless_or}
+use Rattle.golf_command_words.proofs.Outcomes.{IsBundle, fails, long_is, outcome, plain_is, short_is, standing, turned, unless_fails, unless_or}
 use Rattle.golf_command_words.proofs.Runs.{long_hyphen, option_in-long, plain_hyphen, row, rules, run_shape, short_hyphen, use_is}
 use Rattle.golf_command_words.proofs.RunWords.{AtRest, AtValue, at_hyphen, by_word, held, lacks, lacks_fails, rest_dashes, rest_nil, told_use, value_dashes, value_nil, value_none}
 use Rattle.golf_command_words.proofs.RunOptions.{rest_long, rest_none}
@@ -27,10 +27,9 @@ no_option us word rest e none =
     (option_and_then (λ (o : Text × Option Text). option_met us o.0 o.1 (λ now waiting. uses_after now waiting rest)) (option_in word))) e
     ∙ ap (option_and_then (λ (o : Text × Option Text). option_met us o.0 o.1 (λ now waiting. uses_after now waiting rest))) (option_in-long word e ∙ none)
 
-rest_short : (word : Text) (rest : List Text) (flags : Text) → IsUtf8 word → bytes_eq word (45 ∷ 45 ∷ []) ≡ false → long_of word ≡ None → short_of word ≡ Some flags
-    → AtRest (word ∷ rest)
-rest_short word rest flags utf8 e none short rows pending us told same =
-    rest_none word rest rows pending us (short_is run_shape (held rows pending) idle 1 word rest flags e none short utf8 refl (λ x. refl)) (λ now. no_option now word rest e none)
+rest_short : {flags : Text} (word : Text) (rest : List Text) → IsBundle word flags → AtRest (word ∷ rest)
+rest_short word rest short rows pending us told same =
+    rest_none word rest rows pending us (short_is run_shape (held rows pending) idle 1 word rest short refl (λ x. refl)) (λ now. no_option now word rest short.no_dashes short.no_long)
 
 rest_plain : (word : Text) (rest : List Text) → bytes_eq word (45 ∷ 45 ∷ []) ≡ false → long_of word ≡ None → short_of word ≡ None → AtRest (word ∷ rest)
 rest_plain word rest e none short rows pending us told same =
@@ -42,7 +41,7 @@ rest_word word rest utf8 at_rest at_value = go (bytes_eq word (45 ∷ 45 ∷ [])
     go : (b : Bool) (l : Option (Text × Option Text)) (s : Option Text) → bytes_eq word (45 ∷ 45 ∷ []) ≡ b → long_of word ≡ l → short_of word ≡ s → AtRest (word ∷ rest)
     go true l s e is short = rest_dashes word rest e
     go false (Some p) s e is short = rest_long word rest p.0 p.1 e is at_rest at_value
-    go false None (Some flags) e is short = rest_short word rest flags utf8 e is short
+    go false None (Some flags) e is short = rest_short word rest (record { utf8 = utf8; no_dashes = e; no_long = is; is = short })
     go false None None e is short = rest_plain word rest e is short
 
 -- ---- a word if a value is wanted
@@ -71,11 +70,10 @@ value_long word rest name value e is us waits told v =
     ∙ unless_or (long_fault rules false found value h) _ _
     ∙ unless_fails (long_fault rules false found value h) _ (long_fails found value h (lacks_fails us waits v)))
 
-value_short : (word : Text) (rest : List Text) (flags : Text) → IsUtf8 word → bytes_eq word (45 ∷ 45 ∷ []) ≡ false → long_of word ≡ None → short_of word ≡ Some flags
-    → AtValue (word ∷ rest)
-value_short word rest flags utf8 e none short us name told v =
-    value_none word rest us name (short_hyphen word flags short)
-    (short_is run_shape (lacks us name) (option name) 1 word rest flags e none short utf8 refl (λ x. refl))
+value_short : {flags : Text} (word : Text) (rest : List Text) → IsBundle word flags → AtValue (word ∷ rest)
+value_short {flags} word rest short us name told v =
+    value_none word rest us name (short_hyphen word flags short.is)
+    (short_is run_shape (lacks us name) (option name) 1 word rest short refl (λ x. refl))
 
 -- one value is all that it takes
 filled_up : (name word : Text) (a : Rule) → a.id ≡ name → most_values a ≡ 1 → nat_lt (cond (bytes_eq name a.id) (length (word ∷ [])) 0) (most_values a) ≡ false
@@ -103,7 +101,7 @@ value_word word rest utf8 at_rest = go (bytes_eq word (45 ∷ 45 ∷ [])) (long_
     go : (b : Bool) (l : Option (Text × Option Text)) (s : Option Text) → bytes_eq word (45 ∷ 45 ∷ []) ≡ b → long_of word ≡ l → short_of word ≡ s → AtValue (word ∷ rest)
     go true l s e is short = value_dashes word rest e
     go false (Some p) s e is short = value_long word rest p.0 p.1 e is
-    go false None (Some flags) e is short = value_short word rest flags utf8 e is short
+    go false None (Some flags) e is short = value_short word rest (record { utf8 = utf8; no_dashes = e; no_long = is; is = short })
     go false None None e is short = value_plain word rest e is short at_rest
 
 -- ---- the line

@@ -16,9 +16,8 @@ returns-in-None-number t c = gains_no_last c.args.more c.args.text.now c.args.li
 
 pub returns-in_ok-push-in-Some-number-2 : goal.returns-in_ok-push-in-Some-number-2
 returns-in_ok-push-in-Some-number-2 t c =
-    gains_result c.args.more c.args.text.now c.in-Some.first.now c.in-Some.rest.now c.args.list.now c.push-in-Some-number-2.new.self c.add_numbers.new.list
-    c.in-Some-number-2.first c.add_numbers.result c.if-more-eq0.false c.in-Some.ensures c.in-Some-number-2.ensures c.in_ok-push-in-Some-number-2.ensures.ok
-    c.add_numbers.ensures
+    gains_result c.args.list.now c.add_numbers.new.list c.add_numbers.result (record { some = c.if-more-eq0.false; parts = c.in-Some.ensures; number = c.in-Some-number-2.ensures })
+    c.in_ok-push-in-Some-number-2.ensures.ok c.add_numbers.ensures
 
 pub returns-in-None-number-2 : goal.returns-in-None-number-2
 returns-in-None-number-2 t c =
