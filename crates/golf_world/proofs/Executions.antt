@@ -24,6 +24,13 @@ use Rattle.golf_world.specs.declared.history.Stepped.{Stepped}
 use Rattle.golf_world.specs.Steps.{HasAdvanced, Does}
 use Rattle.golf_world.specs.History.{entry, turns, after, reports_after, books, stops, booked, number_at, next_number, IsEntry, IsHistory, IsExecution}
 
+-- a pass takes the next number: it is found by the length of the history and by how many goroutines can run
+pub record TakesNext (code : Code) (passes p number at count : ℕ) (s : State) (b : Book) (es : List HistoryEntry) (rs : List Report) : Type 0 where
+  pub execution : IsExecution code passes s b es rs
+  pub here : at ≡ length es
+  pub many : count ≡ length (runnable s)
+  pub is : number ≡ number_at p at count
+
 module _ (code : Code) where
   abbrev collecting : State → State
   collecting s = real_collect s false (sets_finalisers code)
@@ -183,17 +190,16 @@ module _ (code : Code) where
     execution_next (Some r) t d qs h e = execution_loud t d r qs h.0 h.1 h.2 h.3 e
 
   -- the number is the next one, and picks the goroutine at its place
-  pub next_is : (passes p number at count : ℕ) (s : State) (b : Book) (es : List HistoryEntry) (rs : List Report) → IsExecution code passes s b es rs → at ≡ length es → count ≡ length (runnable s) → number ≡ number_at p at count → number ≡ next_number code p es
-  next_is passes p number at count s b es rs c here many is =
-      let same : count ≡ length (runnable (after code es)) = many ∙ ap (λ (u : State). length (runnable u)) c.state in
-      is ∙ (λ i. number_at p (here i) (same i))
+  pub next_is : {passes number at count : ℕ} {s : State} {b : Book} {es : List HistoryEntry} {rs : List Report} (p : ℕ) → TakesNext code passes p number at count s b es rs → number ≡ next_number code p es
+  next_is {count = count} {es = es} p n =
+      let same : count ≡ length (runnable (after code es)) = n.many ∙ ap (λ (u : State). length (runnable u)) n.execution.state in
+      n.is ∙ (λ i. number_at p (n.here i) (same i))
 
-  pub does_turn : (passes p at number count : ℕ) (s : State) (b : Book) (es old new : List HistoryEntry) (rs : List Report) (qs : List GoroutineId) → IsExecution code passes s b es rs → es ≡ old → at ≡ length es → length es < 100000 → ending s ≡ None
-      → map (λ g. g.0) qs ≡ runnable s → count ≡ length (runnable s) → number ≡ number_at p at count → new ≡ es ++ entry p number ∷ []
+  pub does_turn : {passes at number count : ℕ} {s : State} {b : Book} {es old new : List HistoryEntry} {rs : List Report} (p : ℕ) (qs : List GoroutineId) → TakesNext code passes p number at count s b es rs → length es < 100000 → ending s ≡ None → map (λ g. g.0) qs ≡ runnable s → es ≡ old → new ≡ es ++ entry p number ∷ []
       → Does code p (Stepped.Turned at (get_or qs (number % count) (record { 0 = 0 })) number) old new
-  does_turn passes p at number count s b es old new rs qs c same here few goes told many is made =
-      let lengths : length qs ≡ count = sym (length-map qs (λ (g : GoroutineId). g.0)) ∙ ap (λ (ys : List ℕ). length ys) told ∙ sym many in
+  does_turn {at = at} {number = number} {count = count} {s = s} {es = es} {new = new} p qs n few goes told same made =
+      let lengths : length qs ≡ count = sym (length-map qs (λ (g : GoroutineId). g.0)) ∙ ap (λ (ys : List ℕ). length ys) told ∙ sym n.many in
       let who : whose_turn (after code es) number ≡ Some (get_or qs (number % count) (record { 0 = 0 })).0 =
-      ap (λ (u : State). whose_turn u number) (sym c.state) ∙ whose s number qs told goes ∙ ap (λ (k : ℕ). let d : GoroutineId = record { 0 = 0 } in Some (get_or qs (number % k) d).0) lengths in
+      ap (λ (u : State). whose_turn u number) (sym n.execution.state) ∙ whose s number qs told goes ∙ ap (λ (k : ℕ). let d : GoroutineId = record { 0 = 0 } in Some (get_or qs (number % k) d).0) lengths in
       subst (λ (l : List HistoryEntry). Does code p (Stepped.Turned at (get_or qs (number % count) (record { 0 = 0 })) number) l new) same
-      (here, few, ap ending (sym c.state) ∙ goes, next_is passes p number at count s b es rs c here many is, who, made)
+      (n.here, few, ap ending (sym n.execution.state) ∙ goes, next_is p n, who, made)

@@ -57,8 +57,8 @@ pub record HasJoined (passes : ℕ) (h : List HistoryEntry) (all left : List Pas
   pub view : me ≡ (view_of passes true me.0.held h me.0.earlier, [])
   pub each : (p : Pass) → In p all → In p left ⊎ Knows me.0 p
 
-pub joins_next : (passes : ℕ) (h : List HistoryEntry) (all before left : List Pass) (p : Pass) (me now o : Me (Unit {0}) View) → HasJoined passes h all before me → before ≡ left ++ p ∷ [] → o ≡ (pass_view passes p.number p.mine p.seen, []) → now ≡ (both_views me.0 o.0, me.1) → HasJoined passes h all left now
-joins_next passes h all before left p me now o g e f made =
+pub joins_next : {passes : ℕ} {h : List HistoryEntry} {all before : List Pass} {me now o : Me (Unit {0}) View} (left : List Pass) (p : Pass) → HasJoined passes h all before me → before ≡ left ++ p ∷ [] → o ≡ (pass_view passes p.number p.mine p.seen, []) → now ≡ (both_views me.0 o.0, me.1) → HasJoined passes h all left now
+joins_next {passes} {h} {all} {before} {me} {now} {o} left p g e f made =
     let shape : now ≡ (view_of passes true (pass_entries p.number p.mine ∷ me.0.held) h (p.seen ∷ me.0.earlier), []) = made ∙ (λ i. (both_views (g.view i).0 (f i).0, (g.view i).1)) in
     record {
       view = shape ∙ sym (λ i. (view_of passes true (shape i).0.held h (shape i).0.earlier, []));
@@ -75,8 +75,8 @@ pub joins_all : (passes : ℕ) (h : List HistoryEntry) (all : List Pass) (me : M
 joins_all passes h all me g = Every-from (Knows me.0) all (λ p i. elim (g.each p i) [ inl e ↦ absurd e | inr k ↦ k ])
 
 -- what the rule says of the passes, if the keeper has taken them in
-pub closes : (passes : ℕ) (es h : List HistoryEntry) (s : State (Unit {0}) View) (id : ℕ) (v : View) (all : List Pass) → Holds passes s → get_elem? s.views id ≡ some v → v.keeps ≡ true → v.seen ≡ h → es ≡ h → Every (Knows v) all → Every (IsPassIn es) all
-closes passes es h s id v all holds at keeps seen same knows =
+pub closes : {passes : ℕ} {es h : List HistoryEntry} {s : State (Unit {0}) View} {v : View} (id : ℕ) (all : List Pass) → Holds passes s → get_elem? s.views id ≡ some v → v.keeps ≡ true → v.seen ≡ h → es ≡ h → Every (Knows v) all → Every (IsPassIn es) all
+closes {passes} {es} {h} {s} {v} id all holds at keeps seen same knows =
     let f = holds.views id v at in
     let is : holds.history ≡ es = sym (f.keeps keeps).1 ∙ seen ∙ sym same in
     Every-from (IsPassIn es) all (λ p i.

@@ -311,9 +311,9 @@ joins_as passes id me other w n held seen earlier e = subst (λ (m : Me (Unit {0
 pub splits_as : (passes id : ℕ) (me : Me (Unit {0}) View) (n p : ℕ) (mine : List (ℕ × ℕ)) (hs : List PassEntries) (seen : List HistoryEntry) (earlier : List (List HistoryEntry)) → me ≡ (view_of n true (pass_entries p mine ∷ hs) seen earlier, []) → Splits (Holds passes) id me.0 (left_view me.0) (right_view me.0)
 splits_as passes id me n p mine hs seen earlier e = subst (λ (m : Me (Unit {0}) View). Splits (Holds passes) id m.0 (left_view m.0) (right_view m.0)) (sym e) (splits passes id n p mine hs seen earlier)
 
-pub appends_as : (passes : ℕ) (code : Code) (slots id : ℕ) (me : Me (Unit {0}) View) (n p : ℕ) (mine : List (ℕ × ℕ)) (seen : List HistoryEntry) (earlier : List (List HistoryEntry)) → length seen < 100000 → me ≡ (view_of n true (pass_entries p mine ∷ []) seen earlier, [])
+pub appends_as : {me : Me (Unit {0}) View} (passes : ℕ) (code : Code) (slots id n p : ℕ) (mine : List (ℕ × ℕ)) (seen : List HistoryEntry) (earlier : List (List HistoryEntry)) → length seen < 100000 → me ≡ (view_of n true (pass_entries p mine ∷ []) seen earlier, [])
     → Allows (Holds passes) slots id me 0 (λ n. (n + 1) % 2 ^ 64) (AppendTells code (step slots 0 1 0 none) me)
-appends_as passes code slots id me n p mine seen earlier few e = subst (λ (m : Me (Unit {0}) View). Allows (Holds passes) slots id m 0 (λ n. (n + 1) % 2 ^ 64) (AppendTells code (step slots 0 1 0 none) m)) (sym e) (appends passes code slots id n p mine seen earlier few)
+appends_as {me} passes code slots id n p mine seen earlier few e = subst (λ (m : Me (Unit {0}) View). Allows (Holds passes) slots id m 0 (λ n. (n + 1) % 2 ^ 64) (AppendTells code (step slots 0 1 0 none) m)) (sym e) (appends passes code slots id n p mine seen earlier few)
 
 -- what others had seen is a prefix of what the keeper has seen
 pub first_earlier : (me : Me (Unit {0}) View) (n p : ℕ) (mine : List (ℕ × ℕ)) (h old : List HistoryEntry) → me ≡ joined n p mine h old → Every (λ o. IsPrefix o me.0.seen) me.0.earlier → IsPrefix old h

@@ -23,7 +23,7 @@ loop-pass-preserved g c =
     let i = c.loop-pass.invariant in
     record {
       table = c.join_seat.ensures.0 ∙ i.table;
-      joined = joins_next g.W.WorldName.passes c.args.keeper.me.0.seen c.args.passes c.loop-pass.passes c.pop.new.self c.in-Some.pass c.loop-pass.keeper.me c.join_seat.new.seat.me c.into_seat-seat.result.me i.joined c.in-Some.ensures c.into_seat-seat.ensures.view c.join_seat.ensures.2;
+      joined = joins_next c.pop.new.self c.in-Some.pass i.joined c.in-Some.ensures c.into_seat-seat.ensures.view c.join_seat.ensures.2;
     }
 
 pub returns-clause-passes : goal.returns-clause-passes

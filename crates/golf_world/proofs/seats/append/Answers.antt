@@ -19,7 +19,7 @@ fetch_add-requires g c =
     let o = c.args.own in
     let is = joined_is g.W.WorldName.passes k.me o.me c.args.pass (mine_in o.me.0.held) k.me.0.seen o.me.0.seen c.requires.keeper c.requires.own in
     let then = c.join_seat.ensures.2 ∙ is in
-    (c.join_seat.ensures.0 ∙ c.requires.keeper_table, c.requires.word, appends_as c.args.table.now.key g.W.WorldName.code c.args.table.now.table_id.slots c.join_seat.new.seat.id c.join_seat.new.seat.me g.W.WorldName.passes c.args.pass (mine_in o.me.0.held) k.me.0.seen (o.me.0.seen ∷ []) c.requires.few then)
+    (c.join_seat.ensures.0 ∙ c.requires.keeper_table, c.requires.word, appends_as c.args.table.now.key g.W.WorldName.code c.args.table.now.table_id.slots c.join_seat.new.seat.id g.W.WorldName.passes c.args.pass (mine_in o.me.0.held) k.me.0.seen (o.me.0.seen ∷ []) c.requires.few then)
 
 pub split_seat-requires : goal.split_seat-requires
 split_seat-requires g c =

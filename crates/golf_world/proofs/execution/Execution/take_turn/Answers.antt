@@ -27,7 +27,7 @@ invariant_of-self-2 g c =
     let report : Option Report = c.in_ok-report.report in
     let goes : ending inside.state ≡ None = sym c.ending.ensures ∙ c.in_default.is in
     let few : length es < 100000 = omega (arith, c.len-at.ensures, c.if-at-ge-MOST.false) in
-    let is = next_is code passes c.args.pass n c.len-at.result c.how_many-count.result inside.state inside.book es rs c.self.invariant c.len-at.ensures c.how_many-count.ensures c.number_of-number.ensures in
+    let is = next_is code c.args.pass (record { execution = c.self.invariant; here = c.len-at.ensures; many = c.how_many-count.ensures; is = c.number_of-number.ensures }) in
     let made : c.push_ready.new.self.items ≡ es ++ entry c.args.pass n ∷ [] = c.push_ready.ensures.items ∙ ap (λ (l : List HistoryEntry). l ++ entry c.args.pass n ∷ []) c.reserve.ensures.items in
     let told : c.add_report.new.reports.items ≡ rs ++ option_to_list report = c.add_report.ensures ∙ ap (λ (l : List Report). l ++ option_to_list report) c.reserve-2.ensures.items in
     let went : HasAdvanced code n report inside.state c.turn_and_collect.new.state inside.book c.turn_and_collect.new.book = subst (λ (k : Code). HasAdvanced k n report inside.state c.turn_and_collect.new.state inside.book c.turn_and_collect.new.book) c.requires.code c.in_ok-report.ensures.ok in
@@ -43,5 +43,5 @@ returns-clause-ok g c =
     let goes : ending inside.state ≡ None = sym c.ending.ensures ∙ c.in_default.is in
     let few : length es < 100000 = omega (arith, c.len-at.ensures, c.if-at-ge-MOST.false) in
     let made : c.push_ready.new.self.items ≡ es ++ entry c.args.pass n ∷ [] = c.push_ready.ensures.items ∙ ap (λ (l : List HistoryEntry). l ++ entry c.args.pass n ∷ []) c.reserve.ensures.items in
-    does_turn code g.W.WorldName.passes c.args.pass c.len-at.result n c.how_many-count.result inside.state inside.book es c.args.self.now c.push_ready.new.self.items inside.reports.items c.runnable.result.now
-    c.self.invariant c.self.view_is c.len-at.ensures few goes c.runnable.ensures.runnable c.how_many-count.ensures c.number_of-number.ensures made
+    does_turn code c.args.pass c.runnable.result.now (record { execution = c.self.invariant; here = c.len-at.ensures; many = c.how_many-count.ensures; is = c.number_of-number.ensures })
+    few goes c.runnable.ensures.runnable c.self.view_is made

@@ -7,7 +7,6 @@ use Rattle.golf_world.proofs.world.World.close.Goals as goal
 pub returns-clause-passes : goal.returns-clause-passes
 returns-clause-passes g c =
     let last = c.close_with-closed.ensures.values.2 in
-    let keeper = c.execution.inside.keeper in
     let knows = c.join_passes-keeper in
     let same = c.into_parts.ensures.entries ∙ sym (ap (λ (m : Me (Unit {0}) View). m.0.seen) c.execution.invariant.1) in
-    closes c.args.self.table.shared.key c.into_parts.result.1.entries keeper.me.0.seen last.0 knows.result.id knows.result.me.0 c.args.passes last.1.0 last.1.1 knows.ensures.keeps knows.ensures.seen same knows.ensures.passes
+    closes knows.result.id c.args.passes last.1.0 last.1.1 knows.ensures.keeps knows.ensures.seen same knows.ensures.passes
