@@ -33,18 +33,30 @@ blocked g waits s = looked_up g (λ r. block g WaitKind.Receive 5 waits (advance
 abbrev pub stuck : State
 stuck = blocked 2 (receive_from 1 ∷ []) (spawn (started_at_3 []) (make (channel_of []) (opening [] [] 1)))
 
-pub stuck-is : (globals : List Value) (first second : List FrameView) (buffer : List Value) (waits : List Wait) (g o : ℕ) (s0 s1 s2 s3 : State)
-    → globals ≡ [] → first ≡ [] → second ≡ [] → buffer ≡ [] → waits ≡ receive_from o ∷ []
-    → s0 ≡ opening globals first 1 → s1 ≡ make (channel_of buffer) s0 → o ≡ s0.last_object + 1 → s2 ≡ spawn (started_at_3 second) s1 → g ≡ s1.next_goroutine → s3 ≡ blocked g waits s2 → s3 ≡ stuck
-stuck-is globals first second buffer waits g o s0 s1 s2 s3 e0 e1 e2 e3 e4 a b n c m d =
-    let at0 : s0 ≡ opening [] [] 1 = a ∙ ap (λ (vs : List Value). opening vs first 1) e0 ∙ ap (λ (fs : List FrameView). opening [] fs 1) e1 in
-    let at1 : s1 ≡ make (channel_of []) (opening [] [] 1) = b ∙ ap (λ (vs : List Value). make (channel_of vs) s0) e3 ∙ ap (make (channel_of [])) at0 in
-    let at2 : s2 ≡ spawn (started_at_3 []) (make (channel_of []) (opening [] [] 1)) = c ∙ ap (λ (fs : List FrameView). spawn (started_at_3 fs) s1) e2 ∙ ap (spawn (started_at_3 [])) at1 in
-    let number : o ≡ 1 = n ∙ ap (λ (s : State). s.last_object + 1) at0 in
-    let who : g ≡ 2 = m ∙ ap (λ (s : State). s.next_goroutine) at1 in
-    d ∙ ap (λ (s : State). blocked g waits s) at2
+-- the states one after another: opened, with the channel, with the goroutine, and with it blocked; and what each was made of
+pub record IsBuilt (globals : List Value) (first second : List FrameView) (buffer : List Value) (waits : List Wait) (g o : ℕ) (s0 s1 s2 s3 : State) : Type 0 where
+  pub no_globals : globals ≡ []
+  pub no_first : first ≡ []
+  pub no_second : second ≡ []
+  pub no_buffer : buffer ≡ []
+  pub one_wait : waits ≡ receive_from o ∷ []
+  pub opened : s0 ≡ opening globals first 1
+  pub channel : s1 ≡ make (channel_of buffer) s0
+  pub object : o ≡ s0.last_object + 1
+  pub goroutine : s2 ≡ spawn (started_at_3 second) s1
+  pub number : g ≡ s1.next_goroutine
+  pub stands : s3 ≡ blocked g waits s2
+
+pub stuck-is : {globals : List Value} {first second : List FrameView} {buffer : List Value} {waits : List Wait} {g o : ℕ} {s0 s1 s2 s3 : State} → IsBuilt globals first second buffer waits g o s0 s1 s2 s3 → s3 ≡ stuck
+stuck-is {first = first} {waits = waits} {g} {o} {s0} {s1} {s2} b =
+    let at0 : s0 ≡ opening [] [] 1 = b.opened ∙ ap (λ (vs : List Value). opening vs first 1) b.no_globals ∙ ap (λ (fs : List FrameView). opening [] fs 1) b.no_first in
+    let at1 : s1 ≡ make (channel_of []) (opening [] [] 1) = b.channel ∙ ap (λ (vs : List Value). make (channel_of vs) s0) b.no_buffer ∙ ap (make (channel_of [])) at0 in
+    let at2 : s2 ≡ spawn (started_at_3 []) (make (channel_of []) (opening [] [] 1)) = b.goroutine ∙ ap (λ (fs : List FrameView). spawn (started_at_3 fs) s1) b.no_second ∙ ap (spawn (started_at_3 [])) at1 in
+    let object : o ≡ 1 = b.object ∙ ap (λ (s : State). s.last_object + 1) at0 in
+    let who : g ≡ 2 = b.number ∙ ap (λ (s : State). s.next_goroutine) at1 in
+    b.stands ∙ ap (λ (s : State). blocked g waits s) at2
     ∙ ap (λ (k : ℕ). blocked k waits (spawn (started_at_3 []) (make (channel_of []) (opening [] [] 1)))) who
-    ∙ ap (λ (ws : List Wait). blocked 2 ws (spawn (started_at_3 []) (make (channel_of []) (opening [] [] 1)))) (e4 ∙ ap (λ (k : ℕ). receive_from k ∷ []) number)
+    ∙ ap (λ (ws : List Wait). blocked 2 ws (spawn (started_at_3 []) (make (channel_of []) (opening [] [] 1)))) (b.one_wait ∙ ap (λ (k : ℕ). receive_from k ∷ []) object)
 
 pub stuck-numbered : Numbered stuck
 stuck-numbered = record {

@@ -8,10 +8,19 @@ use Rattle.golf_tests_collection.proofs.states.stuck_state.Goals as goal
 
 made : (c : goal.In_ok-block) → c.block.new.self ≡ stuck
 made c =
-    stuck-is c.new-globals.result (frame_views c.new-first.result) (frame_views c.new-second.result) c.new-buffer.result c.push.new.self c.in_ok-g.g.0 c.in_ok-channel.channel.0 c.in_ok-state.state c.make.new.self c.spawn.new.self c.block.new.self
-    c.new-globals.ensures (ap frame_views c.new-first.ensures) (ap frame_views c.new-second.ensures) c.new-buffer.ensures
-    (c.in_ok-push.ensures.ok ∙ ap (λ (ws : List Wait). ws ++ receive_from c.in_ok-channel.channel.0 ∷ []) c.new-waits.ensures)
-    c.in_ok-state.ensures c.in_ok-channel.ensures.ok c.in_ok-channel.ensures.number c.in_ok-g.ensures.ok c.in_ok-g.ensures.number c.in_ok-block.ensures.ok
+    stuck-is (record {
+      no_globals = c.new-globals.ensures;
+      no_first = ap frame_views c.new-first.ensures;
+      no_second = ap frame_views c.new-second.ensures;
+      no_buffer = c.new-buffer.ensures;
+      one_wait = c.in_ok-push.ensures.ok ∙ ap (λ (ws : List Wait). ws ++ receive_from c.in_ok-channel.channel.0 ∷ []) c.new-waits.ensures;
+      opened = c.in_ok-state.ensures;
+      channel = c.in_ok-channel.ensures.ok;
+      object = c.in_ok-channel.ensures.number;
+      goroutine = c.in_ok-g.ensures.ok;
+      number = c.in_ok-g.ensures.number;
+      stands = c.in_ok-block.ensures.ok;
+    })
 
 pub returns-clause-numbered : goal.returns-clause-numbered
 returns-clause-numbered c = subst Numbered (sym (made c)) stuck-numbered
