@@ -1,7 +1,7 @@
 -- What a run has written if it stops: at its end, all of it.
 -- For: `go_through`, src/turns.rt; `HasGone`, specs/HasGone.antt
 -- By: cases of the outcome; no induction
-use Rattle.std.proofs.Common.{◌≡◌, ℕ, Bool, true, List, [], ◌∷◌, ◌++◌, length, ◌⊎◌, inl, inr, refl, sym, ap, subst, ◌∙◌, append_assoc, append-nil, arith}
+use Rattle.std.proofs.Common.{◌≡◌, ℕ, ◌+◌, Bool, true, List, [], ◌∷◌, ◌++◌, length, ◌⊎◌, inl, inr, refl, sym, ap, subst, ◌∙◌, append_assoc, append-nil, arith}
 use Rattle.std.specs.Prelude.{Option, Some, None, Result, Ok, Err, IsErr, IsErrAnd, is_some}
 use Rattle.std.specs.Io.KnownBytes.{Appends}
 use Rattle.std.proofs.KnownBytes.{Appends-trans, Appends-nil}
@@ -32,7 +32,7 @@ use Rattle.golf_run.specs.HasLeft.{HasLeft}
 use Rattle.golf_run.specs.declared.turns.Course.{Course}
 use Rattle.golf_run.specs.HasRun.{Sinks, sinks, GotWrites, IsSteady, WasCut, WasStopped}
 use Rattle.golf_run.specs.HasGone.{WentThrough, HasGone}
-use Rattle.golf_run.specs.UnderWay.{at, stops_to, reports_to, book_to, told_to, writes_to, real_at, real_stops_to, real_book_to, IsUnderWay}
+use Rattle.golf_run.specs.UnderWay.{at, stops_to, reports_to, book_to, told_to, writes_to, real_at, real_stops_to, real_book_to, IsUnderWay, IsGoing}
 use Rattle.golf_run.proofs.Appending.{run-append, stops-append, reports-append, ended-run, ended-stops}
 use Rattle.golf_run_texts.proofs.Writings.{out-append, err-append}
 use Rattle.golf_run.proofs.Writing.{ended-writes}
@@ -68,96 +68,107 @@ not-none : (o : Option Ending) → is_some o ≡ true → o ≡ None → ⊥
 not-none None h e = cc
 not-none (Some x) h e = cc
 
-module _ (code : Code) (options : RunOptions) (done rest : List Event) (split : events_of options ≡ done ++ rest) (state : State) (ledger : Book) (totals : Totals) (old now : Sinks) (w : IsUnderWay code options.recover options.why done state ledger totals old now) where
+module _ {code : Code} {options : RunOptions} {rest : List Event} {given : ℕ} {state : State} {ledger : Book} {totals : Totals} {old now : Sinks} (g : IsGoing code options rest given state ledger totals old now) where
   -- what was written by then is whole
-  pub got-now : GotWrites (writes_to code options.recover options.why done) old now
-  got-now = (subst (Appends old.out now.out) (sym (out-done code options.recover options.why done)) w.out, subst (Appends old.err now.err) (sym (err-done code options.recover options.why done)) w.err)
+  pub got-now : GotWrites (writes_to code options.recover options.why g.done) old now
+  got-now = (subst (Appends old.out now.out) (sym (out-done code options.recover options.why g.done)) g.under_way.out, subst (Appends old.err now.err) (sym (err-done code options.recover options.why g.done)) g.under_way.err)
 
   pub stopped : IsSteady old now → WasStopped (writes_of code options) old now
-  stopped steady = record { done = writes_to code options.recover options.why done; later = behind code options done rest split; order = writes-split code options done rest split; got = got-now; steady = steady }
-
-  module _ (goes : ending state ≡ None) (e : Event) (rest' : List Event) (next : rest ≡ e ∷ rest') where
-    abbrev pub split-next : events_of options ≡ (done ++ e ∷ []) ++ rest'
-    split-next = split ∙ ap (λ es. done ++ es) next ∙ sym (append_assoc done (e ∷ []) rest')
-
-    abbrev pub followed : List Write
-    followed = followed_by code options.recover options.why done e state goes w.same w.taken (collects code e state)
-
-    abbrev pub behind-next : List Write
-    behind-next = behind code options (done ++ e ∷ []) rest' split-next
-
-    -- what the event prints comes next, and then what the collection that follows tells
-    pub order-next : writes_of code options ≡ (writes_to code options.recover options.why done ++ says code e state) ++ (followed ++ behind-next)
-    order-next =
-        writes-split code options (done ++ e ∷ []) rest' split-next
-        ∙ ap (λ ws. ws ++ behind-next) (writes-next code options.recover options.why done e state goes w.same w.taken)
-        ∙ append_assoc (writes_to code options.recover options.why done ++ says code e state) followed behind-next
-
-    pub order-told : collects code e state ≡ true → writes_of code options ≡ (writes_to code options.recover options.why done ++ says code e state) ++ (line_writes (told_by options.recover (sets_finalisers code) options.why ledger (turned code e state)) ++ behind-next)
-    order-told c =
-        order-next
-        ∙ ap (λ ws. (writes_to code options.recover options.why done ++ says code e state) ++ (ws ++ behind-next))
-        (ap (followed_by code options.recover options.why done e state goes w.same w.taken) c ∙ follows-told code options.recover options.why done e state goes w.same w.taken ledger w.book)
-
-    pub got-said : (out : Option (List ℕ)) (of ef : ℕ) → Appends now.out out (prints code e state) → GotWrites (writes_to code options.recover options.why done ++ says code e state) old (sinks out of now.err ef)
-    got-said out of ef a =
-        let before = writes_to code options.recover options.why done in (
-          subst (Appends old.out out) (ap (λ t. out_bytes before ++ t) (sym (says-out code e state)) ∙ sym (out-append before (says code e state))) (Appends-trans _ _ _ _ _ got-now.0 a),
-          subst (Appends old.err now.err) (sym (append-nil (err_bytes before)) ∙ ap (λ t. err_bytes before ++ t) (sym (says-err code e state)) ∙ sym (err-append before (says code e state))) got-now.1,
-        )
+  stopped steady = record { done = writes_to code options.recover options.why g.done; later = behind code options g.done rest g.split; order = writes-split code options g.done rest g.split; got = got-now; steady = steady }
 
   -- at the end
-  module _ (turns : ℕ) (counted : turns ≡ turns_among done) (over : (is_some (ending state) ≡ true) ⊎ (rest ≡ [])) where
-    ended : (has_ended (at code done) ≡ true) ⊎ (rest ≡ [])
-    ended = elim over [ inl e ↦ inl (ap is_some (same-ending code options.recover done ∙ ap ending w.same) ∙ e) | inr e ↦ inr e ]
+  module _ (over : (is_some (ending state) ≡ true) ⊎ (rest ≡ [])) where
+    ended : (has_ended (at code g.done) ≡ true) ⊎ (rest ≡ [])
+    ended = elim over [ inl e ↦ inl (ap is_some (same-ending code options.recover g.done ∙ ap ending g.under_way.same) ∙ e) | inr e ↦ inr e ]
 
-    last-is : last_of code options ≡ at code done
+    last-is : last_of code options ≡ at code g.done
     last-is = elim ended [
-      | inl e ↦ last-from code options done rest split ∙ ended-run code rest (at code done) e
-      | inr e ↦ last-from code options done rest split ∙ ap (run code (at code done)) e
+      | inl e ↦ last-from code options g.done rest g.split ∙ ended-run code rest (at code g.done) e
+      | inr e ↦ last-from code options g.done rest g.split ∙ ap (run code (at code g.done)) e
     ]
 
-    none-later : later code options done rest split ≡ []
+    none-later : later code options g.done rest g.split ≡ []
     none-later = elim ended [
-      | inl e ↦ ap (reports_from options.recover (sets_finalisers code) (book_to code options.recover done)) (ended-stops code rest (at code done) e)
-      | inr e ↦ ap (λ es. reports_from options.recover (sets_finalisers code) (book_to code options.recover done) (stops_by plain_collect code (at code done) es)) e
+      | inl e ↦ ap (reports_from options.recover (sets_finalisers code) (book_to code options.recover g.done)) (ended-stops code rest (at code g.done) e)
+      | inr e ↦ ap (λ es. reports_from options.recover (sets_finalisers code) (book_to code options.recover g.done) (stops_by plain_collect code (at code g.done) es)) e
     ]
 
-    reports-are : reports_of code options ≡ reports_to code options.recover done
-    reports-are = reports-split code options done rest split ∙ ap (λ rs. reports_to code options.recover done ++ rs) none-later ∙ append-nil (reports_to code options.recover done)
+    reports-are : reports_of code options ≡ reports_to code options.recover g.done
+    reports-are = reports-split code options g.done rest g.split ∙ ap (λ rs. reports_to code options.recover g.done ++ rs) none-later ∙ append-nil (reports_to code options.recover g.done)
 
     ending-is : ending (last_of code options) ≡ ending state
-    ending-is = ap ending last-is ∙ same-ending code options.recover done ∙ ap ending w.same
+    ending-is = ap ending last-is ∙ same-ending code options.recover g.done ∙ ap ending g.under_way.same
 
-    all-turns : ending state ≡ None → turns ≡ turns_among (events_of options)
+    all-turns : ending state ≡ None → given ≡ turns_among (events_of options)
     all-turns goes = elim over [
       | inl e ↦ absurd (not-none (ending state) e goes)
-      | inr e ↦ counted ∙ ap turns_among (sym (split ∙ ap (λ es. done ++ es) e ∙ append-nil done))
+      | inr e ↦ g.turns ∙ ap turns_among (sym (g.split ∙ ap (λ es. g.done ++ es) e ∙ append-nil g.done))
     ]
 
-    real-ended : (is_some (ending state) ≡ true) → has_ended (real_at code options.recover done) ≡ true
-    real-ended e = ap has_ended w.same ∙ e
+    real-ended : (is_some (ending state) ≡ true) → has_ended (real_at code options.recover g.done) ≡ true
+    real-ended e = ap has_ended g.under_way.same ∙ e
 
-    all-written : event_writes_of code options ≡ writes_to code options.recover options.why done
+    all-written : event_writes_of code options ≡ writes_to code options.recover options.why g.done
     all-written =
-        events-split code options done rest split
-        ∙ ap (λ ws. writes_to code options.recover options.why done ++ ws) (elim over [
-          | inl e ↦ ended-writes code options.recover (sets_finalisers code) options.why rest (real_book_to code options.recover done) (real_at code options.recover done) (real-ended e)
-          | inr e ↦ ap (writes_from code options.recover (sets_finalisers code) options.why (real_book_to code options.recover done) (real_at code options.recover done)) e
+        events-split code options g.done rest g.split
+        ∙ ap (λ ws. writes_to code options.recover options.why g.done ++ ws) (elim over [
+          | inl e ↦ ended-writes code options.recover (sets_finalisers code) options.why rest (real_book_to code options.recover g.done) (real_at code options.recover g.done) (real-ended e)
+          | inr e ↦ ap (writes_from code options.recover (sets_finalisers code) options.why (real_book_to code options.recover g.done) (real_at code options.recover g.done)) e
         ])
-        ∙ append-nil (writes_to code options.recover options.why done)
+        ∙ append-nil (writes_to code options.recover options.why g.done)
 
     -- all events came about
-    pub went : (course : Course) → course.turns ≡ turns → course.ending ≡ ending state → course.totals ≡ totals → IsSteady old now → WentThrough course code options old now
+    pub went : (course : Course) → course.turns ≡ given → course.ending ≡ ending state → course.totals ≡ totals → IsSteady old now → WentThrough course code options old now
     unfolding end_of
     went course t e sum steady =
         let all = turns_among (events_of options) in record {
           ends = e ∙ sym ending-is;
-          line = ap (λ n. last_line code.texts n course.ending) t ∙ ap (last_line code.texts turns) e ∙ last-turns code.texts turns all (ending state) all-turns ∙ ap (last_line code.texts all) (sym ending-is);
-          totals = sum ∙ w.summed ∙ ap totals_of (sym reports-are);
+          line = ap (λ n. last_line code.texts n course.ending) t ∙ ap (last_line code.texts given) e ∙ last-turns code.texts given all (ending state) all-turns ∙ ap (last_line code.texts all) (sym ending-is);
+          totals = sum ∙ g.under_way.summed ∙ ap totals_of (sym reports-are);
           got = subst (λ ws. GotWrites ws old now) (sym all-written) got-now;
           steady = steady;
         }
+
+-- the run is under way, its program has not ended, and this event comes next
+pub record IsNext (code : Code) (options : RunOptions) (event : Event) (rest : List Event) (more : ℕ) (state : State) (ledger : Book) (totals : Totals) (old now : Sinks) : Type 0 where
+  pub count : ℕ
+  pub going : IsGoing code options (event ∷ rest) count state ledger totals old now
+  pub goes : ending state ≡ None
+  pub counted : more ≡ count + turns_among (event ∷ [])
+
+module _ {code : Code} {options : RunOptions} {event : Event} {rest : List Event} {more : ℕ} {state : State} {ledger : Book} {totals : Totals} {old now : Sinks} (next : IsNext code options event rest more state ledger totals old now) where
+  pub split-next : events_of options ≡ (next.going.done ++ event ∷ []) ++ rest
+  split-next = next.going.split ∙ sym (append_assoc next.going.done (event ∷ []) rest)
+
+  abbrev pub followed : List Write
+  followed = followed_by code options.recover options.why next.going.done event state next.goes next.going.under_way.same next.going.under_way.taken (collects code event state)
+
+  abbrev pub behind-next : List Write
+  behind-next = behind code options (next.going.done ++ event ∷ []) rest split-next
+
+  -- what the event prints comes next, and then what the collection that follows tells
+  pub order-next : writes_of code options ≡ (writes_to code options.recover options.why next.going.done ++ says code event state) ++ (followed ++ behind-next)
+  order-next =
+      let w = next.going.under_way in
+      writes-split code options (next.going.done ++ event ∷ []) rest split-next
+      ∙ ap (λ ws. ws ++ behind-next) (writes-next code options.recover options.why next.going.done event state next.goes w.same w.taken)
+      ∙ append_assoc (writes_to code options.recover options.why next.going.done ++ says code event state) followed behind-next
+
+  pub order-told : collects code event state ≡ true → writes_of code options ≡ (writes_to code options.recover options.why next.going.done ++ says code event state) ++ (line_writes (told_by options.recover (sets_finalisers code) options.why ledger (turned code event state)) ++ behind-next)
+  order-told c =
+      let w = next.going.under_way in
+      order-next
+      ∙ ap (λ ws. (writes_to code options.recover options.why next.going.done ++ says code event state) ++ (ws ++ behind-next))
+      (ap (followed_by code options.recover options.why next.going.done event state next.goes w.same w.taken) c ∙ follows-told code options.recover options.why next.going.done event state next.goes w.same w.taken ledger w.book)
+
+  pub got-said : (out : Option (List ℕ)) (of ef : ℕ) → Appends now.out out (prints code event state)
+      → GotWrites (writes_to code options.recover options.why next.going.done ++ says code event state) old (sinks out of now.err ef)
+  got-said out of ef a =
+      let before = writes_to code options.recover options.why next.going.done in
+      let got = got-now next.going in (
+        subst (Appends old.out out) (ap (λ t. out_bytes before ++ t) (sym (says-out code event state)) ∙ sym (out-append before (says code event state))) (Appends-trans _ _ _ _ _ got.0 a),
+        subst (Appends old.err now.err) (sym (append-nil (err_bytes before)) ∙ ap (λ t. err_bytes before ++ t) (sym (says-err code event state)) ∙ sym (err-append before (says code event state))) got.1,
+      )
 
 -- answers that are errors
 pub wanting : (r : Result Course RunFault) (code : Code) (options : RunOptions) (old new : Sinks) → IsErr r → IsErrAnd r (λ e. e ≡ faults.Memory) → WasStopped (writes_of code options) old new → HasGone r code options old new
@@ -171,10 +182,9 @@ broken (Err faults.Write) code options old new i a w = w
 broken (Err faults.Memory) code options old new i a w = cc
 
 -- the run before its first event
-pub begins : (code : Code) (recover why : Bool) (state : State) (book : Book) (totals : Totals) (out err : Option (List ℕ)) (of ef : ℕ) → state ≡ start code → book ≡ new_book → totals ≡ totals_of []
-    → IsUnderWay code recover why [] state book totals (record { out = out; out_faults = of; err = err; err_faults = ef }) (record { out = out; out_faults = of; err = err; err_faults = ef })
+pub begins : {code : Code} {recover why : Bool} {state : State} {book : Book} {totals : Totals} {old : Sinks} → state ≡ start code → book ≡ new_book → totals ≡ totals_of [] → IsUnderWay code recover why [] state book totals old old
 unfolding at stops_to reports_to real_at real_stops_to real_book_to told_to
-begins code recover why state book totals out err of ef is none nothing = record {
+begins {code} {state = state} {old = old} is none nothing = record {
   same = sym is;
   leads = subst (Leads code) (sym is) Leads.Start;
   taken = ap (λ (s : State). s.output) is;
@@ -183,39 +193,51 @@ begins code recover why state book totals out err of ef is none nothing = record
   summed = nothing;
   few = (let n = ap (λ (b : Book). b.collections) none in omega (arith, n));
   left = subst (λ (b : Book). HasLeft (numbers b.reclaimed) state) (sym none) (subst (HasLeft []) (sym is) (start-left code));
-  out = Appends-nil out;
-  err = Appends-nil err;
+  out = Appends-nil old.out;
+  err = Appends-nil old.err;
 }
 
--- what stands before a write that did not come about stays
-still : (writes done more : List Write) (old now new : Sinks) → GotWrites done old now → IsSteady old now → writes ≡ done ++ more → new.out ≡ now.out → new.out_faults ≡ now.out_faults → new.err ≡ now.err → new.err_faults ≡ now.err_faults → WasStopped writes old new
-still writes done more old now new got steady order o of e ef = record {
-  done = done;
-  later = more;
-  order = order;
-  got = (subst (λ x. Appends old.out x (out_bytes done)) (sym o) got.0, subst (λ x. Appends old.err x (err_bytes done)) (sym e) got.1);
-  steady = record { out = of ∙ steady.out; err = ef ∙ steady.err };
-}
+-- these writes of the run come next, those before them are whole, and no write has failed
+pub record StandsBefore (code : Code) (options : RunOptions) (next : List Write) (old now : Sinks) : Type 0 where
+  pub done : List Write
+  pub more : List Write
+  pub order : writes_of code options ≡ done ++ (next ++ more)
+  pub got : GotWrites done old now
+  pub steady : IsSteady old now
 
--- a collection that did not go on stops the run
-pub tell-stopped : (recover sets why : Bool) (e : RunFault) (r : Result Totals RunFault) (result : Result Course RunFault) (code : Code) (options : RunOptions) (old now : Sinks) (s after : State) (book next : Book) (err : Option (List ℕ)) (ef : ℕ) → r ≡ Err e
-    → HasTold recover sets why r s after book next now.err err now.err_faults ef → IsErr result → IsErrAnd result (λ x. x ≡ e) → IsSteady old now → (done more : List Write) → GotWrites done old now → (t : State) → s ≡ t
-    → writes_of code options ≡ done ++ (line_writes (told_by recover sets why book t) ++ more) → HasGone result code options old (sinks now.out now.out_faults err ef)
-tell-stopped recover sets why faults.Write r result code options old now s after book next err ef is h i a steady done more got t stands order =
-    let told = subst (λ x. HasTold recover sets why x s after book next now.err err now.err_faults ef) is h in
-    broken result code options old _ i a (lines-cut (writes_of code options) done more (told_by recover sets why book t) order old now got err ef (subst (λ x. IsCutIn (told_by recover sets why book x) now.err err) stands told.0) steady.out (subst (λ n. Rose n ef) steady.err told.1))
-tell-stopped recover sets why faults.Memory r result code options old now s after book next err ef is h i a steady done more got t stands order =
-    let told = subst (λ x. HasTold recover sets why x s after book next now.err err now.err_faults ef) is h in
-    wanting result code options old _ i a (lines-stopped (writes_of code options) done more (told_by recover sets why book t) order old now got err ef (subst (λ x. IsStoppedIn (told_by recover sets why book x) now.err err) stands told.0) steady.out (told.1 ∙ steady.err))
+-- the report of a collection on this state was not told to its end
+pub record FailsToTell (recover sets why : Bool) (book : Book) (told : State) (e : RunFault) (now : Sinks) (err : Option (List ℕ)) (ef : ℕ) : Type 0 where
+  pub outcome : Result Totals RunFault
+  pub state : State
+  pub later : State
+  pub next : Book
+  pub was : outcome ≡ Err e
+  pub stands : state ≡ told
+  pub has_told : HasTold recover sets why outcome state later book next now.err err now.err_faults ef
 
--- a turn that did not go on stops it too
-pub turn-stopped : (e : RunFault) (r : Result Bool RunFault) (result : Result Course RunFault) (code : Code) (options : RunOptions) (old now : Sinks) (event : Event) (s after : State) (out : Option (List ℕ)) (of : ℕ) → r ≡ Err e → HasTurned r code event s after now.out out now.out_faults of → IsErr result → IsErrAnd result (λ x. x ≡ e)
-    → IsSteady old now → (done more : List Write) → GotWrites done old now → writes_of code options ≡ (done ++ says code event s) ++ more → HasGone result code options old (sinks out of now.err now.err_faults)
-turn-stopped faults.Write r result code options old now (Event.Turn c) s after out of is h i a steady done more got order =
-    let t = subst (λ x. HasTurned x code (Event.Turn c) s after now.out out now.out_faults of) is h in
-    broken result code options old _ i a (out-cut (writes_of code options) done more old now got (step code s c).output (order ∙ append_assoc done (says code (Event.Turn c) s) more) out of now.err_faults t.0 (subst (λ n. Rose n of) steady.out t.1) steady.err)
-turn-stopped faults.Memory r result code options old now (Event.Turn c) s after out of is h i a steady done more got order =
-    let t = subst (λ x. HasTurned x code (Event.Turn c) s after now.out out now.out_faults of) is h in
-    wanting result code options old _ i a (still (writes_of code options) done (says code (Event.Turn c) s ++ more) old now _ got steady (order ∙ append_assoc done (says code (Event.Turn c) s) more) t.0 t.1 refl refl)
-turn-stopped faults.Write r result code options old now Event.Collect s after out of is h i a steady done more got order = absurd (subst (λ x. HasTurned x code Event.Collect s after now.out out now.out_faults of) is h)
-turn-stopped faults.Memory r result code options old now Event.Collect s after out of is h i a steady done more got order = absurd (subst (λ x. HasTurned x code Event.Collect s after now.out out now.out_faults of) is h)
+-- that stops the run
+pub tell-stopped : {recover sets why : Bool} {book : Book} {told : State} {e : RunFault} {code : Code} {options : RunOptions} {old now : Sinks} {err : Option (List ℕ)} {ef : ℕ} (result : Result Course RunFault) → IsErr result → IsErrAnd result (λ x. x ≡ e)
+    → StandsBefore code options (line_writes (told_by recover sets why book told)) old now → FailsToTell recover sets why book told e now err ef → HasGone result code options old (sinks now.out now.out_faults err ef)
+tell-stopped {recover} {sets} {why} {book} {told} {e = faults.Write} {code = code} {options = options} {old = old} {now = now} {err = err} {ef = ef} result failed same b f =
+    let left = subst (λ x. HasTold recover sets why x f.state f.later book f.next now.err err now.err_faults ef) f.was f.has_told in
+    broken result code options old _ failed same (lines-cut (writes_of code options) b.done b.more (told_by recover sets why book told) b.order old now b.got err ef (subst (λ x. IsCutIn (told_by recover sets why book x) now.err err) f.stands left.0) b.steady.out (subst (λ n. Rose n ef) b.steady.err left.1))
+tell-stopped {recover} {sets} {why} {book} {told} {e = faults.Memory} {code = code} {options = options} {old = old} {now = now} {err = err} {ef = ef} result failed same b f =
+    let left = subst (λ x. HasTold recover sets why x f.state f.later book f.next now.err err now.err_faults ef) f.was f.has_told in
+    wanting result code options old _ failed same (lines-stopped (writes_of code options) b.done b.more (told_by recover sets why book told) b.order old now b.got err ef (subst (λ x. IsStoppedIn (told_by recover sets why book x) now.err err) f.stands left.0) b.steady.out (left.1 ∙ b.steady.err))
+
+-- an event in this state did not come about
+pub record FailsToTurn (code : Code) (event : Event) (s : State) (e : RunFault) (now : Sinks) (out : Option (List ℕ)) (of : ℕ) : Type 0 where
+  pub after : State
+  pub failed : HasTurned (Err e) code event s after now.out out now.out_faults of
+
+-- that stops it too
+pub turn-stopped : {code : Code} {options : RunOptions} {event : Event} {s : State} {e : RunFault} {old now : Sinks} {out : Option (List ℕ)} {of : ℕ} (result : Result Course RunFault) → IsErr result → IsErrAnd result (λ x. x ≡ e)
+    → StandsBefore code options (says code event s) old now → FailsToTurn code event s e now out of → HasGone result code options old (sinks out of now.err now.err_faults)
+turn-stopped {code} {options} {event = Event.Turn c} {s = s} {e = faults.Write} {old = old} {now = now} {out = out} {of = of} result failed same b f =
+    broken result code options old _ failed same (out-cut (writes_of code options) b.done b.more old now b.got (step code s c).output b.order out of now.err_faults f.failed.0 (subst (λ n. Rose n of) b.steady.out f.failed.1) b.steady.err)
+turn-stopped {code} {options} {event = Event.Turn c} {s = s} {e = faults.Memory} {old = old} {now = now} {out = out} {of = of} result failed same b f =
+    let here : sinks out of now.err now.err_faults ≡ now = λ i. sinks (f.failed.0 i) (f.failed.1 i) now.err now.err_faults in
+    let stands : WasStopped (writes_of code options) old now = record { done = b.done; later = says code (Event.Turn c) s ++ b.more; order = b.order; got = b.got; steady = b.steady } in
+    wanting result code options old _ failed same (subst (WasStopped (writes_of code options) old) (sym here) stands)
+turn-stopped {event = Event.Collect} {e = faults.Write} result failed same b f = absurd f.failed
+turn-stopped {event = Event.Collect} {e = faults.Memory} result failed same b f = absurd f.failed

@@ -169,14 +169,14 @@ module _ (code : Code) (recover : Bool) (done : List Event) (e : Event) (state :
   one-more = length-append done (e ∷ [])
 
 -- the run under way, one event on
-module _ (code : Code) (recover why : Bool) (done : List Event) (e : Event) (state : State) (ledger : Book) (totals : Totals) (old now : Sinks) (goes : ending state ≡ None) (w : IsUnderWay code recover why done state ledger totals old now) where
+module _ {code : Code} {recover why : Bool} {done : List Event} {state : State} {ledger : Book} {totals : Totals} {old now : Sinks} (e : Event) (goes : ending state ≡ None) (w : IsUnderWay code recover why done state ledger totals old now) where
   out-next : (out : Option (List ℕ)) → Appends now.out out (prints code e state) → Appends old.out out (at code (done ++ e ∷ [])).output
   out-next out a = subst (Appends old.out out) (sym (grown code recover done e state goes w.same w.taken)) (Appends-trans _ _ _ _ _ w.out a)
 
   -- without a collection
-  pub quiet : (out : Option (List ℕ)) (of ef : ℕ) → Appends now.out out (prints code e state) → collects code e state ≡ false
+  pub quiet : {out : Option (List ℕ)} {of ef : ℕ} → Appends now.out out (prints code e state) → collects code e state ≡ false
       → IsUnderWay code recover why (done ++ e ∷ []) (turned code e state) ledger totals old (record { out = out; out_faults = of; err = now.err; err_faults = ef })
-  quiet out of ef a h =
+  quiet {out = out} a h =
       let m = silent code recover done e state goes w.same w.taken h in
       record {
         same = same-next code recover done e state goes w.same w.taken ∙ ap (λ b. prefixed (real_at code recover (done ++ e ∷ [])).output (after code recover done e state goes w.same w.taken b)) h;
@@ -192,12 +192,12 @@ module _ (code : Code) (recover why : Bool) (done : List Event) (e : Event) (sta
       }
 
   -- with one
-  pub loud : (out err : Option (List ℕ)) (of ef : ℕ) (sum : Totals) (later : State) (next : Book) → Appends now.out out (prints code e state) → collects code e state ≡ true
+  pub loud : {out err : Option (List ℕ)} {of ef : ℕ} {sum : Totals} {later : State} {next : Book} → Appends now.out out (prints code e state) → collects code e state ≡ true
       → sum ≡ totalled recover (sets_finalisers code) ledger (turned code e state) → later ≡ collected recover (sets_finalisers code) (turned code e state) → next ≡ noted recover (sets_finalisers code) ledger (turned code e state)
       → Appends now.err err (joined (told_by recover (sets_finalisers code) why ledger (turned code e state)))
       → IsUnderWay code recover why (done ++ e ∷ []) later next sum old (record { out = out; out_faults = of; err = err; err_faults = ef })
   unfolding noted collected totalled
-  loud out err of ef sum later next a h who left is t =
+  loud {out = out} {err = err} {later = later} {next = next} a h who left is t =
       let sets = sets_finalisers code in
       let stands : State = turned code e state in
       let leads = turned-leads code e state goes w.leads in

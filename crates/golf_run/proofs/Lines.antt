@@ -32,9 +32,9 @@ module _ {A : Type 0} where
   line-whole x line old new f h a steady = (subst (Appends old new) (sym (append-nil line)) a, steady)
 
   -- after lines that are whole
-  pub written-after : (r : Result A RunFault) (a b : List (List ℕ)) (old mid new : Option (List ℕ)) (f g h : ℕ) → Appends old mid (joined a) → g ≡ f → HasWritten r b mid new g h → HasWritten r (a ++ b) old new f h
-  written-after (Ok x) a b old mid new f g h before steady w = (subst (Appends old new) (sym (joined-append a b)) (Appends-trans _ _ _ _ _ before w.0), w.1 ∙ steady)
-  written-after (Err faults.Write) a b old mid new f g h before steady w = (
+  pub written-after : {f g : ℕ} (r : Result A RunFault) (a b : List (List ℕ)) (old mid new : Option (List ℕ)) (h : ℕ) → Appends old mid (joined a) → g ≡ f → HasWritten r b mid new g h → HasWritten r (a ++ b) old new f h
+  written-after (Ok x) a b old mid new h before steady w = (subst (Appends old new) (sym (joined-append a b)) (Appends-trans _ _ _ _ _ before w.0), w.1 ∙ steady)
+  written-after (Err faults.Write) a b old mid new h before steady w = (
     record {
       done = a ++ w.0.done;
       cut = w.0.cut;
@@ -47,7 +47,7 @@ module _ {A : Type 0} where
     },
     subst (λ n. Rose n h) steady w.1,
   )
-  written-after (Err faults.Memory) a b old mid new f g h before steady w = (
+  written-after (Err faults.Memory) a b old mid new h before steady w = (
     record {
       done = a ++ w.0.done;
       later = w.0.later;
@@ -79,14 +79,32 @@ same-error : (A B : Type 0) (e : RunFault) (lines : List (List ℕ)) (old new : 
 same-error A B faults.Write lines old new f h w = w
 same-error A B faults.Memory lines old new f h w = w
 
-pub passed : {A B : Type 0} (e : RunFault) (r : Result A RunFault) (r' : Result B RunFault) (lines : List (List ℕ)) (old new : Option (List ℕ)) (f h : ℕ) → r ≡ Err e → HasWritten r lines old new f h → IsErr r' → IsErrAnd r' (λ x. x ≡ e) → HasWritten r' lines old new f h
-passed e r (Ok x) lines old new f h is w i a = cc
-passed {A = A} {B = B} e r (Err x) lines old new f h is w i a =
-    let there : r ≡ Err x = is ∙ ap (λ y. Err y) (sym a) in
-    same-error A B x lines old new f h (subst (λ y. HasWritten y lines old new f h) there w)
+-- a call that was to write these lines failed, and its error is the answer
+pub record PassesOn (A : Type 0) {B : Type 0} (answer : Result B RunFault) (lines : List (List ℕ)) (old new : Option (List ℕ)) (f h : ℕ) : Type 0 where
+  pub fault : RunFault
+  pub outcome : Result A RunFault
+  pub was : outcome ≡ Err fault
+  pub written : HasWritten outcome lines old new f h
+  pub failed : IsErr answer
+  pub same : IsErrAnd answer (λ e. e ≡ fault)
 
-pub passed-early : {A B : Type 0} (e : RunFault) (r : Result A RunFault) (r' : Result B RunFault) (lines more : List (List ℕ)) (old new : Option (List ℕ)) (f h : ℕ) → r ≡ Err e → HasWritten r lines old new f h → IsErr r' → IsErrAnd r' (λ x. x ≡ e) → HasWritten r' (lines ++ more) old new f h
-passed-early {A = A} {B = B} e r r' lines more old new f h is w i a = passed {A = A} {B = B} e (Err e) r' (lines ++ more) old new f h refl (early A e lines more old new f h (subst (λ y. HasWritten y lines old new f h) is w)) i a
+pub passed : {A B : Type 0} {answer : Result B RunFault} {lines : List (List ℕ)} {old new : Option (List ℕ)} {f h : ℕ} → PassesOn A answer lines old new f h → HasWritten answer lines old new f h
+passed {answer = Ok x} p = let i = p.failed in cc
+passed {A} {B} {answer = Err x} {lines} {old} {new} {f} {h} p =
+    let there : p.outcome ≡ Err x = p.was ∙ ap (λ y. Err y) (sym p.same) in
+    same-error A B x lines old new f h (subst (λ y. HasWritten y lines old new f h) there p.written)
+
+pub passed-early : {A B : Type 0} {answer : Result B RunFault} {lines : List (List ℕ)} {old new : Option (List ℕ)} {f h : ℕ} (more : List (List ℕ)) → PassesOn A answer lines old new f h → HasWritten answer (lines ++ more) old new f h
+passed-early {A} {B} {answer} {lines} {old} {new} {f} {h} more p =
+    let first : PassesOn A answer (lines ++ more) old new f h = record {
+      fault = p.fault;
+      outcome = Err p.fault;
+      was = refl;
+      written = early A p.fault lines more old new f h (subst (λ y. HasWritten y lines old new f h) p.was p.written);
+      failed = p.failed;
+      same = p.same;
+    } in
+    passed first
 
 -- ---- the lines of things that are counted from 0
 
@@ -115,13 +133,13 @@ module _ {X : Type 0} (one : ℕ → X → List (List ℕ)) (all : ℕ → List 
       let next : suc i ≡ i + 1 = omega arith in
       subst (Appends old new) (sym (joined-append (all 0 (take i xs)) (one i (get_or xs i d))) ∙ ap joined (sym (grown xs 0 i i d (omega arith) l) ∙ ap (λ n. all 0 (take n xs)) next)) (Appends-trans _ _ _ _ _ before a)
 
-  pub loop-cut : {A B : Type 0} (e : RunFault) (r : Result A RunFault) (r' : Result B RunFault) (xs : List X) (i : ℕ) (d : X) (old mid new : Option (List ℕ)) (f g h : ℕ) → i < length xs → Appends old mid (joined (all 0 (take i xs))) → g ≡ f → r ≡ Err e → HasWritten r (one i (get_or xs i d)) mid new g h → IsErr r' → IsErrAnd r' (λ x. x ≡ e)
-      → HasWritten r' (all 0 xs) old new f h
-  loop-cut e r r' xs i d old mid new f g h l before steady is w s a =
+  pub loop-cut : {A B : Type 0} {answer : Result B RunFault} {mid new : Option (List ℕ)} {f g h : ℕ} (xs : List X) (i : ℕ) (d : X) (old : Option (List ℕ)) → i < length xs → Appends old mid (joined (all 0 (take i xs))) → g ≡ f → PassesOn A answer (one i (get_or xs i d)) mid new g h
+      → HasWritten answer (all 0 xs) old new f h
+  loop-cut {answer = answer} {mid = mid} {new = new} {f = f} {h = h} xs i d old l before steady p =
       let this = one i (get_or xs i d) in
       let rest = all (i + 1) (drop (suc i) xs) in
-      subst (λ ls. HasWritten r' ls old new f h) (sym (split xs 0 i i d (omega arith) l))
-      (written-after r' (all 0 (take i xs)) (this ++ rest) old mid new f g h before steady (passed-early e r r' this rest mid new g h is w s a))
+      subst (λ ls. HasWritten answer ls old new f h) (sym (split xs 0 i i d (omega arith) l))
+      (written-after answer (all 0 (take i xs)) (this ++ rest) old mid new h before steady (passed-early rest p))
 
 -- what is told of each of them by number, one line or none
 pub one-line : (line : List ℕ) (old new : Option (List ℕ)) → Appends old new line → Appends old new (joined (line ∷ []))

@@ -1,7 +1,7 @@
 -- What was printed before changes nothing of a collection, with recovery or without.
 -- For: `real_collect`, golf_model/specs/Collecting.antt; `told_by`, specs/Told.antt
 -- By: computing; cases of whether there is recovery
-use Rattle.std.proofs.Common.{◌≡◌, ℕ, ◌+◌, Bool, true, false, List, [], ◌∷◌, ◌++◌, length, map, refl, ap, ◌∙◌}
+use Rattle.std.proofs.Common.{◌≡◌, ℕ, ◌+◌, Bool, true, false, List, ◌∷◌, ◌++◌, length, map, refl, ap, ◌∙◌}
 use Rattle.golf_data.specs.declared.report.Book.{Book}
 use Rattle.golf_model.specs.State.{State}
 use Rattle.golf_model.specs.Reaching.{reach}

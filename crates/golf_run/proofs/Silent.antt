@@ -19,6 +19,7 @@ use Rattle.golf_run.specs.Happening.{turned, prints}
 use Rattle.golf_run.specs.HasRun.{Sinks}
 use Rattle.golf_run.specs.UnderWay.{IsGoing}
 use Rattle.golf_run.specs.Advancing.{HasComeTo, HasStopped}
+use Rattle.golf_run.proofs.Ending.{IsNext}
 use Rattle.golf_run.proofs.Stepping.{going-quiet}
 
 -- what such a turn leaves
@@ -41,7 +42,11 @@ pub still-goes : (code : Code) (cs : List ℕ) (s : State) → ending s ≡ None
 still-goes code [] s goes g = goes
 still-goes code (c ∷ cs) s goes g = still-goes code cs (step code s c) (silent code s c g.0).goes g.1
 
-module _ (code : Code) (options : RunOptions) (ledger : Book) (totals : Totals) (old now : Sinks) where
+-- the event comes in a state that has not ended
+pub come-goes : {code : Code} {s : State} {event : Event} {before after : List Event} {n m : ℕ} (c : HasComeTo code s event before after n m) → ending c.state ≡ None
+come-goes {code} {s} c = ap ending c.silent.state ∙ still-goes code c.silent.taken s c.begins c.silent.silent
+
+module _ {code : Code} {options : RunOptions} {ledger : Book} {totals : Totals} {old now : Sinks} where
   same-count : (n m : ℕ) (after : List Event) (s : State) → n ≡ m → IsGoing code options after n s ledger totals old now → IsGoing code options after m s ledger totals old now
   same-count n m after s e g = subst (λ k. IsGoing code options after k s ledger totals old now) e g
 
@@ -53,33 +58,30 @@ module _ (code : Code) (options : RunOptions) (ledger : Book) (totals : Totals) 
       let e = Event.Turn c in
       let kept : turned code e s ≡ step code s c = ap (λ (o : List ℕ). record (step code s c) { output = o }) (sym q.none) in
       let appends : Appends now.out now.out (prints code e s) = subst (Appends now.out now.out) (sym q.none) (Appends-nil now.out) in
+      let comes : IsNext code options e (turn_events cs ++ after) (n + 1) s ledger totals old now = record { count = n; going = going; goes = goes; counted = refl } in
       let one : IsGoing code options (turn_events cs ++ after) (n + 1) (turned code e s) ledger totals old now =
-      going-quiet code options (e ∷ (turn_events cs ++ after)) (turn_events cs ++ after) n (n + 1) e s ledger totals old now going goes refl refl now.out now.out_faults now.err_faults appends q.quiet in
+      going-quiet comes {out = now.out} {of = now.out_faults} {ef = now.err_faults} appends q.quiet in
       let next = subst (λ (t : State). IsGoing code options (turn_events cs ++ after) (n + 1) t ledger totals old now) kept one in
       same-count (n + 1 + length cs) (n + length (c ∷ cs)) after (steps code (step code s c) cs) (omega arith)
       (silent-going cs after (n + 1) (step code s c) next q.goes g.1)
 
-  pub gone-going : (s t : State) (before after : List Event) (n m : ℕ) → IsGoing code options before n s ledger totals old now → ending s ≡ None → HasGoneOn code s t before after n m → IsGoing code options after m t ledger totals old now
-  gone-going s t before after n m going goes w =
+  gone-going : {s t : State} {before after : List Event} {n m : ℕ} → IsGoing code options before n s ledger totals old now → ending s ≡ None → HasGoneOn code s t before after n m → IsGoing code options after m t ledger totals old now
+  gone-going {s = s} {after = after} {n = n} {m = m} going goes w =
       let first = subst (λ (es : List Event). IsGoing code options es n s ledger totals old now) w.order going in
       subst (λ (x : State). IsGoing code options after m x ledger totals old now) (sym w.state)
       (same-count (n + length w.taken) m after (steps code s w.taken) (sym w.count) (silent-going w.taken after n s first goes w.silent))
 
   -- up to the event that comes next
-  pub come-going : (s : State) (event : Event) (before after : List Event) (n m : ℕ) (c : HasComeTo code s event before after n m) → IsGoing code options before n s ledger totals old now → IsGoing code options (event ∷ after) c.earlier c.state ledger totals old now
-  come-going s event before after n m c going = gone-going s c.state before (event ∷ after) n c.earlier going c.begins c.silent
+  pub come-next : {s : State} {event : Event} {before after : List Event} {n m : ℕ} (c : HasComeTo code s event before after n m) → IsGoing code options before n s ledger totals old now → IsNext code options event after m c.state ledger totals old now
+  come-next c going = record { count = c.earlier; going = gone-going going c.begins c.silent; goes = come-goes c; counted = c.count }
 
--- nothing is left, or the program has ended
-pub stopped-going : (code : Code) (options : RunOptions) (ledger : Book) (totals : Totals) (old now : Sinks) (s t : State) (before after : List Event) (n m : ℕ) → HasStopped code s t before after n m → IsGoing code options before n s ledger totals old now
-    → IsGoing code options after m t ledger totals old now × ((is_some (ending t) ≡ true) ⊎ (after ≡ []))
-stopped-going code options ledger totals old now s t before after n m (inl e) g = (
-  subst (λ (x : State). IsGoing code options after m x ledger totals old now) (sym e.1)
-      (subst (λ (es : List Event). IsGoing code options es m s ledger totals old now) (sym e.2)
-      (subst (λ k. IsGoing code options before k s ledger totals old now) (sym e.3) g)),
-  inl (ap (λ (x : State). is_some (ending x)) e.1 ∙ e.0),
-)
-stopped-going code options ledger totals old now s t before after n m (inr e) g = (gone-going code options ledger totals old now s t before after n m g e.0 e.2, inr e.1)
-
--- the event comes in a state that has not ended
-pub come-goes : (code : Code) (s : State) (event : Event) (before after : List Event) (n m : ℕ) (c : HasComeTo code s event before after n m) → ending c.state ≡ None
-come-goes code s event before after n m c = ap ending c.silent.state ∙ still-goes code c.silent.taken s c.begins c.silent.silent
+  -- nothing is left, or the program has ended
+  pub stopped-going : {s t : State} {before after : List Event} {n m : ℕ} → HasStopped code s t before after n m → IsGoing code options before n s ledger totals old now
+      → IsGoing code options after m t ledger totals old now × ((is_some (ending t) ≡ true) ⊎ (after ≡ []))
+  stopped-going {s = s} {before = before} {after = after} {m = m} (inl e) g = (
+    subst (λ (x : State). IsGoing code options after m x ledger totals old now) (sym e.1)
+        (subst (λ (es : List Event). IsGoing code options es m s ledger totals old now) (sym e.2)
+        (subst (λ k. IsGoing code options before k s ledger totals old now) (sym e.3) g)),
+    inl (ap (λ (x : State). is_some (ending x)) e.1 ∙ e.0),
+  )
+  stopped-going (inr e) g = (gone-going g e.0 e.2, inr e.1)

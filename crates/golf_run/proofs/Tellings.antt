@@ -18,7 +18,7 @@ use Rattle.golf_run.specs.declared.fault.RunFault.{RunFault}
 use Rattle.golf_run.specs.declared.fault.RunFault.TheVariants as faults
 use Rattle.golf_run.specs.Lines.{HasWritten}
 use Rattle.golf_run.specs.Told.{told, told_by, noted, collected, totals_by, totalled, HasTold, ExplainsIf, explained_lines}
-use Rattle.golf_run.proofs.Lines.{passed, stopped-before}
+use Rattle.golf_run.proofs.Lines.{PassesOn, passed, stopped-before}
 
 -- what was made of the state tells what is asked for
 explained : (why : Bool) (s : State) (o : Option Explanation) (n : ℕ) → ExplainsIf why s o → explained_lines n o ≡ why_lines why n s
@@ -48,10 +48,8 @@ module _ (recover sets : Bool) (book : Book) (s : State) where
   collected-told after e = e
 
   -- it did not go on
-  pub told-failed : (why : Bool) (e : RunFault) (w : Result Unit RunFault) (r : Result Totals RunFault) (after : State) (now : Book) (lines : List (List ℕ)) (err err' : Option (List ℕ)) (f f' : ℕ) → w ≡ Err e → HasWritten w lines err err' f f' → lines ≡ told_by recover sets why book s
-      → IsErr r → IsErrAnd r (λ x. x ≡ e) → HasTold recover sets why r s after book now err err' f f'
-  told-failed why e w r after now lines err err' f f' is h same i a =
-      by_error r i (passed e w r (told_by recover sets why book s) err err' f f' is (subst (λ ls. HasWritten w ls err err' f f') same h) i a)
+  pub told-failed : {r : Result Totals RunFault} {lines : List (List ℕ)} {err err' : Option (List ℕ)} {f f' : ℕ} (why : Bool) (after : State) (now : Book) → lines ≡ told_by recover sets why book s → PassesOn Unit r lines err err' f f' → HasTold recover sets why r s after book now err err' f f'
+  told-failed {r} {err = err} {err' = err'} {f = f} {f' = f'} why after now same p = by_error r p.failed (subst (λ ls. HasWritten r ls err err' f f') same (passed p))
     where
       by_error : (x : Result Totals RunFault) → IsErr x → HasWritten x (told_by recover sets why book s) err err' f f' → HasTold recover sets why x s after book now err err' f f'
       by_error (Ok t) i t' = cc

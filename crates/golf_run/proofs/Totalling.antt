@@ -51,12 +51,11 @@ module _ (recover sets : Bool) (book : Book) (s : State) (rs : List Report) (h :
 abbrev all_five : ℕ → ℕ → ℕ → ℕ → ℕ → Totals
 all_five a b c d e = record { collections = a; reported = b; kept = c; reclaimed = d; objects = e }
 
-same-totals : (a b c d e a' b' c' d' e' : ℕ) → a ≡ a' → b ≡ b' → c ≡ c' → d ≡ d' → e ≡ e' → all_five a b c d e ≡ all_five a' b' c' d' e'
-same-totals a b c d e a' b' c' d' e' p q r s t = cc
-
 pub totals-are : (book : Book) (rs : List Report) (r : Report) → IsCounted book (rs ++ r ∷ []) → totals_by book r ≡ totals_of (rs ++ r ∷ [])
 totals-are book rs r h =
-    same-totals _ _ _ _ _ _ _ _ _ _ h.collections h.reported (sym (last-more (λ x. x.kept) 0 rs r)) h.reclaimed (sym (last-more (λ x. x.objects) 0 rs r))
+    let kept = sym (last-more (λ x. x.kept) 0 rs r) in
+    let objects = sym (last-more (λ x. x.objects) 0 rs r) in
+    λ i. all_five (h.collections i) (h.reported i) (kept i) (h.reclaimed i) (objects i)
 
 -- ---- whether any goroutine was reported
 

@@ -16,9 +16,15 @@ returns-in_err-write_sleeper g c =
     let here = ap (λ o. map reached_line (reached_at why.graph k o)) (at-is why.asleep k) in
     let within : k < length why.asleep = omega (arith, c.requires.entries, c.loop-sleeper-test.true, c.sleepers-sleeper-end.ensures) in
     loop-cut (λ n o. map reached_line (reached_at why.graph n o)) (λ n os. map reached_line (reached_from why.graph n os)) (λ n. refl) (λ n o os. map-append reached_line (reached_at why.graph n o) (reached_from why.graph (n + 1) os))
-    c.in_err-write_sleeper.field-0.0 c.write_sleeper.result c.from_residual.result why.asleep k None _ _ _ _ _ _ within c.loop-sleeper.invariant.written c.loop-sleeper.invariant.steady c.in_err-write_sleeper.was
-    (subst (λ ls. HasWritten c.write_sleeper.result ls (g.E.Sink.written c.loop-sleeper.err) (g.E.Sink.written c.write_sleeper.new.err) (g.E.Sink.faults c.loop-sleeper.err) (g.E.Sink.faults c.write_sleeper.new.err)) here c.write_sleeper.ensures)
-    c.from_residual.ensures.0 c.from_residual.ensures.1
+    why.asleep k None _ within c.loop-sleeper.invariant.written c.loop-sleeper.invariant.steady
+    (record {
+      fault = c.in_err-write_sleeper.field-0.0;
+      outcome = c.write_sleeper.result;
+      was = c.in_err-write_sleeper.was;
+      written = subst (λ ls. HasWritten c.write_sleeper.result ls (g.E.Sink.written c.loop-sleeper.err) (g.E.Sink.written c.write_sleeper.new.err) (g.E.Sink.faults c.loop-sleeper.err) (g.E.Sink.faults c.write_sleeper.new.err)) here c.write_sleeper.ensures;
+      failed = c.from_residual.ensures.0;
+      same = c.from_residual.ensures.1;
+    })
 
 pub loop-sleeper-preserved : goal.loop-sleeper-preserved
 loop-sleeper-preserved g c =

@@ -1,8 +1,6 @@
-use Rattle.std.proofs.Common.{◌++◌, subst}
+use Rattle.std.proofs.Common.{subst}
 use Rattle.std.specs.Io.KnownBytes.{Appends}
-use Rattle.golf_run_texts.specs.Texts.{report_lines}
 use Rattle.golf_run_texts.specs.Output.{joined}
-use Rattle.golf_run.specs.Told.{explained_lines}
 use Rattle.golf_run.proofs.Tellings.{lines-told, totals-told, collected-told, noted-told, told-failed}
 use Rattle.golf_run.proofs.turns.tell.Goals as goal
 
@@ -12,8 +10,14 @@ returns-in_err-write_told g c =
     let sets = c.args.how.collecting.sets_finalisers in
     let report = c.in_ok-report.report in
     let lines = lines-told recover sets c.args.book.now c.args.state.now c.args.how.why report c.in_ok-why.why c.in_ok-report.ensures.report c.in_ok-why.ensures in
-    told-failed recover sets c.args.book.now c.args.state.now c.args.how.why c.in_err-write_told.field-0.0 c.write_told.result c.from_residual-in_err-write_told.result _ _ (report_lines report ++ explained_lines report.number c.in_ok-why.why) _ _ _ _
-    c.in_err-write_told.was c.write_told.ensures lines c.from_residual-in_err-write_told.ensures.0 c.from_residual-in_err-write_told.ensures.1
+    told-failed recover sets c.args.book.now c.args.state.now c.args.how.why _ _ lines (record {
+      fault = c.in_err-write_told.field-0.0;
+      outcome = c.write_told.result;
+      was = c.in_err-write_told.was;
+      written = c.write_told.ensures;
+      failed = c.from_residual-in_err-write_told.ensures.0;
+      same = c.from_residual-in_err-write_told.ensures.1;
+    })
 
 pub returns : goal.returns
 returns g c =
