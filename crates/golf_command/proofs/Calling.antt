@@ -52,9 +52,9 @@ no-read-fault line bytes s.WriteFault a b m e = cc
 no-read-fault line bytes s.Memory a b m e = cc
 
 -- a file of which the status tells
-pub file-tells : (line : CommandLine) (bytes : List ℕ) (left left' : Option (List ℕ)) (rf rf' : ℕ) (r : Status) (a b : Sinks)
+pub file-tells : {left left' : Option (List ℕ)} {rf rf' : ℕ} {r : Status} {a b : Sinks} (line : CommandLine) (bytes : List ℕ)
     → IsFileOf line left bytes → rf' ≡ rf → (Reads line → IsWholeEnd r → IsAtEnd left') → FileTells line bytes r a b → LineTells line r (seen left rf a) (seen left' rf' b)
-file-tells line bytes left left' rf rf' r a b is same end h = record {
+file-tells {rf = rf} {rf' = rf'} {r = r} {a = a} {b = b} line bytes is same end h = record {
   means = inr (record { bytes = bytes; is_file = is; means = h.means; at_end = end });
   causes = record { source = causes-of r rf rf' a b same h.causes (no-read-fault line bytes r a b h.means); sinks = h.causes };
 }
@@ -87,15 +87,15 @@ read-file CommandLine.Meaning left bytes reads told = told
 pub wanting : (line : CommandLine) (within : IsWithin line) (left left' : Option (List ℕ)) (rf rf' : ℕ) (r : Status) (a b : Sinks) → rf' ≡ rf → Says s.Memory NO_MEMORY.now r a b → LineTells line r (seen left rf a) (seen left' rf' b)
 wanting line within left left' rf rf' r a b same h =
     let file = some-file line left in
-    file-tells line file.0 left left' rf rf' r a b file.1 same (λ reads ran. absurd (no-run r a b h ran)) (wanting-tells line file.0 within a b r h)
+    file-tells line file.0 file.1 same (λ reads ran. absurd (no-run r a b h ran)) (wanting-tells line file.0 within a b r h)
   where
     no-run : (r : Status) (a b : Sinks) → Says s.Memory NO_MEMORY.now r a b → IsWholeEnd r → ⊥
     no-run r a b (inl e) ran = subst IsWholeEnd e.0 ran
     no-run r a b (inr e) ran = subst IsWholeEnd e.0 ran
 
 -- the source failed
-pub unread : (line : CommandLine) (reads : Reads line) (left left' : Option (List ℕ)) (rf rf' : ℕ) (r : Status) (a b : Sinks) → Rose rf rf' → rf ≤ rf' → Says s.ReadFault READ_FAULT.now r a b → LineTells line r (seen left rf a) (seen left' rf' b)
-unread line reads left left' rf rf' r a b rose later h = record {
+pub unread : {left left' : Option (List ℕ)} {rf rf' : ℕ} {r : Status} {a b : Sinks} (line : CommandLine) → Reads line → Rose rf rf' → rf ≤ rf' → Says s.ReadFault READ_FAULT.now r a b → LineTells line r (seen left rf a) (seen left' rf' b)
+unread {left} {left'} {rf} {rf'} {r} {a} {b} line reads rose later h = record {
   means = inl (record { reads = reads; failed = rose; says = h });
   causes = caused h;
 }
@@ -113,11 +113,11 @@ long-file None left' h = let some = longer LIMIT in (some.0, tt, some.1)
 long-file (Some xs) None h = absurd h.1
 long-file (Some xs) (Some ys) h = (xs, refl, omega (arith, ap length h.1, length-append h.0 ys, h.2))
 
-pub too-long : (line : CommandLine) (reads : Reads line) (within : IsWithin line) (left left' : Option (List ℕ)) (rf rf' : ℕ) (r : Status) (a b : Sinks) → ReadsSome left left' LIMIT → rf' ≡ rf → Says s.Refused TOO_LONG.now r a b
+pub too-long : {left left' : Option (List ℕ)} {rf rf' : ℕ} {r : Status} {a b : Sinks} (line : CommandLine) → Reads line → IsWithin line → ReadsSome left left' LIMIT → rf' ≡ rf → Says s.Refused TOO_LONG.now r a b
     → LineTells line r (seen left rf a) (seen left' rf' b)
-too-long line reads within left left' rf rf' r a b more same h =
+too-long {left} {left'} {r = r} {a = a} {b = b} line reads within more same h =
     let file = long-file left left' more in
-    file-tells line file.0 left left' rf rf' r a b (read-file line left file.0 reads file.1) same (λ _ ran. absurd (no-run h ran)) (refused-tells line file.0 within a b reads TOO_LONG.now r (TooLong file.2) h)
+    file-tells line file.0 (read-file line left file.0 reads file.1) same (λ _ ran. absurd (no-run h ran)) (refused-tells line file.0 within a b reads TOO_LONG.now r (TooLong file.2) h)
   where
     no-run : Says s.Refused TOO_LONG.now r a b → IsWholeEnd r → ⊥
     no-run (inl e) ran = subst IsWholeEnd e.0 ran
@@ -230,4 +230,4 @@ module _ (words : List (List ℕ)) (left left' : Option (List ℕ)) (rf rf' : �
 
 -- a line that asks for a generated file reads nothing
 pub generated-line : (n : ℕ) (left : Option (List ℕ)) (rf : ℕ) (r : Status) (a b : Sinks) → FileTells (CommandLine.Generate n) (generated_file n) r a b → LineTells (CommandLine.Generate n) r (seen left rf a) (seen left rf b)
-generated-line n left rf r a b h = file-tells (CommandLine.Generate n) (generated_file n) left left rf rf r a b refl refl (λ reads ran. absurd reads) h
+generated-line n left rf r a b h = file-tells (CommandLine.Generate n) (generated_file n) refl refl (λ reads ran. absurd reads) h

@@ -8,13 +8,13 @@ returns-in-Ok g c = (record { told = all-left _ _ c.in-Ok.bytes c.in-Ok.ensures.
 
 pub returns-in-Err-ReadFault : goal.returns-in-Err-ReadFault
 returns-in-Err-ReadFault g c =
-    fails-to-read _ _ _ _ _ _ _ _ c.end.result (rw c.in-Err-ReadFault.field-0-is at c.in-Err-ReadFault.ensures.cause) c.read_file.ensures.later c.end.ensures
+    fails-to-read (rw c.in-Err-ReadFault.field-0-is at c.in-Err-ReadFault.ensures.cause) c.read_file.ensures.later c.end.ensures
 
 pub returns-in-Err-TooLong : goal.returns-in-Err-TooLong
 returns-in-Err-TooLong g c =
-    is-too-long _ _ _ _ _ _ _ _ c.end-in-Err-TooLong.result (c.in-Err-TooLong.ensures.too_long (ap (λ e. Err e) c.in-Err-TooLong.field-0-is))
+    is-too-long (c.in-Err-TooLong.ensures.too_long (ap (λ e. Err e) c.in-Err-TooLong.field-0-is))
     (rw c.in-Err-TooLong.field-0-is at c.in-Err-TooLong.ensures.cause) c.end-in-Err-TooLong.ensures
 
 pub returns-in-Err-Memory : goal.returns-in-Err-Memory
 returns-in-Err-Memory g c =
-    lacks-memory _ _ _ _ _ _ _ _ c.end-in-Err-Memory.result (rw c.in-Err-Memory.field-0-is at c.in-Err-Memory.ensures.cause) c.end-in-Err-Memory.ensures
+    lacks-memory (rw c.in-Err-Memory.field-0-is at c.in-Err-Memory.ensures.cause) c.end-in-Err-Memory.ensures

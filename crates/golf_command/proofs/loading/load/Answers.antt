@@ -5,9 +5,9 @@ pub returns-in-Ok-read-clause-loads : goal.returns-in-Ok-read-clause-loads
 returns-in-Ok-read-clause-loads g c =
     let has = rw c.as_slice.ensures at c.in-Ok-read.ensures.answer in
     let fetched = c.in-Ok.ensures in
-    (has.file, of-bytes has.file c.in-Ok.bytes _ _ _ _ fetched.0 has.typed has.only, has.is, fetched.1, fetched.2)
+    (has.file, of-bytes fetched.0 has.typed has.only, has.is, fetched.1, fetched.2)
 
 pub returns-clause-loads : goal.returns-clause-loads
 returns-clause-loads g c =
     let fetched = c.in-Ok.ensures in
-    then-refused c.in-Ok.bytes _ _ _ _ _ _ _ _ _ _ c.refuse.result fetched.0 fetched.1 fetched.2 c.in-Err-read.refusal (rw c.as_slice.ensures at c.in-Err-read.ensures.answer) c.refuse.ensures
+    then-refused c.in-Err-read.refusal fetched.0 fetched.1 fetched.2 (rw c.as_slice.ensures at c.in-Err-read.ensures.answer) c.refuse.ensures

@@ -11,5 +11,5 @@ returns g c =
     let checked = c.in-Ok.checked in
     let loads = c.in-Ok.ensures in
     let l = loads.0 in
-    loaded-tells CommandLine.Meaning tt checked.file _ _ _ _ l _ _ _ _ _ _ _ c.write_told.result loads.3 loads.4
+    loaded-tells CommandLine.Meaning tt l loads.3 loads.4
     (told-tells l.bytes checked.file l.accepts l.only c.agreement.result c.write_told.result _ _ c.agreement.ensures c.write_told.ensures)

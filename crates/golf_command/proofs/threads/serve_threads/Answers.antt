@@ -11,5 +11,5 @@ returns g c =
     let line = CommandLine.Threads c.args.threads in
     let loads = c.in-Ok.ensures.loads in
     let l = loads.1 in
-    loaded-tells line tt loads.0 _ _ _ _ l _ _ _ _ _ _ _ c.write_texts.result loads.3 loads.4
+    loaded-tells line tt l loads.3 loads.4
     (written-tells line l.bytes (c.requires.some, c.requires.few) loads.0 c.in-Ok.code l.accepts loads.2 l.only c.texts_by_threads.result c.write_texts.result _ _ (made-by-threads c.args.threads loads.0 c.in-Ok.code loads.2 c.texts_by_threads.result c.texts_by_threads.ensures) c.write_texts.ensures)
