@@ -26,10 +26,11 @@ abbrev pub given : {Token Mode : Type 0} {Node : Mode → Type 0} {A X : Type 0}
 given None more = Done None
 given (Some x) more = more x
 
--- Reading move by move: what is found by the next move, if there is one; and what is found with all that waits, the last first.
+-- what is found by the next move of a reader, if there is one
 abbrev pub moved_by : {Move Rest X : Type 0} → (Move → Rest → Option X) → Option (Move × Bor Rest) → Option X
 moved_by move_at o = o >>= λ x. move_at x.0 x.1.now
 
+-- what is found with all that waits for it, the last first
 abbrev pub waited_by : {Pending X : Type 0} → (Pending → X → Option X) → List Pending → Option X → Option X
 waited_by pending_at [] o = o
 waited_by pending_at (f ∷ fs) o = waited_by pending_at fs o >>= pending_at f
