@@ -7,3 +7,5 @@ mod lists;
 mod stdio;
 #[cfg(test)]
 mod streams;
+#[cfg(test)]
+mod wanted;

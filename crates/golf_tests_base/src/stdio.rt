@@ -1,12 +1,13 @@
 //! The real streams over a reader and a writer of the tests, which give and take few bytes a call and fail when they are told to.
 
+use crate::wanted::{holds, is};
 use golf_base::{
-    Failed, ReadError, Sink, Source, StreamSink, StreamSource, WriteFault, read_file, write_all,
+    Failed, List, ReadError, Sink, Source, StreamSink, StreamSource, WriteFault, read_file,
+    write_all,
 };
 use std::alloc::Global;
 use std::io;
 use std::io::{Read, Write};
-use std::test::Fail;
 
 /// Gives at most so many bytes a call. The call of this number, from 1, fails.
 #[derive(Drop)]
@@ -84,54 +85,57 @@ fn writer_of(alloc: Global, most: usize, fails: u32, flush_fails: u32) -> Taker 
     }
 }
 
+// The ten bytes that a reader of so many bytes a call gives, of which the call of this number fails, if it is not 0.
+fn read_ten(alloc: Global, most: usize, fails: u32) -> Result<List<u8>, ReadError> {
+    let mut source = StreamSource::new(reader_of(most, fails));
+    read_file(alloc, &mut source, 10)
+}
+
 #[test]
-fn a_source_goes_on_to_the_end_of_a_reader_that_gives_one_byte_a_call(
-    rt: HostRuntime,
-) -> Result<(), Fail> {
-    let mut source = StreamSource::new(reader_of(1, 0));
-    let bytes = read_file(rt.alloc(), &mut source, 10).expect(&rt, "ten bytes fit");
-    assert_eq!(rt; bytes.as_slice(), TEN);
-    Ok(())
+fn a_source_goes_on_to_the_end_of_a_reader_that_gives_one_byte_a_call(rt: HostRuntime) {
+    let bytes = read_ten(rt.alloc(), 1, 0).expect(&rt, "ten bytes fit");
+    is(&rt, "the bytes", &bytes.as_slice(), &TEN);
 }
 
 // Ten calls give a byte each, and the eleventh would tell the end.
 #[test]
-fn a_read_that_fails_is_no_end(rt: HostRuntime) -> Result<(), Fail> {
+fn a_read_that_fails_is_no_end(rt: HostRuntime) {
     for before in 0..11u32 {
-        let mut source = StreamSource::new(reader_of(1, before + 1));
-        let error = read_file(rt.alloc(), &mut source, 10).err();
-        assert!(rt; matches!(error, Some(ReadError::ReadFault)));
+        let error = read_ten(rt.alloc(), 1, before + 1).err();
+        holds(
+            &rt,
+            "a read fault",
+            matches!(error, Some(ReadError::ReadFault)),
+        );
     }
-    Ok(())
 }
 
 #[test]
-fn after_a_read_that_failed_a_source_goes_on(rt: HostRuntime) -> Result<(), Fail> {
+fn after_a_read_that_failed_a_source_goes_on(rt: HostRuntime) {
     let mut source = StreamSource::new(reader_of(4, 2));
     let mut part = [0u8; 8];
-    assert_eq!(rt; source.read(&mut part), Ok(4));
-    assert_eq!(rt; source.read(&mut part), Err(Failed));
-    assert_eq!(rt; source.read(&mut part), Ok(4));
-    assert_eq!(rt; part[..4], b"4567"[..]);
-    Ok(())
+    is(&rt, "the first read", &source.read(&mut part), &Ok(4));
+    is(
+        &rt,
+        "the one that fails",
+        &source.read(&mut part),
+        &Err(Failed),
+    );
+    is(&rt, "the one after it", &source.read(&mut part), &Ok(4));
+    is(&rt, "the bytes", &&part[..4], &&b"4567"[..]);
 }
 
 #[test]
-fn a_short_write_counts_what_was_taken(rt: HostRuntime) -> Result<(), Fail> {
+fn a_short_write_counts_what_was_taken(rt: HostRuntime) {
     let mut writer = writer_of(rt.alloc(), 3, 0, 0);
     let mut sink = StreamSink::new(&mut writer);
-    assert_eq!(rt; sink.write(TEN), Ok(3));
-    assert_eq!(rt; sink.write(b""), Ok(0), "an empty piece is taken whole");
-    Ok(())
-}
-
-#[test]
-fn all_is_written_to_a_writer_that_takes_one_byte_a_call(rt: HostRuntime) -> Result<(), Fail> {
-    let mut writer = writer_of(rt.alloc(), 1, 0, 0);
-    let mut sink = StreamSink::new(&mut writer);
-    assert_eq!(rt; write_all(&mut sink, TEN), Ok(()));
-    assert_eq!(rt; writer.taken.as_slice(), TEN);
-    Ok(())
+    is(&rt, "a write of ten bytes", &sink.write(TEN), &Ok(3));
+    is(
+        &rt,
+        "an empty piece is taken whole",
+        &sink.write(b""),
+        &Ok(0),
+    );
 }
 
 // What a writer of one byte a call has taken, and whether all was written.
@@ -143,30 +147,49 @@ fn written(alloc: Global, fails: u32, flush_fails: u32) -> (Result<(), WriteFaul
 }
 
 #[test]
-fn a_write_that_fails_is_told_and_nothing_is_written_after_it(rt: HostRuntime) -> Result<(), Fail> {
+fn all_is_written_to_a_writer_that_takes_one_byte_a_call(rt: HostRuntime) {
+    let (got, taken) = written(rt.alloc(), 0, 0);
+    is(&rt, "the writing", &got, &Ok(()));
+    is(&rt, "the bytes", &taken.as_slice(), &TEN);
+}
+
+#[test]
+fn a_write_that_fails_is_told_and_nothing_is_written_after_it(rt: HostRuntime) {
     for before in 0..10u32 {
         let (got, taken) = written(rt.alloc(), before + 1, 0);
-        assert_eq!(rt; got, Err(WriteFault));
-        assert_eq!(rt; taken.as_slice(), &TEN[..before as usize]);
+        is(&rt, "the writing", &got, &Err(WriteFault));
+        is(
+            &rt,
+            "the bytes",
+            &taken.as_slice(),
+            &&TEN[..before as usize],
+        );
     }
-    Ok(())
 }
 
 #[test]
-fn a_flush_that_fails_is_told_and_nothing_is_written_after_it(rt: HostRuntime) -> Result<(), Fail> {
+fn a_flush_that_fails_is_told_and_nothing_is_written_after_it(rt: HostRuntime) {
     for before in 0..10u32 {
         let (got, taken) = written(rt.alloc(), 0, before + 1);
-        assert_eq!(rt; got, Err(WriteFault));
-        assert_eq!(rt; taken.as_slice(), &TEN[..before as usize + 1]);
+        is(&rt, "the writing", &got, &Err(WriteFault));
+        is(
+            &rt,
+            "the bytes",
+            &taken.as_slice(),
+            &&TEN[..before as usize + 1],
+        );
     }
-    Ok(())
 }
 
 #[test]
-fn a_write_that_takes_nothing_fails(rt: HostRuntime) -> Result<(), Fail> {
+fn a_write_that_takes_nothing_fails(rt: HostRuntime) {
     let mut writer = writer_of(rt.alloc(), 0, 0, 0);
     let mut sink = StreamSink::new(&mut writer);
-    assert_eq!(rt; sink.write(TEN), Err(Failed));
-    assert_eq!(rt; write_all(&mut sink, TEN), Err(WriteFault));
-    Ok(())
+    is(&rt, "a write", &sink.write(TEN), &Err(Failed));
+    is(
+        &rt,
+        "a write of all",
+        &write_all(&mut sink, TEN),
+        &Err(WriteFault),
+    );
 }
