@@ -81,16 +81,15 @@ fn newlines(text: &[u8]) -> usize {
 
 #[test]
 fn the_files_of_one_and_of_two_parts_are_these(rt: HostRuntime) -> Result<(), Fail> {
-    assert!(rt; sample_file(rt.alloc(), 1)?.as_slice() == ONE.as_bytes());
-    assert!(rt; sample_file(rt.alloc(), 2)?.as_slice() == TWO.as_bytes());
+    let (one, two) = (sample_file(rt.alloc(), 1)?, sample_file(rt.alloc(), 2)?);
+    assert!(rt; one.as_slice() == ONE.as_bytes() && two.as_slice() == TWO.as_bytes());
     Ok(())
 }
 
 #[test]
 fn the_largest_file_has_45020_lines_and_under_700000_bytes(rt: HostRuntime) -> Result<(), Fail> {
     let file: List<u8> = sample_file(rt.alloc(), 5_000)?;
-    assert!(rt; newlines(file.as_slice()) == 45_020);
-    assert!(rt; file.len() < 700_000);
+    assert!(rt; newlines(file.as_slice()) == 45_020 && file.len() < 700_000);
     Ok(())
 }
 

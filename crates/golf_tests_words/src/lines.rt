@@ -37,157 +37,184 @@ fn are_runs(rt: &impl Abort, alloc: Global, rows: &[Run<'_>]) -> Result<(), Fail
     Ok(())
 }
 
+const ALONE: [Run<'static>; 2] = [
+    ("run", 1_000_000, None, 1, false),
+    ("run|--", 1_000_000, None, 1, false),
+];
+
 #[test]
 fn run_alone_rotates_a_million_turns_with_one_marker(rt: HostRuntime) -> Result<(), Fail> {
-    let rows = [
-        ("run", 1_000_000, None, 1, false),
-        ("run|--", 1_000_000, None, 1, false),
-    ];
-    are_runs(&rt, rt.alloc(), rows.as_slice())
+    are_runs(&rt, rt.alloc(), &ALONE)
 }
+
+const OPTIONS: [Run<'static>; 9] = [
+    ("run|--turns|7", 7, None, 1, false),
+    ("run|--turns=7", 7, None, 1, false),
+    ("run|--every|3", 1_000_000, Some(3), 1, false),
+    ("run|--every=3", 1_000_000, Some(3), 1, false),
+    ("run|--markers|16", 1_000_000, None, 16, false),
+    ("run|--markers=16", 1_000_000, None, 16, false),
+    ("run|--schedule|rotate", 1_000_000, None, 1, false),
+    ("run|--schedule=rotate", 1_000_000, None, 1, false),
+    ("run|--recover", 1_000_000, None, 1, true),
+];
 
 #[test]
 fn each_option_takes_its_value_from_the_next_word_or_after_an_equals_sign(
     rt: HostRuntime,
 ) -> Result<(), Fail> {
-    let rows = [
-        ("run|--turns|7", 7, None, 1, false),
-        ("run|--turns=7", 7, None, 1, false),
-        ("run|--every|3", 1_000_000, Some(3), 1, false),
-        ("run|--every=3", 1_000_000, Some(3), 1, false),
-        ("run|--markers|16", 1_000_000, None, 16, false),
-        ("run|--markers=16", 1_000_000, None, 16, false),
-        ("run|--schedule|rotate", 1_000_000, None, 1, false),
-        ("run|--schedule=rotate", 1_000_000, None, 1, false),
-        ("run|--recover", 1_000_000, None, 1, true),
-    ];
-    are_runs(&rt, rt.alloc(), rows.as_slice())
+    are_runs(&rt, rt.alloc(), &OPTIONS)
 }
+
+const WITH_WHY: [&str; 3] = [
+    "run|--why|--turns|7|--recover",
+    "run|--turns=7|--why|--recover",
+    "run|--turns|7|--recover|--why|--",
+];
 
 #[test]
 fn why_stands_anywhere_among_the_options(rt: HostRuntime) -> Result<(), Fail> {
-    let rows = [
-        "run|--why|--turns|7|--recover",
-        "run|--turns=7|--why|--recover",
-        "run|--turns|7|--recover|--why|--",
-    ];
-    for row in rows {
-        let got = options(rt.alloc(), row)?;
+    for row in WITH_WHY.iter() {
+        let got = options(rt.alloc(), *row)?;
         assert!(rt; got.why && got.recover && got.turns == 7, "{row}");
     }
     Ok(())
 }
 
+const ORDERS: [Run<'static>; 2] = [
+    (
+        "run|--recover|--turns|5|--markers=2|--every|4|--",
+        5,
+        Some(4),
+        2,
+        true,
+    ),
+    (
+        "run|--every=4|--markers|2|--turns=5|--recover",
+        5,
+        Some(4),
+        2,
+        true,
+    ),
+];
+
 #[test]
 fn options_stand_in_any_order(rt: HostRuntime) -> Result<(), Fail> {
-    let rows = [
-        (
-            "run|--recover|--turns|5|--markers=2|--every|4|--",
-            5,
-            Some(4),
-            2,
-            true,
-        ),
-        (
-            "run|--every=4|--markers|2|--turns=5|--recover",
-            5,
-            Some(4),
-            2,
-            true,
-        ),
-    ];
-    are_runs(&rt, rt.alloc(), rows.as_slice())
+    are_runs(&rt, rt.alloc(), &ORDERS)
 }
+
+const RANGES: [Run<'static>; 4] = [
+    ("run|--turns|1", 1, None, 1, false),
+    ("run|--turns|10000000", 10_000_000, None, 1, false),
+    (
+        "run|--every|10000000",
+        1_000_000,
+        Some(10_000_000),
+        1,
+        false,
+    ),
+    (
+        "run|--markers|00000000000000000016",
+        1_000_000,
+        None,
+        16,
+        false,
+    ),
+];
 
 #[test]
 fn numbers_go_to_the_ends_of_their_ranges(rt: HostRuntime) -> Result<(), Fail> {
-    let rows = [
-        ("run|--turns|1", 1, None, 1, false),
-        ("run|--turns|10000000", 10_000_000, None, 1, false),
-        (
-            "run|--every|10000000",
-            1_000_000,
-            Some(10_000_000),
-            1,
-            false,
-        ),
-        (
-            "run|--markers|00000000000000000016",
-            1_000_000,
-            None,
-            16,
-            false,
-        ),
-    ];
-    are_runs(&rt, rt.alloc(), rows.as_slice())
+    are_runs(&rt, rt.alloc(), &RANGES)
+}
+
+// The seed of a run line, and its markers.
+fn seed(alloc: Global, row: &str) -> Result<Option<(u64, u32)>, Fail> {
+    let got = options(alloc, row)?;
+    match &got.schedule {
+        Schedule::Seed(seed) => Ok(Some((*seed, got.markers))),
+        _ => Ok(None),
+    }
 }
 
 #[test]
 fn a_seed_may_be_any_number_of_sixty_four_bits(rt: HostRuntime) -> Result<(), Fail> {
-    let most = options(rt.alloc(), "run|--schedule=seed:18446744073709551615")?;
-    assert!(rt; matches!(&most.schedule, Schedule::Seed(u64::MAX)));
-    let zero = options(rt.alloc(), "run|--schedule=seed:0|--markers=002|--")?;
-    assert!(rt; matches!(&zero.schedule, Schedule::Seed(0)));
-    assert!(rt; zero.markers == 2);
+    let most = seed(rt.alloc(), "run|--schedule=seed:18446744073709551615")?;
+    let zero = seed(rt.alloc(), "run|--schedule=seed:0|--markers=002|--")?;
+    assert_eq!(rt; (most, zero), (Some((u64::MAX, 1)), Some((0, 2))));
     Ok(())
+}
+
+// Whether a row is a run line by these choices.
+fn has_choices(alloc: Global, row: &str, wanted: &[u64]) -> Result<bool, Fail> {
+    let got = options(alloc, row)?;
+    match &got.schedule {
+        Schedule::Choices(list) => Ok(list.as_slice() == wanted),
+        _ => Ok(false),
+    }
 }
 
 #[test]
 fn choices_are_the_numbers_as_written(rt: HostRuntime) -> Result<(), Fail> {
-    let three = options(
-        rt.alloc(),
-        "run|--schedule|choices:0,007,18446744073709551615",
-    )?;
-    match &three.schedule {
-        Schedule::Choices(list) => assert!(rt; list.as_slice() == [0, 7, u64::MAX].as_slice()),
-        _ => assert!(rt; false),
+    let row = "run|--schedule|choices:0,007,18446744073709551615";
+    assert!(rt; has_choices(rt.alloc(), row, &[0, 7, u64::MAX])?);
+    Ok(())
+}
+
+/// What a line without options is.
+#[derive(Clone, Copy, Debug, PartialEq, Eq)]
+enum Kind {
+    Generate(u32),
+    Threads(u32),
+    Meaning,
+}
+
+// What a row is, if it is a line without options.
+fn kind_of(alloc: Global, row: &str) -> Result<Option<Kind>, Fail> {
+    match line(alloc, row)? {
+        Some(CommandLine::Generate(number)) => Ok(Some(Kind::Generate(number))),
+        Some(CommandLine::Threads(number)) => Ok(Some(Kind::Threads(number))),
+        Some(CommandLine::Meaning) => Ok(Some(Kind::Meaning)),
+        _ => Ok(None),
+    }
+}
+
+// These rows are these lines.
+fn are(rt: &impl Abort, alloc: Global, rows: &[(&str, Kind)]) -> Result<(), Fail> {
+    for (row, wanted) in rows {
+        assert!(rt; kind_of(alloc, *row)? == Some(*wanted), "{row}");
     }
     Ok(())
 }
 
+const NUMBERED: [(&str, Kind); 4] = [
+    ("generate|1", Kind::Generate(1)),
+    ("generate|05000", Kind::Generate(5000)),
+    ("generate|--|5", Kind::Generate(5)),
+    ("generate|5|--", Kind::Generate(5)),
+];
+
 #[test]
 fn generate_has_one_number(rt: HostRuntime) -> Result<(), Fail> {
-    let rows = [
-        ("generate|1", 1),
-        ("generate|05000", 5000),
-        ("generate|--|5", 5),
-        ("generate|5|--", 5),
-    ];
-    for (row, wanted) in rows {
-        match line(rt.alloc(), row)? {
-            Some(CommandLine::Generate(number)) => assert!(rt; number == wanted, "{row}"),
-            _ => assert!(rt; false, "{row}"),
-        }
-    }
-    Ok(())
+    are(&rt, rt.alloc(), &NUMBERED)
 }
+
+const THREADED: [(&str, Kind); 4] = [
+    ("run|--threads|1", Kind::Threads(1)),
+    ("run|--threads=16", Kind::Threads(16)),
+    ("run|--threads=002|--", Kind::Threads(2)),
+    ("run|--threads|00000000000000000003|--", Kind::Threads(3)),
+];
 
 #[test]
 fn threads_are_so_many_with_the_number_in_the_next_word_or_after_an_equals_sign(
     rt: HostRuntime,
 ) -> Result<(), Fail> {
-    let rows = [
-        ("run|--threads|1", 1),
-        ("run|--threads=16", 16),
-        ("run|--threads=002|--", 2),
-        ("run|--threads|00000000000000000003|--", 3),
-    ];
-    for (row, wanted) in rows {
-        match line(rt.alloc(), row)? {
-            Some(CommandLine::Threads(number)) => assert!(rt; number == wanted, "{row}"),
-            _ => assert!(rt; false, "{row}"),
-        }
-    }
-    Ok(())
+    are(&rt, rt.alloc(), &THREADED)
 }
+
+const MEANING: [(&str, Kind); 2] = [("meaning", Kind::Meaning), ("meaning|--", Kind::Meaning)];
 
 #[test]
 fn a_meaning_line_is_its_name_alone_or_with_two_hyphens(rt: HostRuntime) -> Result<(), Fail> {
-    for row in ["meaning", "meaning|--"] {
-        assert!(rt;
-            matches!(line(rt.alloc(), row)?, Some(CommandLine::Meaning)),
-            "{row}"
-        );
-    }
-    Ok(())
+    are(&rt, rt.alloc(), &MEANING)
 }

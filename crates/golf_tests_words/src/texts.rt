@@ -43,10 +43,10 @@ goroutine 2: sync.Cond.Wait at line 3, started at line 4
 // A report of a goroutine for each way of waiting.
 fn report_is_written_so(rt: &impl Abort, alloc: Global) -> Result<(), Fail> {
     let mut reported = List::new(alloc);
-    for wait in WAITS {
+    for wait in WAITS.iter() {
         reported.push(Entry {
             goroutine: GoroutineId(2),
-            wait,
+            wait: *wait,
             line: 3,
             started: 4,
         })?;
@@ -130,13 +130,13 @@ const FAULTS: [(PanicKind, &str); 16] = [
 
 // A text is this one.
 fn is_written_so(rt: &impl Abort, text: &List<u8>, wanted: &str) {
-    assert_eq!(rt; text.as_slice(), wanted.as_bytes());
+    is_fixed_so(rt, text.as_slice(), wanted);
 }
 
 fn faults_are_written_so(rt: &impl Abort, alloc: Global) -> Result<(), Fail> {
     let mut texts = List::new(alloc);
     texts.push(list_of(alloc, b"lost")?)?;
-    for (kind, line) in FAULTS {
+    for &(kind, line) in FAULTS.iter() {
         let ending = Ending::Panicked {
             kind,
             goroutine: GoroutineId(3),
@@ -179,23 +179,23 @@ fn lines_with_numbers_are_written_so(rt: &impl Abort, alloc: Global) -> Result<(
     Ok(())
 }
 
-fn fixed_lines_are_written_so(rt: &impl Abort) {
-    let rows: [(&[u8], &str); 4] = [
-        (
-            USAGE.as_slice(),
-            r"usage: golf run [--schedule S] [--turns N] [--every N] [--markers N] [--recover] [--why]
+const USAGE_TEXT: &str =
+    r"usage: golf run [--schedule S] [--turns N] [--every N] [--markers N] [--recover] [--why]
        golf run --threads N
        golf generate N
        golf meaning
-",
-        ),
-        (READ_FAULT.as_slice(), "read fault\n"),
-        (TOO_LONG.as_slice(), "refused: more than 1048576 bytes\n"),
-        (NO_MEMORY.as_slice(), "out of memory\n"),
-    ];
-    for (text, wanted) in rows {
-        assert_eq!(rt; text, wanted.as_bytes());
-    }
+";
+
+// A text of bytes is this one.
+fn is_fixed_so(rt: &impl Abort, text: &[u8], wanted: &str) {
+    assert_eq!(rt; text, wanted.as_bytes());
+}
+
+fn fixed_lines_are_written_so(rt: &impl Abort) {
+    is_fixed_so(rt, USAGE, USAGE_TEXT);
+    is_fixed_so(rt, READ_FAULT, "read fault\n");
+    is_fixed_so(rt, TOO_LONG, "refused: more than 1048576 bytes\n");
+    is_fixed_so(rt, NO_MEMORY, "out of memory\n");
     assert!(rt; LIMIT == 1_048_576);
 }
 
@@ -220,19 +220,20 @@ fn reasons_are_written_so(rt: &impl Abort, alloc: Global) -> Result<(), Fail> {
     Ok(())
 }
 
+const STATUSES: [(Status, u8); 9] = [
+    (Status::Clean, 0),
+    (Status::Found, 1),
+    (Status::Crashed, 2),
+    (Status::Spent, 3),
+    (Status::Refused, 4),
+    (Status::Usage, 5),
+    (Status::ReadFault, 6),
+    (Status::WriteFault, 7),
+    (Status::Memory, 8),
+];
+
 fn statuses_have_these_numbers(rt: &impl Abort) {
-    let rows = [
-        (Status::Clean, 0),
-        (Status::Found, 1),
-        (Status::Crashed, 2),
-        (Status::Spent, 3),
-        (Status::Refused, 4),
-        (Status::Usage, 5),
-        (Status::ReadFault, 6),
-        (Status::WriteFault, 7),
-        (Status::Memory, 8),
-    ];
-    for (status, number) in rows {
+    for &(status, number) in STATUSES.iter() {
         assert!(rt; code(status) == number, "{number}");
     }
 }
