@@ -34,55 +34,73 @@ fn heads(e: &Expr) -> (&'static str, &'static str, &'static str) {
     }
 }
 
-// The heads of the expression that is read first, and how many tokens are left.
+// The heads of the expression that is read first at a place, and how many tokens are left.
 fn expression(
     alloc: Global,
+    place: Place,
     tokens: &[Token],
 ) -> Result<Option<((&'static str, &'static str, &'static str), usize)>, Memory> {
-    match expression_at(alloc, Place::Elsewhere, tokens)? {
+    match expression_at(alloc, place, tokens)? {
         None => Ok(None),
         Some((e, rest)) => Ok(Some((heads(e.get()), rest.len()))),
     }
 }
 
+// Whether the expression that is read first has these heads, and one token is left after it.
+fn groups_so(
+    alloc: Global,
+    tokens: &[Token],
+    expected: (&str, &str, &str),
+) -> Result<bool, Memory> {
+    match expression(alloc, Place::Elsewhere, tokens)? {
+        None => Ok(false),
+        Some(((first, left, right), rest)) => {
+            let (wanted, wanted_left, wanted_right) = expected;
+            let same = first == wanted && left == wanted_left && right == wanted_right;
+            Ok(same && rest == 1)
+        }
+    }
+}
+
+const GROUPS: [(&str, (&str, &str, &str)); 7] = [
+    ("a + b * c", ("sum", "name", "product")),
+    ("a * b + c", ("sum", "product", "name")),
+    ("a - b - c", ("difference", "difference", "name")),
+    ("a - ( b - c )", ("difference", "name", "parentheses")),
+    ("<- a + b", ("sum", "receive", "name")),
+    (
+        "f ( a , b ) . g [ i ] * h ( )",
+        ("product", "index", "call"),
+    ),
+    (
+        "a . b + & T { x : a , y : b }",
+        ("sum", "selector", "struct literal"),
+    ),
+];
+
 #[test]
 fn operators_group_as_they_bind(rt: HostRuntime) -> Result<(), Fail> {
-    let rows = [
-        ("a + b * c", ("sum", "name", "product")),
-        ("a * b + c", ("sum", "product", "name")),
-        ("a - b - c", ("difference", "difference", "name")),
-        ("a - ( b - c )", ("difference", "name", "parentheses")),
-        ("<- a + b", ("sum", "receive", "name")),
-        (
-            "f ( a , b ) . g [ i ] * h ( )",
-            ("product", "index", "call"),
-        ),
-        (
-            "a . b + & T { x : a , y : b }",
-            ("sum", "selector", "struct literal"),
-        ),
-    ];
-    for (text, expected) in rows {
+    for &(text, expected) in GROUPS.iter() {
         let list = tokens_of(&rt, rt.alloc(), text);
-        let found = expression(rt.alloc(), list.as_slice())?;
-        assert!(rt; found == Some((expected, 1)), "{text}");
+        assert!(rt; groups_so(rt.alloc(), list.as_slice(), expected)?, "{text}");
     }
     Ok(())
 }
 
 // Whether an expression is read at a place.
 fn is_read(alloc: Global, place: Place, tokens: &[Token]) -> Result<bool, Memory> {
-    Ok(expression_at(alloc, place, tokens)?.is_some())
+    Ok(expression(alloc, place, tokens)?.is_some())
 }
+
+const PLACES: [(&str, Place, bool); 3] = [
+    ("& T { }", Place::Header, false),
+    ("& T { }", Place::Elsewhere, true),
+    ("( & T { } )", Place::Header, true),
+];
 
 #[test]
 fn in_a_header_an_ampersand_stands_in_brackets_alone(rt: HostRuntime) -> Result<(), Fail> {
-    let rows = [
-        ("& T { }", Place::Header, false),
-        ("& T { }", Place::Elsewhere, true),
-        ("( & T { } )", Place::Header, true),
-    ];
-    for (text, place, expected) in rows {
+    for &(text, place, expected) in PLACES.iter() {
         let list = tokens_of(&rt, rt.alloc(), text);
         assert!(rt;
             is_read(rt.alloc(), place, list.as_slice())? == expected,
@@ -151,14 +169,15 @@ fn simple(alloc: Global, tokens: &[Token]) -> Result<Option<(&'static str, u32, 
     }
 }
 
+const SIMPLE: [(&str, Option<(&str, u32, usize)>); 3] = [
+    ("v , ok := <- c", Some(("define received", 1, 1))),
+    ("<- c <- v", Some(("send", 1, 1))),
+    ("v , ok := c", None),
+];
+
 #[test]
 fn a_simple_statement_is_told_by_its_punctuation(rt: HostRuntime) -> Result<(), Fail> {
-    let rows = [
-        ("v , ok := <- c", Some(("define received", 1, 1))),
-        ("<- c <- v", Some(("send", 1, 1))),
-        ("v , ok := c", None),
-    ];
-    for (text, expected) in rows {
+    for &(text, expected) in SIMPLE.iter() {
         let list = tokens_of(&rt, rt.alloc(), text);
         let found = simple(rt.alloc(), list.as_slice())?;
         assert!(rt; found == expected, "{text}");

@@ -29,17 +29,18 @@ fn fault_line(rt: &impl Abort, alloc: Global, source: &str) -> u32 {
     line_at(rt, alloc, list.as_slice())
 }
 
+const PACKAGES: [(&str, u32); 6] = [
+    ("", 1u32),
+    ("package main", 0),
+    ("package other\nvar x int", 1),
+    ("\n\nvar x int\npackage main", 3),
+    ("package main var x int", 1),
+    ("package main\npackage main", 2),
+];
+
 #[test]
 fn the_package_comes_first(rt: HostRuntime) -> Result<(), Fail> {
-    let rows = [
-        ("", 1u32),
-        ("package main", 0),
-        ("package other\nvar x int", 1),
-        ("\n\nvar x int\npackage main", 3),
-        ("package main var x int", 1),
-        ("package main\npackage main", 2),
-    ];
-    for (source, line) in rows {
+    for &(source, line) in PACKAGES.iter() {
         assert!(rt; fault_line(&rt, rt.alloc(), source) == line, "{source}");
     }
     Ok(())
@@ -114,7 +115,7 @@ const ROWS: [(&str, u32); 48] = [
 
 #[test]
 fn declarations_are_read_or_have_the_line_of_the_fault(rt: HostRuntime) -> Result<(), Fail> {
-    for (text, line) in ROWS {
+    for &(text, line) in ROWS.iter() {
         let source = format!(in rt.alloc(); "package main\n{text}")?;
         let found = fault_line(&rt, rt.alloc(), source.as_str());
         assert!(rt; found == line, "{text}: {found}");
@@ -139,13 +140,13 @@ fn nested(alloc: Global, depth: u32) -> Result<String, Fail> {
 
 #[test]
 fn parentheses_cost_a_thousand_at_most(rt: HostRuntime) -> Result<(), Fail> {
-    for (depth, line) in [(992, 0), (993, 3)] {
-        let source = nested(rt.alloc(), depth)?;
-        assert!(rt;
-            fault_line(&rt, rt.alloc(), source.as_str()) == line,
-            "{depth}"
-        );
-    }
+    let most = nested(rt.alloc(), 992)?;
+    let more = nested(rt.alloc(), 993)?;
+    let found = (
+        fault_line(&rt, rt.alloc(), most.as_str()),
+        fault_line(&rt, rt.alloc(), more.as_str()),
+    );
+    assert_eq!(rt; found, (0, 3));
     Ok(())
 }
 
@@ -208,9 +209,9 @@ const STARTS: [u32; 8] = [1, 3, 8, 10, 15, 17, 22, 39];
 // The last line up to this one on which something begins.
 fn start_of(line: u32) -> u32 {
     let mut last = 1;
-    for start in STARTS {
-        if start <= line {
-            last = start;
+    for start in STARTS.iter() {
+        if *start <= line {
+            last = *start;
         }
     }
     last

@@ -114,74 +114,79 @@ fn are_variables(rt: &impl Abort, alloc: Global, rows: &[(&str, &str)]) -> Resul
     Ok(())
 }
 
+const VARIABLES: [(&str, &str); 4] = [
+    ("x T ;", "zero"),
+    ("x T = y ;", "typed"),
+    ("x = y ;", "untyped"),
+    ("x ;", "none"),
+];
+
 #[test]
 fn a_variable_has_a_type_or_a_value_or_both(rt: HostRuntime) -> Result<(), Fail> {
-    let rows = [
-        ("x T ;", "zero"),
-        ("x T = y ;", "typed"),
-        ("x = y ;", "untyped"),
-        ("x ;", "none"),
-    ];
-    are_variables(&rt, rt.alloc(), rows.as_slice())
+    are_variables(&rt, rt.alloc(), &VARIABLES)
 }
+
+const HEADERS: [(&str, &str); 9] = [
+    ("{", "forever"),
+    ("x < y {", "while"),
+    ("i := x ; i < y ; i ++ {", "steps"),
+    ("; ; {", "steps without a first"),
+    ("range c {", "range"),
+    ("v := range c {", "range"),
+    ("i , v := range c {", "range"),
+    ("; ; i := x {", "none"),
+    ("i := x {", "none"),
+];
 
 #[test]
 fn a_header_is_told_by_its_semicolons_and_its_range(rt: HostRuntime) -> Result<(), Fail> {
-    let rows = [
-        ("{", "forever"),
-        ("x < y {", "while"),
-        ("i := x ; i < y ; i ++ {", "steps"),
-        ("; ; {", "steps without a first"),
-        ("range c {", "range"),
-        ("v := range c {", "range"),
-        ("i , v := range c {", "range"),
-        ("; ; i := x {", "none"),
-        ("i := x {", "none"),
-    ];
-    are_headers(&rt, rt.alloc(), rows.as_slice())
+    are_headers(&rt, rt.alloc(), &HEADERS)
 }
+
+const CLAUSES: [(&str, &str); 5] = [
+    ("select { case c <- x : } ;", "select"),
+    ("select { case <- c : } ;", "select"),
+    ("select { case x := <- c : } ;", "select"),
+    ("select { case x = <- c : } ;", "select"),
+    ("select { case x , ok := <- c : } ;", "select"),
+];
 
 #[test]
 fn a_clause_of_a_select_sends_or_receives(rt: HostRuntime) -> Result<(), Fail> {
-    let rows = [
-        ("select { case c <- x : } ;", "select"),
-        ("select { case <- c : } ;", "select"),
-        ("select { case x := <- c : } ;", "select"),
-        ("select { case x = <- c : } ;", "select"),
-        ("select { case x , ok := <- c : } ;", "select"),
-    ];
-    are_statements(&rt, rt.alloc(), rows.as_slice())
+    are_statements(&rt, rt.alloc(), &CLAUSES)
 }
+
+const STATEMENTS: [(&str, &str); 9] = [
+    ("x ++ ;", "simple"),
+    ("go f ( x ) ;", "go"),
+    ("defer f ( ) ;", "defer"),
+    ("return x ;", "return"),
+    ("{ x ++ ; y ++ } ;", "block"),
+    ("if x < y { } ;", "if"),
+    ("if x < y { } else { } ;", "if else"),
+    ("for v := range c { break } ;", "for"),
+    ("select { case <- c : x ++ ; default : } ;", "select"),
+];
 
 #[test]
 fn a_statement_is_told_by_its_first_word(rt: HostRuntime) -> Result<(), Fail> {
-    let rows = [
-        ("x ++ ;", "simple"),
-        ("go f ( x ) ;", "go"),
-        ("defer f ( ) ;", "defer"),
-        ("return x ;", "return"),
-        ("{ x ++ ; y ++ } ;", "block"),
-        ("if x < y { } ;", "if"),
-        ("if x < y { } else { } ;", "if else"),
-        ("for v := range c { break } ;", "for"),
-        ("select { case <- c : x ++ ; default : } ;", "select"),
-    ];
-    are_statements(&rt, rt.alloc(), rows.as_slice())
+    are_statements(&rt, rt.alloc(), &STATEMENTS)
 }
+
+const NO_STATEMENTS: [(&str, &str); 8] = [
+    ("go f ;", "none"),
+    ("if x { } else x ++ ;", "none"),
+    ("select { default : ; default : } ;", "none"),
+    ("select { default : default : } ;", "none"),
+    ("select { case x := y : } ;", "none"),
+    ("select { case x ++ : } ;", "none"),
+    ("{ x ++ y ++ } ;", "none"),
+    ("for x { ;", "none"),
+];
 
 #[test]
 fn what_is_no_statement_is_not_read(rt: HostRuntime) -> Result<(), Fail> {
-    let rows = [
-        ("go f ;", "none"),
-        ("if x { } else x ++ ;", "none"),
-        ("select { default : ; default : } ;", "none"),
-        ("select { default : default : } ;", "none"),
-        ("select { case x := y : } ;", "none"),
-        ("select { case x ++ : } ;", "none"),
-        ("{ x ++ y ++ } ;", "none"),
-        ("for x { ;", "none"),
-    ];
-    are_statements(&rt, rt.alloc(), rows.as_slice())
+    are_statements(&rt, rt.alloc(), &NO_STATEMENTS)
 }
 
 #[test]

@@ -5,11 +5,16 @@ use golf_lex_tokens::Token;
 use std::alloc::Global;
 use std::process::Abort;
 
-/// The tokens of a text that lexes.
-pub(crate) fn tokens_of(rt: &impl Abort, alloc: Global, source: &str) -> List<Token> {
+/// The tokens of bytes that lex.
+pub(crate) fn lexed(rt: &impl Abort, alloc: Global, source: &[u8]) -> List<Token> {
     assert!(rt; source.len() < 100_000);
-    match golf_lex::tokens(alloc, source.as_bytes()) {
+    match golf_lex::tokens(alloc, source) {
         Ok(list) => list,
         Err(_) => panic!(rt; "it does not lex"),
     }
+}
+
+/// The tokens of a text that lexes.
+pub(crate) fn tokens_of(rt: &impl Abort, alloc: Global, source: &str) -> List<Token> {
+    lexed(rt, alloc, source.as_bytes())
 }
