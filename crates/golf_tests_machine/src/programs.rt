@@ -63,17 +63,18 @@ fn run(alloc: Global, code: &Code) -> Result<State, Memory> {
     Ok(state)
 }
 
-/// A run of the code with these instructions prints this, and ends so.
+/// A run of the code with these instructions of `main` and of function 1 prints this, and ends so.
 pub fn ends<R: AllocGlobal + Abort>(
     rt: &R,
-    main: &str,
-    other: &str,
+    shows: &str,
+    instructions: (&str, &str),
     text: &str,
     ending: Ending,
 ) -> Result<(), Fail> {
+    let (main, other) = instructions;
     let code = program(rt.alloc(), main, other)?;
     let state = run(rt.alloc(), &code)?;
-    assert_eq!(rt; state.output(), text.as_bytes());
-    assert_eq!(rt; state.ending(), Some(ending));
+    assert_eq!(rt; state.output(), text.as_bytes(), "{shows}");
+    assert_eq!(rt; state.ending(), Some(ending), "{shows}");
     Ok(())
 }
