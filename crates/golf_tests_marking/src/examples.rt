@@ -48,6 +48,14 @@ pub(crate) const HELD_MUTEX: &str = "node; node; root 0; sleeper 1 > 0 1; sleepe
 /// send a struct that only it refers to.
 pub(crate) const SELECT_ON_ITS_OWN_CHANNEL: &str = "node; node; node; root 0; sleeper 0 2 > 0 1 2";
 
+/// The root 0 refers to node 1.
+pub(crate) const TWO_NODES: &str = "node 1; node; root 0";
+
+/// The roots are 1 and 0. Both refer to node 3, and so does node 2, to which nothing leads. Sleeper
+/// 0 waits on node 3 and refers to node 4; sleeper 1 waits on node 4; sleeper 2 waits on node 2.
+pub(crate) const TWO_PARENTS: &str = "
+    node 3; node 3; node 3; node; node; root 1; root 0; sleeper 3 > 4; sleeper 4 >; sleeper 2 >";
+
 /// A list of 50 nodes, each with a channel; 50 channels more; and on each channel a sleeper that
 /// refers to it.
 pub(crate) fn list_of_channels(alloc: Global) -> Result<Graph, GraphFault> {

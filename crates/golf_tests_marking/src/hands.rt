@@ -6,6 +6,7 @@ ghost use Rattle.golf_grey.specs.Hands.{IsHandOf, capacity_of, hand_count, pushe
 use golf_base::{List, Memory};
 use golf_grey::{GreyHand, GreyPool};
 use std::alloc::Global;
+use std::process::Abort;
 use std::test::Fail;
 
 // A pool of two hands that may push 8 times each, with hand 1 and hand 0.
@@ -69,6 +70,11 @@ fn both(alloc: Global, second: GreyHand, first: GreyHand) -> Result<List<GreyHan
     Ok(hands)
 }
 
+// These were taken.
+fn are(rt: &impl Abort, taken: [Option<u32>; 3], wanted: [Option<u32>; 3]) {
+    assert_eq!(rt; taken, wanted);
+}
+
 #[test]
 fn a_hand_steals_all_that_another_one_pushed_and_then_nothing(rt: HostRuntime) -> Result<(), Fail> {
     let alloc = rt.alloc();
@@ -76,8 +82,8 @@ fn a_hand_steals_all_that_another_one_pushed_and_then_nothing(rt: HostRuntime) -
     push_three(&pool, &mut first);
     let stolen = take_three(&pool, &mut second);
     let none = pool.take(&mut second);
-    assert!(rt; stolen == [Some(4), Some(5), Some(6)]);
-    assert!(rt; none == None);
+    are(&rt, stolen, [Some(4), Some(5), Some(6)]);
+    assert!(rt; none.is_none());
     Ok(())
 }
 
@@ -88,7 +94,7 @@ fn a_hand_takes_its_own_place_before_it_steals(rt: HostRuntime) -> Result<(), Fa
     push_three(&pool, &mut second);
     pool.push(&mut first, 7);
     let taken = take_three(&pool, &mut first);
-    assert!(rt; taken == [Some(7), Some(4), Some(5)]);
+    are(&rt, taken, [Some(7), Some(4), Some(5)]);
     Ok(())
 }
 
@@ -99,7 +105,7 @@ fn a_hand_steals_in_order_and_what_is_left_comes_at_the_end(rt: HostRuntime) -> 
     push_four(&pool, &mut first);
     let stolen = take_three(&pool, &mut second);
     let left = pool.close(both(alloc, second, first)?);
-    assert!(rt; stolen == [Some(4), Some(5), Some(6)]);
+    are(&rt, stolen, [Some(4), Some(5), Some(6)]);
     assert!(rt; left.places.as_slice() == [7].as_slice());
     Ok(())
 }
@@ -112,8 +118,8 @@ fn what_is_pushed_is_taken_once(rt: HostRuntime) -> Result<(), Fail> {
     let stolen = take_three(&pool, &mut second);
     let own = take_three(&pool, &mut first);
     let none = take_three(&pool, &mut second);
-    assert!(rt; stolen == [Some(4), Some(5), Some(6)]);
-    assert!(rt; own == [Some(7), None, None]);
-    assert!(rt; none == [None, None, None]);
+    are(&rt, stolen, [Some(4), Some(5), Some(6)]);
+    are(&rt, own, [Some(7), None, None]);
+    are(&rt, none, [None, None, None]);
     Ok(())
 }

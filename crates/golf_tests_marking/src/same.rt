@@ -37,8 +37,8 @@ fn is_marked_by<R: Threads + Sync>(
 fn agree<R: Threads + Sync>(rt: &R, alloc: Global, graph: &Graph) -> Result<bool, Fail> {
     let alone = mark_alone(alloc, graph, &OpenGate)?;
     let mut same = true;
-    for count in [2, 3, 16] {
-        same &= is_marked_by(rt, alloc, graph, count, &alone)?;
+    for count in [2, 3, 16].iter() {
+        same &= is_marked_by(rt, alloc, graph, *count, &alone)?;
     }
     Ok(same)
 }
@@ -52,27 +52,33 @@ fn agree_on<R: Abort + Threads + Sync>(rt: &R, alloc: Global, texts: &[&str]) ->
     Ok(())
 }
 
+const GRAPHS_BY_HAND: [&str; 4] = [NOTHING, WAITS_ON_NOTHING, TWO_ROOTS, ONE_ROOT_OF_FOUR];
+
 #[test]
 fn any_count_of_markers_marks_the_same_in_small_graphs(rt: HostRuntime) -> Result<(), Fail> {
-    let texts = [NOTHING, WAITS_ON_NOTHING, TWO_ROOTS, ONE_ROOT_OF_FOUR];
-    agree_on(&rt, rt.alloc(), texts.as_slice())?;
+    agree_on(&rt, rt.alloc(), &GRAPHS_BY_HAND)
+}
+
+#[test]
+fn any_count_of_markers_marks_the_same_in_a_list_of_channels(rt: HostRuntime) -> Result<(), Fail> {
     let graph = list_of_channels(rt.alloc())?;
     assert!(rt; agree(&rt, rt.alloc(), &graph)?);
     Ok(())
 }
 
+const PROGRAMS: [&str; 7] = [
+    CLASSIC_LEAK,
+    CHANNEL_STILL_HELD,
+    CYCLE,
+    TWO_ROUNDS,
+    SELECT_WITH_ONE_LIVE_CHANNEL,
+    HELD_MUTEX,
+    SELECT_ON_ITS_OWN_CHANNEL,
+];
+
 #[test]
 fn any_count_of_markers_marks_the_same_in_small_programs(rt: HostRuntime) -> Result<(), Fail> {
-    let texts = [
-        CLASSIC_LEAK,
-        CHANNEL_STILL_HELD,
-        CYCLE,
-        TWO_ROUNDS,
-        SELECT_WITH_ONE_LIVE_CHANNEL,
-        HELD_MUTEX,
-        SELECT_ON_ITS_OWN_CHANNEL,
-    ];
-    agree_on(&rt, rt.alloc(), texts.as_slice())
+    agree_on(&rt, rt.alloc(), &PROGRAMS)
 }
 
 // How many of so many graphs that look random are marked in the same way by any count of markers.

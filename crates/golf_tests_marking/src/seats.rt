@@ -8,9 +8,10 @@ ghost use Rattle.golf_marks.specs.Seats.{graph_in, seat_count, IsSeatOf, IsSameS
 
 use golf_base::{GoroutineId, List, Memory, ObjectId};
 use golf_marks::{MarkSeat, Marks};
-use golf_model::{Graph, GraphParts, Sleepers};
+use golf_model::{Graph, GraphParts, Marked, Sleepers};
 use golf_rows::FlatRows;
 use std::alloc::Global;
+use std::process::Abort;
 use std::test::Fail;
 
 // Two objects, both roots, and a goroutine that waits on nothing.
@@ -96,6 +97,12 @@ fn glance(marks: &Marks, first: &mut MarkSeat, second: &mut MarkSeat) -> [bool; 
     [sees_first, sees_second]
 }
 
+// These places are flagged, in this order, and no sleeper is awake.
+fn is_so(rt: &impl Abort, marked: &Marked, flags: &[bool], order: &[u32]) {
+    let same = marked.flags.as_slice() == flags && marked.order.as_slice() == order;
+    assert!(rt; same && marked.awake.as_slice() == [false].as_slice());
+}
+
 #[test]
 fn a_seat_sees_what_another_one_claimed(rt: HostRuntime) -> Result<(), Fail> {
     let alloc = rt.alloc();
@@ -104,9 +111,7 @@ fn a_seat_sees_what_another_one_claimed(rt: HostRuntime) -> Result<(), Fail> {
     let seen = look(&marks, &mut first, &mut second);
     let marked = marks.close(both(alloc, first, second)?);
     assert!(rt; seen == [true, true, false, false]);
-    assert!(rt; marked.flags.as_slice() == [true, false].as_slice());
-    assert!(rt; marked.awake.as_slice() == [false].as_slice());
-    assert!(rt; marked.order.as_slice() == [0].as_slice());
+    is_so(&rt, &marked, &[true, false], &[0]);
     Ok(())
 }
 
@@ -118,7 +123,7 @@ fn a_glance_sees_what_another_seat_claimed(rt: HostRuntime) -> Result<(), Fail> 
     let seen = glance(&marks, &mut first, &mut second);
     let marked = marks.close(both(alloc, first, second)?);
     assert!(rt; seen == [true, false]);
-    assert!(rt; marked.flags.as_slice() == [true, false].as_slice());
+    is_so(&rt, &marked, &[true, false], &[0]);
     Ok(())
 }
 
@@ -140,7 +145,6 @@ fn a_joined_seat_stands_for_both(rt: HostRuntime) -> Result<(), Fail> {
     let known = marks.is_marked(&mut first, 1);
     let marked = marks.close(only(alloc, first)?);
     assert!(rt; claimed && known);
-    assert!(rt; marked.flags.as_slice() == [false, true].as_slice());
-    assert!(rt; marked.order.as_slice() == [1].as_slice());
+    is_so(&rt, &marked, &[false, true], &[1]);
     Ok(())
 }

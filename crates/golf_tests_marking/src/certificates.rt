@@ -1,10 +1,11 @@
 ghost use Rattle.std.specs.Prelude.{◌≡◌, ◌<◌, IfOk, length};
 
-use crate::examples::{two_nodes, two_parents};
+use crate::examples::{TWO_NODES, TWO_PARENTS, graph_of};
 use golf_base::{List, Memory, OpenGate};
 use golf_cert::{Certificate, Link, Verdict, certify, verify};
 use golf_mark::mark_alone;
 use std::alloc::Global;
+use std::process::Abort;
 use std::test::Fail;
 
 fn certificate(alloc: Global, links: &[Link]) -> Result<Certificate, Memory>
@@ -15,37 +16,33 @@ fn certificate(alloc: Global, links: &[Link]) -> Result<Certificate, Memory>
     Ok(Certificate { links: all })
 }
 
-// The verdict on these links of the graph of two nodes.
-fn verdict(alloc: Global, links: &[Link]) -> Result<Verdict, Fail>
+// The verdict on these links of the graph of two nodes is this one.
+fn is_judged(rt: &impl Abort, alloc: Global, links: &[Link], wanted: Verdict) -> Result<(), Fail>
     requires { length links.now < 4294967296 }
 {
-    let graph = two_nodes(alloc)?;
-    Ok(verify(alloc, &graph, &certificate(alloc, links)?)?)
-}
-
-#[test]
-fn a_certificate_is_proved_or_refused_at_an_entry(rt: HostRuntime) -> Result<(), Fail> {
-    let child = Link::Child { from: 0, to: 1 };
-    assert_eq!(rt;
-        verdict(rt.alloc(), &[Link::Root(0), child])?,
-        Verdict::Proved
-    );
-    assert_eq!(rt; verdict(rt.alloc(), &[Link::Root(0)])?, Verdict::Refused(1));
-    assert_eq!(rt;
-        verdict(rt.alloc(), &[child, Link::Root(0)])?,
-        Verdict::Refused(0)
-    );
-    assert_eq!(rt; verdict(rt.alloc(), &[Link::Root(5)])?, Verdict::Refused(0));
+    let graph = graph_of(alloc, TWO_NODES)?;
+    let made = certificate(alloc, links)?;
+    assert_eq!(rt; verify(alloc, &graph, &made)?, wanted);
     Ok(())
 }
 
 #[test]
+fn a_certificate_is_proved_or_refused_at_an_entry(rt: HostRuntime) -> Result<(), Fail> {
+    let (alloc, root) = (rt.alloc(), Link::Root(0));
+    let child = Link::Child { from: 0, to: 1 };
+    is_judged(&rt, alloc, &[root, child], Verdict::Proved)?;
+    is_judged(&rt, alloc, &[root], Verdict::Refused(1))?;
+    is_judged(&rt, alloc, &[child, root], Verdict::Refused(0))?;
+    is_judged(&rt, alloc, &[Link::Root(5)], Verdict::Refused(0))
+}
+
+#[test]
 fn a_marking_has_a_certificate_of_one_link_a_place(rt: HostRuntime) -> Result<(), Fail> {
-    let graph = two_parents(rt.alloc())?;
+    let graph = graph_of(rt.alloc(), TWO_PARENTS)?;
     let marked = mark_alone(rt.alloc(), &graph, &OpenGate)?;
     let made = certify(rt.alloc(), &graph, &marked)?;
+    let verdict = verify(rt.alloc(), &graph, &made)?;
     // The nodes 0, 1, 3 and 4, and the sleepers 0 and 1.
-    assert_eq!(rt; made.links.len(), 6);
-    assert_eq!(rt; verify(rt.alloc(), &graph, &made)?, Verdict::Proved);
+    assert!(rt; made.links.len() == 6 && verdict == Verdict::Proved);
     Ok(())
 }
