@@ -14,6 +14,25 @@ use std::alloc::Global;
 use std::process::Abort;
 use std::test::Fail;
 
+// The list of these items.
+fn list_of<T: Copy>(alloc: Global, items: &[T]) -> Result<List<T>, Memory>
+    ensures { IfOk result (λ list. list ≡ items.now) }
+{
+    let mut list = List::new(alloc);
+    list.extend_from_slice(items)?;
+    Ok(list)
+}
+
+// No children of two nodes.
+fn no_children(alloc: Global) -> Result<FlatRows, Memory>
+    ensures { IfOk result (λ rows. rows ≡ [] ∷ [] ∷ []) }
+{
+    let mut children = FlatRows::new(alloc);
+    children.push(&[])?;
+    children.push(&[])?;
+    Ok(children)
+}
+
 // Two objects, both roots, and a goroutine that waits on nothing.
 fn two_roots(alloc: Global) -> Result<GraphParts, Memory>
     ensures range { IfOk result IsInRange }
@@ -21,25 +40,13 @@ fn two_roots(alloc: Global) -> Result<GraphParts, Memory>
     ensures nodes { IfOk result (λ parts. length parts.children ≡ 2) }
     ensures sleepers { IfOk result (λ parts. length parts.sleepers ≡ 1) }
 {
-    let mut numbers = List::new(alloc);
-    numbers.push(ObjectId(1))?;
-    numbers.push(ObjectId(2))?;
-    let mut children = FlatRows::new(alloc);
-    children.push(&[])?;
-    children.push(&[])?;
-    let mut finalised = List::new(alloc);
-    finalised.push(false)?;
-    finalised.push(false)?;
-    let mut roots = List::new(alloc);
-    roots.push(0)?;
-    roots.push(1)?;
     let mut sleepers = Sleepers::new(alloc);
     sleepers.push(GoroutineId(2), &[], &[])?;
     Ok(GraphParts {
-        numbers,
-        children,
-        finalised,
-        roots,
+        numbers: list_of(alloc, &[ObjectId(1), ObjectId(2)])?,
+        children: no_children(alloc)?,
+        finalised: list_of(alloc, &[false, false])?,
+        roots: list_of(alloc, &[0, 1])?,
         sleepers,
     })
 }
