@@ -2,7 +2,7 @@
 
 use golf_base::{Gate, List, MemorySink, MemorySource, OpenGate};
 use golf_command::golf;
-use golf_run_texts::Status;
+use golf_run_texts::{Status, USAGE};
 use std::alloc::Global;
 use std::process::Abort;
 use std::str;
@@ -25,10 +25,10 @@ pub struct Outcome {
 /// number from 1; 0 is none.
 #[derive(Clone, Copy)]
 pub struct Ends {
-    most: u32,
-    source: u32,
-    out: u32,
-    err: u32,
+    pub most: u32,
+    pub source: u32,
+    pub out: u32,
+    pub err: u32,
 }
 
 impl Ends {
@@ -113,6 +113,13 @@ pub fn run_with<R: AllocGlobal + Threads + Wait + Sync, G: Gate + Sync>(
     call(rt, line, file, Ends::of(4), gate)
 }
 
+// A call ended so, and wrote these texts.
+fn is_so(rt: &impl Abort, shows: &str, got: &Outcome, status: Status, out: &[u8], err: &[u8]) {
+    assert!(rt; got.status == status, "{shows}");
+    assert_eq!(rt; got.out.written(), out, "{shows}");
+    assert_eq!(rt; got.err.written(), err, "{shows}");
+}
+
 /// The program by the words of this line over this file, with these ends, ends so and writes these texts.
 pub fn expect_ends<R: AllocGlobal + Abort + Threads + Wait + Sync>(
     rt: &R,
@@ -125,30 +132,8 @@ pub fn expect_ends<R: AllocGlobal + Abort + Threads + Wait + Sync>(
 ) -> Result<(), Fail> {
     let got = call(rt, line, file, ends, &OpenGate)?;
     let text = str::from_utf8(file).unwrap_or("bytes");
-    assert!(rt; got.status == status, "by {line} over {text}");
-    assert_eq!(rt; got.out.written(), out, "by {line} over {text}");
-    assert_eq!(rt; got.err.written(), err, "by {line} over {text}");
+    is_so(rt, text, &got, status, out, err);
     Ok(())
-}
-
-/// The program by the words of this line over this file ends so, and writes these texts.
-pub fn expect_with<R: AllocGlobal + Abort + Threads + Wait + Sync>(
-    rt: &R,
-    line: &str,
-    file: &str,
-    status: Status,
-    out: &str,
-    err: &str,
-) -> Result<(), Fail> {
-    expect_ends(
-        rt,
-        line,
-        file.as_bytes(),
-        Ends::of(4),
-        status,
-        out.as_bytes(),
-        err.as_bytes(),
-    )
 }
 
 /// A run of this file ends so, and writes this output and these errors.
@@ -159,28 +144,66 @@ pub fn expect<R: AllocGlobal + Abort + Threads + Wait + Sync>(
     out: &str,
     err: &str,
 ) -> Result<(), Fail> {
-    expect_with(rt, "run", file, status, out, err)
+    let (file, out, err) = (file.as_bytes(), out.as_bytes(), err.as_bytes());
+    expect_ends(rt, "run", file, Ends::of(4), status, out, err)
 }
 
-/// A run of this file ends so and writes this output, with recovery and without; the first errors
-/// are those without, the others those with it.
-pub fn expect_both<R: AllocGlobal + Abort + Threads + Wait + Sync>(
-    rt: &R,
-    file: &str,
-    status: Status,
-    out: &str,
-    err: &str,
-    recovered: &str,
-) -> Result<(), Fail> {
-    expect_with(rt, "run", file, status, out, err)?;
-    expect_with(rt, "run --recover", file, status, out, recovered)
+/// The words of a line and a file, how the program ends by them, and what it writes.
+#[derive(Clone, Copy)]
+pub struct Row {
+    /// What the row shows.
+    pub shows: &'static str,
+    pub line: &'static str,
+    pub file: &'static str,
+    pub status: Status,
+    pub out: &'static str,
+    pub err: &'static str,
 }
 
-/// A run of this file is refused with this line.
-pub fn refuses<R: AllocGlobal + Abort + Threads + Wait + Sync>(
+// The program ends and writes as this row says, with these ends.
+fn expect_row<R: AllocGlobal + Abort + Threads + Wait + Sync>(
     rt: &R,
-    file: &str,
-    line: &str,
+    row: &Row,
+    ends: Ends,
 ) -> Result<(), Fail> {
-    expect(rt, file, Status::Refused, "", line)
+    let got = call(rt, row.line, row.file.as_bytes(), ends, &OpenGate)?;
+    let (out, err) = (row.out.as_bytes(), row.err.as_bytes());
+    is_so(rt, row.shows, &got, row.status, out, err);
+    Ok(())
+}
+
+/// The program ends and writes as each of these rows says, with ends that take four bytes a call and do
+/// not fail.
+pub fn expect_rows<R: AllocGlobal + Abort + Threads + Wait + Sync>(
+    rt: &R,
+    rows: &[Row],
+) -> Result<(), Fail> {
+    for row in rows {
+        expect_row(rt, row, Ends::of(4))?;
+    }
+    Ok(())
+}
+
+/// The program ends and writes as each of these rows says, with its ends.
+pub fn expect_failing<R: AllocGlobal + Abort + Threads + Wait + Sync>(
+    rt: &R,
+    rows: &[(Ends, Row)],
+) -> Result<(), Fail> {
+    for (ends, row) in rows {
+        expect_row(rt, row, *ends)?;
+    }
+    Ok(())
+}
+
+/// Each of these lines is none of the program: that is told, and nothing is read of a source that fails.
+pub fn expect_usage<R: AllocGlobal + Abort + Threads + Wait + Sync>(
+    rt: &R,
+    lines: &[&str],
+) -> Result<(), Fail> {
+    for line in lines {
+        let ends = Ends::of(4).without_source(1);
+        let got = call(rt, *line, b"", ends, &OpenGate)?;
+        is_so(rt, *line, &got, Status::Usage, b"", USAGE);
+    }
+    Ok(())
 }

@@ -1,9 +1,9 @@
 //! Streams that fail, and words that are no line of the program.
 
-use crate::calls::{Ends, expect_ends};
+use crate::calls::{Ends, Row, expect_ends, expect_failing, expect_usage};
 use crate::runs::{EMPTY_MAIN, LEAK};
 use crate::worked::{POOL, POOL_ERRORS, POOL_OUT, POOL_RECOVERED};
-use golf_run_texts::{READ_FAULT, Status, USAGE};
+use golf_run_texts::{READ_FAULT, Status};
 use std::process::Abort;
 use std::sync::Wait;
 use std::test::Fail;
@@ -92,60 +92,134 @@ fn with_recovery_each_call_of_a_sink_that_fails_cuts_its_text(rt: HostRuntime) -
     fails_to_report(&rt, "run --recover", POOL_RECOVERED)
 }
 
-/// What a failed write leaves: the words, the file, the call of `out` and that of `err` that fails, and
-/// what is written.
-const FAILED_WRITES: [(&str, &str, u32, u32, &str, &str); 6] = [
-    ("run", LEAK, 1, 0, "", ""),
-    ("run", LEAK, 0, 3, "1\n", "collecti"),
+// What a failed write leaves.
+const FAILED_WRITES: [(Ends, Row); 6] = [
     (
-        "run --recover",
-        LEAK,
-        0,
-        19,
-        "1\n",
-        "collection 1: marked 0, reported 1, kept 0, reclaimed 1, objects 0\ngoro",
+        Ends {
+            most: 4,
+            source: 0,
+            out: 1,
+            err: 0,
+        },
+        Row {
+            shows: "the first write of the output fails",
+            line: "run",
+            file: LEAK,
+            status: Status::WriteFault,
+            out: "",
+            err: "",
+        },
     ),
-    ("run --turns=2", EMPTY_MAIN, 0, 2, "", "stop"),
-    ("run", "package main", 0, 4, "", "refused: lin"),
-    ("", EMPTY_MAIN, 0, 2, "", "usag"),
+    (
+        Ends {
+            most: 4,
+            source: 0,
+            out: 0,
+            err: 3,
+        },
+        Row {
+            shows: "the third write of the report fails",
+            line: "run",
+            file: LEAK,
+            status: Status::WriteFault,
+            out: "1\n",
+            err: "collecti",
+        },
+    ),
+    (
+        Ends {
+            most: 4,
+            source: 0,
+            out: 0,
+            err: 19,
+        },
+        Row {
+            shows: "the second write of the second line fails",
+            line: "run --recover",
+            file: LEAK,
+            status: Status::WriteFault,
+            out: "1\n",
+            err: "collection 1: marked 0, reported 1, kept 0, reclaimed 1, objects 0\ngoro",
+        },
+    ),
+    (
+        Ends {
+            most: 4,
+            source: 0,
+            out: 0,
+            err: 2,
+        },
+        Row {
+            shows: "the second write of a spent run fails",
+            line: "run --turns=2",
+            file: EMPTY_MAIN,
+            status: Status::WriteFault,
+            out: "",
+            err: "stop",
+        },
+    ),
+    (
+        Ends {
+            most: 4,
+            source: 0,
+            out: 0,
+            err: 4,
+        },
+        Row {
+            shows: "the fourth write of a refusal fails",
+            line: "run",
+            file: "package main",
+            status: Status::WriteFault,
+            out: "",
+            err: "refused: lin",
+        },
+    ),
+    (
+        Ends {
+            most: 4,
+            source: 0,
+            out: 0,
+            err: 2,
+        },
+        Row {
+            shows: "the second write of the usage fails",
+            line: "",
+            file: EMPTY_MAIN,
+            status: Status::WriteFault,
+            out: "",
+            err: "usag",
+        },
+    ),
 ];
 
 #[test]
 fn nothing_is_written_after_a_write_that_failed(rt: HostRuntime) -> Result<(), Fail> {
-    for (line, file, out_call, err_call, out, err) in FAILED_WRITES {
-        let ends = Ends::of(4).without_sinks(out_call, err_call);
-        let (file, out, err) = (file.as_bytes(), out.as_bytes(), err.as_bytes());
-        expect_ends(&rt, line, file, ends, Status::WriteFault, out, err)?;
-    }
-    Ok(())
+    expect_failing(&rt, &FAILED_WRITES)
 }
+
+// Words that are no line of the program.
+const NO_LINES: [&str; 18] = [
+    "",
+    "Run",
+    "run run",
+    "run --markers 17",
+    "run --recover --recover",
+    "run --turns=0",
+    "run --turns --",
+    "run --turns=000000000000000000003",
+    "generate 0",
+    "run --threads",
+    "run --threads 0",
+    "run --threads=17",
+    "run --threads=2 --threads=2",
+    "run --threads=2 --recover",
+    "run --why --why",
+    "run --why=1",
+    "generate 3 --why",
+    "run --why --threads 2",
+];
 
 #[test]
 fn words_that_are_no_line_are_refused_and_nothing_is_read(rt: HostRuntime) -> Result<(), Fail> {
-    let lines = [
-        "",
-        "Run",
-        "run run",
-        "run --markers 17",
-        "run --recover --recover",
-        "run --turns=0",
-        "run --turns --",
-        "run --turns=000000000000000000003",
-        "generate 0",
-        "run --threads",
-        "run --threads 0",
-        "run --threads=17",
-        "run --threads=2 --threads=2",
-        "run --threads=2 --recover",
-        "run --why --why",
-        "run --why=1",
-        "generate 3 --why",
-        "run --why --threads 2",
-    ];
-    for line in lines {
-        let ends = Ends::of(4).without_source(1);
-        let file = EMPTY_MAIN.as_bytes();
-        expect_ends(&rt, line, file, ends, Status::Usage, b"", USAGE)?;
-    }
-    Ok(())
+    expect_usage(&rt, &NO_LINES)
 }

@@ -1,6 +1,6 @@
 //! Generated files.
 
-use crate::calls::{Outcome, expect_with, run_with};
+use crate::calls::{Outcome, Row, expect_rows, run_with};
 use golf_command_sample::sample_file;
 use golf_run_texts::Status;
 use golf_tests_support::CountingGate;
@@ -23,26 +23,37 @@ fn passes<R: AllocGlobal + Threads + Wait + Sync>(
     }
 }
 
+// Generated files, and how they are summed up.
+const ROWS: [Row; 3] = [
+    Row {
+        shows: "a file of 1",
+        line: "generate 1",
+        file: "",
+        status: Status::Found,
+        out: "generated 1: lines 29, collections 1, reported 1, kept 0, reclaimed 1, objects 0\n",
+        err: "",
+    },
+    Row {
+        shows: "a file of 5",
+        line: "generate 5",
+        file: "",
+        status: Status::Found,
+        out: "generated 5: lines 65, collections 1, reported 3, kept 0, reclaimed 3, objects 4\n",
+        err: "",
+    },
+    Row {
+        shows: "a file of 5000",
+        line: "generate 5000",
+        file: "",
+        status: Status::Found,
+        out: "generated 5000: lines 45020, collections 1, reported 2500, kept 0, reclaimed 2500, objects 5000\n",
+        err: "",
+    },
+];
+
 #[test]
 fn generated_files_are_summed_up(rt: HostRuntime) -> Result<(), Fail> {
-    let rows = [
-        (
-            "generate 1",
-            "generated 1: lines 29, collections 1, reported 1, kept 0, reclaimed 1, objects 0\n",
-        ),
-        (
-            "generate 5",
-            "generated 5: lines 65, collections 1, reported 3, kept 0, reclaimed 3, objects 4\n",
-        ),
-        (
-            "generate 5000",
-            "generated 5000: lines 45020, collections 1, reported 2500, kept 0, reclaimed 2500, objects 5000\n",
-        ),
-    ];
-    for (line, summary) in rows {
-        expect_with(&rt, line, "", Status::Found, summary, "")?;
-    }
-    Ok(())
+    expect_rows(&rt, &ROWS)
 }
 
 // 100 marked objects and 50 awake sleepers are scanned, and each marker passes the gate once more.

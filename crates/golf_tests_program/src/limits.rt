@@ -111,10 +111,10 @@ fn limits_of_made_files<R: AllocGlobal + Abort + Threads + Wait + Sync>(
 
 #[test]
 fn limits(rt: HostRuntime) -> Result<(), Fail> {
-    for file in CLEAN {
-        expect(&rt, file, Status::Clean, "", "")?;
+    for file in CLEAN.iter() {
+        expect(&rt, *file, Status::Clean, "", "")?;
     }
-    for (file, errors) in CRASHED {
+    for &(file, errors) in CRASHED.iter() {
         expect(&rt, file, Status::Crashed, "", errors)?;
     }
     limits_of_made_files(&rt)

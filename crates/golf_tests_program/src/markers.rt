@@ -1,6 +1,6 @@
 //! What the markers of the program see at their gate.
 
-use crate::calls::{Outcome, expect_with, run_with};
+use crate::calls::{Outcome, Row, expect_rows, run_with};
 use crate::runs::TWO_ROUNDS;
 use crate::worked::{CYCLE, CYCLE_ERRORS};
 use golf_base::Gate;
@@ -48,10 +48,35 @@ fn the_markers_of_the_program_share_their_work(rt: HostRuntime) -> Result<(), Fa
     Ok(())
 }
 
+// Runs by one, two and sixteen markers.
+const COUNTS: [Row; 3] = [
+    Row {
+        shows: "one marker",
+        line: "run --markers 1",
+        file: CYCLE,
+        status: Status::Found,
+        out: "",
+        err: CYCLE_ERRORS,
+    },
+    Row {
+        shows: "two markers mark alike",
+        line: "run --markers 2",
+        file: CYCLE,
+        status: Status::Found,
+        out: "",
+        err: CYCLE_ERRORS,
+    },
+    Row {
+        shows: "sixteen markers mark alike",
+        line: "run --markers 16",
+        file: CYCLE,
+        status: Status::Found,
+        out: "",
+        err: CYCLE_ERRORS,
+    },
+];
+
 #[test]
 fn marker_counts_agree(rt: HostRuntime) -> Result<(), Fail> {
-    for line in ["run --markers 1", "run --markers 2", "run --markers 16"] {
-        expect_with(&rt, line, CYCLE, Status::Found, "", CYCLE_ERRORS)?;
-    }
-    Ok(())
+    expect_rows(&rt, &COUNTS)
 }

@@ -1,69 +1,115 @@
 //! Runs by options: their schedules, their added collections, and recovery.
 
-use crate::calls::{Outcome, expect_with, run_with};
+use crate::calls::{Outcome, Row, expect_rows, run_with};
 use crate::runs::EMPTY_MAIN;
 use golf_base::OpenGate;
 use golf_run_texts::Status;
 use std::str;
+use std::sync::Wait;
 use std::test::Fail;
+use std::thread::Threads;
+
+// Runs of an empty `main` by schedules, numbers of turns, a seed and markers.
+const ROWS: [Row; 6] = [
+    Row {
+        shows: "two choices are spent",
+        line: "run --schedule choices:0,0",
+        file: EMPTY_MAIN,
+        status: Status::Spent,
+        out: "",
+        err: "stopped after 2 turns\n",
+    },
+    Row {
+        shows: "three choices are enough",
+        line: "run --schedule choices:0,0,1",
+        file: EMPTY_MAIN,
+        status: Status::Clean,
+        out: "",
+        err: "",
+    },
+    Row {
+        shows: "two turns are spent",
+        line: "run --turns 2",
+        file: EMPTY_MAIN,
+        status: Status::Spent,
+        out: "",
+        err: "stopped after 2 turns\n",
+    },
+    Row {
+        shows: "three turns are enough",
+        line: "run --turns 3",
+        file: EMPTY_MAIN,
+        status: Status::Clean,
+        out: "",
+        err: "",
+    },
+    Row {
+        shows: "three turns in twenty digits are enough",
+        line: "run --turns=00000000000000000003 --",
+        file: EMPTY_MAIN,
+        status: Status::Clean,
+        out: "",
+        err: "",
+    },
+    Row {
+        shows: "a seed and markers",
+        line: "run --schedule=seed:0 --markers=002 --",
+        file: EMPTY_MAIN,
+        status: Status::Clean,
+        out: "",
+        err: "",
+    },
+];
 
 #[test]
-fn turns_and_choices_spent(rt: HostRuntime) -> Result<(), Fail> {
-    let spent = "stopped after 2 turns\n";
-    let rows = [
-        ("run --schedule choices:0,0", Status::Spent, spent),
-        ("run --schedule choices:0,0,1", Status::Clean, ""),
-        ("run --turns 2", Status::Spent, spent),
-        ("run --turns 3", Status::Clean, ""),
-        ("run --turns=00000000000000000003 --", Status::Clean, ""),
-    ];
-    for (line, status, err) in rows {
-        expect_with(&rt, line, EMPTY_MAIN, status, "", err)?;
-    }
-    Ok(())
+fn turns_and_choices_are_spent_or_enough(rt: HostRuntime) -> Result<(), Fail> {
+    expect_rows(&rt, &ROWS)
 }
 
-#[test]
-fn words_seed_and_markers(rt: HostRuntime) -> Result<(), Fail> {
-    let line = "run --schedule=seed:0 --markers=002 --";
-    expect_with(&rt, line, EMPTY_MAIN, Status::Clean, "", "")
-}
-
-#[test]
-fn asleep_with_a_collection_after_each_turn(rt: HostRuntime) -> Result<(), Fail> {
-    let file = "\
-        package main\n\
-        func main() {\n\
-        \tc := make(chan int)\n\
-        \t<-c\n\
-        }\n";
-    let err = r"collection 1: marked 0, reported 0, kept 0, reclaimed 0, objects 0
+// Runs with collections that are added.
+const ADDED: [Row; 2] = [
+    Row {
+        shows: "asleep with a collection after each turn",
+        line: "run --every 1",
+        file: "\
+            package main\n\
+            func main() {\n\
+            \tc := make(chan int)\n\
+            \t<-c\n\
+            }\n",
+        status: Status::Crashed,
+        out: "",
+        err: r"collection 1: marked 0, reported 0, kept 0, reclaimed 0, objects 0
 collection 2: marked 0, reported 0, kept 0, reclaimed 0, objects 0
 collection 3: marked 1, reported 0, kept 0, reclaimed 0, objects 1
 collection 4: marked 1, reported 0, kept 0, reclaimed 0, objects 1
 collection 5: marked 1, reported 0, kept 0, reclaimed 0, objects 1
 fatal error: all goroutines are asleep - deadlock!
-";
-    expect_with(&rt, "run --every 1", file, Status::Crashed, "", err)
-}
-
-// The turns are the call of `main`, the collection, and two returns, the last of which ends the program: none is added after it.
-#[test]
-fn a_collection_of_the_program_comes_before_the_one_that_is_added(
-    rt: HostRuntime,
-) -> Result<(), Fail> {
-    let file = "\
-        package main\n\
-        import \"runtime\"\n\
-        func main() {\n\
-        \truntime.GC()\n\
-        }\n";
-    let err = r"collection 1: marked 0, reported 0, kept 0, reclaimed 0, objects 0
+",
+    },
+    // The turns are the call of `main`, the collection, and two returns, the last of which ends the program: none is added after it.
+    Row {
+        shows: "a collection of the program comes before the one that is added",
+        line: "run --every=1",
+        file: "\
+            package main\n\
+            import \"runtime\"\n\
+            func main() {\n\
+            \truntime.GC()\n\
+            }\n",
+        status: Status::Clean,
+        out: "",
+        err: r"collection 1: marked 0, reported 0, kept 0, reclaimed 0, objects 0
 collection 2: marked 0, reported 0, kept 0, reclaimed 0, objects 0
 collection 3: marked 0, reported 0, kept 0, reclaimed 0, objects 0
 collection 4: marked 0, reported 0, kept 0, reclaimed 0, objects 0
-";
-    expect_with(&rt, "run --every=1", file, Status::Clean, "", err)
+",
+    },
+];
+
+#[test]
+fn collections_are_added_after_turns(rt: HostRuntime) -> Result<(), Fail> {
+    expect_rows(&rt, &ADDED)
 }
 
 // Each of 10,000 goroutines keeps 65,536 integers and waits for ever.
@@ -104,24 +150,25 @@ fn are_taken_back(errors: &[u8], last: &str) -> bool {
     empty_collections(text) == 160 && reported == 10_000 && text.ends_with(last)
 }
 
+// Whether a run of the holders by these words ends so, prints nothing, and takes all holders back, before this last line.
+fn takes_back<R: AllocGlobal + Threads + Wait + Sync>(
+    rt: &R,
+    line: &str,
+    wanted: Status,
+    last: &str,
+) -> Result<bool, Fail> {
+    let Outcome { status, out, err } = run_with(rt, line, HOLDERS.as_bytes(), &OpenGate)?;
+    let ended = status == wanted && out.written().is_empty();
+    Ok(ended && are_taken_back(err.written(), last))
+}
+
 #[test]
 fn memory_is_taken_back(rt: HostRuntime) -> Result<(), Fail> {
-    let rows = [
-        (
-            "run --every 1000 --recover --turns=160009",
-            Status::Found,
-            "\n",
-        ),
-        (
-            "run --every 1000 --recover --turns=160008",
-            Status::Spent,
-            "\nstopped after 160008 turns\n",
-        ),
-    ];
-    for (line, wanted, last) in rows {
-        let Outcome { status, out, err } = run_with(&rt, line, HOLDERS.as_bytes(), &OpenGate)?;
-        let ended = status == wanted && out.written().is_empty();
-        assert!(rt; ended && are_taken_back(err.written(), last), "by {line}");
-    }
+    let line = "run --every 1000 --recover --turns=160009";
+    let found = takes_back(&rt, line, Status::Found, "\n")?;
+    let line = "run --every 1000 --recover --turns=160008";
+    let last = "\nstopped after 160008 turns\n";
+    let spent = takes_back(&rt, line, Status::Spent, last)?;
+    assert!(rt; found && spent, "found: {found}, spent: {spent}");
     Ok(())
 }

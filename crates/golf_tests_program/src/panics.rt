@@ -1,6 +1,6 @@
 //! Panics and fatal errors (Go specification, "Handling panics", "Run-time panics", "Send statements", "Close"; package sync).
 
-use crate::calls::expect;
+use crate::calls::{Row, expect, expect_rows};
 use golf_run_texts::Status;
 use std::alloc::Global;
 use std::test::Fail;
@@ -51,77 +51,86 @@ fn panicking(alloc: Global, body: &str) -> Result<String, Fail> {
 
 #[test]
 fn each_panic_runs_deferred_calls_first(rt: HostRuntime) -> Result<(), Fail> {
-    for (body, errors) in PANICS {
+    for &(body, errors) in PANICS.iter() {
         let file = panicking(rt.alloc(), body)?;
         expect(&rt, file.as_str(), Status::Crashed, "bye\n", errors)?;
     }
     Ok(())
 }
 
-// The second value waits until the first is received; then the sender goes on.
-#[test]
-fn who_sends_twice_into_a_buffer_of_one_goes_on_after_a_receive(
-    rt: HostRuntime,
-) -> Result<(), Fail> {
-    let file = "\
-        package main\n\
-        import \"fmt\"\n\
-        func twice(c chan int) {\n\
-        \tc <- 1\n\
-        \tc <- 2\n\
-        \tfmt.Println(\"sent\")\n\
-        }\n\
-        func main() {\n\
-        \tc := make(chan int, 1)\n\
-        \tgo twice(c)\n\
-        \tfor i := 0; i < 50; i++ {\n\
-        \t}\n\
-        \tfmt.Println(\"waits\")\n\
-        \t<-c\n\
-        \tfor i := 0; i < 50; i++ {\n\
-        \t}\n\
-        \tfmt.Println(<-c)\n\
-        }\n";
-    expect(&rt, file, Status::Clean, "waits\nsent\n2\n", "")
-}
+// Files of several goroutines.
+const ROWS: [Row; 3] = [
+    // The second value waits until the first is received; then the sender goes on.
+    Row {
+        shows: "who sends twice into a buffer of one goes on after a receive",
+        line: "run",
+        file: "\
+            package main\n\
+            import \"fmt\"\n\
+            func twice(c chan int) {\n\
+            \tc <- 1\n\
+            \tc <- 2\n\
+            \tfmt.Println(\"sent\")\n\
+            }\n\
+            func main() {\n\
+            \tc := make(chan int, 1)\n\
+            \tgo twice(c)\n\
+            \tfor i := 0; i < 50; i++ {\n\
+            \t}\n\
+            \tfmt.Println(\"waits\")\n\
+            \t<-c\n\
+            \tfor i := 0; i < 50; i++ {\n\
+            \t}\n\
+            \tfmt.Println(<-c)\n\
+            }\n",
+        status: Status::Clean,
+        out: "waits\nsent\n2\n",
+        err: "",
+    },
+    Row {
+        shows: "a fatal error names its goroutine and runs no deferred call",
+        line: "run",
+        file: "\
+            package main\n\
+            import \"fmt\"\n\
+            import \"sync\"\n\
+            func bye() {\n\
+            \tfmt.Println(\"bye\")\n\
+            }\n\
+            func let(mu *sync.Mutex) {\n\
+            \tdefer bye()\n\
+            \tmu.Unlock()\n\
+            }\n\
+            func main() {\n\
+            \tdefer bye()\n\
+            \tgo let(new(sync.Mutex))\n\
+            \tfor i := 0; i < 50; i++ {\n\
+            \t}\n\
+            }\n",
+        status: Status::Crashed,
+        out: "",
+        err: "fatal error: sync: unlock of unlocked mutex (goroutine 2, line 9)\n",
+    },
+    Row {
+        shows: "a panic of another goroutine names it",
+        line: "run",
+        file: "\
+            package main\n\
+            func lose() {\n\
+            \tpanic(\"lost\")\n\
+            }\n\
+            func main() {\n\
+            \tgo lose()\n\
+            \tfor i := 0; i < 50; i++ {\n\
+            \t}\n\
+            }\n",
+        status: Status::Crashed,
+        out: "",
+        err: "panic: lost (goroutine 2, line 3)\n",
+    },
+];
 
 #[test]
-fn a_fatal_error_names_its_goroutine_and_runs_no_deferred_call(
-    rt: HostRuntime,
-) -> Result<(), Fail> {
-    let file = "\
-        package main\n\
-        import \"fmt\"\n\
-        import \"sync\"\n\
-        func bye() {\n\
-        \tfmt.Println(\"bye\")\n\
-        }\n\
-        func let(mu *sync.Mutex) {\n\
-        \tdefer bye()\n\
-        \tmu.Unlock()\n\
-        }\n\
-        func main() {\n\
-        \tdefer bye()\n\
-        \tgo let(new(sync.Mutex))\n\
-        \tfor i := 0; i < 50; i++ {\n\
-        \t}\n\
-        }\n";
-    let errors = "fatal error: sync: unlock of unlocked mutex (goroutine 2, line 9)\n";
-    expect(&rt, file, Status::Crashed, "", errors)
-}
-
-#[test]
-fn a_panic_of_another_goroutine_names_it(rt: HostRuntime) -> Result<(), Fail> {
-    let file = "\
-        package main\n\
-        func lose() {\n\
-        \tpanic(\"lost\")\n\
-        }\n\
-        func main() {\n\
-        \tgo lose()\n\
-        \tfor i := 0; i < 50; i++ {\n\
-        \t}\n\
-        }\n";
-    let errors = "panic: lost (goroutine 2, line 3)\n";
-    expect(&rt, file, Status::Crashed, "", errors)
+fn goroutines_that_wait_or_panic(rt: HostRuntime) -> Result<(), Fail> {
+    expect_rows(&rt, &ROWS)
 }

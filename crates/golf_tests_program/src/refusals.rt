@@ -1,6 +1,6 @@
 //! Files that are refused, each with its line.
 
-use crate::calls::{Ends, Outcome, expect_ends, refuses, run_with};
+use crate::calls::{Ends, Outcome, Row, expect, expect_ends, expect_rows, run_with};
 use crate::worked::{POOL, POOL_ERRORS, POOL_OUT};
 use golf_base::{List, OpenGate};
 use golf_run_texts::{LIMIT, Status, TOO_LONG};
@@ -21,120 +21,165 @@ const BODIES: [(&str, &str); 7] = [
 
 #[test]
 fn bodies_of_main_are_refused_with_their_line(rt: HostRuntime) -> Result<(), Fail> {
-    for (body, line) in BODIES {
+    for &(body, line) in BODIES.iter() {
         let file = format!(in rt.alloc();
             "package main\nimport \"fmt\"\nfunc main() {{\n{body}}}\n"
         )?;
-        refuses(&rt, file.as_str(), line)?;
+        expect(&rt, file.as_str(), Status::Refused, "", line)?;
     }
     Ok(())
 }
 
-#[test]
-fn bytes_that_do_not_lex_are_refused_at_their_place(rt: HostRuntime) -> Result<(), Fail> {
-    let rows = [
-        (
-            "package main\nfunc main() {\n\tx := \"ab",
-            "refused: line 3: byte 36\n",
-        ),
-        (
-            "\
+// Files whose bytes do not lex.
+const UNLEXED: [Row; 3] = [
+    Row {
+        shows: "a string without an end",
+        line: "run",
+        file: "package main\nfunc main() {\n\tx := \"ab",
+        status: Status::Refused,
+        out: "",
+        err: "refused: line 3: byte 36\n",
+    },
+    Row {
+        shows: "a number that begins with a zero",
+        line: "run",
+        file: "\
             package main\n\
             func main() {\n\
             \tx := 01\n\
             }\n",
-            "refused: line 3: byte 34\n",
-        ),
-        (
-            "\
+        status: Status::Refused,
+        out: "",
+        err: "refused: line 3: byte 34\n",
+    },
+    Row {
+        shows: "an escape that is none",
+        line: "run",
+        file: "\
             package main\n\
             func main() {\n\
             \tx := \"a\\q\"\n\
             }\n",
-            "refused: line 3: byte 36\n",
-        ),
-    ];
-    for (file, line) in rows {
-        refuses(&rt, file, line)?;
-    }
-    Ok(())
-}
+        status: Status::Refused,
+        out: "",
+        err: "refused: line 3: byte 36\n",
+    },
+];
 
 #[test]
-fn tokens_that_are_no_file_are_refused_on_a_line(rt: HostRuntime) -> Result<(), Fail> {
-    let rows = [
-        (
-            "\
+fn bytes_that_do_not_lex_are_refused_at_their_place(rt: HostRuntime) -> Result<(), Fail> {
+    expect_rows(&rt, &UNLEXED)
+}
+
+// Files whose tokens are no file.
+const UNPARSED: [Row; 3] = [
+    Row {
+        shows: "a function literal",
+        line: "run",
+        file: "\
             package main\n\
             func main() {\n\
             \tx := func() {\n\
             \t}\n\
             }\n",
-            "refused: line 2: syntax\n",
-        ),
-        (
-            "\
+        status: Status::Refused,
+        out: "",
+        err: "refused: line 2: syntax\n",
+    },
+    Row {
+        shows: "a keyword that is no name",
+        line: "run",
+        file: "\
             package main\n\
             import \"fmt\"\n\
             func main() {\n\
             \tfor := 1\n\
             }\n",
-            "refused: line 3: syntax\n",
-        ),
-        ("", "refused: line 1: syntax\n"),
-    ];
-    for (file, line) in rows {
-        refuses(&rt, file, line)?;
-    }
-    Ok(())
+        status: Status::Refused,
+        out: "",
+        err: "refused: line 3: syntax\n",
+    },
+    Row {
+        shows: "no package",
+        line: "run",
+        file: "",
+        status: Status::Refused,
+        out: "",
+        err: "refused: line 1: syntax\n",
+    },
+];
+
+#[test]
+fn tokens_that_are_no_file_are_refused_on_a_line(rt: HostRuntime) -> Result<(), Fail> {
+    expect_rows(&rt, &UNPARSED)
 }
 
 // Files that break a rule of types, or two: the first one is named.
-const BROKEN: [(&str, &str); 5] = [
-    ("package main", "refused: line 1: rule 6\n"),
-    (
-        "\
-        package main\n\
-        func main() {\n\
-        \tfmt.Println(1)\n\
-        }\n",
-        "refused: line 3: rule 3\n",
-    ),
-    (
-        "\
-        package main\n\
-        func main() {\n\
-        \tvar x int = \"a\"\n\
-        }\n",
-        "refused: line 3: rule 9\n",
-    ),
-    (
-        "\
-        package main\n\
-        func main() {\n\
-        \tc := make(<-chan int)\n\
-        \tc <- 1\n\
-        }\n",
-        "refused: line 4: rule 16\n",
-    ),
-    (
-        "\
-        package main\n\
-        func main() {\n\
-        \tx := y\n\
-        \tz()\n\
-        }\n\
-        var g = 1 + \"a\"\n",
-        "refused: line 3: rule 3\n",
-    ),
+const BROKEN: [Row; 5] = [
+    Row {
+        shows: "no main",
+        line: "run",
+        file: "package main",
+        status: Status::Refused,
+        out: "",
+        err: "refused: line 1: rule 6\n",
+    },
+    Row {
+        shows: "a package that is not imported",
+        line: "run",
+        file: "\
+            package main\n\
+            func main() {\n\
+            \tfmt.Println(1)\n\
+            }\n",
+        status: Status::Refused,
+        out: "",
+        err: "refused: line 3: rule 3\n",
+    },
+    Row {
+        shows: "a text for an integer",
+        line: "run",
+        file: "\
+            package main\n\
+            func main() {\n\
+            \tvar x int = \"a\"\n\
+            }\n",
+        status: Status::Refused,
+        out: "",
+        err: "refused: line 3: rule 9\n",
+    },
+    Row {
+        shows: "a send on a channel that is received from",
+        line: "run",
+        file: "\
+            package main\n\
+            func main() {\n\
+            \tc := make(<-chan int)\n\
+            \tc <- 1\n\
+            }\n",
+        status: Status::Refused,
+        out: "",
+        err: "refused: line 4: rule 16\n",
+    },
+    Row {
+        shows: "the first of two rules",
+        line: "run",
+        file: "\
+            package main\n\
+            func main() {\n\
+            \tx := y\n\
+            \tz()\n\
+            }\n\
+            var g = 1 + \"a\"\n",
+        status: Status::Refused,
+        out: "",
+        err: "refused: line 3: rule 3\n",
+    },
 ];
 
 #[test]
 fn the_first_broken_rule_is_named_with_its_line(rt: HostRuntime) -> Result<(), Fail> {
-    for (file, line) in BROKEN {
-        refuses(&rt, file, line)?;
-    }
-    Ok(())
+    expect_rows(&rt, &BROKEN)
 }
 
 #[test]
@@ -164,24 +209,34 @@ fn is_refused<R: AllocGlobal + Threads + Wait + Sync>(rt: &R, file: &[u8]) -> Re
     Ok(status == Status::Refused && out.written().is_empty() && is_refusal(err.written()))
 }
 
-// The pool has 753 bytes, and is the same file without its last newline.
+// The prefix of the pool of so many bytes.
+fn prefix(length: usize) -> &'static [u8] {
+    let (prefix, _) = POOL.as_bytes().split_at(length.min(POOL.len()));
+    prefix
+}
+
 #[test]
 fn each_prefix_of_the_pool_is_refused_with_one_line(rt: HostRuntime) -> Result<(), Fail> {
     for length in 0..752 {
-        let (prefix, _) = POOL.as_bytes().split_at(length);
-        assert!(rt; is_refused(&rt, prefix)?, "{length}");
+        assert!(rt; is_refused(&rt, prefix(length))?, "{length}");
     }
-    let ends = [
-        (752, Status::Found, POOL_OUT, POOL_ERRORS),
-        (753, Status::Found, POOL_OUT, POOL_ERRORS),
-        (0, Status::Refused, "", "refused: line 1: syntax\n"),
-        (6, Status::Refused, "", "refused: line 1: syntax\n"),
-        (12, Status::Refused, "", "refused: line 1: rule 6\n"),
-    ];
-    for (length, status, out, err) in ends {
-        let (prefix, _) = POOL.as_bytes().split_at(length);
+    Ok(())
+}
+
+// The pool has 753 bytes, and is the same file without its last newline.
+const ENDS: [(usize, Status, &str, &str); 5] = [
+    (752, Status::Found, POOL_OUT, POOL_ERRORS),
+    (753, Status::Found, POOL_OUT, POOL_ERRORS),
+    (0, Status::Refused, "", "refused: line 1: syntax\n"),
+    (6, Status::Refused, "", "refused: line 1: syntax\n"),
+    (12, Status::Refused, "", "refused: line 1: rule 6\n"),
+];
+
+#[test]
+fn prefixes_of_the_pool_end_so(rt: HostRuntime) -> Result<(), Fail> {
+    for &(length, status, out, err) in ENDS.iter() {
         let (out, err) = (out.as_bytes(), err.as_bytes());
-        expect_ends(&rt, "run", prefix, Ends::of(4), status, out, err)?;
+        expect_ends(&rt, "run", prefix(length), Ends::of(4), status, out, err)?;
     }
     Ok(())
 }

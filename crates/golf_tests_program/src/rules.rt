@@ -2,351 +2,361 @@
 //! ("Select statements", "Defer statements", "Handling panics", "For statements"), the documentation of packages sync and
 //! runtime, and from the rules of this runtime.
 
-use crate::calls::expect;
+use crate::calls::{Row, expect_rows};
 use golf_run_texts::Status;
 use std::test::Fail;
 
-#[test]
-fn a_closed_select_receives_by_its_first_case(rt: HostRuntime) -> Result<(), Fail> {
-    let file = "\
-        package main\n\
-        \n\
-        import \"fmt\"\n\
-        \n\
-        func closes(c chan int) {\n\
-        \tfor i := 0; i < 50; i++ {\n\
-        \t}\n\
-        \tclose(c)\n\
-        }\n\
-        \n\
-        func main() {\n\
-        \tc := make(chan int)\n\
-        \tgo closes(c)\n\
-        \tselect {\n\
-        \tcase v := <-c:\n\
-        \t\tfmt.Println(\"received\", v)\n\
-        \tcase c <- 1:\n\
-        \t\tfmt.Println(\"sent\")\n\
-        \t}\n\
-        }\n";
-    expect(&rt, file, Status::Clean, "received 0\n", "")
-}
+// Rules that what a file prints shows.
+const PRINTED: [Row; 6] = [
+    Row {
+        shows: "a closed select receives by its first case",
+        line: "run",
+        file: "\
+            package main\n\
+            \n\
+            import \"fmt\"\n\
+            \n\
+            func closes(c chan int) {\n\
+            \tfor i := 0; i < 50; i++ {\n\
+            \t}\n\
+            \tclose(c)\n\
+            }\n\
+            \n\
+            func main() {\n\
+            \tc := make(chan int)\n\
+            \tgo closes(c)\n\
+            \tselect {\n\
+            \tcase v := <-c:\n\
+            \t\tfmt.Println(\"received\", v)\n\
+            \tcase c <- 1:\n\
+            \t\tfmt.Println(\"sent\")\n\
+            \t}\n\
+            }\n",
+        status: Status::Clean,
+        out: "received 0\n",
+        err: "",
+    },
+    Row {
+        shows: "who is passed on to a mutex stands after its waiters",
+        line: "run",
+        file: "\
+            package main\n\
+            \n\
+            import (\n\
+            \t\"fmt\"\n\
+            \t\"sync\"\n\
+            )\n\
+            \n\
+            var mu = &sync.Mutex{}\n\
+            var cond = sync.NewCond(mu)\n\
+            \n\
+            func first() {\n\
+            \tmu.Lock()\n\
+            \tcond.Wait()\n\
+            \tfmt.Println(\"waited on the condition\")\n\
+            \tmu.Unlock()\n\
+            }\n\
+            \n\
+            func second() {\n\
+            \tmu.Lock()\n\
+            \tfmt.Println(\"waited for the mutex\")\n\
+            \tmu.Unlock()\n\
+            }\n\
+            \n\
+            func pause() {\n\
+            \tfor i := 0; i < 50; i++ {\n\
+            \t}\n\
+            }\n\
+            \n\
+            func main() {\n\
+            \tgo first()\n\
+            \tpause()\n\
+            \tmu.Lock()\n\
+            \tgo second()\n\
+            \tpause()\n\
+            \tcond.Signal()\n\
+            \tmu.Unlock()\n\
+            \tpause()\n\
+            }\n",
+        status: Status::Clean,
+        out: "waited for the mutex\nwaited on the condition\n",
+        err: "",
+    },
+    Row {
+        shows: "deferred calls run last first and after a return",
+        line: "run",
+        file: "\
+            package main\n\
+            \n\
+            import \"fmt\"\n\
+            \n\
+            func say(text string) {\n\
+            \tfmt.Println(text)\n\
+            }\n\
+            \n\
+            func f() int {\n\
+            \tdefer say(\"first\")\n\
+            \tdefer say(\"second\")\n\
+            \tsay(\"body\")\n\
+            \treturn 7\n\
+            }\n\
+            \n\
+            func main() {\n\
+            \tfmt.Println(f())\n\
+            }\n",
+        status: Status::Clean,
+        out: "body\nsecond\nfirst\n7\n",
+        err: "",
+    },
+    Row {
+        shows: "blank names of a range have no code",
+        line: "run",
+        file: "\
+            package main\n\
+            \n\
+            import \"fmt\"\n\
+            \n\
+            func main() {\n\
+            \ts := []int{4, 5}\n\
+            \tfor _, v := range s {\n\
+            \t\tfmt.Println(v)\n\
+            \t}\n\
+            \tfor i, _ := range s {\n\
+            \t\tfmt.Println(i)\n\
+            \t}\n\
+            \tfor range s {\n\
+            \t\tfmt.Println(\"both\")\n\
+            \t}\n\
+            }\n",
+        status: Status::Clean,
+        out: "4\n5\n0\n1\nboth\nboth\n",
+        err: "",
+    },
+    Row {
+        shows: "continue goes to the post statement",
+        line: "run",
+        file: "\
+            package main\n\
+            \n\
+            import \"fmt\"\n\
+            \n\
+            func main() {\n\
+            \tfor i := 0; i < 4; i++ {\n\
+            \t\tif i%2 == 0 {\n\
+            \t\t\tcontinue\n\
+            \t\t}\n\
+            \t\tfmt.Println(i)\n\
+            \t}\n\
+            \tn := 0\n\
+            \tfor ; n < 3; {\n\
+            \t\tn++\n\
+            \t\tif n == 2 {\n\
+            \t\t\tcontinue\n\
+            \t\t}\n\
+            \t\tfmt.Println(\"n\", n)\n\
+            \t}\n\
+            }\n",
+        status: Status::Clean,
+        out: "1\n3\nn 1\nn 3\n",
+        err: "",
+    },
+    Row {
+        shows: "a deferred done lets a group go",
+        line: "run",
+        file: "\
+            package main\n\
+            \n\
+            import (\n\
+            \t\"fmt\"\n\
+            \t\"sync\"\n\
+            )\n\
+            \n\
+            func work(wg *sync.WaitGroup, results chan int, n int) {\n\
+            \tdefer wg.Done()\n\
+            \tresults <- n\n\
+            }\n\
+            \n\
+            func main() {\n\
+            \twg := &sync.WaitGroup{}\n\
+            \tresults := make(chan int, 3)\n\
+            \tfor n := 1; n <= 3; n++ {\n\
+            \t\twg.Add(1)\n\
+            \t\tgo work(wg, results, n*n)\n\
+            \t}\n\
+            \twg.Wait()\n\
+            \tclose(results)\n\
+            \tsum := 0\n\
+            \tfor v := range results {\n\
+            \t\tsum += v\n\
+            \t}\n\
+            \tfmt.Println(sum)\n\
+            }\n",
+        status: Status::Clean,
+        out: "14\n",
+        err: "",
+    },
+];
 
 #[test]
-fn a_closed_select_panics_by_its_first_case(rt: HostRuntime) -> Result<(), Fail> {
-    let file = "\
-        package main\n\
-        \n\
-        func closes(c chan int) {\n\
-        \tfor i := 0; i < 50; i++ {\n\
-        \t}\n\
-        \tclose(c)\n\
-        }\n\
-        \n\
-        func main() {\n\
-        \tc := make(chan int)\n\
-        \tgo closes(c)\n\
-        \tselect {\n\
-        \tcase c <- 1:\n\
-        \tcase <-c:\n\
-        \t}\n\
-        }\n";
-    expect(
-        &rt,
-        file,
-        Status::Crashed,
-        "",
-        "panic: send on closed channel (goroutine 1, line 12)\n",
-    )
+fn rules_that_the_output_shows(rt: HostRuntime) -> Result<(), Fail> {
+    expect_rows(&rt, &PRINTED)
 }
 
-#[test]
-fn who_is_passed_on_to_a_mutex_stands_after_its_waiters(rt: HostRuntime) -> Result<(), Fail> {
-    let file = "\
-        package main\n\
-        \n\
-        import (\n\
-        \t\"fmt\"\n\
-        \t\"sync\"\n\
-        )\n\
-        \n\
-        var mu = &sync.Mutex{}\n\
-        var cond = sync.NewCond(mu)\n\
-        \n\
-        func first() {\n\
-        \tmu.Lock()\n\
-        \tcond.Wait()\n\
-        \tfmt.Println(\"waited on the condition\")\n\
-        \tmu.Unlock()\n\
-        }\n\
-        \n\
-        func second() {\n\
-        \tmu.Lock()\n\
-        \tfmt.Println(\"waited for the mutex\")\n\
-        \tmu.Unlock()\n\
-        }\n\
-        \n\
-        func pause() {\n\
-        \tfor i := 0; i < 50; i++ {\n\
-        \t}\n\
-        }\n\
-        \n\
-        func main() {\n\
-        \tgo first()\n\
-        \tpause()\n\
-        \tmu.Lock()\n\
-        \tgo second()\n\
-        \tpause()\n\
-        \tcond.Signal()\n\
-        \tmu.Unlock()\n\
-        \tpause()\n\
-        }\n";
-    expect(
-        &rt,
-        file,
-        Status::Clean,
-        "waited for the mutex\nwaited on the condition\n",
-        "",
-    )
-}
-
-#[test]
-fn deferred_calls_run_last_first_and_after_a_return(rt: HostRuntime) -> Result<(), Fail> {
-    let file = "\
-        package main\n\
-        \n\
-        import \"fmt\"\n\
-        \n\
-        func say(text string) {\n\
-        \tfmt.Println(text)\n\
-        }\n\
-        \n\
-        func f() int {\n\
-        \tdefer say(\"first\")\n\
-        \tdefer say(\"second\")\n\
-        \tsay(\"body\")\n\
-        \treturn 7\n\
-        }\n\
-        \n\
-        func main() {\n\
-        \tfmt.Println(f())\n\
-        }\n";
-    expect(&rt, file, Status::Clean, "body\nsecond\nfirst\n7\n", "")
-}
-
-#[test]
-fn a_panic_unwinds_each_frame(rt: HostRuntime) -> Result<(), Fail> {
-    let file = "\
-        package main\n\
-        \n\
-        import \"fmt\"\n\
-        \n\
-        func say(text string) {\n\
-        \tfmt.Println(text)\n\
-        }\n\
-        \n\
-        func inner() {\n\
-        \tdefer say(\"inner\")\n\
-        \tpanic(\"lost\")\n\
-        }\n\
-        \n\
-        func outer() {\n\
-        \tdefer say(\"outer\")\n\
-        \tinner()\n\
-        \tsay(\"never\")\n\
-        }\n\
-        \n\
-        func main() {\n\
-        \touter()\n\
-        }\n";
-    expect(
-        &rt,
-        file,
-        Status::Crashed,
-        "inner\nouter\n",
-        "panic: lost (goroutine 1, line 11)\n",
-    )
-}
-
-#[test]
-fn a_finaliser_runs_as_goroutine_0_and_may_panic(rt: HostRuntime) -> Result<(), Fail> {
-    let file = "\
-        package main\n\
-        \n\
-        import \"runtime\"\n\
-        \n\
-        type T struct {\n\
-        \tn int\n\
-        }\n\
-        \n\
-        func late(t *T) {\n\
-        \tpanic(\"late\")\n\
-        }\n\
-        \n\
-        func drop() {\n\
-        \tt := &T{n: 1}\n\
-        \truntime.SetFinalizer(t, late)\n\
-        }\n\
-        \n\
-        func main() {\n\
-        \tdrop()\n\
-        \truntime.GC()\n\
-        \tfor i := 0; i < 50; i++ {\n\
-        \t}\n\
-        }\n";
-    let err = r"collection 1: marked 0, reported 0, kept 0, reclaimed 0, objects 1
+// Rules that the end of a file shows.
+const ENDED: [Row; 6] = [
+    Row {
+        shows: "a closed select panics by its first case",
+        line: "run",
+        file: "\
+            package main\n\
+            \n\
+            func closes(c chan int) {\n\
+            \tfor i := 0; i < 50; i++ {\n\
+            \t}\n\
+            \tclose(c)\n\
+            }\n\
+            \n\
+            func main() {\n\
+            \tc := make(chan int)\n\
+            \tgo closes(c)\n\
+            \tselect {\n\
+            \tcase c <- 1:\n\
+            \tcase <-c:\n\
+            \t}\n\
+            }\n",
+        status: Status::Crashed,
+        out: "",
+        err: "panic: send on closed channel (goroutine 1, line 12)\n",
+    },
+    Row {
+        shows: "a panic unwinds each frame",
+        line: "run",
+        file: "\
+            package main\n\
+            \n\
+            import \"fmt\"\n\
+            \n\
+            func say(text string) {\n\
+            \tfmt.Println(text)\n\
+            }\n\
+            \n\
+            func inner() {\n\
+            \tdefer say(\"inner\")\n\
+            \tpanic(\"lost\")\n\
+            }\n\
+            \n\
+            func outer() {\n\
+            \tdefer say(\"outer\")\n\
+            \tinner()\n\
+            \tsay(\"never\")\n\
+            }\n\
+            \n\
+            func main() {\n\
+            \touter()\n\
+            }\n",
+        status: Status::Crashed,
+        out: "inner\nouter\n",
+        err: "panic: lost (goroutine 1, line 11)\n",
+    },
+    Row {
+        shows: "a finaliser runs as goroutine 0 and may panic",
+        line: "run",
+        file: "\
+            package main\n\
+            \n\
+            import \"runtime\"\n\
+            \n\
+            type T struct {\n\
+            \tn int\n\
+            }\n\
+            \n\
+            func late(t *T) {\n\
+            \tpanic(\"late\")\n\
+            }\n\
+            \n\
+            func drop() {\n\
+            \tt := &T{n: 1}\n\
+            \truntime.SetFinalizer(t, late)\n\
+            }\n\
+            \n\
+            func main() {\n\
+            \tdrop()\n\
+            \truntime.GC()\n\
+            \tfor i := 0; i < 50; i++ {\n\
+            \t}\n\
+            }\n",
+        status: Status::Crashed,
+        out: "",
+        err: r"collection 1: marked 0, reported 0, kept 0, reclaimed 0, objects 1
 panic: late (goroutine 0, line 10)
-";
-    expect(&rt, file, Status::Crashed, "", err)
-}
-
-#[test]
-fn main_may_be_blocked_for_ever(rt: HostRuntime) -> Result<(), Fail> {
-    let file = "\
-        package main\n\
-        \n\
-        import \"runtime\"\n\
-        \n\
-        func spin() {\n\
-        \tfor i := 0; i < 50; i++ {\n\
-        \t}\n\
-        \truntime.GC()\n\
-        \tfor {\n\
-        \t}\n\
-        }\n\
-        \n\
-        func main() {\n\
-        \tgo spin()\n\
-        \t<-make(chan int)\n\
-        }\n";
-    let err = r"collection 1: marked 0, reported 1, kept 1, reclaimed 0, objects 1
+",
+    },
+    Row {
+        shows: "main may be blocked for ever",
+        line: "run",
+        file: "\
+            package main\n\
+            \n\
+            import \"runtime\"\n\
+            \n\
+            func spin() {\n\
+            \tfor i := 0; i < 50; i++ {\n\
+            \t}\n\
+            \truntime.GC()\n\
+            \tfor {\n\
+            \t}\n\
+            }\n\
+            \n\
+            func main() {\n\
+            \tgo spin()\n\
+            \t<-make(chan int)\n\
+            }\n",
+        status: Status::Spent,
+        out: "",
+        err: r"collection 1: marked 0, reported 1, kept 1, reclaimed 0, objects 1
 goroutine 1: chan receive at line 15, started at line 13
 stopped after 1000000 turns
-";
-    expect(&rt, file, Status::Spent, "", err)
-}
+",
+    },
+    Row {
+        shows: "a send case on a closed channel panics",
+        line: "run",
+        file: "\
+            package main\n\
+            \n\
+            func main() {\n\
+            \tc := make(chan int)\n\
+            \tclose(c)\n\
+            \tselect {\n\
+            \tcase c <- 1:\n\
+            \tdefault:\n\
+            \t}\n\
+            }\n",
+        status: Status::Crashed,
+        out: "",
+        err: "panic: send on closed channel (goroutine 1, line 6)\n",
+    },
+    Row {
+        shows: "deferred calls overflow at the line of the return",
+        line: "run",
+        file: "\
+            package main\n\
+            \n\
+            func f() {\n\
+            \tdefer f()\n\
+            \treturn\n\
+            }\n\
+            \n\
+            func main() {\n\
+            \tf()\n\
+            }\n",
+        status: Status::Crashed,
+        out: "",
+        err: "fatal error: stack overflow (goroutine 1, line 5)\n",
+    },
+];
 
 #[test]
-fn a_send_case_on_a_closed_channel_panics(rt: HostRuntime) -> Result<(), Fail> {
-    let file = "\
-        package main\n\
-        \n\
-        func main() {\n\
-        \tc := make(chan int)\n\
-        \tclose(c)\n\
-        \tselect {\n\
-        \tcase c <- 1:\n\
-        \tdefault:\n\
-        \t}\n\
-        }\n";
-    expect(
-        &rt,
-        file,
-        Status::Crashed,
-        "",
-        "panic: send on closed channel (goroutine 1, line 6)\n",
-    )
-}
-
-#[test]
-fn deferred_calls_overflow_at_the_line_of_the_return(rt: HostRuntime) -> Result<(), Fail> {
-    let file = "\
-        package main\n\
-        \n\
-        func f() {\n\
-        \tdefer f()\n\
-        \treturn\n\
-        }\n\
-        \n\
-        func main() {\n\
-        \tf()\n\
-        }\n";
-    expect(
-        &rt,
-        file,
-        Status::Crashed,
-        "",
-        "fatal error: stack overflow (goroutine 1, line 5)\n",
-    )
-}
-
-#[test]
-fn blank_names_of_a_range_have_no_code(rt: HostRuntime) -> Result<(), Fail> {
-    let file = "\
-        package main\n\
-        \n\
-        import \"fmt\"\n\
-        \n\
-        func main() {\n\
-        \ts := []int{4, 5}\n\
-        \tfor _, v := range s {\n\
-        \t\tfmt.Println(v)\n\
-        \t}\n\
-        \tfor i, _ := range s {\n\
-        \t\tfmt.Println(i)\n\
-        \t}\n\
-        \tfor range s {\n\
-        \t\tfmt.Println(\"both\")\n\
-        \t}\n\
-        }\n";
-    expect(&rt, file, Status::Clean, "4\n5\n0\n1\nboth\nboth\n", "")
-}
-
-#[test]
-fn continue_goes_to_the_post_statement(rt: HostRuntime) -> Result<(), Fail> {
-    let file = "\
-        package main\n\
-        \n\
-        import \"fmt\"\n\
-        \n\
-        func main() {\n\
-        \tfor i := 0; i < 4; i++ {\n\
-        \t\tif i%2 == 0 {\n\
-        \t\t\tcontinue\n\
-        \t\t}\n\
-        \t\tfmt.Println(i)\n\
-        \t}\n\
-        \tn := 0\n\
-        \tfor ; n < 3; {\n\
-        \t\tn++\n\
-        \t\tif n == 2 {\n\
-        \t\t\tcontinue\n\
-        \t\t}\n\
-        \t\tfmt.Println(\"n\", n)\n\
-        \t}\n\
-        }\n";
-    expect(&rt, file, Status::Clean, "1\n3\nn 1\nn 3\n", "")
-}
-
-#[test]
-fn a_deferred_done_lets_a_group_go(rt: HostRuntime) -> Result<(), Fail> {
-    let file = "\
-        package main\n\
-        \n\
-        import (\n\
-        \t\"fmt\"\n\
-        \t\"sync\"\n\
-        )\n\
-        \n\
-        func work(wg *sync.WaitGroup, results chan int, n int) {\n\
-        \tdefer wg.Done()\n\
-        \tresults <- n\n\
-        }\n\
-        \n\
-        func main() {\n\
-        \twg := &sync.WaitGroup{}\n\
-        \tresults := make(chan int, 3)\n\
-        \tfor n := 1; n <= 3; n++ {\n\
-        \t\twg.Add(1)\n\
-        \t\tgo work(wg, results, n*n)\n\
-        \t}\n\
-        \twg.Wait()\n\
-        \tclose(results)\n\
-        \tsum := 0\n\
-        \tfor v := range results {\n\
-        \t\tsum += v\n\
-        \t}\n\
-        \tfmt.Println(sum)\n\
-        }\n";
-    expect(&rt, file, Status::Clean, "14\n", "")
+fn rules_that_the_end_shows(rt: HostRuntime) -> Result<(), Fail> {
+    expect_rows(&rt, &ENDED)
 }

@@ -1,6 +1,6 @@
 //! Worked examples: what a file prints, what its collections report, and how it ends.
 
-use crate::calls::expect;
+use crate::calls::{Row, expect, expect_rows};
 use golf_run_texts::Status;
 use std::alloc::Global;
 use std::test::Fail;
@@ -71,112 +71,152 @@ pub const TWO_ROUNDS: &str = "\
     \tclose(a)\n\
     }\n";
 
-#[test]
-fn an_empty_main_writes_nothing(rt: HostRuntime) -> Result<(), Fail> {
-    expect(&rt, EMPTY_MAIN, Status::Clean, "", "")
-}
+// What small files print.
+const PRINTED: [Row; 4] = [
+    Row {
+        shows: "an empty main writes nothing",
+        line: "run",
+        file: EMPTY_MAIN,
+        status: Status::Clean,
+        out: "",
+        err: "",
+    },
+    Row {
+        shows: "literals are printed with one space between",
+        line: "run",
+        file: LITERALS,
+        status: Status::Clean,
+        out: "1 true a\n",
+        err: "",
+    },
+    Row {
+        shows: "a variable and an escape are printed",
+        line: "run",
+        file: VARIABLE,
+        status: Status::Clean,
+        out: "7 a\tb false\n",
+        err: "",
+    },
+    Row {
+        shows: "a variable may be named main or init",
+        line: "run",
+        file: "\
+            package main\n\
+            import \"fmt\"\n\
+            func main() {\n\
+            \tmain := 1\n\
+            \tinit := 2\n\
+            \tfmt.Println(main, init)\n\
+            }\n",
+        status: Status::Clean,
+        out: "1 2\n",
+        err: "",
+    },
+];
 
 #[test]
-fn literals_are_printed_with_one_space_between(rt: HostRuntime) -> Result<(), Fail> {
-    expect(&rt, LITERALS, Status::Clean, "1 true a\n", "")
+fn what_small_files_print(rt: HostRuntime) -> Result<(), Fail> {
+    expect_rows(&rt, &PRINTED)
 }
 
-#[test]
-fn a_variable_and_an_escape_are_printed(rt: HostRuntime) -> Result<(), Fail> {
-    expect(&rt, VARIABLE, Status::Clean, "7 a\tb false\n", "")
-}
-
-#[test]
-fn a_variable_may_be_named_main_or_init(rt: HostRuntime) -> Result<(), Fail> {
-    let file = "\
-        package main\n\
-        import \"fmt\"\n\
-        func main() {\n\
-        \tmain := 1\n\
-        \tinit := 2\n\
-        \tfmt.Println(main, init)\n\
-        }\n";
-    expect(&rt, file, Status::Clean, "1 2\n", "")
-}
-
-#[test]
-fn a_leak_is_reported_with_its_lines(rt: HostRuntime) -> Result<(), Fail> {
-    let errors = r"collection 1: marked 0, reported 1, kept 1, reclaimed 0, objects 1
+// What collections report.
+const COLLECTED: [Row; 3] = [
+    Row {
+        shows: "a leak is reported with its lines",
+        line: "run",
+        file: LEAK,
+        status: Status::Found,
+        out: "1\n",
+        err: r"collection 1: marked 0, reported 1, kept 1, reclaimed 0, objects 1
 goroutine 2: chan receive at line 5, started at line 9
-";
-    expect(&rt, LEAK, Status::Found, "1\n", errors)
-}
-
-#[test]
-fn a_program_that_waits_alone_is_asleep(rt: HostRuntime) -> Result<(), Fail> {
-    let file = "\
-        package main\n\
-        func main() {\n\
-        \tc := make(chan int)\n\
-        \t<-c\n\
-        }\n";
-    let errors = "fatal error: all goroutines are asleep - deadlock!\n";
-    expect(&rt, file, Status::Crashed, "", errors)
-}
-
-#[test]
-fn a_waiter_is_live_by_two_rounds_of_root_growth(rt: HostRuntime) -> Result<(), Fail> {
-    let errors = "collection 1: marked 2, reported 0, kept 0, reclaimed 0, objects 2\n";
-    expect(&rt, TWO_ROUNDS, Status::Clean, "1\n2\n3\n4\n", errors)
-}
-
-#[test]
-fn a_cycle_of_waiters_is_reported_once(rt: HostRuntime) -> Result<(), Fail> {
-    let file = "\
-        package main\n\
-        import \"runtime\"\n\
-        import \"fmt\"\n\
-        func wait(x chan int, y chan int) {\n\
-        \t<-x\n\
-        \ty <- 1\n\
-        }\n\
-        func start() {\n\
-        \tx := make(chan int)\n\
-        \ty := make(chan int)\n\
-        \tgo wait(x, y)\n\
-        \tgo wait(y, x)\n\
-        }\n\
-        func main() {\n\
-        \tstart()\n\
-        \tfmt.Println(1)\n\
-        \tfmt.Println(2)\n\
-        \tfmt.Println(3)\n\
-        \tfmt.Println(4)\n\
-        \truntime.GC()\n\
-        \truntime.GC()\n\
-        }\n";
-    let errors = r"collection 1: marked 0, reported 2, kept 2, reclaimed 0, objects 2
+",
+    },
+    Row {
+        shows: "a waiter is live by two rounds of root growth",
+        line: "run",
+        file: TWO_ROUNDS,
+        status: Status::Clean,
+        out: "1\n2\n3\n4\n",
+        err: "collection 1: marked 2, reported 0, kept 0, reclaimed 0, objects 2\n",
+    },
+    Row {
+        shows: "a cycle of waiters is reported once",
+        line: "run",
+        file: "\
+            package main\n\
+            import \"runtime\"\n\
+            import \"fmt\"\n\
+            func wait(x chan int, y chan int) {\n\
+            \t<-x\n\
+            \ty <- 1\n\
+            }\n\
+            func start() {\n\
+            \tx := make(chan int)\n\
+            \ty := make(chan int)\n\
+            \tgo wait(x, y)\n\
+            \tgo wait(y, x)\n\
+            }\n\
+            func main() {\n\
+            \tstart()\n\
+            \tfmt.Println(1)\n\
+            \tfmt.Println(2)\n\
+            \tfmt.Println(3)\n\
+            \tfmt.Println(4)\n\
+            \truntime.GC()\n\
+            \truntime.GC()\n\
+            }\n",
+        status: Status::Found,
+        out: "1\n2\n3\n4\n",
+        err: r"collection 1: marked 0, reported 2, kept 2, reclaimed 0, objects 2
 goroutine 2: chan receive at line 5, started at line 11
 goroutine 3: chan receive at line 5, started at line 12
 collection 2: marked 0, reported 0, kept 2, reclaimed 0, objects 2
-";
-    expect(&rt, file, Status::Found, "1\n2\n3\n4\n", errors)
-}
+",
+    },
+];
 
 #[test]
-fn a_program_that_goes_on_for_ever_is_stopped(rt: HostRuntime) -> Result<(), Fail> {
-    let file = "\
-        package main\n\
-        func f() {\n\
-        \tgo f()\n\
-        }\n\
-        func main() {\n\
-        \tc := make(chan int)\n\
-        \tgo f()\n\
-        \t<-c\n\
-        }\n";
-    expect(
-        &rt,
-        file,
-        Status::Spent,
-        "",
-        "stopped after 1000000 turns\n",
-    )
+fn what_collections_report(rt: HostRuntime) -> Result<(), Fail> {
+    expect_rows(&rt, &COLLECTED)
+}
+
+// Files that do not end by themselves.
+const STOPPED: [Row; 2] = [
+    Row {
+        shows: "a program that waits alone is asleep",
+        line: "run",
+        file: "\
+            package main\n\
+            func main() {\n\
+            \tc := make(chan int)\n\
+            \t<-c\n\
+            }\n",
+        status: Status::Crashed,
+        out: "",
+        err: "fatal error: all goroutines are asleep - deadlock!\n",
+    },
+    Row {
+        shows: "a program that goes on for ever is stopped",
+        line: "run",
+        file: "\
+            package main\n\
+            func f() {\n\
+            \tgo f()\n\
+            }\n\
+            func main() {\n\
+            \tc := make(chan int)\n\
+            \tgo f()\n\
+            \t<-c\n\
+            }\n",
+        status: Status::Spent,
+        out: "",
+        err: "stopped after 1000000 turns\n",
+    },
+];
+
+#[test]
+fn what_waits_or_runs_for_ever_is_stopped(rt: HostRuntime) -> Result<(), Fail> {
+    expect_rows(&rt, &STOPPED)
 }
 
 // A file whose `main` calls the first of so many functions, each of which calls the next one.

@@ -1,10 +1,10 @@
 //! Runs by threads: their history, its replay by written choices, and how they end.
 
-use crate::calls::{Ends, Outcome, expect_ends, expect_with, run_with};
+use crate::calls::{Ends, Outcome, Row, expect_ends, expect_failing, expect_rows, run_with};
 use crate::runs::{EMPTY_MAIN, LEAK};
 use crate::worked::{CHOICE, POOL};
 use golf_base::OpenGate;
-use golf_run_texts::{READ_FAULT, Status};
+use golf_run_texts::Status;
 use golf_tests_support::MeetingGate;
 use std::alloc::Global;
 use std::str;
@@ -17,17 +17,37 @@ const ENDLESS: &str = "\
     \t}\n\
     }\n";
 
-#[test]
-fn one_thread_on_an_empty_main_takes_three_turns(rt: HostRuntime) -> Result<(), Fail> {
-    let err = "history: 0,1,2\n";
-    expect_with(&rt, "run --threads 1", EMPTY_MAIN, Status::Clean, "", err)
-}
+// Runs by threads that are the same each time.
+const ROWS: [Row; 3] = [
+    Row {
+        shows: "one thread on an empty main takes three turns",
+        line: "run --threads 1",
+        file: EMPTY_MAIN,
+        status: Status::Clean,
+        out: "",
+        err: "history: 0,1,2\n",
+    },
+    Row {
+        shows: "one thread chooses the second case of a select",
+        line: "run --threads=001 --",
+        file: CHOICE,
+        status: Status::Clean,
+        out: "second 1\n",
+        err: "history: 0,1,2,3,4,5,6,7,8,9,10,11,12,13,14,15,16\n",
+    },
+    Row {
+        shows: "a file that threads do not run is refused",
+        line: "run --threads 2",
+        file: "package main",
+        status: Status::Refused,
+        out: "",
+        err: "refused: line 1: rule 6\n",
+    },
+];
 
 #[test]
-fn one_thread_chooses_the_second_case_of_a_select(rt: HostRuntime) -> Result<(), Fail> {
-    let line = "run --threads=001 --";
-    let err = "history: 0,1,2,3,4,5,6,7,8,9,10,11,12,13,14,15,16\n";
-    expect_with(&rt, line, CHOICE, Status::Clean, "second 1\n", err)
+fn runs_by_threads_tell_their_history(rt: HostRuntime) -> Result<(), Fail> {
+    expect_rows(&rt, &ROWS)
 }
 
 // The errors before the line of the history, and that line's numbers.
@@ -82,61 +102,80 @@ fn endless_errors(alloc: Global) -> Result<String, Fail> {
 
 #[test]
 fn threads_stop_after_a_hundred_thousand_turns(rt: HostRuntime) -> Result<(), Fail> {
-    let err = endless_errors(rt.alloc())?;
-    expect_with(
-        &rt,
-        "run --threads 2",
-        ENDLESS,
-        Status::Spent,
-        "",
-        err.as_str(),
-    )
+    let (file, err) = (ENDLESS.as_bytes(), endless_errors(rt.alloc())?);
+    let (line, ends) = ("run --threads 2", Ends::of(4));
+    expect_ends(&rt, line, file, ends, Status::Spent, b"", err.as_bytes())
 }
 
-#[test]
-fn a_file_that_threads_do_not_run_is_refused(rt: HostRuntime) -> Result<(), Fail> {
-    let (line, file) = ("run --threads 2", "package main");
-    expect_with(
-        &rt,
-        line,
-        file,
-        Status::Refused,
-        "",
-        "refused: line 1: rule 6\n",
-    )
-}
+// Calls of the source and of the sinks that fail. The output is `1` and a newline, which two calls write.
+const FAILING: [(Ends, Row); 4] = [
+    (
+        Ends {
+            most: 64,
+            source: 1,
+            out: 0,
+            err: 0,
+        },
+        Row {
+            shows: "a source that fails before threads run is a read fault",
+            line: "run --threads 2",
+            file: POOL,
+            status: Status::ReadFault,
+            out: "",
+            err: "read fault\n",
+        },
+    ),
+    (
+        Ends {
+            most: 1,
+            source: 0,
+            out: 1,
+            err: 0,
+        },
+        Row {
+            shows: "the first write of the output fails",
+            line: "run --threads 1",
+            file: LEAK,
+            status: Status::WriteFault,
+            out: "",
+            err: "",
+        },
+    ),
+    (
+        Ends {
+            most: 1,
+            source: 0,
+            out: 2,
+            err: 0,
+        },
+        Row {
+            shows: "the second write of the output fails",
+            line: "run --threads 1",
+            file: LEAK,
+            status: Status::WriteFault,
+            out: "1",
+            err: "",
+        },
+    ),
+    (
+        Ends {
+            most: 1,
+            source: 0,
+            out: 0,
+            err: 12,
+        },
+        Row {
+            shows: "the twelfth write of the report fails",
+            line: "run --threads 1",
+            file: LEAK,
+            status: Status::WriteFault,
+            out: "1\n",
+            err: "collection ",
+        },
+    ),
+];
 
 #[test]
-fn a_source_that_fails_before_threads_run_is_a_read_fault(rt: HostRuntime) -> Result<(), Fail> {
-    expect_ends(
-        &rt,
-        "run --threads 2",
-        POOL.as_bytes(),
-        Ends::of(64).without_source(1),
-        Status::ReadFault,
-        b"",
-        READ_FAULT,
-    )
-}
-
-// The output is `1` and a newline, which two calls write.
-#[test]
-fn nothing_is_written_after_a_failed_write_of_threads(rt: HostRuntime) -> Result<(), Fail> {
-    let calls = [
-        (1, 0, "", ""),
-        (2, 0, "1", ""),
-        (0, 12, "1\n", "collection "),
-    ];
-    for (out_call, err_call, out, err) in calls {
-        expect_ends(
-            &rt,
-            "run --threads 1",
-            LEAK.as_bytes(),
-            Ends::of(1).without_sinks(out_call, err_call),
-            Status::WriteFault,
-            out.as_bytes(),
-            err.as_bytes(),
-        )?;
-    }
-    Ok(())
+fn nothing_is_written_after_a_failed_call_of_threads(rt: HostRuntime) -> Result<(), Fail> {
+    expect_failing(&rt, &FAILING)
 }
