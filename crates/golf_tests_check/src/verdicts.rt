@@ -23,7 +23,7 @@ fn verdict(rt: &impl Abort, alloc: Global, source: &str) -> (u32, u32) {
     match checked(rt, alloc, source) {
         Ok(_) => (0, 0),
         Err(TypeFault::At { line, rule }) => (line, rule),
-        Err(TypeFault::Memory) => panic!(rt; "memory is wanting"),
+        Err(TypeFault::Memory) => panic!(rt; "out of memory"),
     }
 }
 
@@ -64,7 +64,7 @@ pub(crate) fn expect<R: AllocGlobal + Abort>(rt: &R, rows: &str) {
 fn file_of(rt: &impl Abort, alloc: Global, body: &str) -> String {
     match format!(in alloc; "package main\nfunc main() {{\n{body}\n}}") {
         Ok(text) => text,
-        Err(_) => panic!(rt; "memory is wanting"),
+        Err(_) => panic!(rt; "out of memory"),
     }
 }
 

@@ -39,7 +39,7 @@ fn code_of(rt: &impl Abort, alloc: Global, source: &str) -> Code {
                 Err(_) => panic!(rt; "it is not typed"),
                 Ok(checked) => match generate(alloc, &checked) {
                     Ok(code) => code,
-                    Err(Memory) => panic!(rt; "memory is wanting"),
+                    Err(Memory) => panic!(rt; "out of memory"),
                 },
             },
         },

@@ -15,7 +15,7 @@ fn line_of(rt: &impl Abort, answer: &Result<File, SyntaxFault>) -> u32 {
     match answer {
         Ok(_) => 0,
         Err(SyntaxFault::At { line }) => *line,
-        Err(SyntaxFault::Memory) => panic!(rt; "memory is wanting"),
+        Err(SyntaxFault::Memory) => panic!(rt; "out of memory"),
     }
 }
 
@@ -251,7 +251,7 @@ fn is_front(rt: &impl Abort, alloc: Global, front: &[u8]) -> bool {
             }
         }
         Err(LexFault::At { byte, .. }) => byte as usize == front.len(),
-        Err(LexFault::Memory) => panic!(rt; "memory is wanting"),
+        Err(LexFault::Memory) => panic!(rt; "out of memory"),
     }
 }
 

@@ -87,7 +87,7 @@ fn fault_of(rt: &impl Abort, alloc: Global, source: &str) -> Option<(u32, u32)> 
     match tokens(alloc, source.as_bytes()) {
         Ok(_) => None,
         Err(LexFault::At { line, byte }) => Some((line, byte)),
-        Err(LexFault::Memory) => panic!(rt; "memory is wanting"),
+        Err(LexFault::Memory) => panic!(rt; "out of memory"),
     }
 }
 
