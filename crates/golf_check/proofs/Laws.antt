@@ -1,7 +1,7 @@
--- Heads of functions, the scope after one, the scope with the written types, and the passes over a file.
--- For: `func_at`, src/functions.rt; `add_written_types`, src/scopes.rt; `found_of_file`, src/files.rt
+-- Heads of functions, scopes after them and with the written types, walks after parameters, and passes over a file.
+-- For: `func_at` and `behind_receiver`, src/functions.rt; `add_written_types`, src/scopes.rt; `found_of_file`, src/files.rt
 -- By: cases of the outcome; induction over the list of parameters
-use Rattle.std.proofs.Common.{◌≡◌, ℕ, List, [], ◌∷◌, ◌++◌, map, refl, sym, ap, subst, ◌∙◌, append-nil}
+use Rattle.std.proofs.Common.{◌≡◌, ℕ, List, [], ◌∷◌, ◌++◌, map, refl, sym, ap, subst, ◌∙◌, append_assoc, append-nil}
 use Rattle.std.specs.Prelude.{Option, Some, None, Result, flat_map}
 use Rattle.golf_syntax_trees.specs.declared.declarations.Receiver.{Receiver}
 use Rattle.golf_syntax_trees.specs.declared.declarations.Func.{Func}
@@ -17,10 +17,10 @@ use Rattle.golf_check_types.specs.declared.scopes.FileScope.{FileScope}
 use Rattle.golf_check_types.specs.declared.scopes.Imports.{Imports}
 use Rattle.golf_check_types.specs.declared.scopes.Scope.{Scope}
 use Rattle.golf_check_types.specs.Faults.{Tells}
-use Rattle.golf_check_types.specs.Statements.{Walk, Walked, Walks, in_order, behind}
+use Rattle.golf_check_types.specs.Statements.{Walk, Walked, Walks, in_order, both, behind}
 use Rattle.golf_check_types.specs.Files.{receiver_walk, parameter_walk, all_typed_names, result_type, head_scope, of_function, func_walk, initial_walk, outside, struct_types, global_types, function_types, with_types, bare_file, file_scope, import_faults, no_imports, with_imports, walk_faults, walk_facts, decl_faults, Broken, facts_in}
 use Rattle.golf_check_types.proofs.Seams.{tells_behind}
-use Rattle.golf_check_types.proofs.WalkLaws.{then_tells}
+use Rattle.golf_check_types.proofs.WalkLaws.{behind-both}
 use Rattle.golf_check.specs.declared.files.Found.{Found}
 use Rattle.golf_check.specs.Heads.{receiver_name, optional_parameter, inner_walks, function_walked, Stays, scope_of, typed_file, named_faults}
 
@@ -40,13 +40,22 @@ func_walks : (f : Func) (file : Scope) → function_walked f (receiver_name file
 unfolding walked_with
 func_walks f file = ap (walked_with f file) (receiver_walks f.line file f.receiver)
 
+-- the head of a function as it was found in the scope of its file
+pub record HeadOf (f : Func) (file : Scope) : Type 0 where
+  pub receiver : Option (List ℕ × Option GoType)
+  pub parameters : List (List ℕ × Option GoType)
+  pub result : Option GoType
+  pub receiver_is : receiver ≡ receiver_name file f.receiver
+  pub parameters_are : parameters ≡ all_typed_names file f.parameters
+  pub result_is : result ≡ result_type file f.result
+
 -- the answer for a head and its body is that for the function
-pub func_tells : {A : Type 0} (a : Result A TypeFault) (f : Func) (file t : Scope) (r : Option (List ℕ × Option GoType)) (ps : List (List ℕ × Option GoType)) (result : Option GoType) (old new : List Fact) → r ≡ receiver_name file f.receiver → ps ≡ all_typed_names file f.parameters → result ≡ result_type file f.result → Stays a (function_walked f r ps (record file { result = result })) file t old new → Stays a (func_walk f file) file t old new
-func_tells a f file t r ps result old new head names gives h =
+pub func_tells : {A : Type 0} (a : Result A TypeFault) (f : Func) (file t : Scope) (old new : List Fact) (head : HeadOf f file) → Stays a (function_walked f head.receiver head.parameters (record file { result = head.result })) file t old new → Stays a (func_walk f file) file t old new
+func_tells a f file t old new head h =
     subst (λ w. Stays a w file t old new)
-    (ap (λ x. function_walked f x ps (record file { result = result })) head
-    ∙ ap (λ xs. function_walked f (receiver_name file f.receiver) xs (record file { result = result })) names
-    ∙ ap (λ g. function_walked f (receiver_name file f.receiver) (all_typed_names file f.parameters) (record file { result = g })) gives
+    (ap (λ x. function_walked f x head.parameters (record file { result = head.result })) head.receiver_is
+    ∙ ap (λ xs. function_walked f (receiver_name file f.receiver) xs (record file { result = head.result })) head.parameters_are
+    ∙ ap (λ g. function_walked f (receiver_name file f.receiver) (all_typed_names file f.parameters) (record file { result = g })) head.result_is
     ∙ func_walks f file) h
 
 back : Scope → Scope
@@ -62,13 +71,39 @@ parameters_facts : (l : ℕ) (ps : List (List ℕ × Option GoType)) (s : Scope)
 parameters_facts l [] s = refl
 parameters_facts l (p ∷ ps) s = parameters_facts l ps (behind s (parameter_walk l p s))
 
+-- a walk that breaks nothing: the scope after it, and the facts with its own
+record WalkPasses (w : Walked) (s : Scope) (old : List Fact) : Type 0 where
+  after : Scope
+  facts : List Fact
+  none : w.faults ≡ []
+  after_is : after ≡ behind s w
+  facts_are : facts ≡ old ++ w.facts
+
+-- if the first walk breaks nothing, the answer of the second tells of both
+then_tells : {A : Type 0} (r : Result A TypeFault) (a b : Walked) (s t : Scope) (old new : List Fact) (first : WalkPasses a s old) → Walks r b first.after t first.facts new → Walks r (both a b) s t old new
+then_tells r a b s t old new first h =
+    tells_behind r a.faults b.faults (λ _. (t ≡ behind first.after b) × (new ≡ first.facts ++ b.facts)) (λ _. (t ≡ behind s (both a b)) × (new ≡ old ++ (a.facts ++ b.facts))) first.none
+    (λ _ k. (k.0 ∙ ap (λ m. behind m b) first.after_is ∙ behind-both s a b, k.1 ∙ (ap (λ fs. fs ++ b.facts) first.facts_are ∙ append_assoc old a.facts b.facts))) h
+
+-- parameters that break nothing, and the scope after them
+pub record ParametersPass (l : ℕ) (ps : List (List ℕ × Option GoType)) (s : Scope) : Type 0 where
+  pub after : Scope
+  pub none : (in_order (map (parameter_walk l) ps) s).faults ≡ []
+  pub after_is : after ≡ behind s (in_order (map (parameter_walk l) ps) s)
+
 -- if the parameters break nothing, the answer for what stands after them tells of both
-pub inner_tells : {A : Type 0} (r : Result A TypeFault) (l : ℕ) (ps : List (List ℕ × Option GoType)) (ws : List Walk) (s mid t : Scope) (old new : List Fact) → (in_order (map (parameter_walk l) ps) s).faults ≡ [] → mid ≡ behind s (in_order (map (parameter_walk l) ps) s) → Walks r (in_order ws mid) mid t old new → Walks r (in_order (in_order (map (parameter_walk l) ps) ∷ ws) s) s t old new
-inner_tells r l ps ws s mid t old new none at h =
+pub inner_tells : {A : Type 0} (r : Result A TypeFault) (l : ℕ) (ps : List (List ℕ × Option GoType)) (ws : List Walk) (s t : Scope) (old new : List Fact) (passed : ParametersPass l ps s) → Walks r (in_order ws passed.after) passed.after t old new → Walks r (in_order (in_order (map (parameter_walk l) ps) ∷ ws) s) s t old new
+inner_tells r l ps ws s t old new passed h =
     let a = in_order (map (parameter_walk l) ps) s in
-    then_tells r a (in_order ws (behind s a)) s (behind s a) t old old new none refl
-    (sym (ap (λ fs. old ++ fs) (parameters_facts l ps s) ∙ append-nil old))
-    (subst (λ m. Walks r (in_order ws m) m t old new) at h)
+    then_tells r a (in_order ws (behind s a)) s t old new
+    (record {
+      after = behind s a;
+      facts = old;
+      none = passed.none;
+      after_is = refl;
+      facts_are = sym (ap (λ fs. old ++ fs) (parameters_facts l ps s) ∙ append-nil old);
+    })
+    (subst (λ m. Walks r (in_order ws m) m t old new) passed.after_is h)
 
 -- a scope whose file has these types
 with_written : Scope → List (List (Option GoType)) → List (Option GoType) → List Signature → Scope

@@ -7,5 +7,7 @@ use Rattle.golf_check.proofs.functions.behind_receiver.Goals as goal
 
 pub returns : goal.returns
 returns c =
-    let h = inner_tells (Ok c.in_ok-body.field-0) c.args.func.now.line c.args.names.now (body_walks c.args.func.now) c.args.scope.now c.parameters.new.scope c.body.new.scope c.args.facts.now c.body.new.facts c.in_ok-parameters.ensures.0 c.in_ok-parameters.ensures.1 c.in_ok-body.ensures in
+    let h = inner_tells (Ok c.in_ok-body.field-0) c.args.func.now.line c.args.names.now (body_walks c.args.func.now) c.args.scope.now c.body.new.scope c.args.facts.now c.body.new.facts
+    (record { after = c.parameters.new.scope; none = c.in_ok-parameters.ensures.0; after_is = c.in_ok-parameters.ensures.1 })
+    c.in_ok-body.ensures in
     (h.0, (ap (λ (t : Scope). t.next) c.in_ok-parameters.ensures.1, h.1))

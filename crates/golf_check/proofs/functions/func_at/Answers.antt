@@ -5,6 +5,13 @@ use Rattle.golf_check.proofs.functions.func_at.Goals as goal
 
 pub returns : goal.returns
 returns c =
-    func_tells c.typed_func.result c.args.func.now c.args.scope.now c.typed_func.new.scope c.in_ok-receiver.receiver c.as_slice-typed.result.now c.in_ok-result_type.result_type c.args.facts.now c.typed_func.new.facts c.in_ok-receiver.ensures
-    (c.as_slice-typed.ensures ∙ c.in_ok-names.ensures ∙ ap (all_typed_names c.args.scope.now) c.as_slice-parameters.ensures)
-    c.in_ok-result_type.ensures c.typed_func.ensures
+    func_tells c.typed_func.result c.args.func.now c.args.scope.now c.typed_func.new.scope c.args.facts.now c.typed_func.new.facts
+    (record {
+      receiver = c.in_ok-receiver.receiver;
+      parameters = c.as_slice-typed.result.now;
+      result = c.in_ok-result_type.result_type;
+      receiver_is = c.in_ok-receiver.ensures;
+      parameters_are = c.as_slice-typed.ensures ∙ c.in_ok-names.ensures ∙ ap (all_typed_names c.args.scope.now) c.as_slice-parameters.ensures;
+      result_is = c.in_ok-result_type.ensures;
+    })
+    c.typed_func.ensures
