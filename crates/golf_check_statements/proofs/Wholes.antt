@@ -20,6 +20,14 @@ walk-Select l cs s =
     ap (λ w. w s) (ap walk (sym (st.rolls-Select l cs)) ∙ fold-roll-Stmt (ℕ → Walk) Walk clause_step stmt_step (S.Select l cs))
     ∙ ap (λ ws. in_order ws s) (map-map (λ c. c l) walk_clause cs)
 
-pub select_tells : {A : Type 0} (r : Result A TypeFault) (x : Stmt) (l : ℕ) (cs ds : List Clause) (s t : Scope) (old new : List Fact) → x ≡ st.Select l cs → ds ≡ cs → Walks r (in_order (map (walk_clause_at l) ds) s) s t old new → Walks r (walk x s) s t old new
-select_tells r x l cs ds s t old new is also h =
-    subst (λ w. Walks r w s t old new) (ap (λ es. in_order (map (walk_clause_at l) es) s) also ∙ sym (ap (λ y. walk y s) is ∙ walk-Select l cs s)) h
+-- a statement that is a select, and its clauses as a slice
+pub record SelectWith (x : Stmt) : Type 0 where
+  pub line : ℕ
+  pub clauses : List Clause
+  pub slice : List Clause
+  pub is : x ≡ st.Select line clauses
+  pub slice_is : slice ≡ clauses
+
+pub select_tells : {A : Type 0} (r : Result A TypeFault) (x : Stmt) (s t : Scope) (old new : List Fact) (select : SelectWith x) → Walks r (in_order (map (walk_clause_at select.line) select.slice) s) s t old new → Walks r (walk x s) s t old new
+select_tells r x s t old new select h =
+    subst (λ w. Walks r w s t old new) (ap (λ es. in_order (map (walk_clause_at select.line) es) s) select.slice_is ∙ sym (ap (λ y. walk y s) select.is ∙ walk-Select select.line select.clauses s)) h
