@@ -1,10 +1,12 @@
 -- Lists of flags, one place after another, and flags that a test gives.
--- For: `either` and `retained`, src/marking.rt; `unlisted`, src/ledger.rt
+-- For: `either`, `retained` and `unflagged`, src/marking.rt; `unlisted`, src/ledger.rt
 -- By: induction over the list of flags, and over the list of entries
 use Rattle.std.proofs.Common.{◌≡◌, ℕ, zero, suc, ◌+◌, ◌<◌, ◌≤◌, Bool, true, false, ◌||◌, ◌&&◌, cond, List, [], ◌∷◌, ◌++◌, length, map, filter, take, get_or, Some, refl, sym, ap, ◌∙◌, arith, slice_get}
 use Rattle.std.proofs.lemmas.List.{take_all}
 use Rattle.std.proofs.lemmas.List.Sums.{sum_by-cons}
 use Rattle.golf_theory.specs.Maps.{keys, keys_where}
+use Rattle.golf_heap.specs.Objects.{left_out}
+use Rattle.golf_heap.proofs.Flagged.{left_out-at}
 use Rattle.golf_reclaim.specs.Flags.{count_set, either}
 
 -- ---- one place more
@@ -20,6 +22,10 @@ either-more {y} {b} {old} {new} xs ys i d l e is so made =
     let next : suc i ≡ i + 1 = omega arith in
     made ∙ ap (λ (z : List Bool). z ++ b ∷ []) so ∙ ap (λ c. either (take i xs) (take i ys) ++ c ∷ []) is
     ∙ sym (either-next xs ys i y d l e) ∙ ap (λ k. either (take k xs) (take k ys)) next
+
+pub left_out-more : {X : Type 0} {x : X} {b : Bool} {old new : List X} (flags : List Bool) (xs : List X) (i : ℕ) (d : Bool) → i < length flags → slice_get xs i ≡ Some x → get_or flags i d ≡ b → old ≡ left_out (take i flags) (take i xs) → new ≡ old ++ cond b [] (x ∷ []) → new ≡ left_out (take (i + 1) flags) (take (i + 1) xs)
+left_out-more {X} {x} {b} {old} {new} flags xs i d l e is so made =
+    made ∙ ap (λ (z : List X). z ++ cond b [] (x ∷ [])) so ∙ sym (left_out-at flags xs i x d b l e is)
 
 -- ---- all places
 

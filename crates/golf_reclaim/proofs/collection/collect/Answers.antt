@@ -6,7 +6,6 @@ use Rattle.golf_data.specs.declared.report.Book.{Book}
 use Rattle.golf_data.specs.declared.value.Object.{Object}
 use Rattle.golf_model.specs.Views.{GoroutineView}
 use Rattle.golf_model.specs.State.{State}
-use Rattle.golf_model.specs.Living.{dead}
 use Rattle.golf_model.specs.Reaching.{reach, sources}
 use Rattle.golf_model.specs.Collecting.{plain_collect, removed, retained}
 use Rattle.golf_model.specs.Reporting.{numbers, entries, retained_objects}

@@ -1,4 +1,4 @@
-use Rattle.std.proofs.Common.{◌<◌, ◌||◌, length, Bool, true, false, get_or, sym, ap, ◌∙◌, arith}
+use Rattle.std.proofs.Common.{◌<◌, ◌||◌, length, Bool, false, get_or, sym, ap, ◌∙◌, arith}
 use Rattle.std.proofs.lemmas.Option.{slice_get-get_or}
 use Rattle.golf_reclaim.proofs.Flags.{either-more, either-all, either-long}
 use Rattle.golf_reclaim.proofs.marking.either.Goals as goal

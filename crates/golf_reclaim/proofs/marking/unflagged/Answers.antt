@@ -1,9 +1,10 @@
-use Rattle.std.proofs.Common.{◌<◌, length, map, List, get_or, sym, ◌∙◌, ap, append-nil, arith, true, false}
+use Rattle.std.proofs.Common.{◌<◌, length, map, List, sym, ◌∙◌, ap, append-nil, arith}
 use Rattle.std.proofs.lemmas.List.{length-map}
 use Rattle.std.proofs.lemmas.Option.{slice_get-map, slice_get-get_or}
 use Rattle.golf_base.specs.declared.ids.GoroutineId.{GoroutineId}
 use Rattle.golf_model.specs.Sleepers.{Sleeper}
-use Rattle.golf_heap.proofs.Flagged.{left_out-more, left_out-all, left_out-short}
+use Rattle.golf_heap.proofs.Flagged.{left_out-all, left_out-short}
+use Rattle.golf_reclaim.proofs.Flags.{left_out-more}
 use Rattle.golf_reclaim.proofs.marking.unflagged.Goals as goal
 use Rattle.golf_reclaim.proofs.marking.unflagged.Goals.{then-not-flags-sleeper+in_ok-push, else-not-flags-sleeper}
 
@@ -17,11 +18,11 @@ loop-sleeper-preserved c =
     let there : i < length ids = omega (arith, c.sleepers-sleeper-end.ensures, length-map sleepers (λ (x : Sleeper). x.goroutine)) in
     elim c.if-not-flags-sleeper.branch [
       | then-not-flags-sleeper+in_ok-push w ↦
-          left_out-more awake ids i w.goroutine_of.result _ false c.loop-sleeper.goroutines c.if-not-flags-sleeper.goroutines within (slice_get-map (λ (x : Sleeper). x.goroutine) sleepers i ∙ w.goroutine_of.ensures) w.if-not-flags-sleeper.true c.loop-sleeper.invariant
+          left_out-more awake ids i _ within (slice_get-map (λ (x : Sleeper). x.goroutine) sleepers i ∙ w.goroutine_of.ensures) w.if-not-flags-sleeper.true c.loop-sleeper.invariant
           (w.goroutines-is ∙ w.in_ok-push.ensures.ok)
       | else-not-flags-sleeper w ↦
           let d : GoroutineId = record { 0 = 0 } in
-          left_out-more awake ids i (get_or ids i d) _ true c.loop-sleeper.goroutines c.if-not-flags-sleeper.goroutines within (slice_get-get_or ids i d there) w.if-not-flags-sleeper.false c.loop-sleeper.invariant
+          left_out-more awake ids i _ within (slice_get-get_or ids i d there) w.if-not-flags-sleeper.false c.loop-sleeper.invariant
           (w.goroutines-is ∙ sym (append-nil c.loop-sleeper.goroutines))
     ]
 
