@@ -43,12 +43,22 @@ by_bytes f g bs w here other cs = at (cases_Bool (bytes_eq bs cs))
 changed : {X S : Type 0} (bs : List ℕ) (m n : HashMap (Vec ℕ) X S) (w : Option X) → UpdatesBy same_vec (is_vec bs) m n w → (cs : List ℕ) → get_by (is_vec cs) n ≡ cond (bytes_eq bs cs) w (get_by (is_vec cs) m)
 changed bs m n w h = by_bytes (λ cs. get_by (is_vec cs) m) (λ cs. get_by (is_vec cs) n) bs w h.1 (λ cs e. other_entries _ _ _ h.3 _ (λ x y. nat_list_eq_equiv.congr cs x.items y.items) (λ k. apart bs cs k.items e))
 
+-- the places of a name are taken out of a map, and others are put in, under a key of the same bytes
+pub record PutAnew {S : Type 0} (name : List ℕ) (m new : HashMap (Vec ℕ) (List ℕ) S) (own : List ℕ) : Type 0 where
+  pub key : Vec ℕ
+  pub between : HashMap (Vec ℕ) (List ℕ) S
+  pub places : List ℕ
+  pub key_is : key.items ≡ name
+  pub places_are : places ≡ own
+  pub removed : UpdatesBy same_vec (is_vec name) m between None
+  pub inserted : UpdatesBy same_vec (is_vec key.items) between new (Some places)
+
 -- what is put in place of what was taken out
-pub put_law : {S : Type 0} (name : List ℕ) (key : Vec ℕ) (m mid new : HashMap (Vec ℕ) (List ℕ) S) (w own : List ℕ) → key.items ≡ name → w ≡ own → UpdatesBy same_vec (is_vec name) m mid None → UpdatesBy same_vec (is_vec key.items) mid new (Some w) → (n : List ℕ) → places_at new n ≡ cond (bytes_eq name n) own (places_at m n)
-put_law name key m mid new w own is same out into n =
-    ap (λ o. unwrap_or o []) (changed key.items mid new (Some w) into n ∙ ap (λ o. cond (bytes_eq key.items n) (Some w) o) (changed name m mid None out n))
-    ∙ ap (λ k. unwrap_or (cond (bytes_eq k n) (Some w) (cond (bytes_eq name n) None (get_by (is_vec n) m))) []) is
-    ∙ ap (λ v. unwrap_or (cond (bytes_eq name n) (Some v) (cond (bytes_eq name n) None (get_by (is_vec n) m))) []) same
+pub put_law : {S : Type 0} (name : List ℕ) (m new : HashMap (Vec ℕ) (List ℕ) S) (own : List ℕ) → PutAnew name m new own → (n : List ℕ) → places_at new n ≡ cond (bytes_eq name n) own (places_at m n)
+put_law name m new own put n =
+    ap (λ o. unwrap_or o []) (changed put.key.items put.between new (Some put.places) put.inserted n ∙ ap (λ o. cond (bytes_eq put.key.items n) (Some put.places) o) (changed name m put.between None put.removed n))
+    ∙ ap (λ k. unwrap_or (cond (bytes_eq k n) (Some put.places) (cond (bytes_eq name n) None (get_by (is_vec n) m))) []) put.key_is
+    ∙ ap (λ v. unwrap_or (cond (bytes_eq name n) (Some v) (cond (bytes_eq name n) None (get_by (is_vec n) m))) []) put.places_are
     ∙ at (bytes_eq name n) (get_by (is_vec n) m)
   where
     at : (b : Bool) (o : Option (List ℕ)) → unwrap_or (cond b (Some own) (cond b None o)) [] ≡ cond b own (unwrap_or o [])

@@ -8,5 +8,15 @@ pub returns : goal.returns
 returns c = λ n.
     let name = c.args.name.now in
     let old = c.args.places.now in
-    put_law name c.in_ok-key.key old c.remove.new.self c.insert.new.self _ (with_place (places_at old name) c.args.place) (c.in_ok-key.ensures.items_if_clones_equal (λ x y e. e)) (c.in_ok-push.ensures.ok ∙ ap (λ o. with_place o c.args.place) (c.unwrap_or-own.ensures ∙ ap (unwrap_or c.remove.result) c.new.ensures ∙ ap (λ o. unwrap_or o []) c.remove.ensures.value)) c.remove.ensures.updates c.in_ok-insert.ensures.updates n
+    put_law name old c.insert.new.self (with_place (places_at old name) c.args.place)
+    (record {
+      key = c.in_ok-key.key;
+      between = c.remove.new.self;
+      places = c.push.new.self;
+      key_is = c.in_ok-key.ensures.items_if_clones_equal (λ x y e. e);
+      places_are = c.in_ok-push.ensures.ok ∙ ap (λ o. with_place o c.args.place) (c.unwrap_or-own.ensures ∙ ap (unwrap_or c.remove.result) c.new.ensures ∙ ap (λ o. unwrap_or o []) c.remove.ensures.value);
+      removed = c.remove.ensures.updates;
+      inserted = c.in_ok-insert.ensures.updates;
+    })
+    n
     ∙ at_name name n (places_at old) (λ ps. with_place ps c.args.place)
