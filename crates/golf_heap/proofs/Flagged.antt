@@ -1,7 +1,7 @@
 -- Lists of which some items have a flag, one place after another.
 -- For: `kept`, `left_out` (golf_heap/specs/Objects.antt)
 -- By: induction over the list of items, with their flags
-use Rattle.std.proofs.Common.{◌≡◌, ℕ, zero, suc, ◌+◌, ◌<◌, ◌≤◌, Bool, true, false, cond, not, ◌||◌, List, [], ◌∷◌, ◌++◌, length, map, filter, take, get_or, Some, inl, inr, refl, sym, ap, ◌∙◌, arith, slice_get}
+use Rattle.std.proofs.Common.{◌≡◌, ℕ, zero, suc, ◌+◌, ◌<◌, ◌≤◌, Bool, true, false, cond, not, ◌||◌, List, [], ◌∷◌, ◌++◌, length, map, filter, take, get_or, Some, inl, inr, refl, ap, ◌∙◌, arith, slice_get}
 use Rattle.std.proofs.lemmas.List.{take_all}
 use Rattle.golf_theory.specs.Maps.{keys, only, Rises}
 use Rattle.golf_theory.specs.Membership.{In, is_in}
@@ -28,10 +28,6 @@ pub left_out-at : {X : Type 0} (flags : List Bool) (xs : List X) (i : ℕ) (x : 
 left_out-at flags xs i x d b l e is =
     let next : i + 1 ≡ suc i = omega arith in
     ap (λ k. left_out (take k flags) (take k xs)) next ∙ left_out-next flags xs i x d l e ∙ ap (λ c. left_out (take i flags) (take i xs) ++ cond c [] (x ∷ [])) is
-
-pub left_out-more : {X : Type 0} (flags : List Bool) (xs : List X) (i : ℕ) (x : X) (d b : Bool) (old new : List X) → i < length flags → slice_get xs i ≡ Some x → get_or flags i d ≡ b → old ≡ left_out (take i flags) (take i xs) → new ≡ old ++ cond b [] (x ∷ []) → new ≡ left_out (take (i + 1) flags) (take (i + 1) xs)
-left_out-more {X = X} flags xs i x d b old new l e is so made =
-    made ∙ ap (λ (z : List X). z ++ cond b [] (x ∷ [])) so ∙ sym (left_out-at flags xs i x d b l e is)
 
 -- ---- all places
 

@@ -78,19 +78,26 @@ kept_more {X} keep xs at b d l same f =
     let items : drop at xs ≡ get_or xs at d ∷ drop (suc at) xs = drop_more xs at d (omega arith) ∙ ap (λ (n : ℕ). get_or xs at d ∷ drop n xs) two in
     ap (λ (z : List Bool). kept z (drop at xs)) flags ∙ ap (λ (z : List X). kept (b ∷ drop (suc at) keep) z) items
 
+-- the item at `at` is flagged, among as many flags as items, and no more were kept than stand below it
+pub record NextKept {X : Type 0} (keep : List Bool) (now : List X) (count at : ℕ) : Type 0 where
+  pub within : at < length keep
+  pub whole : length now ≡ length keep
+  pub below : count ≤ at
+  pub flag : get_or keep at false ≡ true
+
 -- one step of closing up: the item goes after those that were kept
-pub closed_more : {X : Type 0} (keep : List Bool) (now all : List X) (count at : ℕ) (x : X) → at < length keep → length now ≡ length keep → count ≤ at → get_or keep at false ≡ true → x ≡ get_or now at x → take count now ++ kept (drop at keep) (drop at now) ≡ all → take (count + 1) (set now count x) ++ kept (drop (at + 1) keep) (drop (at + 1) (set now count x)) ≡ all
-closed_more {X} keep now all count at x l same c f is e =
+pub closed_more : {X : Type 0} (keep : List Bool) (now all : List X) (count at : ℕ) (x : X) → NextKept keep now count at → x ≡ get_or now at x → take count now ++ kept (drop at keep) (drop at now) ≡ all → take (count + 1) (set now count x) ++ kept (drop (at + 1) keep) (drop (at + 1) (set now count x)) ≡ all
+closed_more {X} keep now all count at x next is e =
     let two : at + 1 ≡ suc at = omega arith in
     let rest : List X = kept (drop (suc at) keep) (drop (suc at) now) in
-    let front : take (count + 1) (set now count x) ≡ take count now ++ x ∷ [] = take_more_set now count x (omega arith) in
-    let back : drop (at + 1) (set now count x) ≡ drop (suc at) now = drop-set-lt (at + 1) now count x (omega arith) ∙ ap (λ (n : ℕ). drop n now) two in
+    let front : take (count + 1) (set now count x) ≡ take count now ++ x ∷ [] = take_more_set now count x (omega (arith, next.within, next.whole, next.below)) in
+    let back : drop (at + 1) (set now count x) ≡ drop (suc at) now = drop-set-lt (at + 1) now count x (omega (arith, next.below)) ∙ ap (λ (n : ℕ). drop n now) two in
     ap (λ (z : List X). z ++ kept (drop (at + 1) keep) (drop (at + 1) (set now count x))) front
     ∙ ap (λ (z : List X). (take count now ++ x ∷ []) ++ kept (drop (at + 1) keep) z) back
     ∙ ap (λ (n : ℕ). (take count now ++ x ∷ []) ++ kept (drop n keep) (drop (suc at) now)) two
     ∙ append_assoc (take count now) (x ∷ []) rest
     ∙ ap (λ (z : X). take count now ++ z ∷ rest) is
-    ∙ ap (λ (z : List X). take count now ++ z) (sym (kept_more keep now at true x l (sym same) f))
+    ∙ ap (λ (z : List X). take count now ++ z) (sym (kept_more keep now at true x next.within (sym next.whole) next.flag))
     ∙ e
 
 -- what is written after the front of a list does not change that prefix
@@ -123,9 +130,9 @@ same-item (x ∷ xs) zero d e l = refl
 same-item (x ∷ xs) (suc i) d e l = same-item xs i d e (omega arith)
 
 -- one step of closing up: the item changes places with the one after those that were kept
-pub swapped_more : {X : Type 0} (keep : List Bool) (now later all : List X) (count at : ℕ) → at < length keep → length now ≡ length keep → count ≤ at → get_or keep at false ≡ true → SwappedAt now later count at → take count now ++ kept (drop at keep) (drop at now) ≡ all → take (count + 1) later ++ kept (drop (at + 1) keep) (drop (at + 1) later) ≡ all
-swapped_more {X} keep now later all count at l same c f sw e =
-    let d : X = some-item now at (omega (arith, l, same)) in
+pub swapped_more : {X : Type 0} (keep : List Bool) (now later all : List X) (count at : ℕ) → NextKept keep now count at → SwappedAt now later count at → take count now ++ kept (drop at keep) (drop at now) ≡ all → take (count + 1) later ++ kept (drop (at + 1) keep) (drop (at + 1) later) ≡ all
+swapped_more {X} keep now later all count at next sw e =
+    let d : X = some-item now at (omega (arith, next.within, next.whole)) in
     let x : X = get_or now at d in
     let y : X = get_or now count d in
     let one : List X = set now count x in
@@ -134,14 +141,14 @@ swapped_more {X} keep now later all count at l same c f sw e =
     elim (nat_lt count at) as (λ b. nat_lt count at ≡ b → take (count + 1) (set one at y) ≡ take (count + 1) one) [
       | true ↦ λ b. let less = ltb-true count at b in take-past one (count + 1) at y (omega (arith, less))
       | false ↦ λ b. let least = ltb-false count at b in
-          let is : count ≡ at = omega (arith, least, c) in
+          let is : count ≡ at = omega (arith, least, next.below) in
           ap (take (count + 1)) (unmoved now count at d is)
     ] refl in
     let back : drop (at + 1) (set one at y) ≡ drop (at + 1) one = drop-set-lt (at + 1) one at y (omega arith) in
     ap (λ (z : List X). take (count + 1) z ++ kept (drop (at + 1) keep) (drop (at + 1) z)) two
     ∙ ap (λ (z : List X). z ++ kept (drop (at + 1) keep) (drop (at + 1) (set one at y))) front
     ∙ ap (λ (z : List X). take (count + 1) one ++ kept (drop (at + 1) keep) z) back
-    ∙ closed_more keep now all count at x l same c f (same-item now at d x (omega (arith, l, same))) e
+    ∙ closed_more keep now all count at x next (same-item now at d x (omega (arith, next.within, next.whole))) e
   where
     unmoved : {X : Type 0} (xs : List X) (i j : ℕ) (d : X) → i ≡ j → set (set xs i (get_or xs j d)) j (get_or xs i d) ≡ set xs i (get_or xs j d)
     unmoved {X} xs i j d same =

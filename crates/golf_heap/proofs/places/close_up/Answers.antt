@@ -13,7 +13,9 @@ loop-at-preserved g c = elim c.if-keep-at.branch [
       (record {
         within = omega (arith, i.within);
         whole = swapped-length xs w.swap.new.self.items c.loop-at.count c.loop-at.at (omega (arith, c.loop-at-test.true, i.whole)) w.swap.ensures.by_index ∙ i.whole;
-        kept = swapped_more c.args.keep.now xs w.swap.new.self.items (kept c.args.keep.now c.args.items.now.items) c.loop-at.count c.loop-at.at c.loop-at-test.true i.whole i.within w.if-keep-at.true w.swap.ensures.by_index i.kept;
+        kept = swapped_more c.args.keep.now xs w.swap.new.self.items (kept c.args.keep.now c.args.items.now.items) c.loop-at.count c.loop-at.at
+            (record { within = c.loop-at-test.true; whole = i.whole; below = i.within; flag = w.if-keep-at.true })
+            w.swap.ensures.by_index i.kept;
       })
   | else-keep-at w ↦
       let i = c.loop-at.invariant in
