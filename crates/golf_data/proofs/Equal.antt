@@ -134,15 +134,26 @@ same-but-choice i j b kinds loads d =
     let p = (payload-decides (payload_of i) (payload_of j)).0 (told-same payloads.eq-value.it (payload_of i) (payload_of j) loads) in
     (λ h. same-parts i j k p (d.0 h), λ g. d.1 (ap choice_of g))
 
+-- what was read of two lists at one place is equal
+pub record EqualAt {A : Type 0} (xs ys : List A) (n : ℕ) : Type 0 where
+  pub left : A
+  pub right : A
+  pub within_left : n < length xs
+  pub within_right : n < length ys
+  pub left_is : left ≡ get_or xs n left
+  pub right_is : right ≡ get_or ys n right
+  pub equal : left ≡ right
+
 -- two lists that have the same items at the first places, and one place more
-pub same-so-far : {A : Type 0} (xs ys : List A) (n : ℕ) (x y : A) → n < length xs → n < length ys → x ≡ get_or xs n x → y ≡ get_or ys n y → x ≡ y
-    → (drop n xs ≡ drop n ys → xs ≡ ys) → drop (n + 1) xs ≡ drop (n + 1) ys → xs ≡ ys
-same-so-far {A} xs ys n x y l m p q e before rest =
+pub same-so-far : {A : Type 0} (xs ys : List A) (n : ℕ) → EqualAt xs ys n → (drop n xs ≡ drop n ys → xs ≡ ys) → drop (n + 1) xs ≡ drop (n + 1) ys → xs ≡ ys
+same-so-far {A} xs ys n here before rest =
+    let x : A = here.left in
+    let y : A = here.right in
     let next : n + 1 ≡ suc n = omega arith in
     let after : drop (suc n) xs ≡ drop (suc n) ys = ap (λ k. drop k xs) (sym next) ∙ rest ∙ ap (λ k. drop k ys) next in
     before
-    (drop-cons xs n x l ∙ ap (λ (z : A). z ∷ drop (suc n) xs) (sym p ∙ e ∙ q)
-    ∙ ap (λ (zs : List A). get_or ys n y ∷ zs) after ∙ sym (drop-cons ys n y m))
+    (drop-cons xs n x here.within_left ∙ ap (λ (z : A). z ∷ drop (suc n) xs) (sym here.left_is ∙ here.equal ∙ here.right_is)
+    ∙ ap (λ (zs : List A). get_or ys n y ∷ zs) after ∙ sym (drop-cons ys n y here.within_right))
 
 pub same-to-end : {A : Type 0} (xs ys : List A) (n : ℕ) → length xs ≡ length ys → length xs ≤ n → (drop n xs ≡ drop n ys → xs ≡ ys) → xs ≡ ys
 same-to-end xs ys n e l before = before (drop_of_length-le xs l ∙ sym (drop_of_length-le ys (subst (λ k. k ≤ n) e l)))

@@ -7,8 +7,17 @@ loop-at-init c = λ e. e
 
 pub loop-at-preserved : goal.loop-at-preserved
 loop-at-preserved c =
-    same-so-far c.args.lines.now c.args.others.now c.loop-at.at c.index-lines-at.result c.index-others-at.result c.loop-at-test.true (subst (λ n. c.loop-at.at < n) c.if-lines-others.false c.loop-at-test.true)
-    c.index-lines-at.is c.index-others-at.is (c.is.ensures.0 c.if-not-is.false) c.loop-at.invariant
+    same-so-far c.args.lines.now c.args.others.now c.loop-at.at
+    (record {
+      left = c.index-lines-at.result;
+      right = c.index-others-at.result;
+      within_left = c.loop-at-test.true;
+      within_right = subst (λ n. c.loop-at.at < n) c.if-lines-others.false c.loop-at-test.true;
+      left_is = c.index-lines-at.is;
+      right_is = c.index-others-at.is;
+      equal = c.is.ensures.0 c.if-not-is.false;
+    })
+    c.loop-at.invariant
 
 pub returns : goal.returns
 returns c = (λ t. same-to-end c.args.lines.now c.args.others.now c.loop-at.at c.if-lines-others.false c.loop-at-test.false c.loop-at.invariant, λ e. refl)
