@@ -1,7 +1,7 @@
 -- What is derived is closed under the rule, has each property that the rule keeps, and grows with the rule.
 -- For: `Derived`, specs/Derivation.antt; `Reached`, specs/Reached.antt
 -- By: induction over the derivation, a list in which each entry follows from those after it
-use Rattle.std.proofs.Common.{◌⊎◌, List, [], ◌∷◌, ◌++◌, map, inl, inr, refl, sym, subst}
+use Rattle.std.proofs.Common.{List, [], ◌∷◌, ◌++◌, inl, inr, refl, sym, subst}
 use Rattle.golf_theory.specs.Membership.{In, Every}
 use Rattle.golf_theory.specs.Derivation.{IsDerivation, Derived}
 use Rattle.golf_theory.specs.Reached.{Follows, Reached}
@@ -44,15 +44,6 @@ module _ {A : Type 0} (Follows : List A → A → Type 0) where
   pub Derived-closed : Grows → (xs : List A) (x : A) → Every (Derived Follows) xs → Follows xs x → Derived Follows x
   Derived-closed grows xs x a f = let r = gathered grows xs a in (r.0, (grows xs r.0 x r.2 f, r.1))
 
--- a map of places that carries the rule over carries what is derived over
-module _ {A B : Type 0} (F : List A → A → Type 0) (G : List B → B → Type 0) (f : A → B) (over : (earlier : List A) (x : A) → F earlier x → G (map f earlier) (f x)) where
-  pub derivation_over : (xs : List A) → IsDerivation F xs → IsDerivation G (map f xs)
-  derivation_over [] d = tt
-  derivation_over (x ∷ xs) d = (over xs x d.0, derivation_over xs d.1)
-
-  pub Derived-over : (x : A) → Derived F x → Derived G (f x)
-  Derived-over x d = (map f d.0, derivation_over (x ∷ d.0) d.1)
-
 -- a wider rule derives more
 module _ {A : Type 0} (F G : List A → A → Type 0) (wider : (earlier : List A) (x : A) → F earlier x → G earlier x) where
   pub derivation_wider : (xs : List A) → IsDerivation F xs → IsDerivation G xs
@@ -74,10 +65,6 @@ module _ {A : Type 0} (Root : A → Type 0) (Leads : A → A → Type 0) where
   pub Reached-least : (S : A → Type 0) → ((x : A) → Root x → S x) → ((q x : A) → S q → Leads q x → S x) → (x : A) → Reached Root Leads x → S x
   Reached-least S roots closed x d = Derived-all (Follows Root Leads) S
       (λ earlier y all h. elim h [ inl r ↦ roots y r | inr t ↦ closed t.0 y (all t.0 t.1) t.2 ]) x d
-
-  -- each is a root, or one that is reached leads to it
-  pub Reached-last : (x : A) → Reached Root Leads x → Root x ⊎ ((q : A) × Reached Root Leads q × Leads q x)
-  Reached-last x d = elim d.1.0 [ inl r ↦ inl r | inr t ↦ inr (t.0, Derived-in (Follows Root Leads) d.0 d.1.1 t.0 t.1, t.2) ]
 
   pub Follows-grows : (xs ys : List A) (x : A) → ((y : A) → In y xs → In y ys) → Follows Root Leads xs x → Follows Root Leads ys x
   Follows-grows xs ys x more h = elim h [ inl r ↦ inl r | inr t ↦ inr (t.0, more t.0 t.1, t.2) ]

@@ -115,10 +115,6 @@ module _ {X : Type 0} where
     least-Derived candidates more covers x d = Derived-all Gives (λ y. In y (least rule candidates))
         (λ earlier y all t. let u = more earlier (least rule candidates) y all t in least_closed candidates y (covers (least rule candidates) y (least_candidates candidates) u) u) x d
 
-    -- the choice and the order of the candidates do not count
-    pub least_any : (candidates others : List X) → Monotone → Covers others → (x : X) → In x (least rule candidates) → In x (least rule others)
-    least_any candidates others more covers x i = least-Derived others more covers x (Derived-least candidates x i)
-
   -- the members are those that the relation derives which the rule decides
   module _ (rule : List X → X → Bool) (F : List X → X → Type 0) (sound : (xs : List X) (x : X) → rule xs x ≡ true → F xs x) (complete : (xs : List X) (x : X) → F xs x → rule xs x ≡ true) where
     pub decided-sound : (candidates : List X) (x : X) → In x (least rule candidates) → Derived F x
@@ -126,21 +122,3 @@ module _ {X : Type 0} where
 
     pub decided-complete : (candidates : List X) → Monotone rule → Covers rule candidates → (x : X) → Derived F x → In x (least rule candidates)
     decided-complete candidates more covers x d = least-Derived rule candidates more covers x (Derived-wider F (Gives rule) complete x d)
-
-  -- rules that agree give one list
-  pick-same : (test other : X → Bool) (xs : List X) → ((x : X) → test x ≡ other x) → pick test xs ≡ pick other xs
-  pick-same test other [] h = refl
-  pick-same test other (x ∷ xs) h = ap (λ b. cond b (Some (x, xs)) (with_rest x (pick test xs))) (h x) ∙ ap (λ m. cond (other x) (Some (x, xs)) (with_rest x m)) (pick-same test other xs h)
-
-  next-same : (go_on other : List X → List X → List X) (got : List X) (m : Option (X × List X)) → ((xs ys : List X) → go_on xs ys ≡ other xs ys) → next_of go_on got m ≡ next_of other got m
-  next-same go_on other got None h = refl
-  next-same go_on other got (Some p) h = h (p.0 ∷ got) p.1
-
-  grown-same : (rule other : List X → X → Bool) → ((xs : List X) (x : X) → rule xs x ≡ other xs x) → (n : ℕ) (got left : List X) → grown rule n got left ≡ grown other n got left
-  grown-same rule other h zero got left = refl
-  grown-same rule other h (suc n) got left =
-      ap (next_of (grown rule n) got) (pick-same (rule got) (other got) left (h got))
-      ∙ next-same (grown rule n) (grown other n) got (pick (other got) left) (grown-same rule other h n)
-
-  pub least_same : (rule other : List X → X → Bool) (candidates : List X) → ((xs : List X) (x : X) → rule xs x ≡ other xs x) → least rule candidates ≡ least other candidates
-  least_same rule other candidates h = grown-same rule other h (length candidates) [] candidates

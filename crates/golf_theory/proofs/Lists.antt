@@ -1,7 +1,7 @@
 -- Members of lists, and what each member has.
 -- For: `In` and `Every`, specs/Membership.antt
 -- By: induction over the list
-use Rattle.std.proofs.Common.{◌≡◌, ℕ, zero, suc, ◌<◌, Bool, true, false, cond, List, [], ◌∷◌, ◌++◌, map, take, drop, length, get_or, Some, ◌⊎◌, inl, inr, refl, sym, ap, ◌∙◌, subst, arith, slice_set, slice_get, filter, Contains}
+use Rattle.std.proofs.Common.{◌≡◌, ℕ, zero, suc, ◌<◌, Bool, true, false, cond, List, [], ◌∷◌, ◌++◌, map, length, get_or, Some, ◌⊎◌, inl, inr, refl, sym, ap, ◌∙◌, subst, arith, slice_set, slice_get, filter, Contains}
 use Rattle.golf_theory.specs.Membership.{In, Every}
 
 pub In-left : {X : Type 0} (x : X) (xs ys : List X) → In x xs → In x (xs ++ ys)
@@ -47,17 +47,6 @@ In-filter_old p x (y ∷ ys) t h =
       | true ↦ λ u. elim h [ inl e ↦ inl e | inr a ↦ inr (In-filter_old p x ys t a) ]
       | false ↦ λ u. elim h [ inl e ↦ cc (sym (ap p e)) | inr a ↦ In-filter_old p x ys t a ]
     ] refl
-
-pub In-take : {X : Type 0} (n : ℕ) (x : X) (xs : List X) → In x (take n xs) → In x xs
-In-take zero x xs h = absurd h
-In-take (suc n) x [] h = absurd h
-In-take (suc n) x (y ∷ ys) (inl e) = inl e
-In-take (suc n) x (y ∷ ys) (inr h) = inr (In-take n x ys h)
-
-pub In-drop : {X : Type 0} (n : ℕ) (x : X) (xs : List X) → In x (drop n xs) → In x xs
-In-drop zero x xs h = h
-In-drop (suc n) x [] h = absurd h
-In-drop (suc n) x (y ∷ ys) h = inr (In-drop n x ys h)
 
 pub In-slice_set : {X : Type 0} (xs : List X) (i : ℕ) (v x : X) → In x (slice_set xs i v) → (x ≡ v) ⊎ In x xs
 In-slice_set [] i v x h = absurd h
@@ -112,15 +101,6 @@ module _ {X : Type 0} (P : X → Type 0) where
   pub Every-push : (xs : List X) (x : X) → Every P xs → P x → Every P (xs ++ x ∷ [])
   Every-push [] x a b = (b, tt)
   Every-push (y ∷ xs) x a b = (a.0, Every-push xs x a.1 b)
-
-  pub Every-filter : (p : X → Bool) (xs : List X) → Every P xs → Every P (filter p xs)
-  Every-filter p xs a = Every-from (filter p xs) (λ x h. Every-at xs x a (In-filter p x xs h).0)
-
-  pub Every-take : (n : ℕ) (xs : List X) → Every P xs → Every P (take n xs)
-  Every-take n xs a = Every-from (take n xs) (λ x h. Every-at xs x a (In-take n x xs h))
-
-  pub Every-drop : (n : ℕ) (xs : List X) → Every P xs → Every P (drop n xs)
-  Every-drop n xs a = Every-from (drop n xs) (λ x h. Every-at xs x a (In-drop n x xs h))
 
   pub Every-slice_set : (xs : List X) (i : ℕ) (v : X) → P v → Every P xs → Every P (slice_set xs i v)
   Every-slice_set [] i v a b = tt

@@ -26,10 +26,6 @@ module _ {X : Type 0} where
         | false ↦ λ t i. elim h [ inl a ↦ eqb-false k e.0 t a.0 | inr a ↦ none-find k es x i a ]
       ] refl f
 
-  -- a key that has an entry is found, with one of its values
-  pub find-some : (k : ℕ) (es : List (ℕ × X)) (x : X) → Entry es k x → (y : X) × (find k es ≡ Some y)
-  find-some k es x h = elim (cases_find k es) [ inl e ↦ absurd (none-find k es x e h) | inr r ↦ r ]
-
   pub find-put : (g : ℕ) (v : X) (es : List (ℕ × X)) (old : X) → find g es ≡ Some old → find g (put g v es) ≡ Some v
   find-put g v [] old h = cc
   find-put g v (e ∷ es) old h =
