@@ -116,11 +116,6 @@ rows-prefix from (end ∷ ends) members n h le =
 pub end-there : (ends members : List ℕ) (rows : List (List ℕ)) (at : ℕ) → rows_from 0 ends members ≡ rows → at < length rows → at < length ends
 end-there ends members rows at is low = omega (arith, low, ap length is, length-rows 0 ends members)
 
--- where a row after the first begins
-pub start-after : (ends : List ℕ) (at : ℕ) → (at ≡ 0 → ⊥) → get_or (0 ∷ ends) at 0 ≡ get_or ends (at - 1) 0
-start-after ends zero some = absurd (some refl)
-start-after ends (suc at) some = let before : at ≡ suc at - 1 = omega arith in ap (λ (n : ℕ). get_or ends n 0) before
-
 -- the same ends, from 0 on
 ends-zero : (ends members : List ℕ) → AreEnds 0 ends (length members) → AreEnds 0 ends (0 + length members)
 ends-zero ends members h = let same : length members ≡ 0 + length members = omega arith in subst (λ (bound : ℕ). AreEnds 0 ends bound) same h
