@@ -5,17 +5,14 @@ use Rattle.std.proofs.Common.{◌≡◌, ℕ, suc, true, List, [], ◌∷◌, �
 use Rattle.std.specs.Prelude.{drop, IsSome, slice_get}
 use Rattle.golf_data.specs.declared.value.Value.{Value}
 use Rattle.golf_data.specs.declared.goroutine.Mode.{Mode}
-use Rattle.golf_data.specs.declared.goroutine.PanicKind.{PanicKind}
-use Rattle.golf_data.specs.declared.goroutine.Wait.{Wait}
-use Rattle.golf_data.specs.declared.goroutine.WaitKind.{WaitKind}
 use Rattle.golf_theory.specs.Maps.{find, put, Rises, IsRising}
 use Rattle.golf_theory.proofs.MapFinds.{find-put, put-put}
 use Rattle.golf_model.specs.Views.{FrameView, GoroutineView}
 use Rattle.golf_model.specs.State.{State}
-use Rattle.golf_model.specs.Waking.{fault, unwinding, on_top}
-use Rattle.golf_model.specs.Changes.{Change, apply_all, become, block}
-use Rattle.golf_model.specs.Acting.{Actor, next, stands, goes, panics, blocks, standing}
-use Rattle.golf_state.specs.Looked.{on_goroutine, looked_up, frames_of, frames_in, reframed, runs, is_running_in, advanced}
+use Rattle.golf_model.specs.Waking.{on_top}
+use Rattle.golf_model.specs.Changes.{Change, apply_all, become}
+use Rattle.golf_model.specs.Acting.{Actor, next, stands, standing}
+use Rattle.golf_state.specs.Looked.{on_goroutine, frames_of, frames_in, reframed, runs, is_running_in}
 use Rattle.golf_state.specs.Going.{went, exchanged_in}
 use Rattle.golf_state.proofs.PlaceLaws.{put-same}
 use Rattle.golf_state.specs.Operands.{operands_of, top_operands}
@@ -52,22 +49,6 @@ module _ (g after : ℕ) (s : State) (st : Stands g after s) where
   stands-is change fs line e =
       reframed-is fs ∙ ap (λ (gs : List FrameView). become g (record { frames = gs; mode = Mode.Running; started = st.started }) s) (e ∙ ap (on_top change) frames-is)
 
-  -- it goes on after the instruction, with these values in place of so many operands
-  pub goes-is : (taken : ℕ) (vs : List Value) (fs : List FrameView) (line : ℕ) → fs ≡ on_top (went after taken vs) (frames_of g s) → reframed g fs s ≡ apply_all (goes (actor_of st line) (vs ++ drop taken st.frame.operands)) s
-  goes-is taken vs fs line e =
-      stands-is (went after taken vs) fs line e
-      ∙ ap (λ n. apply_all (stands (actor_of st line) (record st.frame { at = n; operands = vs ++ drop taken st.frame.operands })) s) st.next
-
-  -- it panics
-  pub panics-is : (kind : PanicKind) (fs : List FrameView) (line : ℕ) → fs ≡ on_top (unwinding (fault kind line)) (frames_of g s) → reframed g fs s ≡ apply_all (panics (actor_of st line) kind) s
-  panics-is kind fs line e = stands-is (unwinding (fault kind line)) fs line e
-
-  -- it blocks after the instruction, without so many operands
-  pub blocks-is : (kind : WaitKind) (line : ℕ) (waits : List Wait) (taken : ℕ) → looked_up g (λ r. block g kind line waits (advanced after taken r)) s ≡ apply_all (blocks (actor_of st line) (next st.frame (drop taken st.frame.operands)) kind waits) s
-  blocks-is kind line waits taken =
-      ap (λ (o : Option GoroutineView). on_goroutine (λ r. block g kind line waits (advanced after taken r)) o s) st.found
-      ∙ ap (λ n. apply_all (blocks (actor_of st line) (record st.frame { at = n; operands = drop taken st.frame.operands }) kind waits) s) st.next
-
   -- the frame that goes on at a place
   pub went-next : (taken : ℕ) (vs : List Value) → went after taken vs st.frame ≡ next st.frame (vs ++ drop taken st.frame.operands)
   went-next taken vs = ap (λ n. record st.frame { at = n; operands = vs ++ drop taken st.frame.operands }) st.next
@@ -78,9 +59,6 @@ module _ (g after : ℕ) (s : State) (st : Stands g after s) where
   -- the same changes give the same state
   pub does-same : (act other : Actor → List Change) (line : ℕ) → act (actor_of st line) ≡ other (actor_of st line) → does act g line s ≡ does other g line s
   does-same act other line e = does-is act line ∙ ap (λ (cs : List Change). apply_all cs s) e ∙ sym (does-is other line)
-
-  pub does-none : (act : Actor → List Change) (line : ℕ) → act (actor_of st line) ≡ [] → does act g line s ≡ s
-  does-none act line e = does-is act line ∙ ap (λ (cs : List Change). apply_all cs s) e
 
   -- the frame of the goroutine, once it was changed
   pub found-after : (f : FrameView) (line : ℕ) (t : State) → t ≡ apply_all (stands (actor_of st line) f) s → find g t.goroutines ≡ Some (standing (actor_of st line) f)

@@ -87,9 +87,6 @@ module _ {X : Type 0} (os ts : List X) (n : ℕ) (kept : ts ≡ take (length os 
   pub one_more : (us : List X) (v : X) → us ≡ ts ++ v ∷ [] → reverse us ≡ v ∷ drop n (reverse os)
   one_more us v e = ap reverse e ∙ reverse-push ts v ∙ ap (λ (rs : List X). v ∷ rs) left-over
 
-  pub two_more : (us ws : List X) (v w : X) → us ≡ ts ++ v ∷ [] → ws ≡ us ++ w ∷ [] → reverse ws ≡ w ∷ v ∷ drop n (reverse os)
-  two_more us ws v w e f = ap reverse f ∙ reverse-push us w ∙ ap (λ (rs : List X). w ∷ rs) (one_more us v e)
-
 -- ---- a frame more
 
 -- of n frames f is the last, and on top of it stands the new one
