@@ -116,12 +116,6 @@ module _ (code : Code) (s : State) (n : Numbered s) (gone : List ℕ) (ok : Gone
   abbrev Present : State → Type 0
   Present t = (g : ℕ) → In g gone → (r : GoroutineView) × Entry t.goroutines g r
 
-  flowing-start : Flowing s
-  flowing-start = flow-kept s n gone ok.dead
-
-  present-start : Present s
-  present-start g h = let d = ok.dead g h in (d.0, d.1)
-
   module _ (O : ℕ → Type 0) (t : State) (k : ℕ) (c : Closed t O (LiveGoroutine s)) (w : (o : ℕ) → O o → kept_by s gone o ≡ true) (v : (g : ℕ) → LiveGoroutine s g → stays_by gone g ≡ true) where
     flowing-step : Flowing t → Flowing (step code t k)
     flowing-step f =

@@ -21,7 +21,6 @@ use Rattle.golf_model.specs.Living.{Node, Live, LiveRoot, LiveStep, dead}
 use Rattle.golf_model.specs.Collecting.{plain_collect, prevents_removal, keeps, removed, retained, cut}
 use Rattle.golf_model.specs.Futures.{Numbered}
 use Rattle.golf_model.proofs.Agreeing.{reach-sound, reach-complete, dead-sound}
-use Rattle.golf_model_futures.specs.Cutting.{KeepsFresh}
 use Rattle.golf_model_futures.proofs.Collecting.{In-goroutine_refs_where, In-refs_where, reach-from, Joined}
 use Rattle.golf_model_futures.proofs.Cutting.{parts}
 use Rattle.golf_model_futures.proofs.DeadStill.{LiveObject, LiveGoroutine}
@@ -75,9 +74,6 @@ module _ (s : State) (n : Numbered s) (gone : List ℕ) (dead_all : (g : ℕ) �
 
   pub kept-fresh : (o : ℕ) → s.last_object < o → kept_by s gone o ≡ true
   kept-fresh o l = or_right (is_in o (retained s gone)) _ (lt-ltb s.last_object o l)
-
-  pub keeps_fresh-collect : KeepsFresh (stays_by gone) (kept_by s gone) (plain_collect s)
-  keeps_fresh-collect = record { objects = kept-fresh; goroutines = stays-fresh }
 
   -- where the search for what is retained begins
   from_sources : (o : ℕ) → In o (sources s gone) → In o (reach s (sources s gone))
