@@ -89,14 +89,8 @@ module _ (slots : List Value) where
       sim-in (f w) g (OnTop slots rest) L (λ o. then_way o (run n q (at + size p) ts)) (run n p at ts (frame slots (pushed vs rest)) w) (λ h os. refl) (hp n at ts rest w)
       (λ us u i e. subst (λ z. Sim (g us u) L (then_way z (run n q (at + size p) ts))) (sym e) (hq us n (at + size p) ts u))
 
-  pub tail-as : {B : Type 0} (rest : List Value) (p : Piece) (vs : List Value) (f g : World → Part B) (L : B → World → Way → Type 0) → ((w : World) → f w ≡ g w) → Tail slots rest p vs f L → Tail slots rest p vs g L
-  tail-as rest p vs f g L e h n at ts w = subst (λ x. Sim x L (run n p at ts (frame slots (pushed vs rest)) w)) (e w) (h n at ts w)
-
   pub tail-end : {B : Type 0} (rest : List Value) (p : Piece) (vs : List Value) (f : World → Part B) (L : B → World → Way → Type 0) → Tail slots rest p vs f L → Tail slots rest (all (p ∷ [])) vs f L
   tail-end rest p vs f L h n at ts w = subst (λ o. Sim (f w) L o) (sym (then-end (run n p at ts (frame slots (pushed vs rest)) w))) (h n at ts w)
-
-  pub tail-unfit : {B : Type 0} (rest : List Value) (p : Piece) (vs : List Value) (L : B → World → Way → Type 0) → Tail slots rest p vs (λ w. unfit w) L
-  tail-unfit rest p vs L n at ts w = tt
 
   pub turn-last : (p : Piece) (vs : List Value) (f : Gives) → T p vs f → T (all (p ∷ [])) vs f
   turn-last p vs f h n at ts rest w = subst (λ o. Sim (f w) (OnTop slots rest) o) (sym (then-end (run n p at ts (frame slots (pushed vs rest)) w))) (h n at ts rest w)
