@@ -2,10 +2,9 @@
 -- For: `call`, `defer_call` (src/entering.rt) and `return_to`, `unwind_to` (src/leaving.rt)
 -- By: cases of the operands, the deferred calls and the callers; no induction
 use Rattle.std.proofs.Common.{◌≡◌, ℕ, ◌+◌, ◌<◌, ◌≤◌, Bool, true, false, List, [], ◌∷◌, length, drop, Option, Some, None, ◌==◌, refl, sym, ap, ◌∙◌, arith}
-use Rattle.std.specs.Prelude.{slice_get, slice_set}
+use Rattle.std.specs.Prelude.{slice_get}
 use Rattle.std.proofs.lemmas.Bool.{eq-eqb, le-leb, lt-leb}
 use Rattle.golf_data.specs.declared.value.Value.{Value}
-use Rattle.golf_data.specs.declared.value.Object.{Object}
 use Rattle.golf_data.specs.declared.code.Code.{Code}
 use Rattle.golf_data.specs.declared.goroutine.Deferred.{Deferred}
 use Rattle.golf_data.specs.declared.goroutine.Ending.{Ending}
@@ -16,13 +15,12 @@ use Rattle.golf_theory.specs.Maps.{find}
 use Rattle.golf_theory.proofs.MapFinds.{find-add_old}
 use Rattle.golf_model.specs.Views.{FrameView, GoroutineView}
 use Rattle.golf_model.specs.State.{State, call_frame, not_empty}
-use Rattle.golf_model.specs.Changes.{Change, apply_all, become, finish, make, spawn, behind_first}
+use Rattle.golf_model.specs.Changes.{Change, apply_all, become, finish, spawn, behind_first}
 use Rattle.golf_model.specs.Waking.{on_top}
-use Rattle.golf_model.specs.Acting.{next, stands, goes, on_some, choose, taking_one, with_frames}
-use Rattle.golf_model.specs.Calculating.{stores}
+use Rattle.golf_model.specs.Acting.{next, stands, goes, on_some, choose, with_frames}
 use Rattle.golf_model.specs.Calls.{enters, calls, spawns, defers, begins_deferred, ends, returns_to, unwinds_to}
 use Rattle.golf_state.specs.Looked.{frames_of, reframed}
-use Rattle.golf_state.specs.Going.{went, has_deferred, stored, stored_in, undeferred}
+use Rattle.golf_state.specs.Going.{went, has_deferred, undeferred}
 use Rattle.golf_state.specs.Operands.{operands_of}
 use Rattle.golf_state.specs.Doing.{does, Stands}
 use Rattle.golf_state.proofs.Doings.{actor_of, apply_all-append, does-is, went-next, frames-is, operands-is, reframed-is, stands-is}
@@ -36,24 +34,6 @@ kept g s fs ps a b same = ap (λ (xs : List FrameView). reframed g xs s) (a ∙ 
 module _ (g after : ℕ) (s : State) (st : Stands g after s) (line : ℕ) where
   pub deferred-is : deferred_of g s ≡ st.frame.deferred
   deferred-is = ap top_deferred (frames-is g after s st)
-
-  -- it stays as it is
-  stay : reframed g (frames_of g s) s ≡ s → apply_all (stands (actor_of st line) st.frame) s ≡ s
-  stay same = sym (reframed-is g after s st (st.frame ∷ st.callers)) ∙ ap (λ (fs : List FrameView). reframed g fs s) (sym (frames-is g after s st)) ∙ same
-
-  -- ---- a slot
-
-  stores-in : (i : ℕ) (os : List Value) (o : Option Value) → reframed g (frames_of g s) s ≡ s
-      → apply_all (stands (actor_of st line) (stored_in after i st.frame os o)) s ≡ apply_all (taking_one (λ v rest. on_some (λ old. stands (actor_of st line) (record st.frame { at = st.frame.at + 1; slots = slice_set st.frame.slots i v; operands = rest })) o) os) s
-  stores-in i [] o same = stay same
-  stores-in i (v ∷ rest) None same = stay same
-  stores-in i (v ∷ rest) (Some old) same = ap (λ n. apply_all (stands (actor_of st line) (record st.frame { at = n; slots = slice_set st.frame.slots i v; operands = rest })) s) st.next
-
-  pub stores-is : (i : ℕ) (fs : List FrameView) → fs ≡ on_top (stored after i) (frames_of g s) → reframed g (frames_of g s) s ≡ s → reframed g fs s ≡ does (λ a. stores a i) g line s
-  stores-is i fs e same =
-      stands-is g after s st (stored after i) fs line e
-      ∙ stores-in i st.frame.operands (slice_get st.frame.slots i) same
-      ∙ sym (does-is g after s st (λ a. stores a i) line)
 
   -- ---- a frame more
 
@@ -163,9 +143,6 @@ module _ (g after : ℕ) (s : State) (st : Stands g after s) (line : ℕ) where
         does-is g after s st (λ a. begins_latest code a a.frame.deferred) line
         ∙ ap (λ (cs : List Change). apply_all cs s) (latest-is st.frame.deferred (latest ∙ ap (λ (ds : List Deferred). slice_get ds 0) deferred-is))
 
-    pub deferred-missing : None ≡ call_frame code d.function d.arguments true → s ≡ does (λ a. begins_latest code a a.frame.deferred) g line s
-    deferred-missing e = sym (deferred-at ∙ ap (λ (o : Option FrameView). apply_all (on_some (enters (actor_of st line) (record st.frame { deferred = behind_first st.frame.deferred } ∷ st.callers)) o) s) (sym e))
-
     deferred-found : (x : FrameView) → Some x ≡ call_frame code d.function d.arguments true
         → does (λ a. begins_latest code a a.frame.deferred) g line s ≡ apply_all (enters (actor_of st line) (record st.frame { deferred = behind_first st.frame.deferred } ∷ st.callers) x) s
     deferred-found x e = deferred-at ∙ ap (λ (o : Option FrameView). apply_all (on_some (enters (actor_of st line) (record st.frame { deferred = behind_first st.frame.deferred } ∷ st.callers)) o) s) (sym e)
@@ -222,9 +199,6 @@ module _ (g after : ℕ) (s : State) (st : Stands g after s) (s1 : State) where
     found = ap (λ (t : State). find g t.goroutines) e ∙ find-add_old s.next_goroutine r s.goroutines g (record { frames = st.frame ∷ st.callers; mode = Mode.Running; started = st.started }) st.found;
     next = st.next;
   }
-
-  abbrev pub stands-made : (x : Object) → s1 ≡ make x s → Stands g after s1
-  stands-made x e = record { frame = st.frame; callers = st.callers; started = st.started; found = ap (λ (t : State). find g t.goroutines) e ∙ st.found; next = st.next }
 
 -- a first item
 pub first_some : {X : Type 0} (xs : List X) (x : X) → Some x ≡ slice_get xs 0 → true ≡ not_empty xs

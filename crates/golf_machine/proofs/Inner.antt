@@ -1,21 +1,17 @@
 -- What instructions do that touch the innermost frame alone.
 -- For: `Becomes` (golf_machine/specs/Within.antt) and `double`, `load`, `store` (src/within.rt)
 -- By: cases of the operands on top; no induction
-use Rattle.std.proofs.Common.{◌≡◌, ℕ, ◌+◌, ◌≤◌, Bool, true, false, List, [], ◌∷◌, length, drop, Option, Some, None, refl, sym, ap, ◌∙◌, arith}
-use Rattle.std.specs.Prelude.{ℤ, IsTrue, ◌↔◌, slice_get, slice_set, option_map, option_and_then, not}
-use Rattle.std.specs.Int.{w64, int_wrapping_neg}
+use Rattle.std.proofs.Common.{◌≡◌, ℕ, ◌+◌, ◌≤◌, Bool, true, false, List, [], ◌∷◌, length, drop, Option, Some, refl, sym, ap, ◌∙◌, arith}
+use Rattle.std.specs.Prelude.{IsTrue, ◌↔◌, slice_get, slice_set}
 use Rattle.golf_data.specs.declared.value.Value.{Value}
-use Rattle.golf_data.specs.declared.goroutine.PanicKind.{PanicKind}
 use Rattle.golf_model.specs.Views.{FrameView, GoroutineView}
-use Rattle.golf_model.specs.Values.{int_of, bool_of, equality, is_zero}
 use Rattle.golf_model.specs.State.{State}
 use Rattle.golf_model.specs.Changes.{Change}
-use Rattle.golf_model.specs.Acting.{Actor, stands, next, goes, jumps, leaves, on_some, choose, taking_one, taking_two, panics}
-use Rattle.golf_model.specs.Calculating.{pushes, loads, loads_global, stores, drops, doubles, doubles_two, negates, inverts, computes, divides, compares, equates, two_ints, jumps_unless}
+use Rattle.golf_model.specs.Acting.{Actor, stands, next, goes, leaves, on_some, taking_one, taking_two}
+use Rattle.golf_model.specs.Calculating.{pushes, loads, loads_global, stores, drops, doubles, doubles_two}
 use Rattle.golf_model.specs.Turn.{acting}
 use Rattle.golf_state.specs.Going.{went}
 use Rattle.golf_state.specs.Operands.{two_of}
-use Rattle.golf_machine.specs.Operations.{int_in, ints_in, bool_in}
 use Rattle.golf_machine.specs.Within.{Becomes, IsDone}
 
 -- an act that gives the same changes is done alike
@@ -25,39 +21,10 @@ done-same false act other f h same d = d
 
 -- ---- operands
 
-one-int : (os : List Value) (n : ℤ) (act : ℤ → List Value → List Change) → Some n ≡ int_in os → taking_one (λ x rest. on_some (λ k. act k rest) (int_of x)) os ≡ act n (drop 1 os)
-one-int [] n act h = cc
-one-int (x ∷ os) n act h = ap (on_some (λ k. act k os)) (sym h)
-
-one-bool : (os : List Value) (b : Bool) (act : Bool → List Value → List Change) → Some b ≡ bool_in os → taking_one (λ x rest. on_some (λ c. act c rest) (bool_of x)) os ≡ act b (drop 1 os)
-one-bool [] b act h = cc
-one-bool (x ∷ os) b act h = ap (on_some (λ c. act c os)) (sym h)
-
 some-pair : {X Y : Type 0} (x v : X) (y w : Y) → ◌≡◌ {A = Option (X × Y)} (Some (x, y)) (Some (v, w)) → (x ≡ v) × (y ≡ w)
 some-pair {X} {Y} x v y w h =
     let e : ◌≡◌ {A = X × Y} (x, y) (v, w) = cc in
     (ap (λ (p : X × Y). p.0) e, ap (λ (p : X × Y). p.1) e)
-
-pair-of : (first second : Option ℤ) (m n : ℤ) → ◌≡◌ {A = Option (ℤ × ℤ)} (Some (m, n)) (option_and_then (λ k. option_map (λ l. (k, l)) second) first) → (first ≡ Some m) × (second ≡ Some n)
-pair-of None second m n h = cc
-pair-of (Some k) None m n h = cc
-pair-of (Some k) (Some l) m n h =
-    let e = some-pair m k n l h in
-    (ap (λ (x : ℤ). Some x) (sym e.0), ap (λ (x : ℤ). Some x) (sym e.1))
-
-both-ints : (os : List Value) (m n : ℤ) (act : ℤ → ℤ → List Value → List Change) → Some (m, n) ≡ ints_in os → two_ints act os ≡ act m n (drop 2 os)
-both-ints [] m n act h = cc
-both-ints (y ∷ []) m n act h = cc
-both-ints (y ∷ x ∷ os) m n act h =
-    let p = pair-of (int_of x) (int_of y) m n h in
-    ap (on_some (λ k. on_some (λ l. act k l os) (int_of y))) p.0 ∙ ap (on_some (λ l. act m l os)) p.1
-
-both-values : (os : List Value) (x y : Value) (act : Value → Value → List Value → List Change) → Some (x, y) ≡ two_of os → taking_two act os ≡ act x y (drop 2 os)
-both-values [] x y act h = cc
-both-values (w ∷ []) x y act h = cc
-both-values (w ∷ v ∷ os) x y act h =
-    let e = some-pair x v y w h in
-    ap (λ (a : Value). act a w os) (sym e.0) ∙ ap (λ (b : Value). act x b os) (sym e.1)
 
 -- ---- instructions
 
@@ -69,43 +36,6 @@ module _ (f h : FrameView) where
     function = ap (λ (x : FrameView). x.function) is ∙ function;
     leaving = ap (λ (x : FrameView). x.leaving) is ∙ leaving;
   }
-
-  pub pushes-done : (v : Value) → h ≡ next f (v ∷ f.operands) → Becomes (λ a. pushes a v) f h
-  pushes-done v is = becomes (λ a. pushes a v) (next f (v ∷ f.operands)) (λ g r callers line. refl) is refl refl
-
-  pub negates-done : (n : ℤ) → Some n ≡ int_in f.operands → h ≡ next f (Value.Int (int_wrapping_neg w64 n) ∷ drop 1 f.operands) → Becomes negates f h
-  negates-done n e is = becomes negates (next f (Value.Int (int_wrapping_neg w64 n) ∷ drop 1 f.operands)) (λ g r callers line. one-int f.operands n (λ k rest. goes (acting g r f callers line) (Value.Int (int_wrapping_neg w64 k) ∷ rest)) e) is refl refl
-
-  pub inverts-done : (b : Bool) → Some b ≡ bool_in f.operands → h ≡ next f (Value.Bool (not b) ∷ drop 1 f.operands) → Becomes inverts f h
-  inverts-done b e is = becomes inverts (next f (Value.Bool (not b) ∷ drop 1 f.operands)) (λ g r callers line. one-bool f.operands b (λ c rest. goes (acting g r f callers line) (Value.Bool (not c) ∷ rest)) e) is refl refl
-
-  pub computes-done : (op : ℤ → ℤ → ℤ) (m n : ℤ) → Some (m, n) ≡ ints_in f.operands → h ≡ next f (Value.Int (op m n) ∷ drop 2 f.operands) → Becomes (computes op) f h
-  computes-done op m n e is = becomes (computes op) (next f (Value.Int (op m n) ∷ drop 2 f.operands)) (λ g r callers line. both-ints f.operands m n (λ k l rest. goes (acting g r f callers line) (Value.Int (op k l) ∷ rest)) e) is refl refl
-
-  pub compares-done : (test : ℤ → ℤ → Bool) (m n : ℤ) → Some (m, n) ≡ ints_in f.operands → h ≡ next f (Value.Bool (test m n) ∷ drop 2 f.operands) → Becomes (compares test) f h
-  compares-done test m n e is = becomes (compares test) (next f (Value.Bool (test m n) ∷ drop 2 f.operands)) (λ g r callers line. both-ints f.operands m n (λ k l rest. goes (acting g r f callers line) (Value.Bool (test k l) ∷ rest)) e) is refl refl
-
-  pub equates-done : (x y : Value) (b : Bool) → Some (x, y) ≡ two_of f.operands → Some b ≡ equality x y → h ≡ next f (Value.Bool b ∷ drop 2 f.operands) → Becomes equates f h
-  equates-done x y b e q is = becomes equates (next f (Value.Bool b ∷ drop 2 f.operands))
-      (λ g r callers line. both-values f.operands x y (λ v w rest. on_some (λ c. goes (acting g r f callers line) (Value.Bool c ∷ rest)) (equality v w)) e ∙ ap (on_some (λ c. goes (acting g r f callers line) (Value.Bool c ∷ drop 2 f.operands))) (sym q)) is refl refl
-
-  pub divides-done : (op : ℤ → ℤ → ℤ) (m n : ℤ) → Some (m, n) ≡ ints_in f.operands → is_zero n ≡ false → h ≡ next f (Value.Int (op m n) ∷ drop 2 f.operands) → Becomes (divides op) f h
-  divides-done op m n e z is = becomes (divides op) (next f (Value.Int (op m n) ∷ drop 2 f.operands)) (λ g r callers line. divided g r callers line) is refl refl
-    where
-      divided : (g : ℕ) (r : GoroutineView) (callers : List FrameView) (line : ℕ) → divides op (acting g r f callers line) ≡ goes (acting g r f callers line) (Value.Int (op m n) ∷ drop 2 f.operands)
-      divided g r callers line =
-          let a = acting g r f callers line in
-          both-ints f.operands m n (λ k l rest. choose (is_zero l) (panics a PanicKind.DivideByZero) (goes a (Value.Int (op k l) ∷ rest))) e
-          ∙ ap (λ b. choose b (panics a PanicKind.DivideByZero) (goes a (Value.Int (op m n) ∷ drop 2 f.operands))) z
-
-  pub jumps-done : (target : ℕ) → h ≡ went target 0 [] f → Becomes (λ a. jumps a target a.frame.operands) f h
-  jumps-done target is = becomes (λ a. jumps a target a.frame.operands) (went target 0 [] f) (λ g r callers line. refl) is refl refl
-
-  pub goes-on-done : (target : ℕ) → Some true ≡ bool_in f.operands → h ≡ went (f.at + 1) 1 [] f → Becomes (λ a. jumps_unless a target) f h
-  goes-on-done target e is = becomes (λ a. jumps_unless a target) (went (f.at + 1) 1 [] f) (λ g r callers line. one-bool f.operands true (λ b rest. choose b (goes (acting g r f callers line) rest) (jumps (acting g r f callers line) target rest)) e) is refl refl
-
-  pub jumps-away-done : (target : ℕ) → Some false ≡ bool_in f.operands → h ≡ went target 1 [] f → Becomes (λ a. jumps_unless a target) f h
-  jumps-away-done target e is = becomes (λ a. jumps_unless a target) (went target 1 [] f) (λ g r callers line. one-bool f.operands false (λ b rest. choose b (goes (acting g r f callers line) rest) (jumps (acting g r f callers line) target rest)) e) is refl refl
 
 istrue : (b : Bool) → IsTrue b → b ≡ true
 istrue true t = refl

@@ -3,17 +3,13 @@
 -- By: induction over the list of values for the zeros; otherwise what one more value adds
 use Rattle.std.specs.Prelude.{MatchOption}
 use Rattle.std.proofs.Common.{◌≡◌, ℕ, zero, suc, ◌+◌, ◌<◌, ◌≤◌, Bool, true, false, List, [], ◌∷◌, ◌++◌, length, take, drop, get_or, Option, Some, None, refl, sym, ap, ◌∙◌, arith, append_assoc}
-use Rattle.std.proofs.lemmas.List.{drop_more, drop_all, take_more}
+use Rattle.std.proofs.lemmas.List.{drop_more, take_more}
 use Rattle.golf_data.specs.declared.value.Value.{Value}
 use Rattle.golf_model.specs.Values.{bytes_of, before, spaced_bytes, line_bytes, zero_of, zeros_of}
 
 before-some : (xs ys : List ℕ) (o : Option (List ℕ)) → before (Some xs) (before (Some ys) o) ≡ before (Some (xs ++ ys)) o
 before-some xs ys None = refl
 before-some xs ys (Some zs) = ap (λ (r : List ℕ). Some r) (sym (append_assoc xs ys zs))
-
-before-nothing : (o : Option (List ℕ)) → before (Some []) o ≡ o
-before-nothing None = refl
-before-nothing (Some xs) = refl
 
 -- what is still to be printed after so many values
 abbrev pub rest_bytes : List (List ℕ) → ℕ → List Value → Option (List ℕ)
@@ -24,9 +20,6 @@ module _ (texts : List (List ℕ)) (values : List Value) where
   -- what has been printed, and the rest, are the line
   abbrev pub IsPrinted : ℕ → List ℕ → Type 0
   IsPrinted i text = line_bytes texts values ≡ before (Some text) (rest_bytes texts i (drop i values))
-
-  pub printed_none : IsPrinted 0 []
-  printed_none = sym (before-nothing (line_bytes texts values))
 
   pub printed_first : (i : ℕ) (v : Value) (text bytes : List ℕ) → i ≤ 0 → i < length values → v ≡ get_or values i v → bytes_of texts v ≡ Some bytes → IsPrinted i text → IsPrinted (i + 1) (text ++ bytes)
   printed_first (suc i) v text bytes z l h e so_far = absurd (omega arith)
@@ -50,24 +43,6 @@ module _ (texts : List (List ℕ)) (values : List Value) where
       ∙ before-some text (32 ∷ []) (before (Some bytes) rest)
       ∙ before-some (text ++ 32 ∷ []) bytes rest
       ∙ ap (before (Some ((text ++ 32 ∷ []) ++ bytes))) (sym (later (suc i + 1) (suc i) (drop (suc i + 1) values) refl))
-
-  -- a value without a form
-  pub printed_not : (i : ℕ) (v : Value) (text : List ℕ) → i < length values → v ≡ get_or values i v → bytes_of texts v ≡ None → IsPrinted i text → None ≡ line_bytes texts values
-  printed_not zero v text l h e so_far =
-      sym (so_far ∙ ap (λ (vs : List Value). before (Some text) (line_bytes texts vs)) (drop_more values 0 v l)
-      ∙ ap (λ (w : Value). before (Some text) (before (bytes_of texts w) (spaced_bytes texts (drop 1 values)))) (sym h)
-      ∙ ap (λ (o : Option (List ℕ)). before (Some text) (before o (spaced_bytes texts (drop 1 values)))) e)
-  printed_not (suc i) v text l h e so_far =
-      sym (so_far ∙ ap (λ (vs : List Value). before (Some text) (spaced_bytes texts vs)) (drop_more values (suc i) v l)
-      ∙ ap (λ (w : Value). before (Some text) (before (Some (32 ∷ [])) (before (bytes_of texts w) (spaced_bytes texts (drop (suc i + 1) values))))) (sym h)
-      ∙ ap (λ (o : Option (List ℕ)). before (Some text) (before (Some (32 ∷ [])) (before o (spaced_bytes texts (drop (suc i + 1) values))))) e)
-
-  empty_rest : (i : ℕ) → rest_bytes texts i [] ≡ Some (10 ∷ [])
-  empty_rest zero = refl
-  empty_rest (suc i) = refl
-
-  pub printed_all : (i : ℕ) (text : List ℕ) → length values ≤ i → IsPrinted i text → Some (text ++ 10 ∷ []) ≡ line_bytes texts values
-  printed_all i text l so_far = sym (so_far ∙ ap (λ (vs : List Value). before (Some text) (rest_bytes texts i vs)) (drop_all i values l) ∙ ap (before (Some text)) (empty_rest i))
 
 -- ---- zero values
 
