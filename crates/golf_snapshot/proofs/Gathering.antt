@@ -144,9 +144,6 @@ module _ (objects : List (ℕ × Object)) where
       ∙ ap (λ l. old ++ l)
       (ap (λ l. ranks objects xs ++ (ranks objects ys ++ l)) (sym (ranks-append zs ws)) ∙ ap (λ l. ranks objects xs ++ l) (sym (ranks-append ys (zs ++ ws))) ∙ sym (ranks-append xs (ys ++ (zs ++ ws))))
 
-  pub two-pieces : (old a b : List ℕ) (xs ys : List ℕ) → a ≡ old ++ ranks objects xs → b ≡ a ++ ranks objects ys → b ≡ old ++ ranks objects (xs ++ ys)
-  two-pieces old a b xs ys p q = q ∙ ap (λ l. l ++ ranks objects ys) p ∙ append_assoc old (ranks objects xs) (ranks objects ys) ∙ ap (λ l. old ++ l) (sym (ranks-append xs ys))
-
 -- nothing is after the end
 pub past-end : {X : Type 0} (old : List ℕ) (G : List X → List ℕ) (xs : List X) (n : ℕ) → G [] ≡ [] → length xs ≤ n → old ≡ old ++ G (reverse (drop n xs))
 past-end old G xs n nil h = sym (append-nil old) ∙ ap (λ l. old ++ l) (sym (ap (λ ys. G (reverse ys)) (drop_all n xs h) ∙ nil))
