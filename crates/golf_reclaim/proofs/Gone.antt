@@ -37,9 +37,6 @@ neither true k = refl
 neither false k = refl
 
 module _ (s : State) (n : Numbered s) (w : IsWhole s) (sets : Bool) (m : Marked) (marks : MarksLeast (live_parts s) m) where
-  is_live : ℕ × GoroutineView → Bool
-  is_live e = has_goroutine (live_list s) e.0
-
   not-live : (g : ℕ) → (Live s (Node.AGoroutine g) → ⊥) → not (has_goroutine (live_list s) g) ≡ true
   not-live g h = not_from_false (has_goroutine (live_list s) g) (false_from_ne_true (has_goroutine (live_list s) g) (λ t. h (live_list-sound s (Node.AGoroutine g) (has_goroutine-sound (live_list s) g t))))
 
