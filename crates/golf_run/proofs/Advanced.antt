@@ -1,7 +1,7 @@
 -- What turns in one go, and the event after them, come to.
 -- For: `advance` and `go_through`, src/turns.rt
 -- By: cases of the outcome of the turns; no induction
-use Rattle.std.proofs.Common.{◌≡◌, ℕ, ◌+◌, Bool, true, false, List, Option, Some, None, refl, sym, ap, subst, ◌∙◌, inr, arith}
+use Rattle.std.proofs.Common.{◌≡◌, ℕ, ◌+◌, Bool, true, false, List, Option, Some, None, refl, sym, ap, subst, ◌∙◌, arith}
 use Rattle.std.specs.Prelude.{Result, Ok, Err, IsErr, IsErrAnd, is_some}
 use Rattle.std.specs.Io.KnownBytes.{Appends}
 use Rattle.std.proofs.KnownBytes.{Appends-nil}
@@ -10,7 +10,7 @@ use Rattle.golf_data.specs.declared.code.Code.{Code}
 use Rattle.golf_model.specs.State.{State, ending}
 use Rattle.golf_model.specs.Turn.{step, wants_collection}
 use Rattle.golf_model.specs.Running.{Event}
-use Rattle.golf_machine.specs.Taking.{HasGoneOn, HasCome, HasTaken, HasFailed}
+use Rattle.golf_machine.specs.Taking.{HasGoneOn, HasCome, HasTaken}
 use Rattle.golf_machine.specs.declared.turning.Turned.{Turned}
 use Rattle.golf_machine.specs.declared.turning.Turned.TheVariants as t
 use Rattle.golf_run_texts.specs.Writes.{emptied}
@@ -43,12 +43,6 @@ module _ {code : Code} {old : State} {before after : List Event} {n m : ℕ} (go
   abbrev come-of : (h : HasCome code old before after n m) → HasComeTo code old (Event.Turn h.number) before after n m
   come-of h = record { state = h.state; earlier = h.earlier; begins = goes; silent = h.went; count = h.one_more }
 
-  -- memory ran out for the last turn
-  pub wanting-advanced : (r : Result (Option Bool) RunFault) (new : State) (out : Option (List ℕ)) (f : ℕ) → IsErr r → IsErrAnd r (λ x. x ≡ faults.Memory) → HasFailed code old new before after n m → HasAdvanced r code old new before after n m out out f f
-  wanting-advanced (Ok x) new out f i a h = cc
-  wanting-advanced (Err faults.Write) new out f i a h = cc
-  wanting-advanced (Err faults.Memory) new out f i a h = (Event.Turn h.0.number, come-of h.0, (refl, refl))
-
   pub broken-advanced : {answer : Result (Option Bool) RunFault} {turned : Turned} {mid : State} {out out' : Option (List ℕ)} {f f' : ℕ} (new : State) → HasTaken (Some turned) code old mid before after n m → IsCutOff answer mid out out' f f'
       → HasAdvanced answer code old new before after n m out out' f f'
   broken-advanced {answer = Ok x} new h w = let i = w.failed in cc
@@ -72,20 +66,13 @@ module _ {code : Code} {old : State} {before after : List Event} {n m : ℕ} (go
       → HasAdvanced (Ok (Some false)) code old new before after n m out out' f f'
   quiet-advanced {turned = turned} h w other = written h w false (sym (quiet-turn turned code h.0.state (step code h.0.state h.0.number) h.0.number other refl (come-goes (come-of h.0)) h.2))
 
-  -- no turn is next: a collection, or nothing
+  -- no turn is next: a collection
   module _ {mid : State} {later : List Event} {k : ℕ} (h : HasGoneOn code old mid before after n m) (same : k ≡ m) (out : Option (List ℕ)) (f : ℕ) where
     pub collection-advanced : HasTakenCollection true after later → HasAdvanced (Ok (Some true)) code old mid before later n k out out f f
     collection-advanced e = (
       Event.Collect,
       record { state = mid; earlier = m; begins = goes; silent = subst (λ (es : List Event). HasGoneOn code old mid before es n m) e h; count = (let z : k ≡ m + 0 = omega (arith, same) in z) },
       (refl, refl, Appends-nil out, refl),
-    )
-
-    pub stopped-advanced : HasTakenCollection false after later → HasAdvanced (Ok None) code old mid before later n k out out f f
-    stopped-advanced e = (
-      inr (goes, e.1, subst (λ j. HasGoneOn code old mid before later n j) (sym same) (subst (λ (es : List Event). HasGoneOn code old mid before es n m) (e.0 ∙ sym e.1) h)),
-      refl,
-      refl,
     )
 
 -- what was answered

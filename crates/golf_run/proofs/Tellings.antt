@@ -1,8 +1,8 @@
 -- What the parts of one collection come to.
 -- For: `tell`, src/turns.rt; `HasTold`, specs/Told.antt
 -- By: cases of the outcome; no induction
-use Rattle.std.proofs.Common.{◌≡◌, ℕ, Bool, true, false, List, ◌∷◌, ◌++◌, map, refl, ap, subst, ◌∙◌}
-use Rattle.std.specs.Prelude.{Option, Some, None, Result, Ok, Err, IsErr, IsErrAnd}
+use Rattle.std.proofs.Common.{◌≡◌, ℕ, Bool, true, false, List, ◌∷◌, ◌++◌, map, ap, subst, ◌∙◌}
+use Rattle.std.specs.Prelude.{Option, Some, None, Result, Ok, Err, IsErr}
 use Rattle.golf_data.specs.declared.report.Book.{Book}
 use Rattle.golf_data.specs.declared.report.Report.{Report}
 use Rattle.golf_model.specs.State.{State}
@@ -18,7 +18,7 @@ use Rattle.golf_run.specs.declared.fault.RunFault.{RunFault}
 use Rattle.golf_run.specs.declared.fault.RunFault.TheVariants as faults
 use Rattle.golf_run.specs.Lines.{HasWritten}
 use Rattle.golf_run.specs.Told.{told, told_by, noted, collected, totals_by, totalled, HasTold, ExplainsIf, explained_lines}
-use Rattle.golf_run.proofs.Lines.{PassesOn, passed, stopped-before}
+use Rattle.golf_run.proofs.Lines.{PassesOn, passed}
 
 -- what was made of the state tells what is asked for
 explained : (why : Bool) (s : State) (o : Option Explanation) (n : ℕ) → ExplainsIf why s o → explained_lines n o ≡ why_lines why n s
@@ -55,8 +55,3 @@ module _ (recover sets : Bool) (book : Book) (s : State) where
       by_error (Ok t) i t' = cc
       by_error (Err faults.Write) i t' = t'
       by_error (Err faults.Memory) i t' = t'
-
-  pub told-wanting : (why : Bool) (r : Result Totals RunFault) (after : State) (now : Book) (err : Option (List ℕ)) (f : ℕ) → IsErr r → IsErrAnd r (λ e. e ≡ faults.Memory) → HasTold recover sets why r s after book now err err f f
-  told-wanting why (Ok x) after now err f i a = cc
-  told-wanting why (Err faults.Write) after now err f i a = cc
-  told-wanting why (Err faults.Memory) after now err f i a = (stopped-before (told_by recover sets why book s) err, refl)
