@@ -19,7 +19,7 @@ use Rattle.golf_run_texts.specs.declared.status.Status.{Status}
 use Rattle.golf_run_texts.specs.declared.status.Status.TheVariants as s
 use Rattle.golf_run_texts.specs.declared.status.TheConstants.{NO_MEMORY}
 use Rattle.golf_run_texts.specs.Writes.{Write}
-use Rattle.golf_run.specs.HasRun.{Sinks, sinks, GotWrites, WasCut}
+use Rattle.golf_run.specs.HasRun.{Sinks, sinks, GotWrites}
 use Rattle.golf_command.specs.declared.texts.RunTexts.{RunTexts}
 use Rattle.golf_command.specs.Generating.{generated_writes}
 use Rattle.golf_command.specs.Ways.{Way, IsWayOf, AreTurns, out_for, err_for, writes_for}
@@ -31,9 +31,6 @@ use Rattle.golf_command.proofs.Filing.{went-tells, failed-tells, wanting-tells}
 -- ---- both texts
 
 module _ (out out' err err' : Option (List ℕ)) (of of' ef ef' : ℕ) (text line : List ℕ) where
-  pub both-written : Appends out out' text → of' ≡ of → Appends err err' line → ef' ≡ ef → WroteBoth true text line (sinks out of err ef) (sinks out' of' err' ef')
-  both-written a e b f = ((subst (Appends out out') (sym (append-nil text)) a, subst (Appends err err') (sym (append-nil line)) b), record { out = e; err = f })
-
   -- the second one was cut
   pub line-cut : Appends out out' text → of' ≡ of → WritesFront err err' line → Rose ef ef' → WroteBoth false text line (sinks out of err ef) (sinks out' of' err' ef')
   line-cut a e f rose = record {
@@ -69,10 +66,6 @@ module _ (of : RunTexts) (old new : Sinks) (text line : List ℕ) (t : text ≡ 
   pub all-written : (both : Bool) → both ≡ true → WroteBoth both text line old new → HasWritten (Ok of) of.status old new
   all-written true e w = inl (refl, subst (λ ws. GotWrites ws old new) same-writes w.0, w.1)
   all-written false e w = absurd (cc)
-
-  pub one-cut : (both : Bool) → both ≡ false → WroteBoth both text line old new → HasWritten (Ok of) s.WriteFault old new
-  one-cut true e w = absurd (cc)
-  one-cut false e w = inr (refl, subst (λ ws. WasCut ws old new) same-writes w)
 
 -- a way in which all is written at the end
 abbrev pub WritesLast : Way → Code → Type 0
