@@ -29,10 +29,6 @@ module _ (d : ℕ) (o : Option GoType) (b k : Bool) (n : ℕ) where
   abbrev there : Scope → Scope
   there s = elsewhere s d o b k n
 
-  same-meaning : (s : Scope) (x : List ℕ) → meaning (there s) x ≡ meaning s x
-  unfolding meaning
-  same-meaning s x = refl
-
   -- written types
 
   abbrev W : TypeExpr → Type 0
