@@ -1,5 +1,5 @@
 -- Heads of functions, scopes after them and with the written types, walks after parameters, and passes over a file.
--- For: `func_at` and `behind_receiver`, src/functions.rt; `add_written_types`, src/scopes.rt; `found_of_file`, src/files.rt
+-- For: `func_at`, src/functions.rt; `add_written_types`, src/scopes.rt; `found_of_file`, src/files.rt
 -- By: cases of the outcome; induction over the list of parameters
 use Rattle.std.proofs.Common.{◌≡◌, ℕ, List, [], ◌∷◌, ◌++◌, map, refl, sym, ap, subst, ◌∙◌, append_assoc, append-nil}
 use Rattle.std.specs.Prelude.{Option, Some, None, Result, flat_map}
