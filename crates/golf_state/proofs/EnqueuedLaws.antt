@@ -57,7 +57,7 @@ fewer-enqueued listed still Side.Read more q = refl
 fewer-enqueued listed still Side.Write more q = refl
 fewer-enqueued listed still Side.Cond more q = refl
 
--- what has a line without those of mutexes has one with them
+-- what has a queue without those of mutexes has one with them
 pub always-enqueued : (listed : Bool) (side : Side) → has_queue false side ≡ true → has_queue listed side ≡ true
 always-enqueued listed side q = fewer-enqueued listed false side (λ e. absurd (true≢false (sym e))) q
 
@@ -115,8 +115,8 @@ put-there g v old gs r rises f i =
 
 -- ---- changes
 
--- whoever else has an earlier ticket stands where he stood; g stands in the line of mutex k, if mutexes have lines
-pub record EntersLine (still : Bool) (old new : WaitQueues) (m g k : ℕ) : Type 0 where
+-- whoever else has an earlier ticket stands where he stood; g stands in the queue of mutex k, if mutexes have queues
+pub record EntersQueue (still : Bool) (old new : WaitQueues) (m g k : ℕ) : Type 0 where
   pub below : AreBelow (m + 1) new
   pub kept : (j t h : ℕ) → (h ≡ g → ⊥) → t < m → Entry (wait_queue_at j old) t h → Entry (wait_queue_at j new) t h
   pub there : still ≡ true → Entry (wait_queue_at (key k Side.Lock) new) m g
@@ -147,7 +147,7 @@ module _ (listed : Bool) (gs : List (ℕ × GoroutineView)) (old new : WaitQueue
   moved-early k n Mode.Running = tt
   moved-early k n (Mode.Blocked kind line waits ticket) = omega arith
 
-  -- who waits for a mutex from now on stands in its line
+  -- who waits for a mutex from now on stands in its queue
   moved-side : (still : Bool) (o k g n : ℕ) (side : Side) (w x : Wait) → has_queue still side ≡ true → cond ((k == o) && same_side Side.Lock side) (Some w) None ≡ Some x
       → (still ≡ true → Entry (wait_queue_at (key k Side.Lock) new) n g) → Entry (wait_queue_at (key o side) new) n g
   moved-side still o k g n Side.Lock w x q h there = elim (k == o) as (λ b. k == o ≡ b → cond (b && true) (Some w) None ≡ Some x → Entry (wait_queue_at (key o Side.Lock) new) n g) [
@@ -168,9 +168,9 @@ module _ (listed : Bool) (gs : List (ℕ × GoroutineView)) (old new : WaitQueue
   moved-stands still o k g n side x (Mode.Blocked kind line (w ∷ ws) ticket) q h there = moved-side still o k g n side (record w { object = record { 0 = k }; side = Side.Lock }) x q h there
 
   -- a goroutine waits for a mutex from now on, with the next ticket
-  pub enqueued-moved : (still : Bool) (g k : ℕ) (was v : GoroutineView) (md : Mode) → (still ≡ true → listed ≡ true) → find g gs ≡ Some was → v.mode ≡ moved k m md → EntersLine still old new m g k → AreEnqueued still (put g v gs) new (m + 1)
-  enqueued-moved still g k was v md more f e line =
-      enqueued a more (omega arith) (more-below (m + 1) (m + 1 + 1) new (omega arith) line.below) (λ j r i. elim (cases_eq j g) [
+  pub enqueued-moved : (still : Bool) (g k : ℕ) (was v : GoroutineView) (md : Mode) → (still ≡ true → listed ≡ true) → find g gs ≡ Some was → v.mode ≡ moved k m md → EntersQueue still old new m g k → AreEnqueued still (put g v gs) new (m + 1)
+  enqueued-moved still g k was v md more f e enters =
+      enqueued a more (omega arith) (more-below (m + 1) (m + 1 + 1) new (omega arith) enters.below) (λ j r i. elim (cases_eq j g) [
         | inl q ↦
             let is = put-there g v was gs r rises f (subst (λ (h : ℕ). Entry (put g v gs) h r) q i) in
             inl (subst (λ (h : ℕ). Stands still new (m + 1) h r) (sym q) (subst (λ (x : GoroutineView). Stands still new (m + 1) g x) (sym is) here))
@@ -184,14 +184,14 @@ module _ (listed : Bool) (gs : List (ℕ × GoroutineView)) (old new : WaitQueue
       here = record {
         stands = λ o side w q h.
             let y = waiting-for o side g v w h in
-            subst (λ (z : Mode). Entry (wait_queue_at (key o side) new) (ticket_of z) g) (sym e) (moved-stands still o k g m side y.0 md q (ap (λ (z : Mode). wait_for o side (waits_of z)) (sym e) ∙ y.1) line.there);
+            subst (λ (z : Mode). Entry (wait_queue_at (key o side) new) (ticket_of z) g) (sym e) (moved-stands still o k g m side y.0 md q (ap (λ (z : Mode). wait_for o side (waits_of z)) (sym e) ∙ y.1) enters.there);
         early = subst (IsEarly (m + 1)) (sym e) (moved-early k m md);
       }
 
       other : (j : ℕ) (r : GoroutineView) → (j ≡ g → ⊥) → Entry gs j r → Stands still new (m + 1) j r ⊎ Stays gs old new j r
       other j r d x = elim (is_running r.mode) as (λ b. is_running r.mode ≡ b → Stands still new (m + 1) j r ⊎ Stays gs old new j r) [
         | true ↦ λ q. inl (runs-stands still new (m + 1) j r q)
-        | false ↦ λ q. inr (record { was = r; there = x; mode = refl; kept = λ h y. line.kept h (ticket_of r.mode) j d (early-ticket m r.mode q (a.early j r x)) y })
+        | false ↦ λ q. inr (record { was = r; there = x; mode = refl; kept = λ h y. enters.kept h (ticket_of r.mode) j d (early-ticket m r.mode q (a.early j r x)) y })
       ] refl
 
   -- a goroutine is gone
@@ -217,7 +217,7 @@ enqueued-same listed gs ls m g was v a rises f e =
 
 -- ---- a goroutine that blocks
 
--- a wait that fits is one of the line
+-- a wait that fits is one of the queue
 in-queue : (t g o : ℕ) (side : Side) (ws : List Wait) (w : Wait) (ls : WaitQueues) → StandsInAll t g ws ls → wait_for o side ws ≡ Some w → Entry (wait_queue_at (key o side) ls) t g
 in-queue t g o side [] w ls s h = absurd (cc)
 in-queue t g o side (v ∷ ws) w ls s h =

@@ -25,7 +25,7 @@ every-in P [] a x h = absurd h
 every-in P (y ∷ ys) a x (inl e) = subst P (sym e) a.0
 every-in P (y ∷ ys) a x (inr h) = every-in P ys a.1 x h
 
--- the head of the line has the least ticket
+-- the head of the queue has the least ticket
 least : (ws : List Waiter) (w u : Waiter) → TicketsRise ws → head ws ≡ Some w → In u ws → waiter_ticket w ≤ waiter_ticket u
 least [] w u r h i = absurd i
 least (v ∷ vs) w u r h (inl e) = let same : v ≡ w = cc in omega (arith, ap (λ (x : Waiter). waiter_ticket x) (sym same), ap (λ (x : Waiter). waiter_ticket x) e)
@@ -81,7 +81,7 @@ module _ (o : ℕ) (side : Side) (gs : List (ℕ × GoroutineView)) (rises : IsR
         omega (arith, l, a, same))
   ] refl
 
-  -- the first of the line who waits is the first waiter
+  -- the first of the queue who waits is the first waiter
   pub first-in-queue : (hs : List (ℕ × ℕ)) → Rises 0 hs → HasWaiters o side gs hs → first_held o side gs hs ≡ first o side gs
   first-in-queue hs r all = elim (first o side gs) as (λ m. first o side gs ≡ m → first_held o side gs hs ≡ m) [
     | None ↦ λ f. none-held f hs

@@ -93,7 +93,7 @@ one-woken o g how s r k rises f h =
 pub woken-more : (o : ℕ) (how : Waking) (s t u : State) → HasWoken o how s t → HasWoken o how t u → HasWoken o how s u
 woken-more o how s t u a b = record { same = b.same ∙ a.same; nobody = λ side none. b.nobody side (a.nobody side none) }
 
--- ---- along a line
+-- ---- along a queue
 
 not-same : (a b : ℕ) → a ≤ b → (a ≡ b → ⊥) → a < b
 not-same a b l d = elim (cases_lt a b) [ inl m ↦ m | inr m ↦ absurd (d (omega (arith, l, m))) ]
@@ -229,7 +229,7 @@ readers-same o below s none = all-same o (Waking.ToReaders below) s (λ g r k i 
           | Some w ↦ λ q y. let u = waiter-some o Side.Read g r w (ap (λ (m : Mode). wait_for o Side.Read (waits_of m)) e ∙ q) in none g r u.0 k i u.1 h
         ] refl z
 
--- ---- one step along a line
+-- ---- one step along a queue
 
 pub record Stepped (h : TicketHolder) (o : ℕ) (side : Side) (how : Waking) (s t : State) : Type 0 where
   pub woken : HasWoken o how s t

@@ -1,4 +1,4 @@
--- Whoever waits stands in the line of the object and side.
+-- Whoever waits stands in the queue of the object and side.
 use Rattle.std.specs.Prelude.{◌≡◌, ℕ, ◌+◌, ◌<◌, Bool, true, List, Some}
 use Rattle.golf_theory.specs.Maps.{Entry}
 use Rattle.golf_data.specs.declared.goroutine.Mode.{Mode}
@@ -7,7 +7,7 @@ use Rattle.golf_model.specs.Views.{GoroutineView}
 use Rattle.golf_model.specs.Waiting.{Waiter, waiter_of, ticket_of}
 use Rattle.golf_state_queues.specs.WaitQueues.{WaitQueues, key, wait_queue_at, AreBelow}
 
--- all who wait on the object with that side stand in the line with their tickets
+-- all who wait on the object with that side stand in the queue with their tickets
 abbrev pub HasWaiters : ℕ → Side → List (ℕ × GoroutineView) → List (ℕ × ℕ) → Type 0
 HasWaiters o side gs line = (g : ℕ) (r : GoroutineView) (w : Waiter) → Entry gs g r → waiter_of o side (g, r) ≡ Some w → Entry line (ticket_of r.mode) g
 

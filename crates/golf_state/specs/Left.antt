@@ -5,7 +5,7 @@ use Rattle.golf_model.specs.Views.{GoroutineView}
 use Rattle.golf_model.specs.Waiting.{ticket_of, waits_of}
 use Rattle.golf_state_queues.specs.WaitQueues.{keys_of, leaves}
 
--- whether one in the line of key k is this goroutine, which waits there in this mode
+-- whether one in the queue of key k is this goroutine, which waits there in this mode
 abbrev pub leaves_in : ℕ → Mode → ℕ → ℕ × ℕ → Bool
 leaves_in g m k h = leaves (ticket_of m) g (keys_of (waits_of m)) k h
 

@@ -24,7 +24,7 @@ abbrev pub or_later : Option Waiter → Option Waiter → Option Waiter
 or_later None w = w
 or_later (Some v) w = Some v
 
--- the first of a line who waits
+-- the first of a queue who waits
 abbrev pub first_held : ℕ → Side → List (ℕ × GoroutineView) → List (ℕ × ℕ) → Option Waiter
 first_held o side gs [] = None
 first_held o side gs (h ∷ hs) = or_later (waiter_by o side gs h) (first_held o side gs hs)

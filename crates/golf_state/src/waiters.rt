@@ -115,21 +115,21 @@ pub fn waiter_by(
     }
 }
 
-/// The goroutine of least ticket among those that wait on the object with that side, by the line of
+/// The goroutine of least ticket among those that wait on the object with that side, by the queue of
 /// those who stood there.
 #[inline(always)]
 pub fn first_in_queue(
-    line: &[TicketHolder],
+    queue: &[TicketHolder],
     places: &[Place],
     object: ObjectId,
     side: Side,
 ) -> Option<Waiting>
     requires rises { Rises 0 (plain_entries places.now) }
-    requires order { Rises 0 (held line.now) }
-    requires all { HasWaiters object.0 side (plain_entries places.now) (held line.now) }
+    requires order { Rises 0 (held queue.now) }
+    requires all { HasWaiters object.0 side (plain_entries places.now) (held queue.now) }
     ensures { result ≡ option_map waiting_of (first object.0 side (plain_entries places.now)) }
 {
-    for holder in line {
+    for holder in queue {
         match waiter_by(*holder, places, object, side) {
             Some(waiting) => return Some(waiting),
             None => {}
@@ -161,7 +161,7 @@ pub fn forget(queues: &mut Queues, places: &[Place], g: GoroutineId)
 }
 
 /// If fewer goroutines are there than there were, those alone stand in the queue still, and nobody else;
-/// lines in which nobody stands then are gone. It takes no memory.
+/// queues in which nobody stands then are gone. It takes no memory.
 pub fn narrow_queues(queues: &mut Queues, goroutines: &[GoroutineId], were: usize)
     requires { Rises 0 (listed goroutines.now) }
     ensures fewer { length goroutines.now < were → queues.new ≡ standing (narrowed (map (λ h. h.0) goroutines.now) queues.old) }

@@ -31,15 +31,15 @@ loop-holder-preserved c =
     let o = c.args.object.0 in
     let gs = plain_entries c.args.places.now in
     let i = c.loop-holder.holder-index in
-    c.loop-holder.invariant ∙ one-more o c.args.side gs c.args.line.now i _ c.loop-holder-test.true
-    ∙ ap (λ (m : Option Waiter). or_later m (first_held o c.args.side gs (held (drop (i + 1) c.args.line.now)))) (told-none o c.args.side gs _ c.in-None.ensures)
+    c.loop-holder.invariant ∙ one-more o c.args.side gs c.args.queue.now i _ c.loop-holder-test.true
+    ∙ ap (λ (m : Option Waiter). or_later m (first_held o c.args.side gs (held (drop (i + 1) c.args.queue.now)))) (told-none o c.args.side gs _ c.in-None.ensures)
 
 pub returns-in-Some : goal.returns-in-Some
 returns-in-Some c =
     let o = c.args.object.0 in
     let side = c.args.side in
     let gs = plain_entries c.args.places.now in
-    let hs = c.args.line.now in
+    let hs = c.args.queue.now in
     let i = c.loop-holder.holder-index in
     told-some o side gs _ (first_held o side gs (held (drop (i + 1) hs))) c.in-Some.waiting c.in-Some.ensures
     ∙ ap (λ (m : Option Waiter). option_map waiting_of m) (sym (one-more o side gs hs i _ c.loop-holder-test.true) ∙ sym c.loop-holder.invariant ∙ first-in-queue o side gs c.requires.rises (held hs) c.requires.order c.requires.all)
@@ -49,7 +49,7 @@ returns c =
     let o = c.args.object.0 in
     let side = c.args.side in
     let gs = plain_entries c.args.places.now in
-    let hs = c.args.line.now in
+    let hs = c.args.queue.now in
     let end : held (drop c.loop-holder.holder-index hs) ≡ [] = ap held (drop_of_length-le hs (omega arith)) in
     ap (λ (m : Option Waiter). option_map waiting_of m)
     (sym (ap (first_held o side gs) end) ∙ sym c.loop-holder.invariant ∙ first-in-queue o side gs c.requires.rises (held hs) c.requires.order c.requires.all)

@@ -6,4 +6,4 @@ use Rattle.golf_state.proofs.waiters.first_in_queue.Given as goal
 
 -- none of those so far waits there
 abbrev pub invariant-loop-holder : goal.invariant-loop-holder
-invariant-loop-holder l = first_held l.object.0 l.side (plain_entries l.places) (held l.line) ≡ first_held l.object.0 l.side (plain_entries l.places) (held (drop l.holder-index l.line))
+invariant-loop-holder l = first_held l.object.0 l.side (plain_entries l.places) (held l.queue) ≡ first_held l.object.0 l.side (plain_entries l.places) (held (drop l.holder-index l.queue))
