@@ -8,7 +8,7 @@ use std::env;
 use std::io::ErrorKind;
 use std::process::ExitCode;
 
-/// The words after the program's name, or the status if they cannot be had: want of memory, or a word that is no
+/// The words after the program's name, or the status if they cannot be had: out of memory, or a word that is no
 /// UTF-8 and so no word of the grammar.
 fn arguments(rt: &HostRuntime) -> Result<Vec<String>, Status> {
     let args = match env::args(rt) {

@@ -20,6 +20,6 @@ pub record HasCause {T E : Type 0} (before now : ℕ) (result : Result T E) : Ty
 abbrev pub ReadsSome : Option (List ℕ) → Option (List ℕ) → ℕ → Type 0
 ReadsSome old new limit = (bytes : List ℕ) × Consumes old new bytes × (limit < length bytes)
 
--- a front of the piece was appended
-abbrev pub WritesFront : Option (List ℕ) → Option (List ℕ) → List ℕ → Type 0
-WritesFront old new piece = (front rest : List ℕ) × (piece ≡ front ++ rest) × Appends old new front
+-- a prefix of the piece was appended
+abbrev pub WritesPrefix : Option (List ℕ) → Option (List ℕ) → List ℕ → Type 0
+WritesPrefix old new piece = (prefix rest : List ℕ) × (piece ≡ prefix ++ rest) × Appends old new prefix

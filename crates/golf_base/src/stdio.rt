@@ -38,7 +38,7 @@ impl<R: Read> Source for StreamSource<R> {
     }
 }
 
-// Writes bytes of the front of the piece and flushes. None if that failed, or if nothing of
+// Writes a prefix of the piece and flushes. None if that failed, or if nothing of
 // a piece that is not empty was taken.
 fn write_and_flush<W: Write>(output: &mut W, piece: &[u8]) -> Option<usize>
     ensures bound { IfSome result (λ n. IsPrefixLen n piece.now) }

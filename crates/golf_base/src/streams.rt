@@ -3,7 +3,7 @@
 ghost use Rattle.std.specs.Prelude.{◌≡◌, ◌<◌, ◌≤◌, List, ℕ, length, Option, IfOk, IsErrOf, OnOk};
 ghost use Rattle.std.specs.Io.{ReadsAtMost, WritesAtMost};
 ghost use Rattle.std.specs.Io.KnownBytes.{Appends, Consumes, IsAtEnd, ReadConsumes, WriteAppends};
-ghost use Rattle.golf_base.specs.Causes.{next_fault, Rose, HasCause, ReadsSome, WritesFront};
+ghost use Rattle.golf_base.specs.Causes.{next_fault, Rose, HasCause, ReadsSome, WritesPrefix};
 ghost use Rattle.golf_base.specs.ReadCause.{ReadCause};
 ghost use Rattle.golf_base.specs.declared.streams.ReadError.TheVariants as errors;
 
@@ -72,7 +72,7 @@ pub trait Sink {
     /// How often it has failed.
     ghost faults: { Self → ℕ };
 
-    /// Appends bytes of the front of the piece, at least one if it is not empty.
+    /// Appends a prefix of the piece, at least one if it is not empty.
     fn write(&mut self, piece: &[u8]) -> Result<usize, Failed>
         ensures bound { WritesAtMost result piece.now }
         ensures some { IfOk result (λ n. 0 < length piece.now → 0 < n) }
@@ -135,7 +135,7 @@ pub fn read_file<S: Source>(
 /// Writes the whole piece. It takes no memory.
 pub fn write_all<K: Sink>(sink: &mut K, piece: &[u8]) -> Result<(), WriteFault>
     ensures ok { OnOk result (Appends (K.written sink.old) (K.written sink.new) piece.now) }
-    ensures front { WritesFront (K.written sink.old) (K.written sink.new) piece.now }
+    ensures prefix { WritesPrefix (K.written sink.old) (K.written sink.new) piece.now }
 
     // A fault is told if the sink has failed, and nowhere else.
     ensures cause { HasCause (K.faults sink.old) (K.faults sink.new) result }

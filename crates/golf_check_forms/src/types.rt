@@ -159,7 +159,7 @@ fn add_global_type(
     }
 }
 
-/// The written types of globals, `None` where none is written.
+/// The written types of globals, `None` if none is written.
 pub fn global_types(
     alloc: Global,
     scope: &Scope,

@@ -232,7 +232,7 @@ pub fn optional(
     }
 }
 
-/// The last statement of a header, where there is one: its facts are counted.
+/// The last statement of a header, if there is one: its facts are counted.
 #[tactic(auto, using(golf_check_types::proofs::Seams::part_filled))]
 pub fn post(
     alloc: Global,

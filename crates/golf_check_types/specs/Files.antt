@@ -33,7 +33,6 @@ use Rattle.golf_check_types.specs.declared.scopes.Naming.{Naming}
 use Rattle.golf_check_types.specs.declared.scopes.FileScope.{FileScope}
 use Rattle.golf_check_types.specs.declared.scopes.Scope.{Scope}
 use Rattle.golf_check_types.specs.Faults.{Fault, broken}
-use Rattle.golf_check_types.specs.Facts.{types_told}
 use Rattle.golf_check_types.specs.Types.{plain, type_given, is_nil, assignable}
 use Rattle.golf_check_types.specs.Names.{number_of, with_name, is_number, is_blank}
 use Rattle.golf_check_types.specs.Scopes.{is_reserved, may_be_declared, meaning, meaning_in, kind_in}
@@ -456,10 +455,6 @@ Broken f = import_faults no_imports f.imports ++ decl_faults (with_imports no_im
 -- what is written down of a file, in the order of its declarations
 unfoldable pub facts_in : File → List Fact
 facts_in f = walk_facts (file_scope (with_imports no_imports f.imports) f.declarations) 0 f.declarations
-
--- the types of the expressions of a file, in the order in which their prints begin
-abbrev pub types_in : File → List (Option GoType)
-types_in f = types_told (facts_in f)
 
 -- A file is typed if it breaks no rule.
 abbrev pub Typed : File → Type 0

@@ -1,4 +1,4 @@
--- What an expression is on a line, where these names are known: one equation a construct, the parts from left to right, then the whole, by rising rules.
+-- What an expression is on a line, if these names are known: one equation a construct, the parts from left to right, then the whole, by rising rules.
 use Rattle.std.specs.Prelude.{◌≡◌, ℕ, Result, List, [], ◌++◌, map, flat_map, Option}
 use Rattle.golf_syntax_trees.specs.declared.expressions.Expr.{Expr}
 use Rattle.golf_syntax_trees.specs.declared.expressions.Element.{Element}

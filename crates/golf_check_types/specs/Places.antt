@@ -24,6 +24,6 @@ with_place ps p = ps ++ p ∷ []
 abbrev pub without_place : List ℕ → List ℕ
 without_place ps = take (length ps - 1) ps
 
--- the last place, where there is one
+-- the last place, if there is one
 abbrev pub last_place : List ℕ → Option ℕ
 last_place ps = slice_get ps (length ps - 1)

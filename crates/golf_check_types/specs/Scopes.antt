@@ -45,7 +45,7 @@ call_name n =
     (cond (bytes_eq n (codes "make")) (Some operand.TypeName)
     (cond (bytes_eq n (codes "new")) (Some operand.TypeName) None))))
 
--- Packages, where they are imported.
+-- Packages, if they are imported.
 unfoldable pub package_name : Imports → List ℕ → Option Operand
 package_name i n =
     cond (i.fmt && bytes_eq n (codes "fmt")) (Some (operand.Package packages.Fmt))

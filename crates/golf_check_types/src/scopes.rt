@@ -30,7 +30,7 @@ pub enum Entity {
     Function(u32),
 }
 
-/// What a name behind a pointer to a struct is.
+/// What a name is that is selected through a pointer to a struct.
 #[derive(Clone, Copy, Debug, PartialEq, Eq)]
 pub enum Member {
     /// A field, by its place in the struct.
@@ -416,7 +416,7 @@ pub fn end(alloc: Global, scope: &mut Scope, mark: usize) -> Result<(), Memory>
     Ok(())
 }
 
-/// What a name behind a pointer to a struct is.
+/// What a name is that is selected through a pointer to a struct.
 #[tactic(auto, unfolding(crate::specs::Scopes::member))]
 pub fn member_at(file: &FileScope, number: u32, name: &[u8]) -> Option<Member>
     ensures { result ≡ member_of file.now number name.now }

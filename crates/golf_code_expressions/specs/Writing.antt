@@ -1,4 +1,4 @@
--- What the calls that write code tell. After want of memory they tell nothing.
+-- What the calls that write code tell. Out of memory, they tell nothing.
 use Rattle.std.specs.Prelude.{◌≡◌, List, Result, Ok, Err}
 use Rattle.golf_base.specs.declared.Memory.{Memory}
 use Rattle.golf_check_types.specs.declared.facts.Fact.{Fact}

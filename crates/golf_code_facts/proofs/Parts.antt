@@ -34,7 +34,7 @@ pub record Follows (x : Part) (k : LayBy) : Type 0 where
 pub on_piece : (w : Walk) (p : Scope → Piece) (k : List Fact → PieceBy) → PieceFollows w p k → Follows (record { walk = w; lay = λ a s. laid (p s) }) (by_piece k)
 on_piece w p k f = record { code = λ a s rest. ap (λ (z : PieceBy). by (laid z.piece) z.left) (f.code s rest) }
 
--- where no function is made, as many stand before the next one
+-- if no function is made, as many stand before the next one
 pub none_made : (a : Around) → record a { functions = a.functions + 0 } ≡ a
 none_made a = ap (λ n. record a { functions = n }) (let e : a.functions + 0 ≡ a.functions = omega arith in e)
 

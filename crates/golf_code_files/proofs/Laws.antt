@@ -1,4 +1,6 @@
 -- Declarations one after the other.
+-- For: `constants_by`, `initials_by` and `functions_by`, golf_code_facts/specs/Files.antt
+-- By: cases of the declaration; no induction
 use Rattle.std.proofs.Common.{◌≡◌, ℕ, Bool, List, ◌∷◌, ◌++◌, refl}
 use Rattle.golf_syntax_trees.specs.declared.declarations.Decl.{Decl}
 use Rattle.golf_syntax_trees.specs.declared.declarations.Decl.TheVariants as d

@@ -20,7 +20,7 @@ onto ms (Piece.Again p) = onto (ms ++ emit.Again ∷ []) p ++ emit.End ∷ []
 abbrev pub flat : Piece → List Emitted
 flat p = onto [] p
 
--- What the calls of the generator tell: the parts grow by a piece. After want of memory they tell nothing.
+-- What the calls of the generator tell: the parts grow by a piece. Out of memory, they tell nothing.
 
 abbrev pub Adds : {A : Type 0} → Result A Memory → Piece → List Emitted → List Emitted → Type 0
 Adds (Ok a) p old new = new ≡ onto old p

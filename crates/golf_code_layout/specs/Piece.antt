@@ -53,7 +53,7 @@ target (t ∷ ts) (suc k) = target ts k
 abbrev pub case_at : List ℕ → SelectCase → SelectCase
 case_at ts c = record { kind = c.kind; target = target ts c.target }
 
--- the code at a place, where the targets around have these places, the innermost first
+-- the code at a place, if the targets around have these places, the innermost first
 abbrev pub placed : Piece → ℕ → List ℕ → List CodeLine
 placed Piece.Empty at ts = []
 placed (Piece.Op i line) at ts = on i line ∷ []

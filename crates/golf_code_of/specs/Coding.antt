@@ -1,4 +1,4 @@
--- The code of an expression on a line, where these names are known: one equation a construct.
+-- The code of an expression on a line, if these names are known: one equation a construct.
 use Rattle.std.specs.Prelude.{ℕ, pos, List, map}
 use Rattle.golf_syntax_trees.specs.declared.expressions.Expr.{Expr}
 use Rattle.golf_syntax_trees.specs.declared.expressions.Expr.TheOpen.{Expr-F, Element-F, Integer, Text, Name, Parens, StructLiteral, SyncLiteral, SliceLiteral, EmptyLiteral, Make, MakeSized, New, NewSync, Selector, Index, Call, Unary, Binary}
@@ -17,7 +17,7 @@ use Rattle.golf_code_of.specs.declared.tables.Tables.{Tables}
 use Rattle.golf_code_of.specs.Expressions.{Made, only, name, struct_literal, new_struct, new_sync, slice_literal, made, made_sized, selector, index, unary_operator, binary_operator}
 use Rattle.golf_code_of.specs.Calls.{Argument, call}
 
--- an expression on a line, where these names are known: what it is, and its code
+-- an expression on a line, if these names are known: what it is, and its code
 pub record Coded : Type 0 where
   pub judge : Judge
   pub code : ℕ → Scope → Made

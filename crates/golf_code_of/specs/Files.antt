@@ -41,7 +41,7 @@ function gives params slots line body = record { params = params; slots = slots;
 abbrev pub body_part : Tables → Func → Part
 body_part t f = in_order (map (stmt_part t) f.body)
 
--- the body of a function, where so many functions stand before the next one that is made
+-- the body of a function, if so many functions stand before the next one that is made
 abbrev pub body_laid : Tables → Scope → ℕ → Func → Laid
 body_laid t file functions f = (body_part t f).lay (record { breaks = 0; continues = 0; functions = functions }) (body_scope file f)
 

@@ -88,7 +88,7 @@ module _ (types : Types) (t : Tables) (ft : FunctionTypes) where
     fits : Fits assigned (behind (begun s) (w (begun s)))
     has : Has types ft (p (begun s)) (shape leaves A) (shape [] assigned) exits
 
-  -- a clause stands where its body can: `break` and `continue` lead on, its slots have their types, what is made fits, and no rule is broken
+  -- a clause stands if its body can: `break` and `continue` lead on, its slots have their types, what is made fits, and no rule is broken
   record Stands (w : Walk) (p : Scope → Piece) (x : Part) (b : Around) (s : Scope) (A : List ℕ) (exits : List Shape) : Type 0 where
     breaks : Reaches exits [] A b.breaks
     continues : s.loops ≡ true → Reaches exits [] A b.continues

@@ -1,4 +1,6 @@
 -- Types of operands in two spellings.
+-- For: `given` and `type_of`, golf_check_types/specs/Types.antt
+-- By: cases of the operand and of its type; no induction
 use Rattle.std.proofs.Common.{◌≡◌, refl}
 use Rattle.std.specs.Prelude.{Option, Some, None}
 use Rattle.golf_check_types.specs.declared.types.GoType.{GoType}

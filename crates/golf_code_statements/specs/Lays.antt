@@ -1,4 +1,4 @@
--- What the calls that write statements tell. After want of memory they tell nothing.
+-- What the calls that write statements tell. Out of memory, they tell nothing.
 use Rattle.std.specs.Prelude.{◌≡◌, ◌+◌, ◌++◌, length, Result, Ok, Err}
 use Rattle.golf_base.specs.declared.Memory.{Memory}
 use Rattle.golf_code_of.specs.declared.making.Around.{Around}

@@ -42,7 +42,7 @@ no_targets = record { at = 0; waiting = []; found = [] }
 abbrev pub targets_of : List Emitted → List ℕ
 targets_of ms = (target_steps ms no_targets).found
 
--- The lines, where the blocks have these targets.
+-- The lines, if the blocks have these targets.
 
 abbrev pub with_line : Body → Instr → ℕ → Body
 with_line s i line = record s { lines = s.lines ++ on i line ∷ [] }

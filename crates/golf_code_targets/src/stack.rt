@@ -63,7 +63,7 @@ impl<T: Copy> Stack<T> {
         }
     }
 
-    /// Puts an item in the place of the one at a place, where there is one.
+    /// Puts an item in the place of the one at a place, if there is one.
     pub fn set(&mut self, at: usize, item: T)
         ensures { self.new ≡ slice_set self.old at item }
     {

@@ -56,7 +56,7 @@ fn begin_again(targets: &mut Targets) -> Result<(), Memory>
     Ok(())
 }
 
-// Puts a target in its place, where there is one.
+// Puts a target in its place, if there is one.
 fn put(found: &mut List<u32>, place: usize, target: u32)
     ensures { found.new ≡ slice_set found.old place target }
 {

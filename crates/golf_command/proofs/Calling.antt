@@ -23,7 +23,7 @@ use Rattle.golf_command.specs.Promises.RefusedBy.{TooLong}
 use Rattle.golf_command.specs.Promises.WordsMean.{Misused, Refused, Goes}
 use Rattle.golf_command.specs.Means.{View, seen, FileMeans, GoesWhole, Says, IsWholeEnd, LineMeans, UsageMeans, SinkCauses, SourceCauses, Causes, IsQuiet, GotMeaning, FileTells, LineTells, IsUntouched, Tells}
 use Rattle.golf_command.proofs.Sinking.{some-rose}
-use Rattle.golf_command.proofs.Filing.{refused-tells, wanting-tells}
+use Rattle.golf_command.proofs.Filing.{refused-tells, memory-tells}
 
 -- ---- a line
 
@@ -84,10 +84,10 @@ read-file (CommandLine.Threads n) left bytes reads told = told
 read-file CommandLine.Meaning left bytes reads told = told
 
 -- memory ran out before anything was run
-pub wanting : (line : CommandLine) (within : IsWithin line) (left left' : Option (List ℕ)) (rf rf' : ℕ) (r : Status) (a b : Sinks) → rf' ≡ rf → Says s.Memory NO_MEMORY.now r a b → LineTells line r (seen left rf a) (seen left' rf' b)
-wanting line within left left' rf rf' r a b same h =
+pub memory-fails : (line : CommandLine) (within : IsWithin line) (left left' : Option (List ℕ)) (rf rf' : ℕ) (r : Status) (a b : Sinks) → rf' ≡ rf → Says s.Memory NO_MEMORY.now r a b → LineTells line r (seen left rf a) (seen left' rf' b)
+memory-fails line within left left' rf rf' r a b same h =
     let file = some-file line left in
-    file-tells line file.0 file.1 same (λ reads ran. absurd (no-run r a b h ran)) (wanting-tells line file.0 within a b r h)
+    file-tells line file.0 file.1 same (λ reads ran. absurd (no-run r a b h ran)) (memory-tells line file.0 within a b r h)
   where
     no-run : (r : Status) (a b : Sinks) → Says s.Memory NO_MEMORY.now r a b → IsWholeEnd r → ⊥
     no-run r a b (inl e) ran = subst IsWholeEnd e.0 ran
@@ -223,10 +223,10 @@ module _ (words : List (List ℕ)) (left left' : Option (List ℕ)) (rf rf' : �
       (says-causes s.Usage r USAGE.now (λ v w x y. record { source = x; sinks = y }) counts h)
 
   -- memory ran out for the words
-  pub tells-wanting : (r : Status) → Says s.Memory NO_MEMORY.now r a b → left' ≡ left → rf' ≡ rf → Tells words r before after
-  tells-wanting r h same counts =
+  pub tells-memory : (r : Status) → Says s.Memory NO_MEMORY.now r a b → left' ≡ left → rf' ≡ rf → Tells words r before after
+  tells-memory r h same counts =
       let causes : Causes r before after = says-causes s.Memory r NO_MEMORY.now (λ v w x y. record { source = x; sinks = y }) counts h in
-      tells r (λ line is. (wanting line (line-is-within words line is) left left' rf rf' r a b counts h).means) (λ _. inr h) (λ _. untouched same counts) causes
+      tells r (λ line is. (memory-fails line (line-is-within words line is) left left' rf rf' r a b counts h).means) (λ _. inr h) (λ _. untouched same counts) causes
 
 -- a line that asks for a generated file reads nothing
 pub generated-line : (n : ℕ) (left : Option (List ℕ)) (rf : ℕ) (r : Status) (a b : Sinks) → FileTells (CommandLine.Generate n) (generated_file n) r a b → LineTells (CommandLine.Generate n) r (seen left rf a) (seen left rf b)

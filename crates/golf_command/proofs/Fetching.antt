@@ -18,7 +18,7 @@ use Rattle.golf_command.specs.Means.{seen, FileTells, LineTells}
 use Rattle.golf_command.specs.Loads.{HasFetched, HasFile, Ends}
 use Rattle.golf_command.proofs.Sinking.{says}
 use Rattle.golf_command.proofs.Filing.{refusal-tells}
-use Rattle.golf_command.proofs.Calling.{file-tells, read-file, unread, too-long, wanting}
+use Rattle.golf_command.proofs.Calling.{file-tells, read-file, unread, too-long, memory-fails}
 
 pub fails-to-read : {left left' : Option (List ℕ)} {rf rf' : ℕ} {err err' : Option (List ℕ)} {ef ef' : ℕ} {r : Status} → Rose rf rf' → rf ≤ rf' → EndsWith r s.ReadFault READ_FAULT.now err err' ef ef' → Ends r left left' rf rf' err err' ef ef'
 fails-to-read {err = err} {err' = err'} {ef = ef} {ef' = ef'} {r = r} rose later e line reads within out of = unread line reads rose later (says out of err err' ef ef' s.ReadFault r READ_FAULT.now e)
@@ -27,7 +27,7 @@ pub is-too-long : {left left' : Option (List ℕ)} {rf rf' : ℕ} {err err' : Op
 is-too-long {err = err} {err' = err'} {ef = ef} {ef' = ef'} {r = r} more same e line reads within out of = too-long line reads within more same (says out of err err' ef ef' s.Refused r TOO_LONG.now e)
 
 pub lacks-memory : {left left' : Option (List ℕ)} {rf rf' : ℕ} {err err' : Option (List ℕ)} {ef ef' : ℕ} {r : Status} → rf' ≡ rf → EndsWith r s.Memory NO_MEMORY.now err err' ef ef' → Ends r left left' rf rf' err err' ef ef'
-lacks-memory {left} {left'} {rf} {rf'} {err} {err'} {ef} {ef'} {r} same e line reads within out of = wanting line within left left' rf rf' r _ _ same (says out of err err' ef ef' s.Memory r NO_MEMORY.now e)
+lacks-memory {left} {left'} {rf} {rf'} {err} {err'} {ef} {ef'} {r} same e line reads within out of = memory-fails line within left left' rf rf' r _ _ same (says out of err err' ef ef' s.Memory r NO_MEMORY.now e)
 
 is-refused : {bytes : List ℕ} {left left' : Option (List ℕ)} {rf rf' : ℕ} {err err' : Option (List ℕ)} {ef ef' : ℕ} {r : Status} (refusal : Refusal) → HasFetched bytes left left' rf rf' → IsRefusedBy bytes refusal → Refuses r refusal err err' ef ef' → Ends r left left' rf rf' err err' ef ef'
 is-refused {bytes} {left} {err = err} {err' = err'} {ef = ef} {ef' = ef'} {r = r} refusal h why e line reads within out of =

@@ -33,7 +33,7 @@ use Rattle.golf_command.specs.Ways.{Way, IsWayOf, options_of, status_by_options,
 use Rattle.golf_command.specs.Promises.{Reads, Accepts, AreTrue, MovesAlways, RefusedBy}
 use Rattle.golf_command.specs.Promises.RefusedBy.{Unlexed, Unparsed, Untyped}
 use Rattle.golf_command.specs.Means.{Breaks, IsSoundBy, IsSound, Begins, AreFirst, MayFollow, MayStand, GoesWhole, Says, FileTells}
-use Rattle.golf_command.specs.Means.IsCause.{Refusal as Refusing, Wanting}
+use Rattle.golf_command.specs.Means.IsCause.{Refusal as Refusing, OutOfMemory}
 use Rattle.golf_command.specs.Means.MayFollow.{Next, Cause}
 use Rattle.golf_command.proofs.Sinking.{gets-more, breaks-later, some-rose, says}
 use Rattle.golf_command.proofs.Ways.{some-way, none-stands}
@@ -81,9 +81,9 @@ module _ (line : CommandLine) (bytes : List ℕ) (within : IsWithin line) where
         subst (λ t. FileTells line bytes t old new) (sym e.0) (record { means = record { reads = reads; text = text; why = why; got = e.1 }; causes = e.2 })
     refused-tells reads text r why (inr e) = broken [] (Write.ToErr text) r (Cause text none-first (Refusing text reads why)) e.0 e.1
 
-    pub wanting-tells : (r : Status) → Says s.Memory NO_MEMORY.now r old new → FileTells line bytes r old new
-    wanting-tells r (inl e) = subst (λ t. FileTells line bytes t old new) (sym e.0) (record { means = ([], none-stands line, none-first, e.1); causes = e.2 })
-    wanting-tells r (inr e) = broken [] (Write.ToErr NO_MEMORY.now) r (Cause NO_MEMORY.now none-first Wanting) e.0 e.1
+    pub memory-tells : (r : Status) → Says s.Memory NO_MEMORY.now r old new → FileTells line bytes r old new
+    memory-tells r (inl e) = subst (λ t. FileTells line bytes t old new) (sym e.0) (record { means = ([], none-stands line, none-first, e.1); causes = e.2 })
+    memory-tells r (inr e) = broken [] (Write.ToErr NO_MEMORY.now) r (Cause NO_MEMORY.now none-first OutOfMemory) e.0 e.1
 
   -- the file of a line that reads is refused
   module _ (reads : Reads line) (short : length bytes ≤ LIMIT) (out : Option (List ℕ)) (of : ℕ) (err err' : Option (List ℕ)) (ef ef' : ℕ) where
@@ -94,7 +94,7 @@ module _ (line : CommandLine) (bytes : List ℕ) (within : IsWithin line) where
     by-text text r why e = refused-tells (sinks out of err ef) (sinks out of err' ef') reads text r why (says out of err err' ef ef' s.Refused r text e)
 
     by-want : (r : Status) → EndsWith r s.Memory NO_MEMORY.now err err' ef ef' → Told r
-    by-want r e = wanting-tells (sinks out of err ef) (sinks out of err' ef') r (says out of err err' ef ef' s.Memory r NO_MEMORY.now e)
+    by-want r e = memory-tells (sinks out of err ef) (sinks out of err' ef') r (says out of err err' ef ef' s.Memory r NO_MEMORY.now e)
 
     pub refusal-tells : (refusal : Refusal) (r : Status) → IsRefusedBy bytes refusal → Refuses r refusal err err' ef ef' → Told r
     refusal-tells (refusals.Lexical at byte) r why (inl e) = by-text (lexical_line at byte) r (Unlexed at byte short why) e
@@ -171,7 +171,7 @@ module _ (line : CommandLine) (bytes : List ℕ) (within : IsWithin line) where
         means = (done, stands, first-of done more split, gets-more first mid_way last done (Write.ToErr NO_MEMORY.now ∷ []) got e.1);
         causes = record { out = e.2.out ∙ steady.out; err = e.2.err ∙ steady.err };
       })
-      stopped r got steady (inr e) = broken first last done (Write.ToErr NO_MEMORY.now) r (Cause NO_MEMORY.now (first-of done more split) Wanting) e.0 (breaks-later first mid_way last done (Write.ToErr NO_MEMORY.now) got steady e.1)
+      stopped r got steady (inr e) = broken first last done (Write.ToErr NO_MEMORY.now) r (Cause NO_MEMORY.now (first-of done more split) OutOfMemory) e.0 (breaks-later first mid_way last done (Write.ToErr NO_MEMORY.now) got steady e.1)
 
       pub stopped-tells : (r : Status) → GotWrites done first mid_way → IsSteady first mid_way → EndsWith r s.Memory NO_MEMORY.now mid err' mf ef' → FileTells line bytes r first last
       stopped-tells r got steady ends = stopped r got steady (says out' of' mid err' mf ef' s.Memory r NO_MEMORY.now ends)

@@ -5,7 +5,7 @@ use Rattle.std.proofs.Common.{ℕ, List, [], ◌∷◌, ◌++◌, refl, sym, sub
 use Rattle.std.specs.Prelude.{Option}
 use Rattle.std.specs.Io.KnownBytes.{Appends}
 use Rattle.std.proofs.KnownBytes.{Appends-nil, Appends-trans}
-use Rattle.golf_base.specs.Causes.{Rose, WritesFront}
+use Rattle.golf_base.specs.Causes.{Rose, WritesPrefix}
 use Rattle.golf_run_texts.specs.declared.status.Status.{Status}
 use Rattle.golf_run_texts.specs.declared.status.Status.TheVariants as s
 use Rattle.golf_run_texts.specs.Writes.{Write, out_bytes, err_bytes}
@@ -27,7 +27,7 @@ fails-later (Write.ToErr bytes) a b c steady f = (f.0 ∙ steady.out, subst (λ 
 
 -- a write that fails after others
 pub breaks-later : (a b c : Sinks) (done : List Write) (cut : Write) → GotWrites done a b → IsSteady a b → Breaks b c [] cut → Breaks a c done cut
-breaks-later a b c done cut first steady h = record { front = h.front; is_front = h.is_front; got = gets-more a b c done (h.front ∷ []) first h.got; failed = fails-later cut a b c steady h.failed }
+breaks-later a b c done cut first steady h = record { prefix = h.prefix; is_prefix = h.is_prefix; got = gets-more a b c done (h.prefix ∷ []) first h.got; failed = fails-later cut a b c steady h.failed }
 
 -- a write that fails raises a count
 pub some-rose : (cut : Write) (a b : Sinks) → HasFailed cut a b → SinkCauses s.WriteFault a b
@@ -46,8 +46,8 @@ module _ (out : Option (List ℕ)) (of : ℕ) (err err' : Option (List ℕ)) (ef
   one-line : (text : List ℕ) → Appends err err' text → GotWrites (Write.ToErr text ∷ []) old new
   one-line text written = (Appends-nil out, subst (Appends err err') (sym (append-nil text)) written)
 
-  line-breaks : (text : List ℕ) → WritesFront err err' text → Rose ef ef' → Breaks old new [] (Write.ToErr text)
-  line-breaks text f rose = record { front = Write.ToErr f.0; is_front = (f.1, f.2); got = one-line f.0 f.3; failed = (refl, rose) }
+  line-breaks : (text : List ℕ) → WritesPrefix err err' text → Rose ef ef' → Breaks old new [] (Write.ToErr text)
+  line-breaks text f rose = record { prefix = Write.ToErr f.0; is_prefix = (f.1, f.2); got = one-line f.0 f.3; failed = (refl, rose) }
 
   pub says : (status r : Status) (text : List ℕ) → EndsWith r status text err err' ef ef' → Says status text r old new
   says status r text (inl e) = inl (e.0, one-line text e.1, record { out = refl; err = e.2 })

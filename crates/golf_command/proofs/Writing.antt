@@ -5,7 +5,7 @@ use Rattle.std.proofs.Common.{◌≡◌, ℕ, List, [], ◌∷◌, refl, sym, su
 use Rattle.std.specs.Prelude.{Option, Bool, true, false, Result, Ok, Err, IfOk}
 use Rattle.std.specs.Io.KnownBytes.{Appends}
 use Rattle.std.proofs.KnownBytes.{Appends-nil}
-use Rattle.golf_base.specs.Causes.{Rose, WritesFront}
+use Rattle.golf_base.specs.Causes.{Rose, WritesPrefix}
 use Rattle.golf_base.specs.declared.Memory.{Memory}
 use Rattle.golf_data.specs.declared.code.Code.{Code}
 use Rattle.golf_syntax_trees.specs.declared.declarations.File.{File}
@@ -26,33 +26,33 @@ use Rattle.golf_command.specs.Ways.{Way, IsWayOf, AreTurns, out_for, err_for, wr
 use Rattle.golf_command.specs.Written.{AreTextsOf, AreTextsByThreads, text_writes, WroteBoth, HasWritten, HasTold}
 use Rattle.golf_command.specs.Promises.{Accepts}
 use Rattle.golf_command.specs.Means.{Says, FileTells}
-use Rattle.golf_command.proofs.Filing.{went-tells, failed-tells, wanting-tells}
+use Rattle.golf_command.proofs.Filing.{went-tells, failed-tells, memory-tells}
 
 -- ---- both texts
 
 module _ (out out' err err' : Option (List ℕ)) (of of' ef ef' : ℕ) (text line : List ℕ) where
   -- the second one was cut
-  pub line-cut : Appends out out' text → of' ≡ of → WritesFront err err' line → Rose ef ef' → WroteBoth false text line (sinks out of err ef) (sinks out' of' err' ef')
+  pub line-cut : Appends out out' text → of' ≡ of → WritesPrefix err err' line → Rose ef ef' → WroteBoth false text line (sinks out of err ef) (sinks out' of' err' ef')
   line-cut a e f rose = record {
     done = Write.ToOut text ∷ [];
     cut = Write.ToErr line;
-    front = Write.ToErr f.0;
+    prefix = Write.ToErr f.0;
     later = [];
     order = refl;
-    is_front = (f.1, f.2);
+    is_prefix = (f.1, f.2);
     got = (subst (Appends out out') (sym (append-nil text)) a, subst (Appends err err') (sym (append-nil f.0)) f.3);
     failed = (e, rose);
   }
 
 -- the first one was cut, and nothing was written after it
-pub text-cut : (out out' err : Option (List ℕ)) (of of' ef : ℕ) (text line : List ℕ) → WritesFront out out' text → Rose of of' → WroteBoth false text line (sinks out of err ef) (sinks out' of' err ef)
+pub text-cut : (out out' err : Option (List ℕ)) (of of' ef : ℕ) (text line : List ℕ) → WritesPrefix out out' text → Rose of of' → WroteBoth false text line (sinks out of err ef) (sinks out' of' err ef)
 text-cut out out' err of of' ef text line f rose = record {
   done = [];
   cut = Write.ToOut text;
-  front = Write.ToOut f.0;
+  prefix = Write.ToOut f.0;
   later = Write.ToErr line ∷ [];
   order = refl;
-  is_front = (f.1, f.2);
+  is_prefix = (f.1, f.2);
   got = (subst (Appends out out') (sym (append-nil f.0)) f.3, Appends-nil err);
   failed = (rose, refl);
 }
@@ -88,7 +88,7 @@ module _ (line : CommandLine) (bytes : List ℕ) (within : IsWithin line) (file 
     texts-tell r (inr w) =
         subst (λ t. FileTells line bytes t old new) (sym w.0)
         (failed-tells line bytes within file code accepted is only way is_way old new w.1.done w.1.later w.1.cut (these ∙ w.1.order)
-        (record { front = w.1.front; is_front = w.1.is_front; got = w.1.got; failed = w.1.failed }))
+        (record { prefix = w.1.prefix; is_prefix = w.1.is_prefix; got = w.1.got; failed = w.1.failed }))
 
   -- texts of some way of the line, or none
   abbrev MadeOf : RunTexts → Type 0
@@ -96,7 +96,7 @@ module _ (line : CommandLine) (bytes : List ℕ) (within : IsWithin line) (file 
 
   pub written-tells : (made : Result RunTexts Memory) (r : Status) (old new : Sinks) → IfOk made MadeOf → HasWritten made r old new → FileTells line bytes r old new
   written-tells (Ok of) r old new h w = texts-tell h.0 h.1 h.2 of h.3 old new r w
-  written-tells (Err m) r old new h w = wanting-tells line bytes within old new r w
+  written-tells (Err m) r old new h w = memory-tells line bytes within old new r w
 
 pub made-of-parts : (parts : ℕ) (file : File) (code : Code) (made : Result RunTexts Memory) → IfOk made (λ of. AreTextsOf of (Way.Generated parts) code)
     → IfOk made (λ of. (way : Way) × IsWayOf (CommandLine.Generate parts) file way × WritesLast way code × AreTextsOf of way code)
@@ -121,13 +121,13 @@ module _ (bytes : List ℕ) (file : File) (accepted : Accepts bytes file) (only 
   told-tells (Ok text) r old new is (inr w) =
       subst (λ t. FileTells CommandLine.Meaning bytes t old new) (sym w.0)
       (failed-tells CommandLine.Meaning bytes tt file (CodeOf file) accepted refl only way refl old new [] [] (Write.ToOut text) (ap (λ t. Write.ToOut t ∷ []) (sym is)) w.1)
-  told-tells (Err m) r old new is w = wanting-tells CommandLine.Meaning bytes tt old new r w
+  told-tells (Err m) r old new is w = memory-tells CommandLine.Meaning bytes tt old new r w
 
 pub told-whole : (out out' err : Option (List ℕ)) (of of' ef : ℕ) (text : List ℕ) → Appends out out' text → of' ≡ of → HasTold (Ok text) s.Clean (sinks out of err ef) (sinks out' of' err ef)
 told-whole out out' err of of' ef text a e = inl (refl, (subst (Appends out out') (sym (append-nil text)) a, Appends-nil err), record { out = e; err = refl })
 
-pub told-cut : (out out' err : Option (List ℕ)) (of of' ef : ℕ) (text : List ℕ) → WritesFront out out' text → Rose of of' → HasTold (Ok text) s.WriteFault (sinks out of err ef) (sinks out' of' err ef)
-told-cut out out' err of of' ef text f rose = inr (refl, record { front = Write.ToOut f.0; is_front = (f.1, f.2); got = (subst (Appends out out') (sym (append-nil f.0)) f.3, Appends-nil err); failed = (rose, refl) })
+pub told-cut : (out out' err : Option (List ℕ)) (of of' ef : ℕ) (text : List ℕ) → WritesPrefix out out' text → Rose of of' → HasTold (Ok text) s.WriteFault (sinks out of err ef) (sinks out' of' err ef)
+told-cut out out' err of of' ef text f rose = inr (refl, record { prefix = Write.ToOut f.0; is_prefix = (f.1, f.2); got = (subst (Appends out out') (sym (append-nil f.0)) f.3, Appends-nil err); failed = (rose, refl) })
 
 -- the text in other words
 pub same-text : (made : Result (List ℕ) Memory) (text now : List ℕ) (r : Status) (old new : Sinks) → made ≡ Ok text → now ≡ text → HasTold (Ok now) r old new → HasTold made r old new

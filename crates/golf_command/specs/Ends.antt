@@ -1,7 +1,7 @@
 -- What the parts of the top call say of their status.
 use Rattle.std.specs.Prelude.{◌≡◌, ℕ, ◌⊎◌, List, Option}
 use Rattle.std.specs.Io.KnownBytes.{Appends}
-use Rattle.golf_base.specs.Causes.{Rose, WritesFront}
+use Rattle.golf_base.specs.Causes.{Rose, WritesPrefix}
 use Rattle.golf_reader.specs.declared.refusal.Refusal.{Refusal}
 use Rattle.golf_reader.specs.declared.refusal.Refusal.TheVariants as refusals
 use Rattle.golf_run_texts.specs.Texts.{lexical_line, syntax_line, rule_line}
@@ -11,7 +11,7 @@ use Rattle.golf_run_texts.specs.declared.status.Status.TheVariants as s
 
 -- the line was written with that status, or the write failed in the middle of it
 abbrev pub EndsWith : Status → Status → List ℕ → Option (List ℕ) → Option (List ℕ) → ℕ → ℕ → Type 0
-EndsWith result status line err err' before now = ((result ≡ status) × Appends err err' line × (now ≡ before)) ⊎ ((result ≡ s.WriteFault) × WritesFront err err' line × Rose before now)
+EndsWith result status line err err' before now = ((result ≡ status) × Appends err err' line × (now ≡ before)) ⊎ ((result ≡ s.WriteFault) × WritesPrefix err err' line × Rose before now)
 
 -- the line of a refusal
 abbrev pub refusal_line : Refusal → List ℕ

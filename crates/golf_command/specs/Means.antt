@@ -14,7 +14,7 @@ use Rattle.golf_run_texts.specs.declared.status.Status.{Status}
 use Rattle.golf_run_texts.specs.declared.status.Status.TheVariants as s
 use Rattle.golf_run_texts.specs.declared.status.TheConstants.{USAGE, READ_FAULT, NO_MEMORY}
 use Rattle.golf_run_texts.specs.Writes.{Write}
-use Rattle.golf_run.specs.HasRun.{Sinks, GotWrites, IsFrontOf, HasFailed, IsSteady}
+use Rattle.golf_run.specs.HasRun.{Sinks, GotWrites, IsPrefixOf, HasFailed, IsSteady}
 use Rattle.golf_command.specs.Ways.{Way, IsWayOf, options_of, status_for, out_for, err_for, writes_for}
 use Rattle.golf_command.specs.Promises.{IsLine, IsNoLine, Reads, IsFileOf, Accepts, AreTrue, MovesAlways, RefusedBy, WordsMean}
 
@@ -22,7 +22,7 @@ use Rattle.golf_command.specs.Promises.{IsLine, IsNoLine, Reads, IsFileOf, Accep
 abbrev pub words_of : List (String Global) → List (List ℕ)
 words_of words = map string_bytes words
 
--- what is seen of a source and two sinks at a time: the bytes that are left, and those that were written, where they are told, and how often each has failed
+-- what is seen of a source and two sinks at a time: the bytes that are left, and those that were written, if they are told, and how often each has failed
 pub record View : Type 0 where
   pub left : Option (List ℕ)
   pub read_faults : ℕ
@@ -35,9 +35,9 @@ seen left read_faults sinks = record { left = left; read_faults = read_faults; s
 
 -- they got the first writes whole and a prefix of the next one, whose sink failed, and nothing after it
 pub record Breaks (old new : Sinks) (done : List Write) (cut : Write) : Type 0 where
-  pub front : Write
-  pub is_front : IsFrontOf front cut
-  pub got : GotWrites (done ++ front ∷ []) old new
+  pub prefix : Write
+  pub is_prefix : IsPrefixOf prefix cut
+  pub got : GotWrites (done ++ prefix ∷ []) old new
   pub failed : HasFailed cut old new
 
 -- ---- what a status says of a file
@@ -71,7 +71,7 @@ pub record AreFirst (line : CommandLine) (bytes : List ℕ) (done : List Write) 
 -- the text of a cause, which may stand after them; only the file of a line that reads is refused
 pub data IsCause (line : CommandLine) (bytes : List ℕ) : List ℕ → Type 0 where
   Refusal : (text : List ℕ) → Reads line → RefusedBy bytes text → IsCause line bytes text
-  Wanting : IsCause line bytes NO_MEMORY.now
+  OutOfMemory : IsCause line bytes NO_MEMORY.now
 
 -- what may be written after them: the next write of the way, or the text of a cause
 pub data MayFollow (line : CommandLine) (bytes : List ℕ) (done : List Write) : Write → Type 0 where
@@ -144,11 +144,11 @@ pub record TellsOfFile (line : CommandLine) (answer : Status) (old new : View) :
   pub means : FileMeans line bytes answer old.sinks new.sinks
   pub at_end : Reads line → IsWholeEnd answer → IsAtEnd new.left
 
--- what a status says where the words are this line
+-- what a status says if the words are this line
 abbrev pub LineMeans : CommandLine → Status → View → View → Type 0
 LineMeans line answer old new = IsUnread line answer old new ⊎ TellsOfFile line answer old new
 
--- what it says where they are none
+-- what it says if they are none
 abbrev pub UsageMeans : Status → View → View → Type 0
 UsageMeans answer old new = Says s.Usage USAGE.now answer old.sinks new.sinks ⊎ Says s.Memory NO_MEMORY.now answer old.sinks new.sinks
 
@@ -189,7 +189,7 @@ pub record FileTells (line : CommandLine) (bytes : List ℕ) (answer : Status) (
   pub means : FileMeans line bytes answer old new
   pub causes : SinkCauses answer old new
 
--- what the status of a call says where the words are this line
+-- what the status of a call says if the words are this line
 pub record LineTells (line : CommandLine) (answer : Status) (old new : View) : Type 0 where
   pub means : LineMeans line answer old new
   pub causes : Causes answer old new

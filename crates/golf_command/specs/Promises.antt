@@ -39,7 +39,7 @@ Reads (CommandLine.Generate n) = ⊥
 Reads (CommandLine.Threads n) = Unit {0}
 Reads CommandLine.Meaning = Unit {0}
 
--- its file is what the source had left, where that is told, or the generated one
+-- its file is what the source had left, if that is told, or the generated one
 abbrev pub IsFileOf : CommandLine → Option (List ℕ) → List ℕ → Type 0
 IsFileOf (CommandLine.Run options) left bytes = IfSome left (λ known. known ≡ bytes)
 IsFileOf (CommandLine.Generate n) left bytes = bytes ≡ generated_file n

@@ -90,7 +90,7 @@ fn serve<R: AllocGlobal + Threads + Sync, S: Source, O: Sink, E: Sink, G: Gate +
 /// lock of its program; every other line is served by a call that returns.
 ///
 /// The clause is about what is seen of the source and the sinks before the call and after it: what
-/// the status tells where the words are a line, and if they are not; which counts of faults
+/// the status tells if the words are a line, and if they are not; which counts of faults
 /// rose, which are those that the status names and no other; and that without a fault all is
 /// written, unless memory ran out.
 pub fn golf<R: AllocGlobal + Threads + Wait + Sync, S: Source, O: Sink, E: Sink, G: Gate + Sync>(

@@ -95,7 +95,7 @@ meaning_entered : (rest : List Text) → found_at [] (stopped_at (codes "meaning
 unfolding defaults_fault
 meaning_entered rest = refl
 
--- the line by the rows of a subcommand, where nothing in its words is at fault
+-- the line by the rows of a subcommand, if nothing in its words is at fault
 line_found : (name : Text) (read : List Row → Option CommandLine) (kinds : Kinds) (rows : List Row) → line_by (Some (name, rows)) ≡ read rows
     → line_by (unless_fault (or_else kinds []) (Some (name, rows))) ≡ option_and_then read (unless_fault kinds (Some rows))
 line_found name read [] rows is = is

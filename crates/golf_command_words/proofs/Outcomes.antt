@@ -1,4 +1,4 @@
--- What a command without subcommands finds in its words: the rows of its arguments, or none where a word is at fault.
+-- What a command without subcommands finds in its words: the rows of its arguments, or none if a word is at fault.
 -- For: `parse`, src/reading.rt; `split_of`, specs/Splitting.antt
 -- By: cases of what the next word is: `--`, a long option, short ones, or plain; no induction
 use Rattle.std.proofs.Common.{◌≡◌, ◌∙◌, ◌==◌, ◌++◌, ℕ, Bool, cond, true, false, refl, sym, ap, ap₂, List, [], ◌∷◌, Option, Some, None, option_and_then, fold, bytes_eq, slice_get, chars, drop, encode_utf8, length, IsUtf8, true≢false, eqb-true, arith}

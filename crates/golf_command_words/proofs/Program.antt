@@ -31,7 +31,7 @@ refused : (k : ErrorKind) (ks : Kinds) (found : Option (Text × List Row)) → I
 refused k [] found among = absurd among
 refused k (x ∷ xs) found among = refl
 
--- a refusal that is not want of memory
+-- a refusal other than out of memory
 pub split_refused : (a : App) (words : List Text) (k : ErrorKind) → a ≡ golf_app → (is_simple_and_free a ≡ true → IsAmong k (fault_of a words)) → None ≡ split_of words
 unfolding split_of
 split_refused a words k is faults =

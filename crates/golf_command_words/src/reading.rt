@@ -150,7 +150,7 @@ fn line_as_split(alloc: Global, words: &[String]) -> Result<Option<CommandLine>,
     }
 }
 
-/// The line that the words after the program's name stand for; none where they stand for none.
+/// The line that the words after the program's name stand for; none if they stand for none.
 pub fn parse(alloc: Global, words: &[String]) -> Result<Option<CommandLine>, Memory>
     ensures line { IfOk result (λ line. line ≡ line_of (map string_bytes words.now)) }
     ensures limits { IfOk result (λ line. IfSome line IsWithin) }

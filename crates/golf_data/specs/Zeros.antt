@@ -11,7 +11,7 @@ AreZeros zeros vs = (i : ℕ) (v : Value) → i < 64 → has_bit zeros i ≡ tru
 abbrev pub AreAllZero : Bool → List Value → Type 0
 AreAllZero known vs = known ≡ true → (i : ℕ) (v : Value) → slice_get vs i ≡ Some v → v ≡ Value.Int (pos 0)
 
--- the slots that stay where those of these bits are cleared
+-- the slots that stay if those of these bits are cleared
 abbrev pub stays_but : ℕ → ℕ → Bool
 stays_but dead i = nat_le 64 i || not (has_bit dead i)
 

@@ -69,7 +69,7 @@ module _ (g : GraphParts) (flags : List Bool) (sets : Bool) (b : GraphParts) (ba
       (λ q y up child d. up (Reached-step (λ p. In p b.roots) (Justifies b) y q d (Justifies.child ((back.parents q y).1 (row_past g.children q y child, child)))))
       t.0 t.1 (Reached-root (λ p. In p b.roots) (Justifies b) t.0 ((back.roots t.0).1 (prevents-below a f t.0 t.2, t.2)))
 
--- a sleeper that is not awake has a reference that is marked backwards exactly where it is kept
+-- a sleeper that is not awake has a reference that is marked backwards exactly if it is kept
 pub kept-alike : (g : GraphParts) (m : Marked) (sets : Bool) (b : GraphParts) (leading : Marked) → IsInRange g → length m.flags ≡ node_count g → IsBackward g m.flags sets b → MarksLeast b leading → (s : ℕ)
     → ((IsSet m.awake s → ⊥) × ((p : ℕ) × In p (sleeper_references g s) × IsSet leading.flags p)) ↔ IsKept g m sets s
 kept-alike g m sets b leading range size back marks s = (

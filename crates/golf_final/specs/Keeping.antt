@@ -1,4 +1,4 @@
--- The keep rule on the graph of a state: a dead goroutine stays where its removal could let a finaliser run (profile).
+-- The keep rule on the graph of a state: a dead goroutine stays if its removal could let a finaliser run (profile).
 use Rattle.std.specs.Prelude.{◌≡◌, ◌<◌, ◌↔◌, ◌⊎◌, ℕ, Bool, true, List, length}
 use Rattle.golf_theory.specs.Membership.{In}
 use Rattle.golf_theory.specs.Reached.{Reached}
@@ -27,7 +27,7 @@ ComesTo g starts = Reached (λ p. In p starts) (HasChild g)
 abbrev pub Prevents : GraphParts → List Bool → Bool → ℕ → Type 0
 Prevents g flags sets_finalisers p = IsSet g.finalised p ⊎ ((sets_finalisers ≡ true) × IsSet flags p)
 
--- a sleeper that is not awake is kept where it comes to such a node
+-- a sleeper that is not awake is kept if it comes to such a node
 abbrev pub IsKept : GraphParts → Marked → Bool → ℕ → Type 0
 IsKept g m sets_finalisers s =
     (IsSet m.awake s → ⊥) × ((p : ℕ) × ComesTo g (sleeper_references g s) p × Prevents g m.flags sets_finalisers p)

@@ -113,7 +113,7 @@ reads-next o bytes start i state next k g e =
     ∙ sym (ap (λ x. option_map (λ ps. finished (with_lexemes o ps)) (scan_by (λ n xs. scan n xs rest) state front b x)) g)
     ∙ sym (ap (read o state front) (rest-more bytes i k))
 
--- where all is read, the tokens are those that the bytes lex as
+-- if all is read, the tokens are those that the bytes lex as
 pub reads-lexes : (bytes : List ℕ) (tokens : List Token) → read empty states.Blank [] bytes ≡ Some tokens → Lexes bytes tokens
 reads-lexes bytes tokens e =
     let m = map-some (λ ps. finished (with_lexemes empty ps)) (scan states.Blank [] bytes) tokens e in

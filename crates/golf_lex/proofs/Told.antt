@@ -58,7 +58,7 @@ keyword_of-again keywords.Interface = refl
 keyword_of-again keywords.Map = refl
 keyword_of-again keywords.Switch = refl
 
--- where none is told, the word is none
+-- if none is told, the word is none
 pub keyword_of-none : (word : List ℕ) → keyword_of word ≡ None → (k : Keyword) → keyword_text k ≢ word
 keyword_of-none word e k same = let both : Some k ≡ None = sym (keyword_of-again k) ∙ ap keyword_of same ∙ e in cc
 

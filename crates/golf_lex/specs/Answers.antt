@@ -5,7 +5,7 @@ use Rattle.golf_lex_tokens.specs.Lexes.{Lexes, IsFault, line_at}
 use Rattle.golf_lex.specs.declared.lexer.LexFault.{LexFault}
 use Rattle.golf_lex.specs.declared.lexer.LexFault.TheVariants.{At, Memory}
 
--- the tokens that the bytes lex as, or if they do not; want of memory tells nothing
+-- the tokens that the bytes lex as, or if they do not; out of memory, nothing is told
 abbrev pub Answers : List ℕ → Result (List Token) LexFault → Type 0
 Answers bytes (Ok tokens) = Lexes bytes tokens
 Answers bytes (Err (At line byte)) = IsFault bytes byte × (line ≡ line_at bytes byte)
@@ -15,6 +15,6 @@ Answers bytes (Err Memory) = Unit {0}
 abbrev pub Accepts : List ℕ → Result (List Token) LexFault → Type 0
 Accepts bytes result = (tokens : List Token) → Lexes bytes tokens → (result ≡ Ok tokens) ⊎ (result ≡ Err Memory)
 
--- where they are at fault, the answer is the place, with its line, unless memory runs out
+-- if they are at fault, the answer is the place, with its line, unless memory runs out
 abbrev pub Refuses : List ℕ → Result (List Token) LexFault → Type 0
 Refuses bytes result = (place : ℕ) → IsFault bytes place → (result ≡ Err (At (line_at bytes place) place)) ⊎ (result ≡ Err Memory)

@@ -54,7 +54,7 @@ pub fn tokens(alloc: Global, bytes: &[u8]) -> Result<List<Token>, LexFault>
     requires { length bytes.now < 2 ^ 32 - 1 }
     ensures answer { Answers bytes.now result }
 
-    // If the bytes lex, the answer is their tokens, and where they do not, the place of the fault.
+    // If the bytes lex, the answer is their tokens, and if they do not, the place of the fault.
     ensures accepts { Accepts bytes.now result }
     ensures refuses { Refuses bytes.now result }
 {

@@ -23,7 +23,7 @@ turn_events cs = map (λ c. Event.Turn c) cs
 abbrev pub outcome_of : Code → State → ℕ → Turned
 outcome_of code s c = turned_of (ending (step code s c)) (wants_collection code s c)
 
--- the outside is needed after a turn that ended the program or was a collection, and where something is printed
+-- the outside is needed after a turn that ended the program or was a collection, and if something is printed
 abbrev pub needs_outside : Turned → List ℕ → Bool
 needs_outside Turned.Went printed = not_empty printed
 needs_outside Turned.WantsCollection printed = true

@@ -28,7 +28,7 @@ fn settle_won(marks: &Marks, graph: &Graph, waiters: &Waiters, scanner: &mut Sca
     }
 }
 
-// Scans a place where it is noted and marked, and what is won from there.
+// Scans a place if it is noted and marked, and what is won from there.
 fn settle_at(
     marks: &Marks,
     graph: &Graph,

@@ -9,7 +9,6 @@ use Rattle.golf_model.specs.Values.{bool_of}
 use Rattle.golf_check_types.specs.declared.locals.Local.{Local}
 use Rattle.golf_check_types.specs.declared.scopes.Scope.{Scope}
 use Rattle.golf_check_types.specs.Scopes.{begun}
-use Rattle.golf_check_types.specs.Statements as W
 use Rattle.golf_check_types.specs.Statements.{behind}
 use Rattle.golf_code_layout.specs.Piece.{Piece, all, size}
 use Rattle.golf_code_of.specs.declared.making.Around.{Around}
@@ -17,7 +16,6 @@ use Rattle.golf_code_of.specs.declared.tables.Tables.{Tables}
 use Rattle.golf_code_of.specs.Coding.{piece_at}
 use Rattle.golf_code_of.specs.Statements.{Part, within, past}
 use Rattle.golf_code_of.specs.Statements as L
-use Rattle.golf_meaning_flat.specs.Worlds as V
 use Rattle.golf_meaning_flat.specs.Worlds.{World, pushed}
 use Rattle.golf_meaning_flat.specs.Doing.{Frame}
 use Rattle.golf_meaning_flat.specs.Flat.{tests}

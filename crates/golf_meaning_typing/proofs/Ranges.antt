@@ -143,7 +143,7 @@ module _ (types : Types) (t : Tables) (w : Walk) (e : Deed) (he : Fits types t w
   abbrev Body : Around → Scope → ℕ → Env → World → Flow
   Body = in_loop 2 0 (in_block e)
 
-  -- a range over what is given stands where the file and the names fit, and neither its names nor its body break a rule
+  -- a range over what is given stands if the file and the names fit, and neither its names nor its body break a rule
   record Clean (l : ℕ) (s : Scope) (names : RangeNames) (g : Given) (env : Env) : Type 0 where
     file : FileFits types t s.file
     names_fit : NamesFit s.locals env

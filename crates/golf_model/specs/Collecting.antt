@@ -35,7 +35,7 @@ sets_finalisers code = any_of (λ fn. any_of (λ l. is_setting l.instr) fn.body)
 abbrev pub prevents_removal : State → Bool → ℕ → Bool
 prevents_removal s sets_finalisers o = has_finaliser s o || (sets_finalisers && has_object (live_list s) o)
 
--- the keep rule: a dead goroutine stays where its removal could let a finaliser run (profile)
+-- the keep rule: a dead goroutine stays if its removal could let a finaliser run (profile)
 abbrev pub keeps : State → Bool → ℕ → Bool
 keeps s sets_finalisers g = any_of (prevents_removal s sets_finalisers) (reach s (refs_of_goroutine (find g s.goroutines)))
 

@@ -54,7 +54,7 @@ pub record HasCode (bytes : List ℕ) (code : Code) : Type 0 where
   pub is : code ≡ CodeOf file
   pub only : IsOnly bytes file
 
--- the bytes are refused so; want of memory tells nothing
+-- the bytes are refused so; out of memory, nothing is told
 abbrev pub IsRefusedBy : List ℕ → Refusal → Type 0
 IsRefusedBy bytes (refusals.Lexical line byte) = IsUnlexed bytes line byte
 IsRefusedBy bytes (refusals.Syntax line) = IsUnparsed bytes line

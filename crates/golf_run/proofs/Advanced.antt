@@ -5,7 +5,7 @@ use Rattle.std.proofs.Common.{◌≡◌, ℕ, ◌+◌, Bool, true, false, List, 
 use Rattle.std.specs.Prelude.{Result, Ok, Err, IsErr, IsErrAnd, is_some}
 use Rattle.std.specs.Io.KnownBytes.{Appends}
 use Rattle.std.proofs.KnownBytes.{Appends-nil}
-use Rattle.golf_base.specs.Causes.{Rose, WritesFront}
+use Rattle.golf_base.specs.Causes.{Rose, WritesPrefix}
 use Rattle.golf_data.specs.declared.code.Code.{Code}
 use Rattle.golf_model.specs.State.{State, ending}
 use Rattle.golf_model.specs.Turn.{step, wants_collection}
@@ -28,7 +28,7 @@ pub record IsCutOff (answer : Result (Option Bool) RunFault) (mid : State) (out 
   pub same : printed ≡ mid.output
   pub failed : IsErr answer
   pub fault : IsErrAnd answer (λ x. x ≡ faults.Write)
-  pub front : WritesFront out out' printed
+  pub prefix : WritesPrefix out out' printed
   pub rose : Rose f f'
 
 -- it was written, and is no more there
@@ -48,7 +48,7 @@ module _ {code : Code} {old : State} {before after : List Event} {n m : ℕ} (go
   broken-advanced {answer = Ok x} new h w = let i = w.failed in cc
   broken-advanced {answer = Err faults.Memory} new h w = let a = w.fault in cc
   broken-advanced {answer = Err faults.Write} {out = out} {out' = out'} new h w =
-      (Event.Turn h.0.number, come-of h.0, (subst (WritesFront out out') (w.same ∙ ap (λ (s : State). s.output) h.1) w.front, w.rose))
+      (Event.Turn h.0.number, come-of h.0, (subst (WritesPrefix out out') (w.same ∙ ap (λ (s : State). s.output) h.1) w.prefix, w.rose))
 
   written : {turned : Turned} {mid new : State} {out out' : Option (List ℕ)} {f f' : ℕ} (h : HasTaken (Some turned) code old mid before after n m) → IsWritten mid new out out' f f' → (b : Bool) → b ≡ wants_collection code h.0.state h.0.number
       → HasAdvanced (Ok (Some b)) code old new before after n m out out' f f'

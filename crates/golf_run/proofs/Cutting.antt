@@ -5,7 +5,7 @@ use Rattle.std.proofs.Common.{◌≡◌, ℕ, Bool, true, false, List, [], ◌�
 use Rattle.std.specs.Prelude.{Option, None}
 use Rattle.std.specs.Io.KnownBytes.{Appends}
 use Rattle.std.proofs.KnownBytes.{Appends-trans}
-use Rattle.golf_base.specs.Causes.{Rose, WritesFront}
+use Rattle.golf_base.specs.Causes.{Rose, WritesPrefix}
 use Rattle.golf_data.specs.declared.code.Code.{Code}
 use Rattle.golf_data.specs.declared.report.Book.{Book}
 use Rattle.golf_model.specs.State.{State, start, ending}
@@ -110,14 +110,14 @@ module _ (code : Code) (recover why : Bool) (done : List Event) (e : Event) (sta
 -- ---- writes that were cut
 
 module _ (writes done later : List Write) (old now : Sinks) (got : GotWrites done old now) where
-  pub out-cut : (bytes : List ℕ) → writes ≡ done ++ Write.ToOut bytes ∷ later → (out : Option (List ℕ)) (of ef : ℕ) → WritesFront now.out out bytes → Rose old.out_faults of → ef ≡ old.err_faults → WasCut writes old (sinks out of now.err ef)
+  pub out-cut : (bytes : List ℕ) → writes ≡ done ++ Write.ToOut bytes ∷ later → (out : Option (List ℕ)) (of ef : ℕ) → WritesPrefix now.out out bytes → Rose old.out_faults of → ef ≡ old.err_faults → WasCut writes old (sinks out of now.err ef)
   out-cut bytes order out of ef f rose steady = record {
     done = done;
     cut = Write.ToOut bytes;
-    front = Write.ToOut f.0;
+    prefix = Write.ToOut f.0;
     later = later;
     order = order;
-    is_front = (f.1, f.2);
+    is_prefix = (f.1, f.2);
     got = (
       subst (Appends old.out out) (ap (λ t. out_bytes done ++ t) (sym (append-nil f.0)) ∙ sym (out-append done (Write.ToOut f.0 ∷ []))) (Appends-trans _ _ _ _ _ got.0 f.3),
       subst (Appends old.err now.err) (sym (append-nil (err_bytes done)) ∙ sym (err-append done (Write.ToOut f.0 ∷ []))) got.1,
@@ -125,14 +125,14 @@ module _ (writes done later : List Write) (old now : Sinks) (got : GotWrites don
     failed = (rose, steady);
   }
 
-  pub err-cut : (bytes : List ℕ) → writes ≡ done ++ Write.ToErr bytes ∷ later → (err : Option (List ℕ)) (of ef : ℕ) → WritesFront now.err err bytes → of ≡ old.out_faults → Rose old.err_faults ef → WasCut writes old (sinks now.out of err ef)
+  pub err-cut : (bytes : List ℕ) → writes ≡ done ++ Write.ToErr bytes ∷ later → (err : Option (List ℕ)) (of ef : ℕ) → WritesPrefix now.err err bytes → of ≡ old.out_faults → Rose old.err_faults ef → WasCut writes old (sinks now.out of err ef)
   err-cut bytes order err of ef f steady rose = record {
     done = done;
     cut = Write.ToErr bytes;
-    front = Write.ToErr f.0;
+    prefix = Write.ToErr f.0;
     later = later;
     order = order;
-    is_front = (f.1, f.2);
+    is_prefix = (f.1, f.2);
     got = (
       subst (Appends old.out now.out) (sym (append-nil (out_bytes done)) ∙ sym (out-append done (Write.ToErr f.0 ∷ []))) got.0,
       subst (Appends old.err err) (ap (λ t. err_bytes done ++ t) (sym (append-nil f.0)) ∙ sym (err-append done (Write.ToErr f.0 ∷ []))) (Appends-trans _ _ _ _ _ got.1 f.3),
@@ -163,16 +163,16 @@ module _ (writes done later : List Write) (lines : List (List ℕ)) (order : wri
       record {
         done = done ++ before;
         cut = Write.ToErr h.cut;
-        front = Write.ToErr h.front;
+        prefix = Write.ToErr h.prefix;
         later = line_writes h.later ++ later;
         order = reorder h.done (Write.ToErr h.cut ∷ line_writes h.later) (ap line_writes h.order ∙ line-writes-append h.done (h.cut ∷ h.later));
-        is_front = (h.rest, h.is_front);
+        is_prefix = (h.rest, h.is_prefix);
         got = (
           subst (Appends old.out now.out)
-              (sym (append-nil (out_bytes done)) ∙ ap (λ t. out_bytes done ++ t) (sym (lines-out h.done)) ∙ sym (out-append done before) ∙ sym (append-nil (out_bytes (done ++ before))) ∙ sym (out-append (done ++ before) (Write.ToErr h.front ∷ []))) got.0,
+              (sym (append-nil (out_bytes done)) ∙ ap (λ t. out_bytes done ++ t) (sym (lines-out h.done)) ∙ sym (out-append done before) ∙ sym (append-nil (out_bytes (done ++ before))) ∙ sym (out-append (done ++ before) (Write.ToErr h.prefix ∷ []))) got.0,
           subst (Appends old.err err)
-              (sym (append_assoc (err_bytes done) (joined h.done) h.front) ∙ ap (λ t. (err_bytes done ++ t) ++ h.front) (sym (lines-err h.done)) ∙ ap (λ t. t ++ h.front) (sym (err-append done before))
-              ∙ ap (λ t. err_bytes (done ++ before) ++ t) (sym (append-nil h.front)) ∙ sym (err-append (done ++ before) (Write.ToErr h.front ∷ []))) (Appends-trans _ _ _ _ _ got.1 h.got),
+              (sym (append_assoc (err_bytes done) (joined h.done) h.prefix) ∙ ap (λ t. (err_bytes done ++ t) ++ h.prefix) (sym (lines-err h.done)) ∙ ap (λ t. t ++ h.prefix) (sym (err-append done before))
+              ∙ ap (λ t. err_bytes (done ++ before) ++ t) (sym (append-nil h.prefix)) ∙ sym (err-append (done ++ before) (Write.ToErr h.prefix ∷ []))) (Appends-trans _ _ _ _ _ got.1 h.got),
         );
         failed = (steady, rose);
       }

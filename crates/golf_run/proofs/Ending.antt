@@ -171,10 +171,10 @@ module _ {code : Code} {options : RunOptions} {event : Event} {rest : List Event
       )
 
 -- answers that are errors
-pub wanting : (r : Result Course RunFault) (code : Code) (options : RunOptions) (old new : Sinks) → IsErr r → IsErrAnd r (λ e. e ≡ faults.Memory) → WasStopped (writes_of code options) old new → HasGone r code options old new
-wanting (Ok x) code options old new i a w = cc
-wanting (Err faults.Write) code options old new i a w = cc
-wanting (Err faults.Memory) code options old new i a w = w
+pub memory-stopped : (r : Result Course RunFault) (code : Code) (options : RunOptions) (old new : Sinks) → IsErr r → IsErrAnd r (λ e. e ≡ faults.Memory) → WasStopped (writes_of code options) old new → HasGone r code options old new
+memory-stopped (Ok x) code options old new i a w = cc
+memory-stopped (Err faults.Write) code options old new i a w = cc
+memory-stopped (Err faults.Memory) code options old new i a w = w
 
 pub broken : (r : Result Course RunFault) (code : Code) (options : RunOptions) (old new : Sinks) → IsErr r → IsErrAnd r (λ e. e ≡ faults.Write) → WasCut (writes_of code options) old new → HasGone r code options old new
 broken (Ok x) code options old new i a w = cc
@@ -223,7 +223,7 @@ tell-stopped {recover} {sets} {why} {book} {told} {e = faults.Write} {code = cod
     broken result code options old _ failed same (lines-cut (writes_of code options) b.done b.more (told_by recover sets why book told) b.order old now b.got err ef (subst (λ x. IsCutIn (told_by recover sets why book x) now.err err) f.stands left.0) b.steady.out (subst (λ n. Rose n ef) b.steady.err left.1))
 tell-stopped {recover} {sets} {why} {book} {told} {e = faults.Memory} {code = code} {options = options} {old = old} {now = now} {err = err} {ef = ef} result failed same b f =
     let left = subst (λ x. HasTold recover sets why x f.state f.later book f.next now.err err now.err_faults ef) f.was f.has_told in
-    wanting result code options old _ failed same (lines-stopped (writes_of code options) b.done b.more (told_by recover sets why book told) b.order old now b.got err ef (subst (λ x. IsStoppedIn (told_by recover sets why book x) now.err err) f.stands left.0) b.steady.out (left.1 ∙ b.steady.err))
+    memory-stopped result code options old _ failed same (lines-stopped (writes_of code options) b.done b.more (told_by recover sets why book told) b.order old now b.got err ef (subst (λ x. IsStoppedIn (told_by recover sets why book x) now.err err) f.stands left.0) b.steady.out (left.1 ∙ b.steady.err))
 
 -- an event in this state did not come about
 pub record FailsToTurn (code : Code) (event : Event) (s : State) (e : RunFault) (now : Sinks) (out : Option (List ℕ)) (of : ℕ) : Type 0 where
@@ -238,6 +238,6 @@ turn-stopped {code} {options} {event = Event.Turn c} {s = s} {e = faults.Write} 
 turn-stopped {code} {options} {event = Event.Turn c} {s = s} {e = faults.Memory} {old = old} {now = now} {out = out} {of = of} result failed same b f =
     let here : sinks out of now.err now.err_faults ≡ now = λ i. sinks (f.failed.0 i) (f.failed.1 i) now.err now.err_faults in
     let stands : WasStopped (writes_of code options) old now = record { done = b.done; later = says code (Event.Turn c) s ++ b.more; order = b.order; got = b.got; steady = b.steady } in
-    wanting result code options old _ failed same (subst (WasStopped (writes_of code options) old) (sym here) stands)
+    memory-stopped result code options old _ failed same (subst (WasStopped (writes_of code options) old) (sym here) stands)
 turn-stopped {event = Event.Collect} {e = faults.Write} result failed same b f = absurd f.failed
 turn-stopped {event = Event.Collect} {e = faults.Memory} result failed same b f = absurd f.failed

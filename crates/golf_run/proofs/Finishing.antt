@@ -5,7 +5,7 @@ use Rattle.std.proofs.Common.{◌≡◌, ℕ, not, ◌==◌, List, [], ◌∷◌
 use Rattle.std.specs.Prelude.{Option, Result, Ok, Err, IsErr, IsErrAnd}
 use Rattle.std.specs.Io.KnownBytes.{Appends}
 use Rattle.std.proofs.KnownBytes.{Appends-trans}
-use Rattle.golf_base.specs.Causes.{Rose, WritesFront}
+use Rattle.golf_base.specs.Causes.{Rose, WritesPrefix}
 use Rattle.golf_data.specs.declared.code.Code.{Code}
 use Rattle.golf_run_schedules.specs.declared.options.RunOptions.{RunOptions}
 use Rattle.golf_run_texts.specs.declared.status.Status.{Status}
@@ -39,20 +39,20 @@ module _ (course : Course) (code : Code) (options : RunOptions) (old now : Sinks
       ∙ ap (status_by (anyone_reported (reports_of code options))) w.ends
 
   -- memory ran out for the last line
-  pub line-wanting : (r : Result Status RunFault) → IsErr r → IsErrAnd r (λ e. e ≡ faults.Memory) → HasRun r code options old now
+  pub line-memory : (r : Result Status RunFault) → IsErr r → IsErrAnd r (λ e. e ≡ faults.Memory) → HasRun r code options old now
   unfolding writes_of
-  line-wanting (Ok x) i a = cc
-  line-wanting (Err faults.Write) i a = cc
-  line-wanting (Err faults.Memory) i a = record { done = event_writes_of code options; later = Write.ToErr (end_of code options) ∷ []; order = refl; got = w.got; steady = w.steady }
+  line-memory (Ok x) i a = cc
+  line-memory (Err faults.Write) i a = cc
+  line-memory (Err faults.Memory) i a = record { done = event_writes_of code options; later = Write.ToErr (end_of code options) ∷ []; order = refl; got = w.got; steady = w.steady }
 
   -- its write failed
-  pub line-broken : (r : Result Status RunFault) → IsErr r → IsErrAnd r (λ e. e ≡ faults.Write) → (line : List ℕ) → line ≡ end_of code options → (err : Option (List ℕ)) (ef : ℕ) → WritesFront now.err err line → Rose now.err_faults ef
+  pub line-broken : (r : Result Status RunFault) → IsErr r → IsErrAnd r (λ e. e ≡ faults.Write) → (line : List ℕ) → line ≡ end_of code options → (err : Option (List ℕ)) (ef : ℕ) → WritesPrefix now.err err line → Rose now.err_faults ef
       → HasRun r code options old (sinks now.out now.out_faults err ef)
   unfolding writes_of
   line-broken (Ok x) i a line is err ef f rose = cc
   line-broken (Err faults.Write) i a line is err ef f rose =
       err-cut (event_writes_of code options ++ Write.ToErr (end_of code options) ∷ []) (event_writes_of code options) [] old now w.got (end_of code options) refl
-      err now.out_faults ef (subst (WritesFront now.err err) is f) w.steady.out (subst (λ n. Rose n ef) w.steady.err rose)
+      err now.out_faults ef (subst (WritesPrefix now.err err) is f) w.steady.out (subst (λ n. Rose n ef) w.steady.err rose)
   line-broken (Err faults.Memory) i a line is err ef f rose = cc
 
   -- both texts are whole

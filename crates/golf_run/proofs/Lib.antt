@@ -13,6 +13,6 @@ mod Silent
 mod Advanced
 mod Cutting
 mod Ending
-pub mod Fronts
+pub mod Prefixes
 mod Stepping
 mod Finishing

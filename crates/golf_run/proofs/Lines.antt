@@ -5,7 +5,7 @@ use Rattle.std.proofs.Common.{◌≡◌, ℕ, zero, suc, ◌+◌, ◌<◌, List,
 use Rattle.std.specs.Prelude.{Option, Result, Ok, Err, IsErr, IsErrAnd}
 use Rattle.std.specs.Io.KnownBytes.{Appends}
 use Rattle.std.proofs.KnownBytes.{Appends-trans, Appends-nil}
-use Rattle.golf_base.specs.Causes.{Rose, WritesFront}
+use Rattle.golf_base.specs.Causes.{Rose, WritesPrefix}
 use Rattle.golf_run_texts.specs.Output.{joined}
 use Rattle.golf_run.specs.declared.fault.RunFault.{RunFault}
 use Rattle.golf_run.specs.declared.fault.RunFault.TheVariants as faults
@@ -17,15 +17,15 @@ pub stopped-before : (lines : List (List ℕ)) (out : Option (List ℕ)) → IsS
 stopped-before lines out = record { done = []; later = lines; order = refl; got = Appends-nil out }
 
 module _ {A : Type 0} where
-  pub line-wanting : (r : Result A RunFault) (lines : List (List ℕ)) (out : Option (List ℕ)) (f : ℕ) → IsErr r → IsErrAnd r (λ e. e ≡ faults.Memory) → HasWritten r lines out out f f
-  line-wanting (Ok x) lines out f i a = cc
-  line-wanting (Err faults.Write) lines out f i a = cc
-  line-wanting (Err faults.Memory) lines out f i a = (stopped-before lines out, refl)
+  pub line-memory : (r : Result A RunFault) (lines : List (List ℕ)) (out : Option (List ℕ)) (f : ℕ) → IsErr r → IsErrAnd r (λ e. e ≡ faults.Memory) → HasWritten r lines out out f f
+  line-memory (Ok x) lines out f i a = cc
+  line-memory (Err faults.Write) lines out f i a = cc
+  line-memory (Err faults.Memory) lines out f i a = (stopped-before lines out, refl)
 
   -- the first line was cut
-  pub line-broken : (r : Result A RunFault) (line : List ℕ) (more : List (List ℕ)) (old new : Option (List ℕ)) (f h : ℕ) → IsErr r → IsErrAnd r (λ e. e ≡ faults.Write) → WritesFront old new line → Rose f h → HasWritten r (line ∷ more) old new f h
+  pub line-broken : (r : Result A RunFault) (line : List ℕ) (more : List (List ℕ)) (old new : Option (List ℕ)) (f h : ℕ) → IsErr r → IsErrAnd r (λ e. e ≡ faults.Write) → WritesPrefix old new line → Rose f h → HasWritten r (line ∷ more) old new f h
   line-broken (Ok x) line more old new f h i a w rose = cc
-  line-broken (Err faults.Write) line more old new f h i a w rose = (record { done = []; cut = line; front = w.0; rest = w.1; later = more; order = refl; is_front = w.2; got = w.3 }, rose)
+  line-broken (Err faults.Write) line more old new f h i a w rose = (record { done = []; cut = line; prefix = w.0; rest = w.1; later = more; order = refl; is_prefix = w.2; got = w.3 }, rose)
   line-broken (Err faults.Memory) line more old new f h i a w rose = cc
 
   pub line-whole : (x : A) (line : List ℕ) (old new : Option (List ℕ)) (f h : ℕ) → Appends old new line → h ≡ f → HasWritten (Ok x) (line ∷ []) old new f h
@@ -38,12 +38,12 @@ module _ {A : Type 0} where
     record {
       done = a ++ w.0.done;
       cut = w.0.cut;
-      front = w.0.front;
+      prefix = w.0.prefix;
       rest = w.0.rest;
       later = w.0.later;
       order = ap (λ ls. a ++ ls) w.0.order ∙ sym (append_assoc a w.0.done (w.0.cut ∷ w.0.later));
-      is_front = w.0.is_front;
-      got = subst (Appends old new) (sym (append_assoc (joined a) (joined w.0.done) w.0.front) ∙ ap (λ t. t ++ w.0.front) (sym (joined-append a w.0.done))) (Appends-trans _ _ _ _ _ before w.0.got);
+      is_prefix = w.0.is_prefix;
+      got = subst (Appends old new) (sym (append_assoc (joined a) (joined w.0.done) w.0.prefix) ∙ ap (λ t. t ++ w.0.prefix) (sym (joined-append a w.0.done))) (Appends-trans _ _ _ _ _ before w.0.got);
     },
     subst (λ n. Rose n h) steady w.1,
   )
@@ -63,11 +63,11 @@ early A faults.Write a more old new f h w = (
   record {
     done = w.0.done;
     cut = w.0.cut;
-    front = w.0.front;
+    prefix = w.0.prefix;
     rest = w.0.rest;
     later = w.0.later ++ more;
     order = ap (λ ls. ls ++ more) w.0.order ∙ append_assoc w.0.done (w.0.cut ∷ w.0.later) more;
-    is_front = w.0.is_front;
+    is_prefix = w.0.is_prefix;
     got = w.0.got;
   },
   w.1,

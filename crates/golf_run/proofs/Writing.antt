@@ -166,7 +166,7 @@ module _ (code : Code) (recover sets : Bool) where
         ∙ ap (λ t. stops_text recover sets why book stop ++ t) (writes-err es there next)
         ∙ sym (stops-text-append stop stops book)
 
-    -- where the program has ended nothing more is written
+    -- if the program has ended nothing more is written
     pub ended-writes : (es : List Event) (book : Book) (s : State) → has_ended s ≡ true → writes_from code recover sets why book s es ≡ []
     ended-writes [] book s h = refl
     ended-writes (e ∷ es) book s h =

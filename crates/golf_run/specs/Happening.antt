@@ -1,7 +1,7 @@
 -- One event of a run, before the collection that may follow it.
 use Rattle.std.specs.Prelude.{◌≡◌, ℕ, Bool, true, List, [], ◌∷◌, Option, Result, Ok, Err}
 use Rattle.std.specs.Io.KnownBytes.{Appends}
-use Rattle.golf_base.specs.Causes.{Rose, WritesFront}
+use Rattle.golf_base.specs.Causes.{Rose, WritesPrefix}
 use Rattle.golf_data.specs.declared.code.Code.{Code}
 use Rattle.golf_model.specs.State.{State}
 use Rattle.golf_model.specs.Turn.{step, wants_collection}
@@ -9,9 +9,6 @@ use Rattle.golf_model.specs.Running.{Event}
 use Rattle.golf_run_texts.specs.Writes.{Write, emptied}
 use Rattle.golf_run.specs.declared.fault.RunFault.{RunFault}
 use Rattle.golf_run.specs.declared.fault.RunFault.TheVariants as faults
-
-abbrev pub turn_event : ℕ → Event
-turn_event c = Event.Turn c
 
 -- the state after the event's turn, if it is one, and with what it printed taken
 abbrev pub turned : Code → Event → State → State
@@ -36,7 +33,7 @@ collects code Event.Collect s = true
 -- what the turn prints was written, and the state is the one after it; or the write failed in the middle; or memory ran out, and nothing was written. Only turns fail.
 abbrev pub HasTurned : Result Bool RunFault → Code → Event → State → State → Option (List ℕ) → Option (List ℕ) → ℕ → ℕ → Type 0
 HasTurned (Ok wants) code e s after out out' before now = (wants ≡ collects code e s) × (after ≡ turned code e s) × Appends out out' (prints code e s) × (now ≡ before)
-HasTurned (Err faults.Write) code (Event.Turn c) s after out out' before now = WritesFront out out' (step code s c).output × Rose before now
+HasTurned (Err faults.Write) code (Event.Turn c) s after out out' before now = WritesPrefix out out' (step code s c).output × Rose before now
 HasTurned (Err faults.Memory) code (Event.Turn c) s after out out' before now = (out' ≡ out) × (now ≡ before)
 HasTurned (Err faults.Write) code Event.Collect s after out out' before now = ⊥
 HasTurned (Err faults.Memory) code Event.Collect s after out out' before now = ⊥

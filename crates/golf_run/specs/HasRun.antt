@@ -1,7 +1,7 @@
 -- What a run has written, and when it did not go on.
-use Rattle.std.specs.Prelude.{◌≡◌, ℕ, ◌⊎◌, List, [], ◌∷◌, ◌++◌, Option, Result, Ok, Err}
+use Rattle.std.specs.Prelude.{◌≡◌, ℕ, List, [], ◌∷◌, ◌++◌, Option, Result, Ok, Err}
 use Rattle.std.specs.Io.KnownBytes.{Appends}
-use Rattle.golf_base.specs.Causes.{Rose, WritesFront}
+use Rattle.golf_base.specs.Causes.{Rose}
 use Rattle.golf_data.specs.declared.code.Code.{Code}
 use Rattle.golf_run_schedules.specs.declared.options.RunOptions.{RunOptions}
 use Rattle.golf_run_texts.specs.declared.status.Status.{Status}
@@ -10,7 +10,7 @@ use Rattle.golf_run_texts.specs.Writes.{Write, out_bytes, err_bytes, writes_of}
 use Rattle.golf_run.specs.declared.fault.RunFault.{RunFault}
 use Rattle.golf_run.specs.declared.fault.RunFault.TheVariants as faults
 
--- two sinks at a time: the bytes that were written, where they are told, and how often each has failed
+-- two sinks at a time: the bytes that were written, if they are told, and how often each has failed
 pub record Sinks : Type 0 where
   pub out : Option (List ℕ)
   pub out_faults : ℕ
@@ -25,11 +25,11 @@ abbrev pub GotWrites : List Write → Sinks → Sinks → Type 0
 GotWrites writes old new = Appends old.out new.out (out_bytes writes) × Appends old.err new.err (err_bytes writes)
 
 -- a write to the same sink of a prefix of the bytes
-abbrev pub IsFrontOf : Write → Write → Type 0
-IsFrontOf (Write.ToOut front) (Write.ToOut bytes) = (rest : List ℕ) × (bytes ≡ front ++ rest)
-IsFrontOf (Write.ToErr front) (Write.ToErr bytes) = (rest : List ℕ) × (bytes ≡ front ++ rest)
-IsFrontOf (Write.ToOut front) (Write.ToErr bytes) = ⊥
-IsFrontOf (Write.ToErr front) (Write.ToOut bytes) = ⊥
+abbrev pub IsPrefixOf : Write → Write → Type 0
+IsPrefixOf (Write.ToOut prefix) (Write.ToOut bytes) = (rest : List ℕ) × (bytes ≡ prefix ++ rest)
+IsPrefixOf (Write.ToErr prefix) (Write.ToErr bytes) = (rest : List ℕ) × (bytes ≡ prefix ++ rest)
+IsPrefixOf (Write.ToOut prefix) (Write.ToErr bytes) = ⊥
+IsPrefixOf (Write.ToErr prefix) (Write.ToOut bytes) = ⊥
 
 -- the sink of the write failed, and the other did not
 abbrev pub HasFailed : Write → Sinks → Sinks → Type 0
@@ -45,11 +45,11 @@ pub record IsSteady (old new : Sinks) : Type 0 where
 pub record WasCut (writes : List Write) (old new : Sinks) : Type 0 where
   pub done : List Write
   pub cut : Write
-  pub front : Write
+  pub prefix : Write
   pub later : List Write
   pub order : writes ≡ done ++ cut ∷ later
-  pub is_front : IsFrontOf front cut
-  pub got : GotWrites (done ++ front ∷ []) old new
+  pub is_prefix : IsPrefixOf prefix cut
+  pub got : GotWrites (done ++ prefix ∷ []) old new
   pub failed : HasFailed cut old new
 
 -- the writes stopped between two of them: those before are whole, and after them nothing was written
@@ -71,14 +71,3 @@ abbrev pub HasRun : Result Status RunFault → Code → RunOptions → Sinks →
 HasRun (Ok status) code options old new = GotWhole status code options old new × IsSteady old new
 HasRun (Err faults.Write) code options old new = WasCut (writes_of code options) old new
 HasRun (Err faults.Memory) code options old new = WasStopped (writes_of code options) old new
-
--- ---- what follows from it
-
--- each sink got a prefix of its text
-pub record GotFronts (code : Code) (options : RunOptions) (old new : Sinks) : Type 0 where
-  pub out : WritesFront old.out new.out (out_of code options)
-  pub err : WritesFront old.err new.err (err_of code options)
-
--- a write failed, to one sink alone
-abbrev pub HasBroken : Sinks → Sinks → Type 0
-HasBroken old new = (Rose old.out_faults new.out_faults × (new.err_faults ≡ old.err_faults)) ⊎ ((new.out_faults ≡ old.out_faults) × Rose old.err_faults new.err_faults)

@@ -8,3 +8,4 @@ pub mod HasLeft
 pub mod UnderWay
 pub mod HasGone
 pub mod IsRunSummary
+pub mod Laws

@@ -10,12 +10,12 @@ use Rattle.golf_run.specs.declared.fault.RunFault.TheVariants as faults
 pub record IsCutIn (lines : List (List ℕ)) (old new : Option (List ℕ)) : Type 0 where
   pub done : List (List ℕ)
   pub cut : List ℕ
-  pub front : List ℕ
+  pub prefix : List ℕ
   pub rest : List ℕ
   pub later : List (List ℕ)
   pub order : lines ≡ done ++ cut ∷ later
-  pub is_front : cut ≡ front ++ rest
-  pub got : Appends old new (joined done ++ front)
+  pub is_prefix : cut ≡ prefix ++ rest
+  pub got : Appends old new (joined done ++ prefix)
 
 -- the writes stopped between two lines
 pub record IsStoppedIn (lines : List (List ℕ)) (old new : Option (List ℕ)) : Type 0 where

@@ -3,11 +3,13 @@
 
 mod coming;
 mod fault;
+mod laws;
 mod running;
 mod surveying;
 mod telling;
 mod turns;
 
 pub use fault::RunFault;
+pub use laws::{faults_leave_prefixes, writes_are_texts};
 pub use running::{last_line, run, status_by};
 pub use surveying::{RunSummary, survey};

@@ -7,7 +7,7 @@ use Rattle.golf_data.specs.declared.goroutine.Side.{Side}
 use Rattle.golf_data.specs.declared.goroutine.Wait.{Wait}
 use Rattle.golf_model.specs.Views.{GoroutineView}
 use Rattle.golf_model.specs.Waiting.{wait_for, wait_on}
-use Rattle.golf_model.specs.Waking.{Waking as Woken, fault, is_below, woken_by}
+use Rattle.golf_model.specs.Waking.{Waking as Woken, fault, is_below}
 use Rattle.golf_state.specs.declared.frames.Given.{Given}
 use Rattle.golf_state.specs.declared.frames.Wakening.{Wakening}
 use Rattle.golf_state.specs.declared.waking.Waking.{Waking}
@@ -48,7 +48,3 @@ wakening_of (Mode.Blocked kind line waits ticket) o (Waking.ToReaders below) = r
 abbrev pub wakened_by : Option Wakening → GoroutineView → GoroutineView
 wakened_by None r = r
 wakened_by (Some how) r = wakened how r
-
--- a goroutine, if all who wait on the object are woken
-abbrev pub woken_entry : Woken → ℕ → ℕ × GoroutineView → ℕ × GoroutineView
-woken_entry how o e = (e.0, woken_by how o e.1)

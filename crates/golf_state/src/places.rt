@@ -14,7 +14,7 @@ use golf_base::{Boxed, GoroutineId, List, Memory};
 use golf_data::{Frame, Goroutine, Mode, Queued};
 use std::alloc::Global;
 
-/// A goroutine and its number. It is small, so that little is moved where one before it ends.
+/// A goroutine and its number. It is small, so that little is moved when one before it ends.
 #[derive(Debug, Drop)]
 pub struct Place {
     pub number: u32,

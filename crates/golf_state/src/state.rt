@@ -481,7 +481,7 @@ impl State {
 
     /// The blocked goroutine is passed on from a condition to its mutex: an unlocked one becomes
     /// locked and the goroutine runs; a locked one is what it waits for from now on, with the next
-    /// ticket. It has no answer for want of memory.
+    /// ticket. It cannot run out of memory.
     pub fn pass_on(&mut self, g: GoroutineId, mutex: ObjectId)
         requires blocked { is_blocked g.0 self.old ≡ true }
         requires tickets { self.old.next_ticket + 1 < 2 ^ 64 }
@@ -603,7 +603,7 @@ impl State {
     }
 
     /// Takes away the goroutines whose flag, in rising order of number, is false, and the queues in
-    /// which nobody stands then. It takes no memory, and looks at those who stand in the queue only where
+    /// which nobody stands then. It takes no memory, and looks at those who stand in the queue only if
     /// a goroutine is taken away.
     pub fn retain_goroutines(&mut self, stays: &[bool])
         requires { length stays.now ≡ length self.old.goroutines }

@@ -25,7 +25,7 @@ pub enum Waking {
     ToReaders(Option<u64>),
 }
 
-/// What a receive gives: the value, and whether it was sent where that is asked for.
+/// What a receive gives: the value, and whether it was sent if that is asked for.
 #[inline(always)]
 pub fn received(with_ok: bool, value: Value, sent: bool) -> Given
     ensures values { values_of result ≡ received with_ok value sent }

@@ -18,7 +18,7 @@ abbrev Shrinks : {A : Type 0} → Item A → Type 0
 Shrinks {A} item = (ts : List Token) (x : A × List Token) → item ts ≡ Some x → length x.1 ≤ length ts
 
 module _ (A : Type 0) (item : Item A) (sep close : Punctuation) (shrinks : Shrinks item) where
-  -- the number of items allowed does not matter where there are more than tokens
+  -- the number of items allowed does not matter if there are more than tokens
   same-behind : (done : List A) (ts us : List Token) (again other : Item (List A)) (o : Option (List Token)) → after sep us ≡ o → length us ≤ length ts →
       ((vs : List Token) → length vs < length ts → again vs ≡ other vs) → many_behind close done us again o ≡ many_behind close done us other o
   same-behind done ts us again other None e w k = refl

@@ -12,7 +12,7 @@ use Rattle.golf_syntax_trees.specs.Reads.{ReadsTokens, IsFaultOn}
 use Rattle.golf_syntax.specs.declared.parser.SyntaxFault.{SyntaxFault}
 use Rattle.golf_syntax.specs.declared.parser.SyntaxFault.TheVariants as faults
 
--- The tree that reads the tokens, or the line of the fault if none does; want of memory tells nothing.
+-- The tree that reads the tokens, or the line of the fault if none does; out of memory, nothing is told.
 abbrev pub Parsed : List Token → Result File SyntaxFault → Type 0
 Parsed tokens (Ok file) = ReadsTokens tokens file
 Parsed tokens (Err (faults.At line)) = ((file : File) → ReadsTokens tokens file → ⊥) × IsFaultOn tokens line

@@ -114,7 +114,7 @@ pub start-first : {ws : List Word} {ts rest : List Token} (header : Bool) (k : T
 unfolding start_at unary_at
 start-first header k h = let f = first h in (f.1, ap (start_at header) f.2 ∙ ap (λ q. start_from header q f.1) f.3, ap unary_at f.2 ∙ ap (λ q. unary_behind q f.1) f.3, f.5)
 
--- a climb ends where no operator binds so tightly
+-- a climb ends if no operator binds so tightly
 pub climb-stops : (header : Bool) (l : ℕ) (left : Expr) (ts : List Token) → head ts < l → expr_at (Climb header l left) ts ≡ Some (left, ts)
 climb-stops header l left ts h = expr-Climb header l left ts ∙ at (binary_at ts) h
   where

@@ -347,7 +347,7 @@ fn read(
     }
 }
 
-// An expression whose operators bind at least so tightly, and what follows it; in a header, where that is true.
+// An expression whose operators bind at least so tightly, and what follows it; in a header, if that is true.
 #[tactic(auto, using(crate::proofs::Moves::shorter_steps))]
 pub(crate) fn level_at(
     alloc: Global,
@@ -361,7 +361,7 @@ pub(crate) fn level_at(
     read(alloc, Goal::Level(header, lowest), tokens)
 }
 
-// An operand with the operators before it, and what follows it; in a header, where that is true.
+// An operand with the operators before it, and what follows it; in a header, if that is true.
 #[tactic(auto, using(crate::proofs::Moves::shorter_steps))]
 pub(crate) fn prefixed_at(
     alloc: Global,

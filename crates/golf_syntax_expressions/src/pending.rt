@@ -7,9 +7,9 @@ use golf_syntax_trees::{
 /// What is read next.
 #[derive(Drop)]
 pub enum Goal {
-    /// an expression whose operators bind at least so tightly; in a header, where the first is true
+    /// an expression whose operators bind at least so tightly; in a header, if the first is true
     Level(bool, u8),
-    /// an operand with the operators before it; in a header, where it is true
+    /// an operand with the operators before it; in a header, if it is true
     Prefixed(bool),
     /// what stands after an operand
     Suffixes(OwnedExpr),

@@ -1,4 +1,4 @@
--- A communication is read exactly where it is printed.
+-- A communication is read exactly if it is printed.
 -- For: `comm_at` (golf_syntax_statements/specs/CommReading.antt) and `comm_at` (src/communications.rt)
 -- By: cases of the simple statement that is read; induction over the tree of an expression for what it begins with
 use Rattle.std.proofs.Common.{◌≡◌, ℕ, true, false, ◌&&◌, List, [], ◌∷◌, refl, ap, sym, subst, ◌∙◌}

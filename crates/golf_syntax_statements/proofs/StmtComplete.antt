@@ -303,7 +303,7 @@ case-first seen done l w h =
       f.5,
     )
 
--- the statements of a clause and the clauses after them, where those after are read
+-- the statements of a clause and the clauses after them, if those after are read
 module _ (later : Bool) (done : List Clause) (wrap : List Stmt → Clause) (b : Parts) (good : stmts_good (map stmt_form (stmts b)) ≡ true) where
   last-clause : (us mid rest : List Token) → Spelt (words.punctuation punctuations.Colon ∷ separated punctuations.Semicolon (map print_stmt (stmts b))) us mid → after punctuations.CloseBrace mid ≡ Some rest → run stmt_at (clause_plan later done wrap us) ≡ Some (done ++ wrap (stmts b) ∷ [], rest)
   last-clause us mid rest h c =

@@ -1,4 +1,4 @@
--- A variable is read exactly where it is printed.
+-- A variable is read exactly if it is printed.
 -- For: `var_at` (golf_syntax_statements/specs/VarReading.antt) and `var_at` (src/variables.rt)
 -- By: cases of the content, with or without a type; no induction
 use Rattle.std.proofs.Common.{◌≡◌, true, false, List, ◌∷◌, refl, ap, subst, ◌∙◌}

@@ -7,7 +7,7 @@ pub fn variables_found()
     ensures { VarsFound }
 {}
 
-/// A well-formed variable that is printed is found, where its statement ends.
+/// A well-formed variable that is printed is found, if its statement ends.
 pub fn variables_read()
     ensures { VarsRead }
 {}
@@ -47,7 +47,7 @@ pub fn statements_found()
     ensures { StatementsFound }
 {}
 
-/// A well-formed statement that is printed is found, where it ends.
+/// A well-formed statement that is printed is found, if it ends.
 pub fn statements_read()
     ensures { StatementsRead }
 {}

@@ -7,7 +7,7 @@ use Rattle.golf_lex_tokens.specs.declared.token.Punctuation.{Punctuation}
 use Rattle.golf_lex_tokens.specs.declared.token.Punctuation.TheVariants as punctuations
 use Rattle.golf_lex_tokens.specs.declared.token.Keyword.{Keyword}
 
--- a printed token: its kind, and its line where a statement, declaration or clause begins with it
+-- a printed token: its kind, and its line if a statement, declaration or clause begins with it
 pub record Word : Type 0 where
   pub kind : TokenKind
   pub line : Option ℕ

@@ -1,7 +1,7 @@
 //! Turns for which memory is refused: the state is as before, and the turn can be taken again.
 //!
 //! Memory is refused by `rt try --test --fail-alloc N`, for each N: the tests that are hit while they
-//! make their codes fail for want of memory, the others pass.
+//! make their codes run out of memory, the others pass.
 
 use crate::programs::program;
 use crate::stepping::{HowBlocked, MAIN, blocked, holds, stands};

@@ -9,7 +9,7 @@ use std::alloc::Global;
 use std::process::Abort;
 use std::test::Fail;
 
-// What is told where nothing is read.
+// What is told if nothing is read.
 const NONE: (&str, usize) = ("none", 0);
 
 fn content_name(content: &VarContent) -> &'static str {

@@ -1,4 +1,6 @@
 -- Code whose functions are all ready has places.
+-- For: `IsReady`, specs/Ready.antt
+-- By: induction on the list of functions
 use Rattle.std.specs.Prelude.{slice_get}
 use Rattle.std.proofs.Common.{ℕ, zero, suc, List, [], ◌∷◌, All, Option, Some, None}
 use Rattle.std.proofs.lemmas.List.Elements.{All-head, All-tail}

@@ -5,10 +5,6 @@ use Rattle.std.specs.Prelude.{ℕ, List, ◌==◌, sum_by, count_by}
 abbrev pub times : ℕ → List ℕ → ℕ
 times x xs = count_by (λ y. y == x) xs
 
--- the weights of all items of all rows
-abbrev pub rows_sum : {X : Type 0} → (X → ℕ) → List (List X) → ℕ
-rows_sum weight rows = sum_by (λ row. sum_by weight row) rows
-
 -- how often x stands in all rows
 abbrev pub rows_times : ℕ → List (List ℕ) → ℕ
 rows_times x rows = sum_by (λ row. times x row) rows

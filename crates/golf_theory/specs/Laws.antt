@@ -53,6 +53,6 @@ LeastDerived X = (rule : List X → X → Bool) (candidates : List X)
 abbrev pub Counted : Type 0
 Counted = (xs words : List ℕ) → ((x : ℕ) → times x xs ≤ get_or words x 0) → length xs ≤ sum words
 
--- a number is a member exactly where it stands at least once, and exactly if the test says so
+-- a number is a member exactly if it stands at least once, and exactly if the test says so
 abbrev pub MembersCount : Type 0
 MembersCount = (x : ℕ) (xs : List ℕ) → (In x xs ↔ (1 ≤ times x xs)) × (In x xs ↔ (is_in x xs ≡ true))

@@ -11,7 +11,7 @@ abbrev pub pick : {X : Type 0} → (X → Bool) → List X → Option (X × List
 pick test [] = None
 pick test (x ∷ xs) = cond (test x) (Some (x, xs)) (with_rest x (pick test xs))
 
--- goes on with what was picked, or stays where there is nothing more
+-- goes on with what was picked, or stays if there is nothing more
 abbrev pub next_of : {X : Type 0} → (List X → List X → List X) → List X → Option (X × List X) → List X
 next_of go_on got None = got
 next_of go_on got (Some p) = go_on (p.0 ∷ got) p.1

@@ -41,7 +41,7 @@ booked code es = books code new_book (stops code es)
 abbrev pub count : Code → List HistoryEntry → ℕ
 count code es = length (runnable (after code es))
 
--- the number with which a pass takes the turn at a place, where so many can run
+-- the number with which a pass takes the turn at a place, if so many can run
 abbrev pub number_at : ℕ → ℕ → ℕ → ℕ
 number_at p t m = (p + t) % m + m * t
 

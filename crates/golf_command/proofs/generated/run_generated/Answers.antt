@@ -4,14 +4,14 @@ use Rattle.golf_command_words.specs.declared.line.CommandLine.{CommandLine}
 use Rattle.golf_run_texts.specs.declared.status.Status.TheVariants as s
 use Rattle.golf_run_texts.specs.declared.status.TheConstants.{LIMIT, NO_MEMORY}
 use Rattle.golf_command.proofs.Sinking.{says}
-use Rattle.golf_command.proofs.Filing.{wanting-tells}
+use Rattle.golf_command.proofs.Filing.{memory-tells}
 use Rattle.golf_command.proofs.NeverRefused.{short, not-lexical, not-syntax, not-untyped}
 use Rattle.golf_command.proofs.Writing.{written-tells, made-of-parts, same-file}
 use Rattle.golf_command.proofs.generated.run_generated.Goals as goal
 
 pub returns-in-Err : goal.returns-in-Err
 returns-in-Err g c =
-    wanting-tells (CommandLine.Generate c.args.parts) (generated_file c.args.parts) (c.requires.some, c.requires.most) _ _ c.end.result (says _ _ _ _ _ _ s.Memory c.end.result NO_MEMORY.now c.end.ensures)
+    memory-tells (CommandLine.Generate c.args.parts) (generated_file c.args.parts) (c.requires.some, c.requires.most) _ _ c.end.result (says _ _ _ _ _ _ s.Memory c.end.result NO_MEMORY.now c.end.ensures)
 
 pub returns-in-Ok-read : goal.returns-in-Ok-read
 returns-in-Ok-read g c =
@@ -33,7 +33,7 @@ read-requires g c =
 
 pub returns-in-Err-Memory : goal.returns-in-Err-Memory
 returns-in-Err-Memory g c =
-    wanting-tells (CommandLine.Generate c.args.parts) (generated_file c.args.parts) (c.requires.some, c.requires.most) _ _ c.end-in-Err-Memory.result (says _ _ _ _ _ _ s.Memory c.end-in-Err-Memory.result NO_MEMORY.now c.end-in-Err-Memory.ensures)
+    memory-tells (CommandLine.Generate c.args.parts) (generated_file c.args.parts) (c.requires.some, c.requires.most) _ _ c.end-in-Err-Memory.result (says _ _ _ _ _ _ s.Memory c.end-in-Err-Memory.result NO_MEMORY.now c.end-in-Err-Memory.ensures)
 
 pub unreachable-requires : goal.unreachable-requires
 unreachable-requires g c = not-lexical c.args.parts c.requires.some c.requires.most c.as_slice.result.now (c.as_slice.ensures ∙ c.in-Ok.ensures) c.in-Err-Lexical.field-0 c.in-Err-Lexical.ensures.answer _ _ c.in-Err-Lexical.field-0-is

@@ -13,4 +13,4 @@ returns-in-Ok-write_all g c =
 
 pub returns : goal.returns
 returns g c =
-    same-text c.args.made c.in-Ok.text _ s.WriteFault _ _ c.in-Ok.is c.as_slice.ensures (told-cut _ _ _ _ _ _ c.as_slice.result.now c.in-Err-write_all.ensures.front c.in-Err-write_all.ensures.cause.failed)
+    same-text c.args.made c.in-Ok.text _ s.WriteFault _ _ c.in-Ok.is c.as_slice.ensures (told-cut _ _ _ _ _ _ c.as_slice.result.now c.in-Err-write_all.ensures.prefix c.in-Err-write_all.ensures.cause.failed)

@@ -24,7 +24,7 @@ returns-in-Err-Write g c =
     let was = rw c.in-Err-Write.field-0-is at c.in-Err-Write.ensures in
     loaded-tells line tt l loads.3 loads.4
     (failed-tells line l.bytes c.requires loads.0 c.in-Ok.code l.accepts loads.2 l.only (Way.ByOptions c.args.options) refl _ _ was.done was.later was.cut was.order
-    (record { front = was.front; is_front = was.is_front; got = was.got; failed = was.failed }))
+    (record { prefix = was.prefix; is_prefix = was.is_prefix; got = was.got; failed = was.failed }))
 
 pub returns : goal.returns
 returns g c =

@@ -3,7 +3,7 @@ use Rattle.golf_command_words.specs.declared.line.CommandLine.{CommandLine}
 use Rattle.golf_run_texts.specs.declared.status.Status.TheVariants as s
 use Rattle.golf_run_texts.specs.declared.status.TheConstants.{USAGE, NO_MEMORY}
 use Rattle.golf_command.proofs.Sinking.{says}
-use Rattle.golf_command.proofs.Calling.{generated-line, tells-reading, tells-generate, tells-usage, tells-wanting}
+use Rattle.golf_command.proofs.Calling.{generated-line, tells-reading, tells-generate, tells-usage, tells-memory}
 use Rattle.golf_command.proofs.Asking.{found-line}
 use Rattle.golf_command.proofs.top.serve.Goals as goal
 
@@ -24,4 +24,4 @@ pub returns-in-Ok-None : goal.returns-in-Ok-None
 returns-in-Ok-None g c words is = tells-usage words _ _ _ _ _ _ c.end.result (found-line words c.args.line c.in-Ok-None.field-0 _ c.in-Ok-None.is c.in-Ok-None.field-0-is is) (says _ _ _ _ _ _ s.Usage c.end.result USAGE.now c.end.ensures) refl refl
 
 pub returns-in-Err : goal.returns-in-Err
-returns-in-Err g c words is = tells-wanting words _ _ _ _ _ _ c.end-in-Err.result (says _ _ _ _ _ _ s.Memory c.end-in-Err.result NO_MEMORY.now c.end-in-Err.ensures) refl refl
+returns-in-Err g c words is = tells-memory words _ _ _ _ _ _ c.end-in-Err.result (says _ _ _ _ _ _ s.Memory c.end-in-Err.result NO_MEMORY.now c.end-in-Err.ensures) refl refl

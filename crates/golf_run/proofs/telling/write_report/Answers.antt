@@ -1,6 +1,6 @@
 use Rattle.std.proofs.Common.{[], ◌∷◌, map, subst, ◌∙◌}
 use Rattle.std.specs.Io.KnownBytes.{Appends}
-use Rattle.golf_base.specs.Causes.{WritesFront}
+use Rattle.golf_base.specs.Causes.{WritesPrefix}
 use Rattle.golf_run_texts.specs.Texts.{entry_line, report_line}
 use Rattle.golf_run.specs.Lines.{HasWritten}
 use Rattle.golf_run.proofs.Lines.{line-broken, one-line, written-after}
@@ -10,7 +10,7 @@ pub returns-in_err-write_all : goal.returns-in_err-write_all
 returns-in_err-write_all g c =
     let r = c.args.report.now in
     line-broken c.from_residual-in_err-write_all.result (report_line r) (map entry_line r.reported) _ _ _ _ c.from_residual-in_err-write_all.ensures.0 c.from_residual-in_err-write_all.ensures.1
-    (subst (WritesFront (g.E.Sink.written c.args.err.now) (g.E.Sink.written c.write_all.new.sink)) (c.as_slice.ensures ∙ c.in_ok-line.ensures) c.in_err-write_all.ensures.front) c.in_err-write_all.ensures.cause.failed
+    (subst (WritesPrefix (g.E.Sink.written c.args.err.now) (g.E.Sink.written c.write_all.new.sink)) (c.as_slice.ensures ∙ c.in_ok-line.ensures) c.in_err-write_all.ensures.prefix) c.in_err-write_all.ensures.cause.failed
 
 pub returns : goal.returns
 returns g c =

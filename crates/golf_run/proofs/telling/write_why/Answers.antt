@@ -1,6 +1,6 @@
 use Rattle.std.proofs.Common.{◌≡◌, [], ◌∷◌, map, ap, subst, Some, ◌∙◌}
 use Rattle.std.specs.Io.KnownBytes.{Appends}
-use Rattle.golf_base.specs.Causes.{WritesFront}
+use Rattle.golf_base.specs.Causes.{WritesPrefix}
 use Rattle.golf_why.specs.Explaining.{reached_from}
 use Rattle.golf_run_texts.specs.Texts.{certificate_line, reached_line}
 use Rattle.golf_run.specs.Lines.{HasWritten}
@@ -14,7 +14,7 @@ returns-in_err-write_all g c =
     let here : explained_lines c.args.number (Some e) ≡ explained_lines c.args.number c.args.why.now = ap (explained_lines c.args.number) c.in-Some.ensures.value in
     subst (λ ls. HasWritten c.from_residual-in_err-write_all.result ls (g.E.Sink.written c.args.err.now) (g.E.Sink.written c.write_all.new.sink) (g.E.Sink.faults c.args.err.now) (g.E.Sink.faults c.write_all.new.sink)) here
     (line-broken c.from_residual-in_err-write_all.result (certificate_line c.args.number e.places) (map reached_line (reached_from e.graph 0 e.asleep)) _ _ _ _ c.from_residual-in_err-write_all.ensures.0 c.from_residual-in_err-write_all.ensures.1
-    (subst (WritesFront (g.E.Sink.written c.args.err.now) (g.E.Sink.written c.write_all.new.sink)) (c.as_slice.ensures ∙ c.in_ok-line.ensures ∙ ap (certificate_line c.args.number) c.places.ensures) c.in_err-write_all.ensures.front) c.in_err-write_all.ensures.cause.failed)
+    (subst (WritesPrefix (g.E.Sink.written c.args.err.now) (g.E.Sink.written c.write_all.new.sink)) (c.as_slice.ensures ∙ c.in_ok-line.ensures ∙ ap (certificate_line c.args.number) c.places.ensures) c.in_err-write_all.ensures.prefix) c.in_err-write_all.ensures.cause.failed)
 
 pub returns : goal.returns
 returns g c =

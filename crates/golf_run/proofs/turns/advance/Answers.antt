@@ -16,7 +16,7 @@ returns-in_err-write_all g c =
       same = c.output.ensures;
       failed = c.from_residual-in_err-write_all.ensures.0;
       fault = c.from_residual-in_err-write_all.ensures.1;
-      front = c.in_err-write_all.ensures.front;
+      prefix = c.in_err-write_all.ensures.prefix;
       rose = c.in_err-write_all.ensures.cause.failed;
     })
 
