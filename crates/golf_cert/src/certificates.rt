@@ -99,7 +99,8 @@ fn links_of(
 ///
 /// Each place of that set is placed by exactly one link, each link is justified by those before it,
 /// and no place is missing, so that `verify` answers `Proved`. There are as many links as that set
-/// has places, fewer than 2^32, by rising level of their places. The time is linear in the graph. The only error is `Memory`.
+/// has places, fewer than 2^32, by rising level of their places. The time is linear in the graph.
+/// The only error is `Memory`.
 pub fn certify(alloc: Global, graph: &Graph, marked: &Marked) -> Result<Certificate, Memory>
     requires { CoversLeast graph.now marked.now }
     ensures justified { IfOk result (λ c. AreJustified graph.now c.links) }

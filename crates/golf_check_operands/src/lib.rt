@@ -1,5 +1,5 @@
-//! What operands, operators, names, literals and selectors are, and which rules they break: all of an expression that looks at
-//! no other one.
+//! What operands, operators, names, literals and selectors are, and which rules they break: all of
+//! an expression that looks at no other one.
 #![tactic(auto)]
 
 mod literals;

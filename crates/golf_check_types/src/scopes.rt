@@ -45,8 +45,8 @@ pub struct Members {
     pub kinds: List<Member>,
 }
 
-// The drops of what scopes are made of are written out once here, so that no other crate goes through the fields where it lets
-// one go.
+// The drops of what scopes are made of are written out once here, so that no other crate goes
+// through the fields where it lets one go.
 impl Drop for Members {
     fn drop(self) {
         let Members { names: _, kinds: _ } = self;

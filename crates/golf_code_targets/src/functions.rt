@@ -24,8 +24,8 @@ fn body_of(alloc: Global, emitted: &[Emitted]) -> Result<List<CodeLine>, Memory>
 ///
 /// # Errors
 ///
-/// `Memory` also if the body has more instructions, or more operands stand at a place, than a `u32` can count. No body of a
-/// file that is read has so many instructions (`golf_code_places`).
+/// `Memory` also if the body has more instructions, or more operands stand at a place, than a `u32`
+/// can count. No body of a file that is read has so many instructions (`golf_code_places`).
 pub fn function(
     alloc: Global,
     gives: &[bool],

@@ -86,8 +86,9 @@ fn serve<R: AllocGlobal + Threads + Sync, S: Source, O: Sink, E: Sink, G: Gate +
 }
 
 /// All that the program does: it looks at the words, reads the file from `source`, judges it and
-/// runs it, or compares its code with its source. What the file prints goes to `out`, everything else to `err`. A threads line may wait for the
-/// lock of its program; every other line is served by a call that returns.
+/// runs it, or compares its code with its source. What the file prints goes to `out`, everything
+/// else to `err`. A threads line may wait for the lock of its program; every other line is served
+/// by a call that returns.
 ///
 /// The clause is about what is seen of the source and the sinks before the call and after it: what
 /// the status tells if the words are a line, and if they are not; which counts of faults

@@ -1,7 +1,7 @@
 //! The automaton that reads a file byte by byte.
 //!
-//! A state says what the bytes of the lexeme that is being read are so far. A byte makes the lexeme longer, or begins the next
-//! one, or can stand in no text that lexes.
+//! A state says what the bytes of the lexeme that is being read are so far. A byte makes the lexeme
+//! longer, or begins the next one, or can stand in no text that lexes.
 
 ghost use Rattle.std.specs.Prelude.{◌≡◌, Option};
 ghost use Rattle.golf_lex.specs.Automaton as automaton_spec;

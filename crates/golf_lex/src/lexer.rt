@@ -14,8 +14,8 @@ use std::alloc::Global;
 /// Why a file has no tokens.
 #[derive(Clone, Copy, Debug, PartialEq, Eq)]
 pub enum LexFault {
-    /// No text that lexes begins with the bytes up to and including this one, and `byte` is the first such, counted from 0.
-    /// If there is none, it is the length. `line` is its line, from 1.
+    /// No text that lexes begins with the bytes up to and including this one, and `byte` is the
+    /// first such, counted from 0. If there is none, it is the length. `line` is its line, from 1.
     At { line: u32, byte: u32 },
     /// Out of memory.
     Memory,
@@ -44,8 +44,9 @@ fn fault(bytes: &[u8], place: usize) -> LexFault
     }
 }
 
-/// The tokens of a file, with their lines, with inserted semicolons, and without those `;` and `,` that stand right before a
-/// `)` or a `}`. The time that it takes grows in proportion to the length.
+/// The tokens of a file, with their lines, with inserted semicolons, and without those `;` and `,`
+/// that stand right before a `)` or a `}`. The time that it takes grows in proportion to the
+/// length.
 ///
 /// # Errors
 ///

@@ -14,13 +14,15 @@ use golf_data::Code;
 use golf_syntax_trees::Decl;
 use std::alloc::Global;
 
-/// Whether the code has a function of this number, with the parameters, the slots and the body, each line of it with its place in the
-/// source, that the function has in the code of the file.
+/// Whether the code has a function of this number, with the parameters, the slots and the body,
+/// each line of it with its place in the source, that the function has in the code of the file.
 ///
-/// If it has, and the number is that of a function or method of the file, source and code agree, both ways: for as many arguments as
-/// the function has parameters, and all answers for which the meaning of the source is unfit for no bound, each bound of one has a bound
-/// of the other with which the operations and the end are the same, or if it is short its operations are a prefix of the other's.
-/// With arguments of the parameters' types the meaning is unfit by an answer alone (`golf_meaning_typed_files`).
+/// If it has, and the number is that of a function or method of the file, source and code agree,
+/// both ways: for as many arguments as the function has parameters, and all answers for which the
+/// meaning of the source is unfit for no bound, each bound of one has a bound of the other with
+/// which the operations and the end are the same, or if it is short its operations are a prefix of
+/// the other's. With arguments of the parameters' types the meaning is unfit by an answer alone
+/// (`golf_meaning_typed_files`).
 pub fn check_body(
     alloc: Global,
     checked: &Checked,
@@ -50,8 +52,9 @@ pub fn function_count(declarations: &[Decl]) -> usize
     count
 }
 
-/// Whether each function and method of the file has the code that the file gives it, as `check_body` judges one; then each agrees with
-/// its source, both ways. The code of the file is made once, so the cost is linear.
+/// Whether each function and method of the file has the code that the file gives it, as
+/// `check_body` judges one; then each agrees with its source, both ways. The code of the file is
+/// made once, so the cost is linear.
 pub fn check_all(alloc: Global, checked: &Checked, code: &Code) -> Result<bool, Memory>
     requires scope { checked.now.scope ≡ scope_of checked.now.file }
     requires facts { checked.now.facts ≡ facts_in checked.now.file }

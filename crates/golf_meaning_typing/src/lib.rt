@@ -1,4 +1,5 @@
-//! The meaning of a file that breaks no rule of types is unfit by an answer alone: its expressions, conditions, statements and functions.
+//! The meaning of a file that breaks no rule of types is unfit by an answer alone: its expressions,
+//! conditions, statements and functions.
 #![tactic(auto)]
 
 ghost use Rattle.golf_meaning_typing.specs.Laws.{ConditionsDecide, ExpressionsFit, FunctionsFit, NamesGive, OperatorsFit, StatementsFit};
@@ -19,20 +20,23 @@ pub fn conditions_decide()
     ensures { ConditionsDecide }
 {}
 
-/// An expression that breaks no rule gives what it is, in every world, as long as each answer fits: a value of its type,
-/// the receiver of what is called, or nothing; and a place that it names is read and stored with values of its type.
+/// An expression that breaks no rule gives what it is, in every world, as long as each answer fits:
+/// a value of its type, the receiver of what is called, or nothing; and a place that it names is
+/// read and stored with values of its type.
 pub fn expressions_fit()
     ensures { ExpressionsFit }
 {}
 
-/// A well-formed statement that breaks no rule is unfit by an answer alone, from names with values of their types and in every
-/// world; after it the names have values of their types, and `break` and `continue` come only if the scope lets them.
+/// A well-formed statement that breaks no rule is unfit by an answer alone, from names with values
+/// of their types and in every world; after it the names have values of their types, and `break`
+/// and `continue` come only if the scope lets them.
 pub fn statements_fit()
     ensures { StatementsFit }
 {}
 
-/// With arguments of the types of its receiver and parameters, the meaning of a function or method that breaks no rule is unfit by
-/// an answer alone, for all answers and however many turns each loop may take: no rule is lacking at its end.
+/// With arguments of the types of its receiver and parameters, the meaning of a function or method
+/// that breaks no rule is unfit by an answer alone, for all answers and however many turns each
+/// loop may take: no rule is lacking at its end.
 pub fn functions_fit()
     ensures { FunctionsFit }
 {}

@@ -1,7 +1,8 @@
 //! Reads a file from its tokens.
 //!
-//! `specs/` says what imports and declarations are read as, by the first tokens; `laws` says that it is what the grammar
-//! prints: what is found is well formed and printed there, and what is printed is found, before what ends it.
+//! `specs/` says what imports and declarations are read as, by the first tokens; `laws` says that
+//! it is what the grammar prints: what is found is well formed and printed there, and what is
+//! printed is found, before what ends it.
 #![tactic(auto)]
 
 mod constants;

@@ -12,7 +12,8 @@ pub fn types_read()
     ensures { TypesRead }
 {}
 
-/// An expression that is found is well formed, and printed there. In a header no operand outside its brackets begins with `&`.
+/// An expression that is found is well formed, and printed there. In a header no operand outside
+/// its brackets begins with `&`.
 pub fn expressions_found()
     ensures { ExpressionsFound }
 {}
@@ -22,7 +23,8 @@ pub fn expressions_read()
     ensures { ExpressionsRead }
 {}
 
-/// An operand that is found with its operators is well formed, binds tighter than binary operators, and is printed there.
+/// An operand that is found with its operators is well formed, binds tighter than binary operators,
+/// and is printed there.
 pub fn operands_found()
     ensures { OperandsFound }
 {}

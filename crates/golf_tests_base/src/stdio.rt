@@ -1,4 +1,5 @@
-//! The real streams over a reader and a writer of the tests, which give and take few bytes a call and fail when they are told to.
+//! The real streams over a reader and a writer of the tests, which give and take few bytes a call
+//! and fail when they are told to.
 
 use crate::wanted::{holds, is};
 use golf_base::{

@@ -1,5 +1,6 @@
-//! Imports, declarations, `main`, globals. Expected verdicts are from the Go specification, "Declarations and scope", "Import
-//! declarations", "Program execution", and the rules of the language.
+//! Imports, declarations, `main`, globals. Expected verdicts are from the Go specification,
+//! "Declarations and scope", "Import declarations", "Program execution", and the rules of the
+//! language.
 
 use crate::verdicts::{expect, expect_types};
 use std::test::Fail;
@@ -511,9 +512,10 @@ case v := <-c: v++
 }
 for i, b := range s { t.a = i; _ = !b }
 }"#;
-    // `t.a + n`, `t.a`, `t`, `n`; the literal of a struct, `1`; that of a slice, `true`; `fmt.Println(..)`, `fmt.Println`,
-    // `fmt`, `t.m(..)`, `t.m`, `t`, `len(s)`, `len`, `s`, `"x"`; `t.m`, `t`, `2`; `make`, `3`; `c`, `(4)`, `4`; `c`; `v`;
-    // `s`; `t.a`, `t`, `i`; `_`, `!b`, `b`.
+    // `t.a + n`, `t.a`, `t`, `n`; the literal of a struct, `1`; that of a slice, `true`;
+    // `fmt.Println(..)`, `fmt.Println`, `fmt`, `t.m(..)`, `t.m`, `t`, `len(s)`, `len`, `s`, `"x"`;
+    // `t.m`, `t`, `2`; `make`, `3`; `c`, `(4)`, `4`; `c`; `v`; `s`; `t.a`, `t`, `i`; `_`, `!b`,
+    // `b`.
     let expected = "\
         int int other int other int layered bool none none none int none other int none layered \
         string none other int layered int layered int int layered int layered int other int none \

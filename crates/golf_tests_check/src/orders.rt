@@ -1,6 +1,7 @@
-//! Files that break two rules: the first in the order of the walk is named. Expected verdicts are from the rules of the
-//! language: imports, declared names, written types, `main`, then constants, initialisers and bodies in source order; parts
-//! before the whole, from left to right; for one node the rules in rising number.
+//! Files that break two rules: the first in the order of the walk is named. Expected verdicts are
+//! from the rules of the language: imports, declared names, written types, `main`, then constants,
+//! initialisers and bodies in source order; parts before the whole, from left to right; for one
+//! node the rules in rising number.
 
 use crate::verdicts::{expect, expect_in_main};
 

@@ -46,8 +46,8 @@ fn line_and_rule(rt: &impl Abort, head: &str) -> (u32, u32) {
     (line, rule)
 }
 
-/// Each text breaks the rule of its head on that line first, or none if both are 0. A head is `\n--- LINE RULE`, and the
-/// text stands on the lines after it, up to the next head or the end.
+/// Each text breaks the rule of its head on that line first, or none if both are 0. A head is
+/// `\n--- LINE RULE`, and the text stands on the lines after it, up to the next head or the end.
 pub(crate) fn expect<R: AllocGlobal + Abort>(rt: &R, rows: &str) {
     for row in rows.split("\n--- ") {
         match row.split_once('\n') {

@@ -1,5 +1,5 @@
-//! Files. Expected answers are from the Go specification, "Declarations and scope", "Expressions" and "Statements", and the
-//! rules of the language.
+//! Files. Expected answers are from the Go specification, "Declarations and scope", "Expressions"
+//! and "Statements", and the rules of the language.
 
 use crate::words::tokens_of;
 use golf_lex::{LexFault, tokens};

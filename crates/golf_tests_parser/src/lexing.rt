@@ -1,4 +1,5 @@
-//! Tokens of bytes, and where bytes are at fault. Expected values are from the Go specification, "Lexical elements", and the rules of the language.
+//! Tokens of bytes, and where bytes are at fault. Expected values are from the Go specification,
+//! "Lexical elements", and the rules of the language.
 
 use crate::words::lexed;
 use golf_lex::{LexFault, tokens};

@@ -1,4 +1,5 @@
-//! The files of `examples/`, with the output and the reports that their head comments tell. Expected values are by hand.
+//! The files of `examples/`, with the output and the reports that their head comments tell.
+//! Expected values are by hand.
 
 use crate::calls::{Row, expect_rows};
 use golf_run_texts::Status;

@@ -201,8 +201,8 @@ fn ten_thousand_that_wait_in_a_select_are_reported_once_in_rising_number(
     expect_bytes(&rt, 4096, file, Status::Found, "", errors.as_str())
 }
 
-// A recursion of so many frames besides that of `main`, each of which defers a call; the innermost one panics on line 16. The
-// frame that calls `main` is one more.
+// A recursion of so many frames besides that of `main`, each of which defers a call; the innermost
+// one panics on line 16. The frame that calls `main` is one more.
 fn deferring(alloc: Global, frames: u32) -> Result<String, Fail> {
     Ok(format!(in alloc;
         "\

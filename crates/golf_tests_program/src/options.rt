@@ -87,7 +87,8 @@ collection 5: marked 1, reported 0, kept 0, reclaimed 0, objects 1
 fatal error: all goroutines are asleep - deadlock!
 ",
     },
-    // The turns are the call of `main`, the collection, and two returns, the last of which ends the program: none is added after it.
+    // The turns are the call of `main`, the collection, and two returns, the last of which ends the
+    // program: none is added after it.
     Row {
         shows: "a collection of the program comes before the one that is added",
         line: "run --every=1",
@@ -150,7 +151,8 @@ fn are_taken_back(errors: &[u8], last: &str) -> bool {
     empty_collections(text) == 160 && reported == 10_000 && text.ends_with(last)
 }
 
-// Whether a run of the holders by these words ends so, prints nothing, and takes all holders back, before this last line.
+// Whether a run of the holders by these words ends so, prints nothing, and takes all holders back,
+// before this last line.
 fn takes_back<R: AllocGlobal + Threads + Wait + Sync>(
     rt: &R,
     line: &str,

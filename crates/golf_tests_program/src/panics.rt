@@ -1,4 +1,5 @@
-//! Panics and fatal errors (Go specification, "Handling panics", "Run-time panics", "Send statements", "Close"; package sync).
+//! Panics and fatal errors (Go specification, "Handling panics", "Run-time panics", "Send
+//! statements", "Close"; package sync).
 
 use crate::calls::{Row, expect, expect_rows};
 use golf_run_texts::Status;

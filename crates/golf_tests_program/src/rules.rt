@@ -1,6 +1,6 @@
-//! Rules of the language and of this runtime, each shown by a file. Expected values come from the Go specification
-//! ("Select statements", "Defer statements", "Handling panics", "For statements"), the documentation of packages sync and
-//! runtime, and from the rules of this runtime.
+//! Rules of the language and of this runtime, each shown by a file. Expected values come from the
+//! Go specification ("Select statements", "Defer statements", "Handling panics", "For statements"),
+//! the documentation of packages sync and runtime, and from the rules of this runtime.
 
 use crate::calls::{Row, expect_rows};
 use golf_run_texts::Status;
