@@ -42,7 +42,7 @@ func atRest() {
 		}
 		last = now
 	}
-	os.Stderr.WriteString("== at rest\\n" + last + "\\n")
+	os.Stderr.WriteString("== at rest\\n" + last + "\\n\\n== on\\n")
 }
 '''
 KINDS = {'sync.(*Mutex).Lock': 'sync.Mutex.Lock', 'sync.(*WaitGroup).Wait': 'sync.WaitGroup.Wait', 'sync.(*RWMutex).RLock': 'sync.RWMutex.RLock',
@@ -203,7 +203,7 @@ def made(seed):
 def stacks(told):
     """For each rest, who is blocked: kind, line, and the line that started it."""
     rests = []
-    for dump in told.split('== at rest\n')[1:]:
+    for dump in re.findall(r'^== at rest\n(.*?)^== on$', told, re.M | re.S):
         here = collections.Counter()
         for block in dump.split('\n\n'):
             head = re.match(r'goroutine \d+ \[([^\],]+)', block)
