@@ -244,7 +244,9 @@ def by_go(text):
         with open(f'{folder}/made.go', 'w', encoding='utf-8') as file:
             file.write(text)
         environment = dict(os.environ, GO111MODULE='off')
-        if subprocess.run(['go', 'build', '-o', f'{folder}/made', f'{folder}/made.go'], stderr=subprocess.DEVNULL, env=environment).returncode:
+        # without optimisations, which drop the check of a pointer whose next use fails too, and so name a later line
+        build = ['go', 'build', '-gcflags=-N -l', '-o', f'{folder}/made', f'{folder}/made.go']
+        if subprocess.run(build, stderr=subprocess.DEVNULL, env=environment).returncode:
             return None
         run = subprocess.run([f'{folder}/made'], stdout=subprocess.PIPE, stderr=subprocess.PIPE)
     told = run.stderr.decode()

@@ -1,4 +1,4 @@
-//! Tests of the code of files, against code that was written by hand.
+//! Tests of the code of files, against code that was written by hand, and of how code is judged by its file.
 #![tactic(auto)]
 
 #[cfg(test)]
@@ -7,5 +7,11 @@ mod constructs;
 mod files;
 #[cfg(test)]
 mod forms;
+#[cfg(test)]
+mod judged;
+#[cfg(test)]
+mod made;
+#[cfg(test)]
+mod sources;
 #[cfg(test)]
 mod told;

@@ -1,8 +1,6 @@
 //! The code of a text, as a text.
 
-use golf_base::Memory;
-use golf_check::check;
-use golf_code::generate;
+use crate::made::{checked, code_of};
 use golf_data::{Code, Function};
 use std::alloc::{AllocError, Global};
 use std::process::Abort;
@@ -29,23 +27,6 @@ fn told(alloc: Global, code: &Code) -> Result<String, AllocError> {
     Ok(out)
 }
 
-fn code_of(rt: &impl Abort, alloc: Global, source: &str) -> Code {
-    assert!(rt; source.len() < 100_000);
-    match golf_lex::tokens(alloc, source.as_bytes()) {
-        Err(_) => panic!(rt; "it does not lex"),
-        Ok(tokens) => match golf_syntax::parse(alloc, tokens.as_slice()) {
-            Err(_) => panic!(rt; "it is no file"),
-            Ok(file) => match check(alloc, file) {
-                Err(_) => panic!(rt; "it is not typed"),
-                Ok(checked) => match generate(alloc, &checked) {
-                    Ok(code) => code,
-                    Err(Memory) => panic!(rt; "out of memory"),
-                },
-            },
-        },
-    }
-}
-
 /// The functions of a text are told so: on which line each is declared, its parameters, slots and
 /// depth, and its instructions with their lines.
 pub(crate) fn expect(
@@ -54,7 +35,8 @@ pub(crate) fn expect(
     source: &str,
     expected: &str,
 ) -> Result<(), Fail> {
-    let code = code_of(rt, alloc, source);
+    let checked = checked(rt, alloc, source);
+    let code = code_of(rt, alloc, &checked);
     let found = told(alloc, &code)?;
     assert_eq!(rt; found.as_str(), expected);
     Ok(())

@@ -4,7 +4,8 @@ ghost use Rattle.std.specs.Prelude.{◌≡◌};
 ghost use Rattle.golf_check_types.specs.Files.{facts_in};
 ghost use Rattle.golf_check.specs.Heads.{scope_of};
 
-use crate::sources::{METHOD, WORKER_POOL, checked, code_of};
+use crate::made::{checked, code_of};
+use crate::sources::{METHOD, WORKER_POOL};
 use golf_base::Memory;
 use golf_check::Checked;
 use golf_data::{Code, CodeLine, Instr};

@@ -1,0 +1,41 @@
+//! What the checker finds of a text, and its code.
+
+ghost use Rattle.std.specs.Prelude.{◌≡◌};
+ghost use Rattle.golf_check_types.specs.Files.{facts_in};
+ghost use Rattle.golf_check.specs.Heads.{scope_of};
+
+use golf_base::Memory;
+use golf_check::{Checked, check};
+use golf_code::generate;
+use golf_data::Code;
+use std::alloc::Global;
+use std::process::Abort;
+
+/// What the checker finds of a file.
+pub(crate) fn checked(rt: &impl Abort, alloc: Global, source: &str) -> Checked
+    ensures scope { result.scope ≡ scope_of result.file }
+    ensures facts { result.facts ≡ facts_in result.file }
+{
+    assert!(rt; source.len() < 100_000);
+    match golf_lex::tokens(alloc, source.as_bytes()) {
+        Err(_) => panic!(rt; "it does not lex"),
+        Ok(tokens) => match golf_syntax::parse(alloc, tokens.as_slice()) {
+            Err(_) => panic!(rt; "it is no file"),
+            Ok(file) => match check(alloc, file) {
+                Err(_) => panic!(rt; "it is not typed"),
+                Ok(checked) => checked,
+            },
+        },
+    }
+}
+
+/// The code of a checked file.
+pub(crate) fn code_of(rt: &impl Abort, alloc: Global, checked: &Checked) -> Code
+    requires scope { checked.now.scope ≡ scope_of checked.now.file }
+    requires facts { checked.now.facts ≡ facts_in checked.now.file }
+{
+    match generate(alloc, checked) {
+        Ok(code) => code,
+        Err(Memory) => panic!(rt; "out of memory"),
+    }
+}
