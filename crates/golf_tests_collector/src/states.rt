@@ -1,4 +1,4 @@
-//! A state for the tests.
+//! A state for the tests of collections.
 
 ghost use Rattle.std.specs.Prelude.{IfOk};
 ghost use Rattle.golf_model.specs.Futures.{Numbered};

@@ -3,8 +3,8 @@ use Rattle.golf_theory.specs.Maps.{keys}
 use Rattle.golf_theory.specs.Membership.{In}
 use Rattle.golf_base.specs.declared.ids.GoroutineId.{GoroutineId}
 use Rattle.golf_model.specs.Reporting.{numbers}
-use Rattle.golf_tests_collection.proofs.Leading.{absent, all-taken, gone-more, not-found}
-use Rattle.golf_tests_collection.proofs.collecting.are_gone.Goals as goal
+use Rattle.golf_tests_collector.proofs.Leading.{absent, all-taken, gone-more, not-found}
+use Rattle.golf_tests_collector.proofs.collecting.are_gone.Goals as goal
 
 pub loop-g-preserved : goal.loop-g-preserved
 loop-g-preserved c =

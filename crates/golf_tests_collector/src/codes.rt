@@ -1,4 +1,4 @@
-//! Codes for the tests.
+//! Codes for the tests of worlds.
 
 use golf_base::{List, Memory};
 use golf_data::{Code, Instr, Value};

@@ -1,5 +1,5 @@
 use Rattle.golf_model.specs.Futures.{Leads}
-use Rattle.golf_tests_collection.proofs.programs.go_on.Given as goal
+use Rattle.golf_tests_collector.proofs.programs.go_on.Given as goal
 
 -- moves led here
 abbrev pub invariant-loop-number : goal.invariant-loop-number

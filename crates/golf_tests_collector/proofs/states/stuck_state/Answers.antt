@@ -3,8 +3,8 @@ use Rattle.golf_data.specs.declared.goroutine.Wait.{Wait}
 use Rattle.golf_model.specs.Futures.{Numbered}
 use Rattle.golf_model.specs.Views.{frame_views}
 use Rattle.golf_model.specs.Presence.{IsWhole}
-use Rattle.golf_tests_collection.proofs.StuckStates.{stuck, stuck-is, stuck-numbered, stuck-whole, receive_from}
-use Rattle.golf_tests_collection.proofs.states.stuck_state.Goals as goal
+use Rattle.golf_tests_collector.proofs.StuckStates.{stuck, stuck-is, stuck-numbered, stuck-whole, receive_from}
+use Rattle.golf_tests_collector.proofs.states.stuck_state.Goals as goal
 
 made : (c : goal.In_ok-block) → c.block.new.self ≡ stuck
 made c =

@@ -1,4 +1,4 @@
-//! Codes for the tests, and the states that they lead to.
+//! Codes for the tests of collections, and the states that they lead to.
 
 ghost use Rattle.std.specs.Prelude.{IfOk};
 ghost use Rattle.golf_model.specs.Futures.{Leads};

@@ -1,5 +1,5 @@
 use Rattle.golf_world.specs.Names.{table_name, pass_count}
-use Rattle.golf_tests_world.proofs.worlds.take_walk.Given as goal
+use Rattle.golf_tests_collector.proofs.worlds.take_walk.Given as goal
 
 -- the world that is about to be made
 abbrev pub ghosts-steps_of_one : goal.ghosts-steps_of_one
