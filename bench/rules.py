@@ -1,8 +1,10 @@
 #!/usr/bin/env python3
-"""Fails if docs/RULES.md names a file or a word that is gone.
+"""Fails if docs/RULES.md, docs/PROVED.md or docs/GLOSSARY.md names a file, a crate or a word that is gone.
 
-In the table each cell between backticks is `PATH: WORD, WORD` or `PATH` alone: the file must be there, and must have
-each word as a whole word. Run it from anywhere: python3 bench/rules.py
+In the table of rules each cell between backticks is `PATH: WORD, WORD` or `PATH` alone: the file must be there, and must
+have each word as a whole word. In the table of what is proved the first cell names crates (none: those of the row above),
+and each word of the last cell must stand in what they export: `NAME`, or `TYPE::NAME`, in their src/ or specs/. So must
+each word of the glossary that stands with one file or crate in parentheses. Run it from anywhere: python3 bench/rules.py
 """
 
 import re
@@ -11,6 +13,8 @@ from pathlib import Path
 
 ROOT = Path(__file__).resolve().parent.parent
 TABLE = ROOT / "docs" / "RULES.md"
+PROVED = ROOT / "docs" / "PROVED.md"
+GLOSSARY = ROOT / "docs" / "GLOSSARY.md"
 COLUMNS = 8
 
 
@@ -44,16 +48,61 @@ def faults_in(row):
     return faults
 
 
+def text_of(crate):
+    """The code and the definitions of a crate, or None if there is no such crate."""
+    folder = ROOT / "crates" / crate
+    files = [*folder.glob("src/**/*.rt"), *folder.glob("specs/**/*.antt")]
+    return "\n".join(file.read_text(encoding="utf-8") for file in files) or None
+
+
+def faults_of_proved():
+    """What is wrong with the rows of what is proved, and how many rows there are."""
+    rows, faults, crates = 0, [], []
+    for line in PROVED.read_text(encoding="utf-8").splitlines():
+        cells = [cell.strip() for cell in line.strip().strip("|").split("|")]
+        if len(cells) != 3 or not (cells[0] == "" or cells[0].startswith("`golf")):
+            continue
+        rows += 1
+        crates = re.findall(r"`(\w+)`", cells[0]) or crates
+        texts = [text_of(crate) for crate in crates]
+        faults += [f"no crate {crate}" for crate, text in zip(crates, texts) if text is None]
+        together = "\n".join(text for text in texts if text)
+        for name in re.findall(r"`([^`]+)`", cells[2]):
+            parts = [part for part in re.split(r"::", name) if not part.startswith("..")]
+            faults += [f"no word {part} of {name} in {', '.join(crates)}" for part in parts if not has_word(together, part)]
+    return rows, faults
+
+
+def faults_of_glossary():
+    """What is wrong with where the words of the glossary are defined, and how many of them say where."""
+    count, faults = 0, []
+    for group in re.findall(r"\(([^()]*`golf_[^()]*)\)", GLOSSARY.read_text(encoding="utf-8")):
+        names = re.findall(r"`([^`]+)`", group)
+        places = [name for name in names if name.startswith("golf_")]
+        faults += [f"no {place}" for place in places if not (ROOT / "crates" / place).exists()]
+        if len(places) != 1:
+            continue
+        text = text_of(places[0].split("/")[0]) or ""
+        words = [part for name in names if name not in places for part in name.split("::")]
+        count += len(words)
+        faults += [f"no word {word} in {places[0].split('/')[0]}" for word in words if not has_word(text, word)]
+    return count, faults
+
+
 def main():
     rows = [line for line in TABLE.read_text(encoding="utf-8").splitlines() if re.match(r"\| *\d+ *\|", line)]
     bad = [(row, fault) for row in rows for fault in faults_in(row)]
     for row, fault in bad:
         print(f"row {row.strip('| ').split('|')[0].strip()}: {fault}")
-    if not rows:
-        print("no rows")
-    else:
-        print(f"{len(rows)} rows, {len(bad)} faults")
-    return 1 if bad or not rows else 0
+    proved, lacking = faults_of_proved()
+    for fault in lacking:
+        print(f"what is proved: {fault}")
+    words, undefined = faults_of_glossary()
+    for fault in undefined:
+        print(f"glossary: {fault}")
+    counts = ((len(rows), "rules", bad), (proved, "rows of what is proved", lacking), (words, "words of the glossary", undefined))
+    print("; ".join(f"{count} {of}, {len(faults)} faults" for count, of, faults in counts))
+    return 0 if all(count and not faults for count, _, faults in counts) else 1
 
 
 if __name__ == "__main__":
