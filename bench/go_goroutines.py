@@ -10,7 +10,8 @@ stands for the collection that waits until nothing runs and prints all stacks. B
 - each goroutine that is reported was started on the line that the program names, and one that the first collection reports is blocked there in Go at
   the second one too.
 
-Output and status are to be the same by each schedule that is tried, with `--recover` and without. It needs `go` on the path."""
+Output, status and the text and line of a panic or fatal error are to be the same by each schedule that is tried, with `--recover` and without. It needs
+`go` on the path."""
 import collections
 import os
 import random
@@ -47,6 +48,8 @@ func atRest() {
 '''
 KINDS = {'sync.(*Mutex).Lock': 'sync.Mutex.Lock', 'sync.(*WaitGroup).Wait': 'sync.WaitGroup.Wait', 'sync.(*RWMutex).RLock': 'sync.RWMutex.RLock',
          'sync.(*RWMutex).Lock': 'sync.RWMutex.Lock', 'sync.(*Cond).Wait': 'sync.Cond.Wait'}
+
+OVERFLOW = 'fatal error: stack overflow at line '
 
 
 class Part:
@@ -178,6 +181,23 @@ def deferred(p):
 PARTS = [pipeline, pool, mutex, group, condition, choice, nils, readers, globals_, chain, deferred]
 
 
+CRASHES = [['close(c)', 'close(c)'], ['close(c)', 'c <- 1'], ['m.Unlock()'], ['w.RUnlock()'], ['g.Done()'], ['s[len(s)] = 1'], ['c = nil', 'close(c)'],
+           ['fmt.Println(1 / len(s))'], ['c = make(chan int, len(s)-1)', 'c <- 1'], ['var p *Crash', 'p.n = 1'], ['panic("crash")'], ['crash(c, m, w, g, s)']]
+
+
+def ending(chance):
+    """Declarations and the last lines of `main`: it returns, waits for ever, or panics, or another goroutine does."""
+    kind = chance.choice(['returns'] * 6 + ['panics', 'waits', 'index', 'crash', 'crash', 'crash'])
+    if kind != 'crash':
+        return [], {'returns': ['fmt.Println("end")'], 'panics': ['panic("end")'], 'waits': ['var never chan int', '<-never'],
+                    'index': ['var s []int', 's[len(s)] = 1']}[kind]
+    lines = chance.choice(CRASHES)
+    declared = ['type Crash struct {', '\tn int', '}', '', 'func told(n int) {', '\tfmt.Println("left", n)', '}', '',
+                'func crash(c chan int, m *sync.Mutex, w *sync.RWMutex, g *sync.WaitGroup, s []int) {',
+                *(['\tdefer told(len(s))'] if 'crash(' not in lines[0] else []), *('\t' + line for line in lines), '}', '']
+    return declared, ['go crash(make(chan int), new(sync.Mutex), new(sync.RWMutex), new(sync.WaitGroup), make([]int, 0))', 'var never chan int', '<-never']
+
+
 def made(seed):
     """A file."""
     chance = random.Random(seed)
@@ -187,7 +207,7 @@ def made(seed):
         chance.choice(PARTS)(part)
         parts.append(part)
     rest = ['for i := 0; i < 4000; i++ {', '}', 'runtime.GC()']
-    end = chance.choice([['fmt.Println("end")']] * 4 + [['panic("end")'], ['var never chan int', '<-never'], ['var s []int', 's[len(s)] = 1']])
+    declared, end = ending(chance)
     lines = [line for part in parts for line in part.first] + rest + [line for part in parts for line in part.second] + rest
     lines += [line for part in parts for line in part.last] + end
     # Go refuses a variable that nothing reads
@@ -195,7 +215,7 @@ def made(seed):
         name, sign, value = line.partition(' := ')
         if sign and name.isalnum() and sum(bool(re.search(rf'\b{name}\b', it)) for it in lines) == 1:
             lines[at] = f'_ = {value}'
-    body = [line for part in parts for line in part.declared] + ['func main() {', *('\t' + line for line in lines), '}', '']
+    body = [line for part in parts for line in part.declared] + declared + ['func main() {', *('\t' + line for line in lines), '}', '']
     used = [name for name in ('fmt', 'runtime', 'sync') if any(f'{name}.' in line for line in body)]
     return '\n'.join(['package main', '', 'import (', *(f'\t"{name}"' for name in used), ')', '', *body])
 
@@ -216,20 +236,30 @@ def stacks(told):
     return rests
 
 
+def last_of_go(told):
+    """The text of a panic or fatal error, with its line if a goroutine of the file stands there."""
+    text = re.search(r'^(?:panic|fatal error): .*$', told, re.M)
+    if not text:
+        return ''
+    at = re.search(r'\n\ngoroutine \d+ \[running\]:\n(?:.*\n)*?\t\S*/made\.go:(\d+)', told[text.end():])
+    return f'{text[0]} at line {at[1]}' if at else text[0]
+
+
 def by_go(text):
-    """Output, status, the first line of a panic, and who was blocked at each rest; None if Go refuses the file."""
+    """Output, status, who was blocked at each rest, and the end by a panic or fatal error; None if Go refuses the file."""
     with tempfile.TemporaryDirectory() as folder:
         copy = text.replace('runtime.GC()', 'atRest()').replace('\t"runtime"\n', '\t_ "runtime"\n')
         for name, words in (('made.go', copy), ('helper.go', HELPER)):
             with open(f'{folder}/{name}', 'w', encoding='utf-8') as file:
                 file.write(words)
         environment = dict(os.environ, GO111MODULE='off')
-        build = subprocess.run(['go', 'build', '-o', 'made', 'made.go', 'helper.go'], capture_output=True, env=environment, cwd=folder)
+        build = subprocess.run(['go', 'build', '-gcflags=-N -l', '-o', 'made', 'made.go', 'helper.go'], capture_output=True, env=environment, cwd=folder)
         if build.returncode:
             print(build.stderr.decode())
             return None
         run = subprocess.run([f'{folder}/made'], capture_output=True, timeout=60)
-    return run.stdout, run.returncode, stacks(run.stderr.decode())
+    told = run.stderr.decode()
+    return run.stdout, run.returncode, stacks(told), last_of_go(told.rpartition('== on\n')[2])
 
 
 REPORTED = re.compile(r'goroutine (\d+): (.+) at line (\d+), started at line (\d+)$')
@@ -237,17 +267,19 @@ REACHED = re.compile(r'goroutine (\d+): (.+) at line (\d+), reached by ')
 
 
 def by_program(program, text, words):
-    """Output, status, and for each collection who is reported and who is told as live."""
+    """Output, status, for each collection who is reported and who is told as live, and the end."""
     run = subprocess.run([program, 'run', '--turns', '10000000', *words], input=text.encode(), capture_output=True, timeout=120)
-    collected = []
-    for line in run.stderr.decode().split('\n'):
+    collected, last = [], ''
+    for line in run.stderr.decode().splitlines():
         if line.startswith('collection '):
             collected.append((collections.Counter(), collections.Counter()))
         elif found := REPORTED.match(line):
             collected[-1][0][found[2], int(found[3]), int(found[4])] += 1
         elif found := REACHED.match(line):
             collected[-1][1][found[2], int(found[3])] += 1
-    return run.stdout, run.returncode, collected
+        elif line.startswith(('panic: ', 'fatal error: ')):
+            last = re.sub(r' \(goroutine \d+, line (\d+)\)$', r' at line \1', line)
+    return run.stdout, run.returncode, collected, last
 
 
 def without_start(counter):
@@ -264,6 +296,9 @@ def faults(wanted, got, told):
         yield 'output'
     if ends.get(got[1]) != wanted[1]:
         yield f'status {got[1]}'
+    # a stack overflow is told with the line of the call, in Go with that of the function (docs/LANGUAGE.md)
+    if got[3] != wanted[3] and not (got[3].startswith(OVERFLOW) and wanted[3].startswith(OVERFLOW)):
+        yield f'end: {got[3]!r} here, in Go {wanted[3]!r}'
     if not told:
         return
     reported = collections.Counter()
