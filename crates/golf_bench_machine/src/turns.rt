@@ -7,6 +7,7 @@ use crate::codes::{Kind, code_of};
 use golf_base::{List, Memory};
 use golf_data::{Channel, Code, Object, Side, Value, Wait, WaitKind};
 use golf_machine::{Numbers, start, take_turns};
+use golf_ring::Ring;
 use golf_state::State;
 use golf_tests_support::{BenchFault, can_run};
 use std::alloc::Global;
@@ -17,7 +18,7 @@ use std::time::Instant;
 fn channel(alloc: Global) -> Object {
     Object::Chan(Channel {
         capacity: 0,
-        buffer: List::new(alloc),
+        buffer: Ring::new(alloc),
         closed: false,
         zero: Value::Nil,
     })

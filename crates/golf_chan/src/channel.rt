@@ -4,8 +4,9 @@ ghost use Rattle.std.specs.Prelude.{◌≡◌, [], ◌∷◌, OnOk, OnErr, optio
 ghost use Rattle.golf_theory.specs.Maps.{find};
 ghost use Rattle.golf_chan.specs.Channels.{channel_of, buffered, shifted, unbuffered, closed_in};
 
-use golf_base::{List, Memory, ObjectId};
+use golf_base::{Memory, ObjectId};
 use golf_data::{Channel, Object, Value};
+use golf_ring::Ring;
 use golf_state::State;
 
 /// The channel of this number, if there is one.
@@ -36,14 +37,12 @@ pub fn buffer(object: &mut Object, value: Value) -> Result<(), Memory>
 }
 
 // The values after the first one, and one more at the end.
-fn shift(values: &mut List<Value>, value: Value)
+#[inline(always)]
+fn shift(values: &mut Ring<Value>, value: Value)
     ensures { values.new ≡ shifted (value ∷ []) values.old }
 {
-    let count = values.len();
-    if count > 0 {
-        let slice = values.as_mut_slice();
-        slice.rotate_left(1);
-        slice[count - 1] = value;
+    if !values.is_empty() {
+        values.shift(value);
     }
 }
 
@@ -55,11 +54,7 @@ pub fn take_first(object: &mut Object, more: Option<Value>)
     if let Object::Chan(channel) = object {
         match more {
             Some(value) => shift(&mut channel.buffer, value),
-            None => {
-                if !channel.buffer.is_empty() {
-                    channel.buffer.remove(0);
-                }
-            }
+            None => channel.buffer.drop_first(),
         }
     }
 }

@@ -130,7 +130,7 @@ pub fn receive_on(
         return Ok(Outcome::Stuck);
     };
     let zero = zero_of_closed(channel);
-    match channel.buffer.as_slice().first().copied() {
+    match channel.buffer.first() {
         Some(value) => receive_buffered(state, acting, receiving, object, value),
         None => receive_unbuffered(alloc, state, acting, receiving, object, zero),
     }

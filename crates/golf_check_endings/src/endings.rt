@@ -4,29 +4,28 @@ ghost use Rattle.std.specs.Prelude.{◌≡◌, ◌&&◌, not, map};
 ghost use Rattle.std.specs.List.{list_all};
 ghost use Rattle.golf_check_types.specs.Endings.{panics as panics_of, simple_ends as simple_ends_of, is_endless as is_endless_of, of_all, ending as ending_of, clause_ending};
 
-use golf_check_types::{Panics, Terminates};
+use golf_check_types::Terminates;
 use golf_syntax_trees::{Clause, Expr, Header, SimpleKind, Stmt};
 
-fn panicking(e: &Expr) -> Panics
-    ensures { result ≡ panics_of e.now }
+// Whether an expression is the name `panic`, in brackets or not.
+fn is_panic(e: &Expr) -> bool
+    ensures { result ≡ (panics_of e.now).named }
 {
     match e {
-        Expr::Name(name) => Panics {
-            named: name.as_slice() == b"panic".as_slice(),
-            called: false,
-        },
-        Expr::Parens(e) => panicking(e.get()),
-        Expr::Call(f, _) => {
-            let callee = panicking(f.get());
-            Panics {
-                named: false,
-                called: callee.named,
-            }
-        }
-        _ => Panics {
-            named: false,
-            called: false,
-        },
+        Expr::Name(name) => name.as_slice() == b"panic".as_slice(),
+        Expr::Parens(e) => is_panic(e.get()),
+        _ => false,
+    }
+}
+
+// Whether an expression is a call of that, in brackets or not. A call of a call is none.
+fn panics(e: &Expr) -> bool
+    ensures { result ≡ (panics_of e.now).called }
+{
+    match e {
+        Expr::Call(f, _) => is_panic(f.get()),
+        Expr::Parens(e) => panics(e.get()),
+        _ => false,
     }
 }
 
@@ -34,7 +33,7 @@ fn simple_ends(kind: &SimpleKind) -> bool
     ensures { result ≡ simple_ends_of kind.now }
 {
     match kind {
-        SimpleKind::Expression(e) => panicking(e.get()).called,
+        SimpleKind::Expression(e) => panics(e.get()),
         _ => false,
     }
 }
@@ -91,6 +90,32 @@ fn clause_at(clause: &Clause) -> Terminates
     }
 }
 
+// The statement behind `else`. A loop follows each `else if`, since nothing bounds their number.
+#[cycle(ending)]
+#[tactic(auto, using(crate::proofs::Branches::branch_steps))]
+fn otherwise_at(otherwise: &Stmt) -> Terminates
+    ensures { result ≡ ending_of otherwise.now }
+{
+    let mut found = Terminates {
+        ends: true,
+        breaks: false,
+    };
+    let mut last = otherwise;
+    'branches: while let Stmt::IfElse(_, _, _, body, next) = last {
+        let branch = all_ending(body.as_slice());
+        found = Terminates {
+            ends: found.ends && branch.ends,
+            breaks: found.breaks || branch.breaks,
+        };
+        last = next.get();
+    }
+    let rest = ending_at(last);
+    Terminates {
+        ends: found.ends && rest.ends,
+        breaks: found.breaks || rest.breaks,
+    }
+}
+
 #[cycle(ending)]
 fn ending_at(stmt: &Stmt) -> Terminates
     ensures { result ≡ ending_of stmt.now }
@@ -115,7 +140,7 @@ fn ending_at(stmt: &Stmt) -> Terminates
         },
         Stmt::IfElse(_, _, _, body, otherwise) => {
             let first = all_ending(body.as_slice());
-            let second = ending_at(otherwise.get());
+            let second = otherwise_at(otherwise.get());
             Terminates {
                 ends: first.ends && second.ends,
                 breaks: first.breaks || second.breaks,

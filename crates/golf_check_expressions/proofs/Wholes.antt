@@ -1,5 +1,5 @@
 -- What the answer for an expression with a list of parts tells.
--- For: `call_at`, `slice_at` and `struct_at`, src/expressions.rt; `Judges`, golf_check_types/specs/Judging.antt.
+-- For: `slice_at` and `struct_at`, src/expressions.rt; `Judges`, golf_check_types/specs/Judging.antt.
 -- By: computing; no induction.
 use Rattle.std.proofs.Common.{◌≡◌, ℕ, List, map, sym, ap, subst, ◌∙◌}
 use Rattle.std.specs.Prelude.{Result}
@@ -16,18 +16,12 @@ use Rattle.golf_check_types.specs.Types.{with_layer}
 use Rattle.golf_check_types.specs.Scopes.{meaning}
 use Rattle.golf_check_types.specs.Written.{write, pointer_to}
 use Rattle.golf_check_types.specs.Expressions.{Judged, struct_literal, slice_literal}
-use Rattle.golf_check_types.specs.Calls.{call_judged}
 use Rattle.golf_check_types.specs.Judging.{judge, judge_at, value_at, Judges}
-use Rattle.golf_check_types.proofs.JudgeLaws.{judge-Call, judge-SliceLiteral, judge-StructLiteral}
+use Rattle.golf_check_types.proofs.JudgeLaws.{judge-SliceLiteral, judge-StructLiteral}
 
 module _ (r : Result Operand TypeFault) (l : ℕ) (s : Scope) (e : Expr) (old new : List Fact) where
   same_judged : (i j : Judged) → i ≡ j → Judges r i old new → Judges r j old new
   same_judged i j p h = subst (λ k. Judges r k old new) p h
-
-  pub call_tells : (f g : Expr) (xs ys : List Expr) → e ≡ ex.Call f xs → g ≡ f → ys ≡ xs → Judges r (call_judged l s (judge g l s) (map (judge_at l s) ys)) old new → Judges r (judge e l s) old new
-  call_tells f g xs ys is same also h =
-      same_judged (call_judged l s (judge g l s) (map (judge_at l s) ys)) (judge e l s)
-      (ap (λ h. call_judged l s (judge h l s) (map (judge_at l s) ys)) same ∙ ap (λ zs. call_judged l s (judge f l s) (map (judge_at l s) zs)) also ∙ sym (ap (judge_at l s) is ∙ judge-Call f xs l s)) h
 
   pub slice_tells : (t u : TypeExpr) (xs ys : List Expr) → e ≡ ex.SliceLiteral t xs → u ≡ t → ys ≡ xs → Judges r (slice_literal l (write u l s) (with_layer layer.Slice (write u l s).type) (map (judge_at l s) ys)) old new → Judges r (judge e l s) old new
   slice_tells t u xs ys is same also h =

@@ -1,14 +1,16 @@
 //! What expressions are, and whether they keep the rules.
 
-ghost use Rattle.std.specs.Prelude.{◌∷◌, map};
+ghost use Rattle.std.specs.Prelude.{◌≡◌, ◌∷◌, ◌-◌, ◌<◌, ◌++◌, None, map, length, slice_set, OnOk};
+ghost use Rattle.golf_syntax_trees.specs.Spines.{left_of};
 ghost use Rattle.golf_check_types.specs.Types.{with_layer as with_layer_of};
 ghost use Rattle.golf_check_types.specs.Scopes.{meaning as meaning_of};
 ghost use Rattle.golf_check_types.specs.Written.{write, pointer_to as pointer_to_of};
-ghost use Rattle.golf_check_types.specs.Expressions.{integer as integer_of, unary_judged, binary_judged, index_judged, selector, struct_literal, slice_literal, made as made_of, made_sized as made_sized_of};
-ghost use Rattle.golf_check_types.specs.Calls.{plain_call, finaliser_call, called_with, call_judged};
+ghost use Rattle.golf_check_types.specs.Expressions.{integer as integer_of, unary_judged, struct_literal, slice_literal, made as made_of, made_sized as made_sized_of};
+ghost use Rattle.golf_check_types.specs.Calls.{plain_call, finaliser_call, called_with};
+ghost use Rattle.golf_check_expressions.specs.Spines.{after, after_index, after_call, after_binary, kept};
 ghost use Rattle.golf_check_types.specs.Judging.{judge, judge_at, value_at, Judges, JudgesWhole, Finds, Gives, Takes, GivesAll, Puts};
 
-use golf_base::List;
+use golf_base::{List, Memory};
 use golf_check_calls::{call, finalises, keeps_steady, rule_unless, sets_finaliser};
 use golf_check_operands::{
     all_fit, binary, elements_fit, field_place, fields_differ, index, int_value, is_name, is_value,
@@ -19,7 +21,7 @@ use golf_check_types::{
     Base, Fact, Given, Layer, Operand, Scope, TypeFault, copy_operand, meaning_at, require,
     value_of, with_layer,
 };
-use golf_syntax_trees::{BinaryOperator, Element, Expr, TypeExpr, UnaryOperator};
+use golf_syntax_trees::{BinaryOperator, Element, Expr, TypeExpr, UnaryOperator, spine};
 use std::alloc::Global;
 
 // A literal of an integer, and the fact of its value: rule 19.
@@ -44,9 +46,38 @@ fn made_at(alloc: Global, line: u32, scope: &Scope, t: &TypeExpr) -> Result<Oper
     made(alloc, line, t)
 }
 
+// Keeps a place for the facts of so many expressions.
+fn keep(count: usize, facts: &mut List<Fact>) -> Result<(), Memory>
+    ensures { OnOk result (facts.new ≡ facts.old ++ kept count) }
+{
+    for _ in 0..count {
+        facts.push(Fact::Part(0))?;
+    }
+    Ok(())
+}
+
+// Fills the place that was kept for the fact of an expression.
+fn fill(alloc: Global, at: usize, operand: &Operand, facts: &mut List<Fact>) -> Result<(), Memory>
+    requires { at < length facts.old }
+    ensures { OnOk result (facts.new ≡ slice_set facts.old at (Fact.Expression operand.now (length facts.old - at - 1))) }
+{
+    let own = copy_operand(alloc, operand)?;
+    let parts = facts.len() - at - 1;
+    facts.set(
+        at,
+        Fact::Expression {
+            operand: own,
+            parts,
+        },
+    );
+    Ok(())
+}
+
 /// What an expression is; its fact and those of its parts are added.
+///
+/// A loop follows the spine of left operands. The fact of an expression stands before those of its left operand, so
+/// `keep` adds the places of all facts first.
 #[cycle(judging)]
-#[tactic(auto, using(golf_check_types::proofs::Seams::expression_filled))]
 pub fn operand(
     alloc: Global,
     line: u32,
@@ -56,24 +87,23 @@ pub fn operand(
 ) -> Result<Operand, TypeFault>
     ensures { JudgesWhole result (judge e.now line scope.now) facts.old facts.new }
 {
-    let at = facts.len();
+    let (mut waiting, innermost) = spine(alloc, e)?;
+    keep(waiting.len(), facts)?;
+    let mut at = facts.len();
     facts.push(Fact::Part(0))?;
-    let operand = whole(alloc, line, scope, e, facts)?;
-    let own = copy_operand(alloc, &operand)?;
-    let parts = facts.len() - at - 1;
-    facts.set(
-        at,
-        Fact::Expression {
-            operand: own,
-            parts,
-        },
-    );
+    let mut operand = whole(alloc, line, scope, innermost, facts)?;
+    fill(alloc, at, &operand, facts)?;
+    while let Some(node) = waiting.pop() {
+        at -= 1;
+        operand = rise(alloc, line, scope, node, operand, facts)?;
+        fill(alloc, at, &operand, facts)?;
+    }
     Ok(operand)
 }
 
-// The same; the facts of its parts alone are added.
+// What one without a left operand is; the facts of its parts alone are added.
 #[cycle(judging)]
-#[tactic(auto, unfolding(golf_check_types::specs::Judging::judge))]
+#[tactic(auto, unfolding(golf_check_types::specs::Judging::judge, golf_syntax_trees::specs::Spines::left_of))]
 fn whole(
     alloc: Global,
     line: u32,
@@ -81,6 +111,7 @@ fn whole(
     e: &Expr,
     facts: &mut List<Fact>,
 ) -> Result<Operand, TypeFault>
+    requires { left_of e.now ≡ None }
     ensures { Judges result (judge e.now line scope.now) facts.old facts.new }
 {
     match e {
@@ -105,11 +136,45 @@ fn whole(
         Expr::MakeSized(t, e) => sized_at(alloc, line, scope, t.get(), e.get(), facts),
         Expr::New(name) => made_struct(alloc, line, scope, name.as_slice()),
         Expr::NewSync(name) => made_sync(alloc, line, scope, name.as_slice()),
-        Expr::Selector(e, name) => selector_at(alloc, line, scope, e.get(), name.as_slice(), facts),
-        Expr::Index(a, i) => index_at(alloc, line, scope, a.get(), i.get(), facts),
-        Expr::Call(f, xs) => call_at(alloc, line, scope, xs.as_slice(), f.get(), facts),
+        Expr::Selector(_, _) => unreachable!(),
+        Expr::Index(_, _) => unreachable!(),
+        Expr::Call(_, _) => unreachable!(),
         Expr::Unary(o, e) => unary_at(alloc, line, scope, *o, e.get(), facts),
-        Expr::Binary(o, a, b) => binary_at(alloc, line, scope, *o, a.get(), b.get(), facts),
+        Expr::Binary(_, _, _) => unreachable!(),
+    }
+}
+
+// What one is after its left operand; the facts of its other parts are added.
+#[cycle(judging)]
+#[tactic(auto, unfolding(crate::specs::Spines::after))]
+fn rise(
+    alloc: Global,
+    line: u32,
+    scope: &Scope,
+    e: &Expr,
+    left: Operand,
+    facts: &mut List<Fact>,
+) -> Result<Operand, TypeFault>
+    ensures { Judges result (after e.now line scope.now left) facts.old facts.new }
+{
+    match e {
+        Expr::Integer(_) => Ok(left),
+        Expr::Text(_) => Ok(left),
+        Expr::Name(_) => Ok(left),
+        Expr::Parens(_) => Ok(left),
+        Expr::StructLiteral(_, _) => Ok(left),
+        Expr::SyncLiteral(_) => Ok(left),
+        Expr::SliceLiteral(_, _) => Ok(left),
+        Expr::EmptyLiteral => Ok(left),
+        Expr::Make(_) => Ok(left),
+        Expr::MakeSized(_, _) => Ok(left),
+        Expr::New(_) => Ok(left),
+        Expr::NewSync(_) => Ok(left),
+        Expr::Selector(_, name) => select(alloc, line, &scope.file, name.as_slice(), left),
+        Expr::Index(_, i) => index_at(alloc, line, scope, left, i.get(), facts),
+        Expr::Call(_, xs) => call_at(alloc, line, scope, xs.as_slice(), &left, facts),
+        Expr::Unary(_, _) => Ok(left),
+        Expr::Binary(o, _, b) => binary_at(alloc, line, scope, *o, left, b.get(), facts),
     }
 }
 
@@ -221,32 +286,18 @@ fn sized_at(
 }
 
 #[cycle(judging)]
-fn selector_at(
-    alloc: Global,
-    line: u32,
-    scope: &Scope,
-    e: &Expr,
-    name: &[u8],
-    facts: &mut List<Fact>,
-) -> Result<Operand, TypeFault>
-    ensures { Judges result (selector line scope.now name.now (judge e.now line scope.now)) facts.old facts.new }
-{
-    let operand = operand(alloc, line, scope, e, facts)?;
-    select(alloc, line, &scope.file, name, operand)
-}
-
-#[cycle(judging)]
 fn index_at(
     alloc: Global,
     line: u32,
     scope: &Scope,
-    a: &Expr,
+    slice: Operand,
     i: &Expr,
     facts: &mut List<Fact>,
 ) -> Result<Operand, TypeFault>
-    ensures { Judges result (index_judged line (judge a.now line scope.now) (judge i.now line scope.now)) facts.old facts.new }
+    ensures { Judges result (after_index line slice (judge i.now line scope.now)) facts.old facts.new }
 {
-    let x = given(alloc, line, scope, a, facts)?;
+    is_value(line, &slice)?;
+    let x = value_of(alloc, slice);
     let y = given(alloc, line, scope, i, facts)?;
     index(line, x, y)
 }
@@ -272,13 +323,14 @@ fn binary_at(
     line: u32,
     scope: &Scope,
     operator: BinaryOperator,
-    a: &Expr,
+    left: Operand,
     b: &Expr,
     facts: &mut List<Fact>,
 ) -> Result<Operand, TypeFault>
-    ensures { Judges result (binary_judged line operator (judge a.now line scope.now) (judge b.now line scope.now)) facts.old facts.new }
+    ensures { Judges result (after_binary line operator left (judge b.now line scope.now)) facts.old facts.new }
 {
-    let x = given(alloc, line, scope, a, facts)?;
+    is_value(line, &left)?;
+    let x = value_of(alloc, left);
     let y = given(alloc, line, scope, b, facts)?;
     binary(alloc, line, operator, x, y)
 }
@@ -305,13 +357,13 @@ fn call_at(
     line: u32,
     scope: &Scope,
     xs: &[Expr],
-    f: &Expr,
+    f: &Operand,
     facts: &mut List<Fact>,
 ) -> Result<Operand, TypeFault>
-    ensures { Judges result (call_judged line scope.now (judge f.now line scope.now) (map (judge_at line scope.now) xs.now)) facts.old facts.new }
+    ensures { Judges result (after_call line scope.now f.now (map (judge_at line scope.now) xs.now)) facts.old facts.new }
 {
-    let callee = callee(alloc, line, scope, f, facts)?;
-    called(alloc, line, scope, &callee, xs, facts)
+    is_name(line, f)?;
+    called(alloc, line, scope, f, xs, facts)
 }
 
 /// A call of an operand, after that.

@@ -132,7 +132,7 @@ refused_selector l f n m a e r k was is h =
 
 -- Calls.
 
-called_form_late : (f : FileScope) (m : Operand) → called_form f (without_late m) ≡ called_form f m
+pub called_form_late : (f : FileScope) (m : Operand) → called_form f (without_late m) ≡ called_form f m
 called_form_late f (operand.Nothing late) = refl
 called_form_late f m = refl
 
@@ -146,7 +146,7 @@ called_late : (l : ℕ) (s : Scope) (m : Operand) (xs : List Judged) → without
 called_late l s (operand.BuiltIn b) xs = built_in_late l s b xs
 called_late l s m xs = refl
 
-same_called : (l : ℕ) (s : Scope) (m n : Operand) (xs : List Judged) → without_late m ≡ without_late n → without_late (called_form s.file m) ≡ without_late (called_with l s n xs).meaning
+pub same_called : (l : ℕ) (s : Scope) (m n : Operand) (xs : List Judged) → without_late m ≡ without_late n → without_late (called_form s.file m) ≡ without_late (called_with l s n xs).meaning
 same_called l s m n xs h =
     ap without_late (sym (called_form_late s.file m) ∙ ap (called_form s.file) h ∙ called_form_late s.file n) ∙ sym (called_late l s n xs)
 

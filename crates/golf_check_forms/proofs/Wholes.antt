@@ -1,7 +1,7 @@
 -- What the answer for an expression with a list of parts is.
 -- For: `form`, src/forms.rt; `Forms`, specs/Forms.antt
 -- By: equations of what the expression is; no induction
-use Rattle.std.proofs.Common.{◌≡◌, ℕ, List, map, sym, ap, subst, ◌∙◌}
+use Rattle.std.proofs.Common.{◌≡◌, ℕ, List, sym, ap, subst, ◌∙◌}
 use Rattle.std.specs.Prelude.{Result}
 use Rattle.golf_base.specs.declared.Memory.{Memory}
 use Rattle.golf_syntax_trees.specs.declared.types.TypeExpr.{TypeExpr}
@@ -15,20 +15,14 @@ use Rattle.golf_check_types.specs.declared.scopes.Scope.{Scope}
 use Rattle.golf_check_types.specs.Types.{with_layer}
 use Rattle.golf_check_types.specs.Scopes.{meaning}
 use Rattle.golf_check_types.specs.Written.{write, pointer_to}
-use Rattle.golf_check_types.specs.Expressions.{Judged, pointer_value}
-use Rattle.golf_check_types.specs.Calls.{called_with}
-use Rattle.golf_check_types.specs.Judging.{judge, judge_at}
-use Rattle.golf_check_types.proofs.JudgeLaws.{judge-Call, judge-SliceLiteral, judge-StructLiteral}
+use Rattle.golf_check_types.specs.Expressions.{pointer_value}
+use Rattle.golf_check_types.specs.Judging.{judge}
+use Rattle.golf_check_types.proofs.JudgeLaws.{judge-SliceLiteral, judge-StructLiteral}
 use Rattle.golf_check_forms.specs.Forms.{Forms}
 
 module _ (r : Result Operand Memory) (l : ℕ) (s : Scope) (e : Expr) where
   same_form : (i j : Operand) → i ≡ j → Forms r i → Forms r j
   same_form i j p h = subst (Forms r) p h
-
-  pub call_forms : (f g : Expr) (xs : List Expr) → e ≡ ex.Call f xs → g ≡ f → ((ys : List Judged) → Forms r (called_with l s (judge g l s).meaning ys).meaning) → Forms r (judge e l s).meaning
-  call_forms f g xs is same h =
-      same_form (called_with l s (judge g l s).meaning (map (judge_at l s) xs)).meaning (judge e l s).meaning
-      (ap (λ k. (called_with l s (judge k l s).meaning (map (judge_at l s) xs)).meaning) same ∙ sym (ap (λ k. (judge k l s).meaning) is ∙ ap (λ j. j.meaning) (judge-Call f xs l s))) (h (map (judge_at l s) xs))
 
   pub slice_forms : (t u : TypeExpr) (xs : List Expr) → e ≡ ex.SliceLiteral t xs → u ≡ t → Forms r (operand.Value (with_layer layer.Slice (write u l s).type)) → Forms r (judge e l s).meaning
   slice_forms t u xs is same h =

@@ -1,13 +1,15 @@
 //! What expressions are by their form, whatever rules they break.
 
-ghost use Rattle.std.specs.Prelude.{◌≡◌, IfOk, List, slice_get};
-ghost use Rattle.golf_check_types.specs.Types.{element as element_of, with_layer as with_layer_of};
+ghost use Rattle.std.specs.Prelude.{◌≡◌, None, IfOk, slice_get};
+ghost use Rattle.golf_syntax_trees.specs.Spines.{left_of};
+ghost use Rattle.golf_check_types.specs.Types.{with_layer as with_layer_of};
 ghost use Rattle.golf_check_types.specs.Scopes.{meaning as meaning_of};
 ghost use Rattle.golf_check_types.specs.Written.{write, pointer_to as pointer_to_of};
-ghost use Rattle.golf_check_types.specs.Expressions.{Judged, given_by, named as named_of, pointer_value, unary_meaning, selected_from, in_parens};
-ghost use Rattle.golf_check_types.specs.Calls.{signature_result, called_with};
+ghost use Rattle.golf_check_types.specs.Expressions.{given_by, named as named_of, pointer_value, unary_meaning, selected_from, in_parens};
+ghost use Rattle.golf_check_types.specs.Calls.{signature_result};
 ghost use Rattle.golf_check_types.specs.Judging.{judge};
 ghost use Rattle.golf_check_forms.specs.Forms.{Forms, called_form};
+ghost use Rattle.golf_check_forms.specs.Spines.{formed};
 
 use golf_base::Memory;
 use golf_check_operands::{
@@ -18,7 +20,7 @@ use golf_check_types::{
     Base, BuiltIn, FileScope, Given, Layer, Operand, Scope, TypeFault, copy_optional, is_blank,
     meaning_at, value_of, with_layer,
 };
-use golf_syntax_trees::{Expr, TypeExpr, UnaryOperator};
+use golf_syntax_trees::{Expr, TypeExpr, UnaryOperator, spine};
 use std::alloc::Global;
 
 fn named(alloc: Global, line: u32, scope: &Scope, name: &[u8]) -> Result<Operand, Memory>
@@ -118,35 +120,12 @@ fn parens_form(alloc: Global, line: u32, scope: &Scope, e: &Expr) -> Result<Oper
 }
 
 #[cycle(forming)]
-#[tactic(auto, using(crate::proofs::Laws::same_selected))]
-fn selector_form(
-    alloc: Global,
-    line: u32,
-    scope: &Scope,
-    e: &Expr,
-    name: &[u8],
-) -> Result<Operand, Memory>
-    ensures { Forms result (selected_from line scope.now.file name.now (judge e.now line scope.now).meaning).meaning }
-{
-    let operand = form(alloc, line, scope, e)?;
-    selected(alloc, line, &scope.file, name, operand)
-}
-
-#[cycle(forming)]
 #[tactic(auto, using(crate::proofs::Laws::same_given))]
 fn value_form(alloc: Global, line: u32, scope: &Scope, e: &Expr) -> Result<Given, Memory>
     ensures { IfOk result (λ v. v ≡ given_by (judge e.now line scope.now)) }
 {
     let operand = form(alloc, line, scope, e)?;
     Ok(value_of(alloc, operand))
-}
-
-#[cycle(forming)]
-fn index_form(alloc: Global, line: u32, scope: &Scope, e: &Expr) -> Result<Operand, Memory>
-    ensures { Forms result (Operand.Element (element_of (given_by (judge e.now line scope.now)))) }
-{
-    let x = value_form(alloc, line, scope, e)?;
-    Ok(Operand::Element(element(x)))
 }
 
 #[cycle(forming)]
@@ -163,19 +142,55 @@ fn unary_form(
     Ok(unary(alloc, operator, x))
 }
 
-#[cycle(forming)]
-#[tactic(auto, using(crate::proofs::Laws::called_forms))]
-fn call_form(alloc: Global, line: u32, scope: &Scope, f: &Expr) -> Result<Operand, Memory>
-    ensures { (xs : List Judged) → Forms result (called_with line scope.now (judge f.now line scope.now).meaning xs).meaning }
+// What an expression is whose left operand is this.
+#[tactic(auto, unfolding(crate::specs::Spines::formed))]
+fn rise(alloc: Global, line: u32, scope: &Scope, e: &Expr, left: Operand) -> Result<Operand, Memory>
+    ensures { Forms result (formed e.now line scope.now left) }
 {
-    let callee = form(alloc, line, scope, f)?;
-    called(alloc, &scope.file, callee)
+    match e {
+        Expr::Integer(_) => Ok(left),
+        Expr::Text(_) => Ok(left),
+        Expr::Name(_) => Ok(left),
+        Expr::Parens(_) => Ok(left),
+        Expr::StructLiteral(_, _) => Ok(left),
+        Expr::SyncLiteral(_) => Ok(left),
+        Expr::SliceLiteral(_, _) => Ok(left),
+        Expr::EmptyLiteral => Ok(left),
+        Expr::Make(_) => Ok(left),
+        Expr::MakeSized(_, _) => Ok(left),
+        Expr::New(_) => Ok(left),
+        Expr::NewSync(_) => Ok(left),
+        Expr::Selector(_, name) => selected(alloc, line, &scope.file, name.as_slice(), left),
+        Expr::Index(_, _) => {
+            let x = value_of(alloc, left);
+            Ok(Operand::Element(element(x)))
+        }
+        Expr::Call(_, _) => called(alloc, &scope.file, left),
+        Expr::Unary(_, _) => Ok(left),
+        Expr::Binary(o, _, _) => Ok(value(alloc, result_base(*o))),
+    }
 }
 
 /// What an expression is by its form; of a call without a result not which rule it breaks.
+///
+/// A loop follows the spine of left operands.
 #[cycle(forming)]
-#[tactic(auto, unfolding(golf_check_types::specs::Judging::judge))]
 pub fn form(alloc: Global, line: u32, scope: &Scope, e: &Expr) -> Result<Operand, Memory>
+    ensures { Forms result (judge e.now line scope.now).meaning }
+{
+    let (mut waiting, innermost) = spine(alloc, e)?;
+    let mut operand = whole(alloc, line, scope, innermost)?;
+    while let Some(node) = waiting.pop() {
+        operand = rise(alloc, line, scope, node, operand)?;
+    }
+    Ok(operand)
+}
+
+// What an expression without a left operand is.
+#[cycle(forming)]
+#[tactic(auto, unfolding(golf_check_types::specs::Judging::judge, golf_syntax_trees::specs::Spines::left_of))]
+fn whole(alloc: Global, line: u32, scope: &Scope, e: &Expr) -> Result<Operand, Memory>
+    requires { left_of e.now ≡ None }
     ensures { Forms result (judge e.now line scope.now).meaning }
 {
     match e {
@@ -197,10 +212,10 @@ pub fn form(alloc: Global, line: u32, scope: &Scope, e: &Expr) -> Result<Operand
             let base = made_base(name.as_slice());
             Ok(Operand::Value(plain_type(alloc, base)))
         }
-        Expr::Selector(e, name) => selector_form(alloc, line, scope, e.get(), name.as_slice()),
-        Expr::Index(a, _) => index_form(alloc, line, scope, a.get()),
-        Expr::Call(f, _) => call_form(alloc, line, scope, f.get()),
+        Expr::Selector(_, _) => unreachable!(),
+        Expr::Index(_, _) => unreachable!(),
+        Expr::Call(_, _) => unreachable!(),
         Expr::Unary(o, e) => unary_form(alloc, line, scope, *o, e.get()),
-        Expr::Binary(o, _, _) => Ok(value(alloc, result_base(*o))),
+        Expr::Binary(_, _, _) => unreachable!(),
     }
 }

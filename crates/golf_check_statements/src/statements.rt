@@ -1,13 +1,17 @@
 //! Whether statements keep the rules.
 
-ghost use Rattle.std.specs.Prelude.{map};
+ghost use Rattle.std.specs.Prelude.{◌≡◌, map, OnOk};
+ghost use Rattle.golf_syntax_trees.specs.Spines.{risen};
+ghost use Rattle.golf_check_types.specs.Scopes.{closed_to};
+ghost use Rattle.golf_syntax_trees.specs.declared.statements.Stmt.{out-Stmt, size-Stmt};
+ghost use Rattle.golf_check_statements.specs.Elses.{else_of, IsShorter};
 ghost use Rattle.golf_check_types.specs.Statements.{Walks, in_order, block as block_of, loop_body as loop_body_of, then_walk, if_walk, else_walk, behind_test, behind_optional, steps as steps_of, then, optional as optional_of, range_walk, header_walk, for_walk, case_walk, default_walk, counted, breaking as breaking_of, in_block, communication as communication_of, walk, walk_clause, walk_clause_at};
 
 use crate::bodies::{
     begin_call, communication, condition, count_part, optional, optional_test, post as post_at,
     range_head, range_slots, returned, variable,
 };
-use golf_base::List;
+use golf_base::{List, Memory};
 use golf_check_simple::simple;
 use golf_check_types::{Fact, Scope, TypeFault, begin, end, require};
 use golf_syntax_trees::{
@@ -129,7 +133,71 @@ fn both_parts(
     ensures { Walks result (then (then_walk line first.now test.now (map walk body.now)) (walk otherwise.now) scope.old) scope.old scope.new facts.old facts.new }
 {
     then_part(alloc, line, scope, body, first, test, facts)?;
-    statement(alloc, scope, otherwise, facts)
+    otherwise_at(alloc, scope, otherwise, facts)
+}
+
+// Returns the statement behind the `else` of an `if`, or the statement itself if it has none.
+#[tactic(auto, unfolding(crate::specs::Elses::else_of))]
+fn behind_else(stmt: &Stmt) -> &Stmt
+    ensures is { result.now ≡ else_of stmt.now }
+    ensures smaller { IsShorter (out-Stmt stmt.now) (size-Stmt result.now) (size-Stmt stmt.now) }
+{
+    match stmt {
+        Stmt::IfElse(_, _, _, _, otherwise) => otherwise.get(),
+        Stmt::Var(_) => stmt,
+        Stmt::Simple(_) => stmt,
+        Stmt::Go(_, _, _) => stmt,
+        Stmt::Defer(_, _, _) => stmt,
+        Stmt::Return(_, _) => stmt,
+        Stmt::Break(_) => stmt,
+        Stmt::Continue(_) => stmt,
+        Stmt::Block(_, _) => stmt,
+        Stmt::If(_, _, _, _) => stmt,
+        Stmt::For(_, _, _) => stmt,
+        Stmt::Select(_, _) => stmt,
+    }
+}
+
+// The statement behind `else`. A loop follows each `else if`, since nothing bounds their number. The marks are those of
+// the blocks that it opens.
+#[cycle(walking)]
+fn otherwise_at(
+    alloc: Global,
+    scope: &mut Scope,
+    otherwise: &Stmt,
+    facts: &mut List<Fact>,
+) -> Result<(), TypeFault>
+    ensures { Walks result (walk otherwise.now scope.old) scope.old scope.new facts.old facts.new }
+{
+    let mut marks = List::new(alloc);
+    let mut last = otherwise;
+    'branches: while let Stmt::IfElse(line, first, test, body, _) = last {
+        let mark = begin(scope)?;
+        marks.push(mark)?;
+        then_part(
+            alloc,
+            *line,
+            scope,
+            body.as_slice(),
+            first,
+            test.get(),
+            facts,
+        )?;
+        last = behind_else(last);
+    }
+    statement(alloc, scope, last, facts)?;
+    end_all(alloc, scope, marks)?;
+    Ok(())
+}
+
+// Ends the blocks with these marks, the last one first.
+fn end_all(alloc: Global, scope: &mut Scope, mut marks: List<usize>) -> Result<(), Memory>
+    ensures { OnOk result (scope.new ≡ risen closed_to marks scope.old) }
+{
+    while let Some(mark) = marks.pop() {
+        end(alloc, scope, mark)?;
+    }
+    Ok(())
 }
 
 #[cycle(walking)]

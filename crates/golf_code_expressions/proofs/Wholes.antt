@@ -1,7 +1,9 @@
 -- The code of an expression with a list of parts, by its facts; and what is written if facts are missing.
 -- For: `expression`, src/expressions.rt; `left_side`, src/places.rt
 -- By: induction over the tree of an expression, and over the list of arguments
-use Rattle.std.proofs.Common.{◌≡◌, ℕ, suc, pos, Bool, false, cond, List, [], ◌∷◌, length, map, refl, sym, ap, subst, ◌∙◌}
+use Rattle.std.proofs.Common.{◌≡◌, ℕ, suc, pos, true, cond, List, [], ◌∷◌, length, map, refl, sym, ap, subst, ◌∙◌}
+use Rattle.std.specs.Prelude.{Result, Ok, Err}
+use Rattle.golf_base.specs.declared.Memory.{Memory}
 use Rattle.golf_syntax_trees.specs.declared.types.TypeExpr.{TypeExpr}
 use Rattle.golf_syntax_trees.specs.declared.expressions.Expr.{Expr, roll-Expr}
 use Rattle.golf_syntax_trees.specs.declared.expressions.Element.{Element}
@@ -23,7 +25,7 @@ use Rattle.golf_code_facts.specs.Expressions.{Take, taking, taking_step, element
 use Rattle.golf_code_expressions.specs.declared.places.Place.TheVariants as place
 use Rattle.golf_code_expressions.specs.declared.writer.Draft.{Draft}
 use Rattle.golf_code_expressions.specs.declared.writer.Writer.{Writer}
-use Rattle.golf_code_expressions.specs.Writing.{with_piece}
+use Rattle.golf_code_expressions.specs.Writing.{with_piece, Extends}
 use Rattle.golf_code_expressions.specs.Places.{IsPlace}
 
 module _ (t : Tables) (l : ℕ) where
@@ -50,26 +52,18 @@ module _ (t : Tables) (l : ℕ) where
   pieces_as_many [] fs = refl
   pieces_as_many (x ∷ xs) fs = ap (λ n. suc n) (pieces_as_many xs (skip fs))
 
-  -- a call that sets no finaliser
-  pub plain_is : (m o : Operand) (p : Piece) (xs : List Expr) (gs : List Fact) (b : Bool) → o ≡ m → b ≡ sets_finaliser o → b ≡ false
-      → all (p ∷ pushes (arguments l (map (taking t) xs) gs) ∷ calling l o (length xs) ∷ []) ≡ (call l m p (arguments l (map (taking t) xs) gs)).piece
-  plain_is m o p xs gs b same tells clear =
-      let ys = arguments l (map (taking t) xs) gs in
-      ap (λ k. all (p ∷ pushes ys ∷ calling l k (length xs) ∷ [])) same
-      ∙ ap (λ n. all (p ∷ pushes ys ∷ calling l m n ∷ [])) (sym (as_many xs gs))
-      ∙ ap (λ c. cond c (finalising l ys) (all (p ∷ pushes ys ∷ calling l m (length ys) ∷ []))) (sym clear ∙ tells ∙ ap sets_finaliser same)
-
   module _ (m : Fact) (fs : List Fact) where
     taking-Call : (f : Expr) (xs : List Expr) → taking t (ex.Call f xs) l (m ∷ fs) ≡ call l (next_is fs) (taking t f l fs).piece (arguments l (map (taking t) xs) (skip fs))
     unfolding taking
     taking-Call f xs = ap (λ (k : Take). k l (m ∷ fs)) (ap (taking t) (sym (ex.rolls-Call f xs)) ∙ fold-roll-Expr Take Take (taking_step t) element_taking_step (F.Call f xs))
 
-    pub call_is : (e f g : Expr) (xs ys : List Expr) → e ≡ ex.Call f xs → g ≡ f → ys ≡ xs
-        → (call l (next_is fs) (taking t g l fs).piece (arguments l (map (taking t) ys) (skip fs))).piece ≡ (taking t e l (m ∷ fs)).piece
-    call_is e f g xs ys is same also =
-        ap (λ h. (call l (next_is fs) (taking t h l fs).piece (arguments l (map (taking t) ys) (skip fs))).piece) same
-        ∙ ap (λ zs. (call l (next_is fs) (taking t f l fs).piece (arguments l (map (taking t) zs) (skip fs))).piece) also
-        ∙ sym (ap (λ z. (taking t z l (m ∷ fs)).piece) is ∙ ap (λ (x : Made). x.piece) (taking-Call f xs))
+    -- a call that sets a finaliser
+    pub call_is : (e f : Expr) (xs ys : List Expr) → e ≡ ex.Call f xs → ys ≡ xs → sets_finaliser (next_is fs) ≡ true
+        → finalising l (arguments l (map (taking t) ys) (skip fs)) ≡ (taking t e l (m ∷ fs)).piece
+    call_is e f xs ys is also sets =
+        ap (λ zs. finalising l (arguments l (map (taking t) zs) (skip fs))) also
+        ∙ (ap (λ c. cond c (finalising l (arguments l (map (taking t) xs) (skip fs))) (all ((taking t f l fs).piece ∷ pushes (arguments l (map (taking t) xs) (skip fs)) ∷ calling l (next_is fs) (length (arguments l (map (taking t) xs) (skip fs))) ∷ []))) (sym sets)
+        ∙ sym (ap (λ z. (taking t z l (m ∷ fs)).piece) is ∙ ap (λ (x : Made). x.piece) (taking-Call f xs)))
 
     taking-Slice : (w : TypeExpr) (xs : List Expr) → taking t (ex.SliceLiteral w xs) l (m ∷ fs) ≡ slice_literal l (type_in m) (pieces (arguments l (map (taking t) xs) fs))
     unfolding taking
@@ -83,17 +77,20 @@ module _ (t : Tables) (l : ℕ) where
         ∙ ap (λ zs. (slice_literal l (type_in m) (pieces (arguments l (map (taking t) zs) fs))).piece) also
         ∙ sym (ap (λ z. (taking t z l (m ∷ fs)).piece) is ∙ ap (λ (x : Made). x.piece) (taking-Slice w xs))
 
+-- a piece is added whatever facts come next
+pub passed_over : {A : Type 0} (r : Result A Memory) (p : Piece) (old new : Writer) (fs : List Fact) → Extends r p (record { facts = fs; draft = old.draft }) new → Extends r p old new
+passed_over (Ok a) p old new fs h = h
+passed_over (Err e) p old new fs h = tt
+
 -- Where facts are missing nothing is written.
 
 abbrev written : List Fact → Draft → Writer
 written fs d = record { facts = fs; draft = d }
 
-pub none_written : (l : ℕ) (e : Expr) (w : Writer) (left : List Fact) → w.facts ≡ [] → left ≡ [] → written left w.draft ≡ written (skip w.facts) (with_piece w.draft (taking w.draft.tables.now e l w.facts).piece)
-none_written l e w left none h =
+pub none_written : (l : ℕ) (e : Expr) (w : Writer) → w.facts ≡ [] → w.draft ≡ with_piece w.draft (taking w.draft.tables.now e l w.facts).piece
+none_written l e w none =
     let t = w.draft.tables.now in
-    ap (λ fs. written fs w.draft) h
-    ∙ ap (λ (x : Made). written [] (with_piece w.draft x.piece)) (sym (no_facts t l e))
-    ∙ ap (λ fs. written (skip fs) (with_piece w.draft (taking t e l fs).piece)) (sym none)
+    ap (λ (x : Made). with_piece w.draft x.piece) (sym (no_facts t l e)) ∙ ap (λ fs. with_piece w.draft (taking t e l fs).piece) (sym none)
 
 pub no_place : (l : ℕ) (e : Expr) (w : Writer) (left : List Fact) → w.facts ≡ [] → left ≡ []
     → IsPlace l place.Nothing (taking w.draft.tables.now e l w.facts) × (written left w.draft ≡ written (skip w.facts) (with_piece w.draft (taking w.draft.tables.now e l w.facts).parts))

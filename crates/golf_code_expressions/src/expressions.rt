@@ -1,15 +1,18 @@
 //! The code of an expression by its facts.
 
-ghost use Rattle.std.specs.Prelude.{◌∷◌, [], map, length, pos, true, false};
+ghost use Rattle.std.specs.Prelude.{◌≡◌, ◌∷◌, ◌<◌, [], None, map, length, pos, IfOk, IfSome, OnOk};
+ghost use Rattle.std.specs.Option.{option_map};
+ghost use Rattle.golf_syntax_trees.specs.declared.expressions.Expr.{size-Expr};
 ghost use Rattle.golf_code_layout.specs.Piece.{all, op as op_of};
 ghost use Rattle.golf_code_of.specs.Table.{text_number};
 ghost use Rattle.golf_code_of.specs.Values.{makes as makes_of};
-ghost use Rattle.golf_code_of.specs.Expressions.{made as made_of, made_sized, elements, new_struct as new_struct_of, selector, index, unary_operator, binary_piece, either, combining as combining_of};
-ghost use Rattle.golf_code_of.specs.Calls.{pushes, calling as calling_of, finaliser as finaliser_of, finalising as finalising_of, call as call_of};
+ghost use Rattle.golf_code_of.specs.Expressions.{made as made_of, made_sized, elements, new_struct as new_struct_of, unary_operator};
+ghost use Rattle.golf_code_of.specs.Calls.{pushes, finaliser as finaliser_of, finalising as finalising_of};
 ghost use Rattle.golf_code_layout.specs.Emission.{Adds};
-ghost use Rattle.golf_code_facts.specs.Facts.{next_is, past_one, skip, type_of_value, base_of as base_of_of};
+ghost use Rattle.golf_code_facts.specs.Facts.{operand_in, next_is, past_one, skip, type_of_value, base_of as base_of_of};
 ghost use Rattle.golf_code_facts.specs.Expressions.{taking, arguments as arguments_of, pieces, puts};
 ghost use Rattle.golf_code_expressions.specs.Writing.{Extends, Writes};
+ghost use Rattle.golf_code_expressions.specs.Spines.{has_left as has_left_of, written, begun, ended, after_selector, after_index, after_call, after_either, after_both, after_binary, Descended, Stops, Follows};
 
 use crate::calls::{calling, finaliser, sets_finaliser};
 use crate::names::{base_of, makes_of_value, name, new_struct, new_sync};
@@ -43,25 +46,174 @@ fn made_at(emitted: &mut List<Emitted>, line: u32, operand: &Operand) -> Result<
     op(emitted, line, makes_of_value(operand))
 }
 
+// Whether what stands before the dot of a selector that is this has code.
+fn has_left(operand: &Operand) -> bool
+    ensures { result ≡ has_left_of operand.now }
+{
+    match operand {
+        Operand::Field(_, _) => true,
+        Operand::Value(_) => true,
+        Operand::Method(_) => true,
+        Operand::BuiltIn(_) => true,
+        Operand::Outcome(_)
+        | Operand::Constant(_, _)
+        | Operand::Truth(_)
+        | Operand::Variable(_, _)
+        | Operand::Element(_)
+        | Operand::Unknown
+        | Operand::Nil
+        | Operand::Blank
+        | Operand::Nothing(_)
+        | Operand::Function(_)
+        | Operand::Package(_)
+        | Operand::Struct(_)
+        | Operand::TypeName => false,
+    }
+}
+
+// The left operand of an expression that is this, if the code of one comes first; of a call, if this is called.
+#[tactic(auto, unfolding(crate::specs::Spines::written))]
+fn written_left<'e>(e: &'e Expr, operand: &Operand, callee: &Operand) -> Option<&'e Expr>
+    ensures is { option_map (λ x. x.now) result ≡ written e.now operand.now callee.now }
+    ensures smaller { IfSome result (λ x. size-Expr x.now < size-Expr e.now) }
+{
+    match e {
+        Expr::Integer(_) => None,
+        Expr::Text(_) => None,
+        Expr::Name(_) => None,
+        Expr::Parens(_) => None,
+        Expr::StructLiteral(_, _) => None,
+        Expr::SyncLiteral(_) => None,
+        Expr::SliceLiteral(_, _) => None,
+        Expr::EmptyLiteral => None,
+        Expr::Make(_) => None,
+        Expr::MakeSized(_, _) => None,
+        Expr::New(_) => None,
+        Expr::NewSync(_) => None,
+        Expr::Selector(left, _) => {
+            if has_left(operand) {
+                Some(left.get())
+            } else {
+                None
+            }
+        }
+        Expr::Index(left, _) => Some(left.get()),
+        Expr::Call(left, _) => {
+            if sets_finaliser(callee) {
+                None
+            } else {
+                Some(left.get())
+            }
+        }
+        Expr::Unary(_, _) => None,
+        Expr::Binary(_, left, _) => Some(left.get()),
+    }
+}
+
+// What stands before the code of the left operand.
+#[tactic(auto, unfolding(crate::specs::Spines::begun))]
+fn begin(emitted: &mut List<Emitted>, e: &Expr) -> Result<(), Memory>
+    ensures { OnOk result (emitted.new ≡ begun e.now emitted.old) }
+{
+    match e {
+        Expr::Binary(BinaryOperator::Or, _, _) => {
+            block(emitted)?;
+            block(emitted)
+        }
+        Expr::Binary(BinaryOperator::And, _, _) => {
+            block(emitted)?;
+            block(emitted)
+        }
+        _ => Ok(()),
+    }
+}
+
+// Goes down the left operands whose code comes first: the expressions that wait for one, and the innermost one, whose
+// facts come next.
+fn descend<'e>(writer: &mut Writer, e: &'e Expr) -> Result<(List<&'e Expr>, &'e Expr), Memory>
+    ensures down { IfOk result (λ x. Descended e.now writer.old x.0 x.1.now writer.new) }
+    ensures stops { IfOk result (λ x. Stops x.1.now writer.new.facts) }
+{
+    let mut waiting = List::new(writer.draft.alloc);
+    let mut inner = e;
+    'down: loop {
+        let mut facts = writer.facts.copy();
+        let Some(fact) = facts.take() else { break };
+        let operand = facts.operand_of(fact);
+        let Some(left) = written_left(inner, operand, facts.operand()) else {
+            break
+        };
+        begin(&mut writer.draft.emitted, inner)?;
+        waiting.push(inner)?;
+        writer.facts = facts;
+        inner = left;
+    }
+    Ok((waiting, inner))
+}
+
 /// Adds the code that pushes the value of an expression whose facts come next, and passes over these.
+///
+/// Left operands are gone down by a loop, since nothing bounds how many of them stand in one another.
 #[cycle(writing)]
 pub fn expression(writer: &mut Writer, line: u32, e: &Expr) -> Result<(), Memory>
     ensures { Writes result (taking writer.old.draft.tables.now e.now line writer.old.facts).piece (skip writer.old.facts) writer.old writer.new }
 {
-    let mut after = writer.facts.copy();
-    after.skip();
+    let mut all = writer.facts.copy();
+    let (mut waiting, innermost) = descend(writer, e)?;
+    innermost_at(writer, line, innermost)?;
+    while let Some(node) = waiting.pop() {
+        writer.facts = all.from(waiting.len());
+        follow(writer, line, node)?;
+    }
+    all.skip();
+    writer.facts = all;
+    Ok(())
+}
+
+// One whose code begins with no left operand, if there are facts.
+#[cycle(writing)]
+fn innermost_at(writer: &mut Writer, line: u32, e: &Expr) -> Result<(), Memory>
+    requires { Stops e.now writer.old.facts }
+    ensures { Extends result (taking writer.old.draft.tables.now e.now line writer.old.facts).piece writer.old writer.new }
+{
     let Some(fact) = writer.facts.take() else {
         return Ok(());
     };
-    whole(writer, line, e, fact)?;
-    writer.facts = after;
-    Ok(())
+    whole(writer, line, e, fact)
+}
+
+// What stands after the code of the left operand, of an expression whose facts come next.
+#[cycle(writing)]
+fn follow(writer: &mut Writer, line: u32, e: &Expr) -> Result<(), Memory>
+    ensures { (f : Fact) (fs : List Fact) → writer.old.facts ≡ f ∷ fs → Follows result (ended writer.old.draft.tables.now line e.now (operand_in f) fs writer.old.draft.emitted) writer.old writer.new }
+{
+    let Some(fact) = writer.facts.take() else {
+        return Ok(());
+    };
+    let operand = writer.facts.operand_of(fact);
+    rest(writer, line, e, operand)
+}
+
+// The same of an expression that is this, if the facts of its parts come next.
+#[cycle(writing)]
+#[tactic(auto, unfolding(crate::specs::Spines::ended))]
+fn rest(writer: &mut Writer, line: u32, e: &Expr, operand: &Operand) -> Result<(), Memory>
+    ensures { Follows result (ended writer.old.draft.tables.now line e.now operand.now writer.old.facts writer.old.draft.emitted) writer.old writer.new }
+{
+    match e {
+        Expr::Selector(_, _) => selected(&mut writer.draft.emitted, line, operand),
+        Expr::Index(_, i) => index_at(writer, line, i.get()),
+        Expr::Call(_, xs) => call_at(writer, line, xs.as_slice()),
+        Expr::Binary(o, _, b) => binary_at(writer, line, *o, b.get()),
+        _ => Ok(()),
+    }
 }
 
 // The expression has this fact, and its parts have those that come next.
 #[cycle(writing)]
-#[tactic(auto, unfolding(golf_code_facts::specs::Expressions::taking))]
+#[tactic(auto, unfolding(golf_code_facts::specs::Expressions::taking, crate::specs::Spines::written))]
 fn whole<'a>(writer: &mut Writer<'a>, line: u32, e: &Expr, fact: &'a Fact) -> Result<(), Memory>
+    requires { written e.now (operand_in fact.now) (next_is writer.old.facts) ≡ None }
     ensures { Extends result (taking writer.old.draft.tables.now e.now line (fact.now ∷ writer.old.facts)).piece writer.old writer.new }
 {
     let operand = writer.facts.operand_of(fact);
@@ -87,11 +239,14 @@ fn whole<'a>(writer: &mut Writer<'a>, line: u32, e: &Expr, fact: &'a Fact) -> Re
         Expr::MakeSized(_, e) => sized_at(writer, line, operand, e.get()),
         Expr::New(_) => new_struct(&mut writer.draft.emitted, line, base_of(operand)),
         Expr::NewSync(_) => new_sync(&mut writer.draft.emitted, line, base_of(operand)),
-        Expr::Selector(e, _) => selector_at(writer, line, operand, e.get()),
-        Expr::Index(a, i) => index_at(writer, line, a.get(), i.get()),
-        Expr::Call(f, xs) => call_at(writer, line, xs.as_slice(), f.get()),
+        Expr::Selector(_, _) => Ok(()),
+        Expr::Index(_, _) => unreachable!(),
+        Expr::Call(_, xs) => {
+            writer.facts.skip();
+            finalising_at(writer, line, xs.as_slice())
+        }
         Expr::Unary(o, e) => unary_at(writer, line, *o, e.get()),
-        Expr::Binary(o, a, b) => binary_at(writer, line, *o, a.get(), b.get()),
+        Expr::Binary(_, _, _) => unreachable!(),
     }
 }
 
@@ -103,77 +258,61 @@ fn unary_at(writer: &mut Writer, line: u32, operator: UnaryOperator, e: &Expr) -
     op(&mut writer.draft.emitted, line, unary_instr(operator))
 }
 
+// The index, after the slice.
 #[cycle(writing)]
-fn index_at(writer: &mut Writer, line: u32, a: &Expr, i: &Expr) -> Result<(), Memory>
-    ensures { Extends result (index line (taking writer.old.draft.tables.now a.now line writer.old.facts).piece (taking writer.old.draft.tables.now i.now line (skip writer.old.facts)).piece).piece writer.old writer.new }
+fn index_at(writer: &mut Writer, line: u32, i: &Expr) -> Result<(), Memory>
+    ensures { Follows result (after_index line (taking writer.old.draft.tables.now i.now line (skip writer.old.facts)).piece writer.old.draft.emitted) writer.old writer.new }
 {
-    expression(writer, line, a)?;
+    writer.facts.skip();
     expression(writer, line, i)?;
     op(&mut writer.draft.emitted, line, Instr::Index)
 }
 
+// The second operand, if the first one decides by this.
 #[cycle(writing)]
-fn both_at(
-    writer: &mut Writer,
-    line: u32,
-    operator: BinaryOperator,
-    a: &Expr,
-    b: &Expr,
-) -> Result<(), Memory>
-    ensures { Extends result (all ((taking writer.old.draft.tables.now a.now line writer.old.facts).piece ∷ (taking writer.old.draft.tables.now b.now line (skip writer.old.facts)).piece ∷ combining_of line operator ∷ [])) writer.old writer.new }
+fn decided_at(writer: &mut Writer, line: u32, b: &Expr, value: bool) -> Result<(), Memory>
+    ensures { Follows result (after_either line value (taking writer.old.draft.tables.now b.now line (skip writer.old.facts)).piece writer.old.draft.emitted) writer.old writer.new }
 {
-    expression(writer, line, a)?;
+    unless(&mut writer.draft.emitted, line, 0)?;
+    writer.facts.skip();
+    expression(writer, line, b)?;
+    exit(&mut writer.draft.emitted, line, 1)?;
+    end(&mut writer.draft.emitted)?;
+    op(&mut writer.draft.emitted, line, Instr::Bool(value))?;
+    end(&mut writer.draft.emitted)
+}
+
+#[cycle(writing)]
+fn or_at(writer: &mut Writer, line: u32, b: &Expr) -> Result<(), Memory>
+    ensures { Follows result (after_binary line BinaryOperator.Or (taking writer.old.draft.tables.now b.now line (skip writer.old.facts)).piece writer.old.draft.emitted) writer.old writer.new }
+{
+    op(&mut writer.draft.emitted, line, Instr::Not)?;
+    decided_at(writer, line, b, true)
+}
+
+#[cycle(writing)]
+fn both_at(writer: &mut Writer, line: u32, operator: BinaryOperator, b: &Expr) -> Result<(), Memory>
+    ensures { Follows result (after_both line operator (taking writer.old.draft.tables.now b.now line (skip writer.old.facts)).piece writer.old.draft.emitted) writer.old writer.new }
+{
+    writer.facts.skip();
     expression(writer, line, b)?;
     combining(&mut writer.draft.emitted, line, operator)
 }
 
-// The first operand, and if it gives true the second.
-#[cycle(writing)]
-fn and_at(writer: &mut Writer, line: u32, a: &Expr, b: &Expr) -> Result<(), Memory>
-    ensures { Extends result (either line (taking writer.old.draft.tables.now a.now line writer.old.facts).piece (taking writer.old.draft.tables.now b.now line (skip writer.old.facts)).piece (op_of line (Instr.Bool false))) writer.old writer.new }
-{
-    block(&mut writer.draft.emitted)?;
-    block(&mut writer.draft.emitted)?;
-    expression(writer, line, a)?;
-    unless(&mut writer.draft.emitted, line, 0)?;
-    expression(writer, line, b)?;
-    exit(&mut writer.draft.emitted, line, 1)?;
-    end(&mut writer.draft.emitted)?;
-    op(&mut writer.draft.emitted, line, Instr::Bool(false))?;
-    end(&mut writer.draft.emitted)
-}
-
-// The first operand, and if it gives false the second.
-#[cycle(writing)]
-fn or_at(writer: &mut Writer, line: u32, a: &Expr, b: &Expr) -> Result<(), Memory>
-    ensures { Extends result (either line (all ((taking writer.old.draft.tables.now a.now line writer.old.facts).piece ∷ op_of line Instr.Not ∷ [])) (taking writer.old.draft.tables.now b.now line (skip writer.old.facts)).piece (op_of line (Instr.Bool true))) writer.old writer.new }
-{
-    block(&mut writer.draft.emitted)?;
-    block(&mut writer.draft.emitted)?;
-    expression(writer, line, a)?;
-    op(&mut writer.draft.emitted, line, Instr::Not)?;
-    unless(&mut writer.draft.emitted, line, 0)?;
-    expression(writer, line, b)?;
-    exit(&mut writer.draft.emitted, line, 1)?;
-    end(&mut writer.draft.emitted)?;
-    op(&mut writer.draft.emitted, line, Instr::Bool(true))?;
-    end(&mut writer.draft.emitted)
-}
-
+// The second operand, after the first.
 #[cycle(writing)]
 fn binary_at(
     writer: &mut Writer,
     line: u32,
     operator: BinaryOperator,
-    a: &Expr,
     b: &Expr,
 ) -> Result<(), Memory>
-    ensures { Extends result (binary_piece line operator (taking writer.old.draft.tables.now a.now line writer.old.facts).piece (taking writer.old.draft.tables.now b.now line (skip writer.old.facts)).piece) writer.old writer.new }
+    ensures { Follows result (after_binary line operator (taking writer.old.draft.tables.now b.now line (skip writer.old.facts)).piece writer.old.draft.emitted) writer.old writer.new }
 {
     match operator {
-        BinaryOperator::Or => or_at(writer, line, a, b),
-        BinaryOperator::And => and_at(writer, line, a, b),
-        _ => both_at(writer, line, operator, a, b),
+        BinaryOperator::Or => or_at(writer, line, b),
+        BinaryOperator::And => decided_at(writer, line, b, false),
+        _ => both_at(writer, line, operator, b),
     }
 }
 
@@ -245,23 +384,16 @@ fn slice_at(writer: &mut Writer, line: u32, operand: &Operand, es: &[Expr]) -> R
     set_all(writer, line, es)
 }
 
-// What stands before the dot has no code if the selector has none.
-#[cycle(writing)]
-fn selector_at(writer: &mut Writer, line: u32, operand: &Operand, e: &Expr) -> Result<(), Memory>
-    ensures { Extends result (selector line operand.now (taking writer.old.draft.tables.now e.now line writer.old.facts).piece).piece writer.old writer.new }
+// The selector, after what stands before the dot.
+fn selected(emitted: &mut List<Emitted>, line: u32, operand: &Operand) -> Result<(), Memory>
+    ensures { OnOk result (emitted.new ≡ after_selector line operand.now emitted.old) }
 {
     match operand {
-        Operand::Field(place, _) => {
-            expression(writer, line, e)?;
-            op(&mut writer.draft.emitted, line, Instr::Field(*place))
-        }
-        Operand::Value(_) => {
-            expression(writer, line, e)?;
-            op(&mut writer.draft.emitted, line, Instr::CondMutex)
-        }
-        Operand::Method(_) => expression(writer, line, e),
-        Operand::BuiltIn(_) => expression(writer, line, e),
-        Operand::Outcome(_)
+        Operand::Field(place, _) => op(emitted, line, Instr::Field(*place)),
+        Operand::Value(_) => op(emitted, line, Instr::CondMutex),
+        Operand::Method(_)
+        | Operand::BuiltIn(_)
+        | Operand::Outcome(_)
         | Operand::Constant(_, _)
         | Operand::Truth(_)
         | Operand::Variable(_, _)
@@ -287,17 +419,13 @@ fn arguments(writer: &mut Writer, line: u32, xs: &[Expr]) -> Result<(), Memory>
     Ok(())
 }
 
+// The arguments and the call, after the receiver.
 #[cycle(writing)]
-fn plain_at(
-    writer: &mut Writer,
-    line: u32,
-    xs: &[Expr],
-    f: &Expr,
-    callee: &Operand,
-) -> Result<(), Memory>
-    ensures { Extends result (all ((taking writer.old.draft.tables.now f.now line writer.old.facts).piece ∷ pushes (arguments_of line (map (taking writer.old.draft.tables.now) xs.now) (skip writer.old.facts)) ∷ calling_of line callee.now (length xs.now) ∷ [])) writer.old writer.new }
+fn call_at(writer: &mut Writer, line: u32, xs: &[Expr]) -> Result<(), Memory>
+    ensures { Follows result (after_call line (next_is writer.old.facts) (length xs.now) (arguments_of line (map (taking writer.old.draft.tables.now) xs.now) (skip writer.old.facts)) writer.old.draft.emitted) writer.old writer.new }
 {
-    expression(writer, line, f)?;
+    let callee = writer.facts.operand();
+    writer.facts.skip();
     arguments(writer, line, xs)?;
     calling(&mut writer.draft.emitted, line, callee, xs.len())
 }
@@ -330,18 +458,5 @@ fn finalising_at(writer: &mut Writer, line: u32, xs: &[Expr]) -> Result<(), Memo
     match xs {
         [] => Ok(()),
         [x, others @ ..] => finalising_with(writer, line, x, others),
-    }
-}
-
-#[cycle(writing)]
-fn call_at(writer: &mut Writer, line: u32, xs: &[Expr], f: &Expr) -> Result<(), Memory>
-    ensures { Extends result (call_of line (next_is writer.old.facts) (taking writer.old.draft.tables.now f.now line writer.old.facts).piece (arguments_of line (map (taking writer.old.draft.tables.now) xs.now) (skip writer.old.facts))).piece writer.old writer.new }
-{
-    let callee = writer.facts.operand();
-    if sets_finaliser(callee) {
-        writer.facts.skip();
-        finalising_at(writer, line, xs)
-    } else {
-        plain_at(writer, line, xs, f, callee)
     }
 }

@@ -1,6 +1,6 @@
 //! The facts of what is still to be written.
 
-ghost use Rattle.std.specs.Prelude.{◌≡◌, ◌∷◌, [], IfSome, IfNone};
+ghost use Rattle.std.specs.Prelude.{◌≡◌, ◌∷◌, [], drop, IfSome, IfNone};
 ghost use Rattle.golf_code_facts.specs.Facts.{skip as skip_of, past_one, next as next_of, next_is, operand_in as operand_in_of, parts_in as parts_in_of, number_in as number_in_of, field_in as field_in_of, hidden_in as hidden_in_of};
 
 use golf_check_types::{Fact, Operand};
@@ -104,6 +104,12 @@ fn skipped(facts: &[Fact]) -> &[Fact]
     }
 }
 
+fn from(facts: &[Fact], at: usize) -> &[Fact]
+    ensures { result.now ≡ drop at facts.now }
+{
+    if at < facts.len() { &facts[at..] } else { &[] }
+}
+
 impl<'a> Facts<'a> {
     /// These facts. An expression that has none is this.
     pub fn new(facts: &'a [Fact], unknown: &'a Operand) -> Facts<'a>
@@ -122,6 +128,16 @@ impl<'a> Facts<'a> {
     {
         Facts {
             left: self.left,
+            unknown: self.unknown,
+        }
+    }
+
+    /// Those from a place on.
+    pub fn from(&self, at: usize) -> Facts<'a>
+        ensures { result ≡ drop at self.now }
+    {
+        Facts {
+            left: from(self.left, at),
             unknown: self.unknown,
         }
     }

@@ -2,3 +2,5 @@ pub mod Seams
 pub mod Selects
 pub mod Begun
 pub mod Types
+pub mod Branches
+pub mod Elses

@@ -3,3 +3,5 @@ pub mod Begins
 pub mod Clauses
 pub mod Begun
 pub mod Ranges
+pub mod Branches
+pub mod Elses

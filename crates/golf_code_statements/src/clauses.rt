@@ -8,11 +8,12 @@ ghost use Rattle.golf_code_facts.specs.Selects.{operands_all, cases_from, defaul
 ghost use Rattle.golf_code_facts.specs.Laying.{clause_by};
 ghost use Rattle.golf_code_expressions.specs.Writing.{Extends, Writes};
 ghost use Rattle.golf_code_statements.specs.Clauses.{first_of, opened};
+ghost use Rattle.golf_code_statements.specs.Branches.{shut};
 ghost use Rattle.golf_code_of.specs.declared.tables.Tables.{Tables};
 
 use golf_base::{List, Memory};
 use golf_code_expressions::Writer;
-use golf_code_layout::{Emitted, block};
+use golf_code_layout::{Emitted, block, end};
 use golf_code_simple::operands;
 use golf_data::{CaseKind, SelectCase};
 use golf_syntax_trees::{Clause, Communication};
@@ -140,6 +141,16 @@ pub fn begin_blocks(emitted: &mut List<Emitted>, count: usize) -> Result<(), Mem
 {
     for _ in 0..count {
         block(emitted)?;
+    }
+    Ok(())
+}
+
+/// Ends so many blocks.
+pub fn end_blocks(emitted: &mut List<Emitted>, count: usize) -> Result<(), Memory>
+    ensures { OnOk result (emitted.new ≡ shut count emitted.old) }
+{
+    for _ in 0..count {
+        end(emitted)?;
     }
     Ok(())
 }

@@ -7,16 +7,19 @@ ghost use Rattle.golf_code_facts.specs.Selects.{case_clause, default_clause, sel
 ghost use Rattle.golf_code_facts.specs.Laying.{stmt_by, clause_by};
 ghost use Rattle.golf_code_statements.specs.Ranges.{ranged_slice, ranged_channel};
 ghost use Rattle.golf_code_statements.specs.Clauses.{with_clauses};
+ghost use Rattle.golf_code_statements.specs.Branches.{branched};
+ghost use Rattle.golf_code_statements.specs.Elses.{else_of, IsShorter};
+ghost use Rattle.golf_syntax_trees.specs.declared.statements.Stmt.{out-Stmt, size-Stmt};
 ghost use Rattle.golf_code_statements.specs.Lays.{around, apart, Lays};
 
 use crate::begins::{Begins, begin_at};
-use crate::clauses::{begin_blocks, choose, clause_line};
+use crate::clauses::{begin_blocks, choose, clause_line, end_blocks};
 use crate::rounds::{
     begin_round, condition, end_round, is_slice, optional_test, receive_open, slot_after,
     step_index, store_slice, test_index,
 };
 use crate::singles::{break_at, continue_at, return_at, simple_at, variable_at};
-use crate::targets::{Targets, in_clause, within};
+use crate::targets::{Targets, in_clause, one_more, within};
 use golf_base::Memory;
 use golf_code_expressions::{Writer, expression};
 use golf_code_layout::{block as begin_block, end as end_block, exit, op};
@@ -82,7 +85,27 @@ fn if_at(
     end_block(&mut writer.draft.emitted)
 }
 
-// The first branch leads to the end of both.
+// The first branch of an `if` with an `else`, which leads to the end of both, in two blocks of which the inner one ends.
+#[cycle(laying)]
+fn first_branch(
+    writer: &mut Writer,
+    targets: Targets,
+    line: u32,
+    body: &[Stmt],
+    first: &Option<OwnedSimple>,
+    test: &Expr,
+) -> Result<(), Memory>
+    ensures { OnOk result (writer.new ≡ branched line (then_lay_of writer.old.draft.tables.now line first.now test.now (map (stmt_by writer.old.draft.tables.now) body.now)) targets writer.old) }
+{
+    let inner = within(targets, 2)?;
+    begin_block(&mut writer.draft.emitted)?;
+    begin_block(&mut writer.draft.emitted)?;
+    then_part(writer, inner, line, body, first, test)?;
+    exit(&mut writer.draft.emitted, line, 1)?;
+    end_block(&mut writer.draft.emitted)?;
+    Ok(())
+}
+
 #[cycle(laying)]
 fn else_at(
     writer: &mut Writer,
@@ -95,15 +118,52 @@ fn else_at(
 ) -> Result<(), Memory>
     ensures { Lays result (else_lay writer.old.draft.tables.now line first.now test.now (map (stmt_by writer.old.draft.tables.now) body.now) (stmt_by writer.old.draft.tables.now otherwise.now) (around writer.old targets) writer.old.facts) writer.old writer.new }
 {
-    let inner = within(targets, 2)?;
     let outer = within(targets, 1)?;
-    begin_block(&mut writer.draft.emitted)?;
-    begin_block(&mut writer.draft.emitted)?;
-    then_part(writer, inner, line, body, first, test)?;
-    exit(&mut writer.draft.emitted, line, 1)?;
+    first_branch(writer, targets, line, body, first, test)?;
+    otherwise_at(writer, outer, otherwise)?;
     end_block(&mut writer.draft.emitted)?;
-    statement(writer, outer, otherwise)?;
-    end_block(&mut writer.draft.emitted)
+    Ok(())
+}
+
+// Returns the statement behind the `else` of an `if`, or the statement itself if it has none.
+#[tactic(auto, unfolding(crate::specs::Elses::else_of))]
+fn behind_else(stmt: &Stmt) -> &Stmt
+    ensures is { result.now ≡ else_of stmt.now }
+    ensures smaller { IsShorter (out-Stmt stmt.now) (size-Stmt result.now) (size-Stmt stmt.now) }
+{
+    match stmt {
+        Stmt::IfElse(_, _, _, _, otherwise) => otherwise.get(),
+        Stmt::Var(_) => stmt,
+        Stmt::Simple(_) => stmt,
+        Stmt::Go(_, _, _) => stmt,
+        Stmt::Defer(_, _, _) => stmt,
+        Stmt::Return(_, _) => stmt,
+        Stmt::Break(_) => stmt,
+        Stmt::Continue(_) => stmt,
+        Stmt::Block(_, _) => stmt,
+        Stmt::If(_, _, _, _) => stmt,
+        Stmt::For(_, _, _) => stmt,
+        Stmt::Select(_, _) => stmt,
+    }
+}
+
+// The statement behind `else`. A loop follows each `else if`, since nothing bounds their number.
+#[cycle(laying)]
+fn otherwise_at(writer: &mut Writer, targets: Targets, otherwise: &Stmt) -> Result<(), Memory>
+    ensures { Lays result (stmt_by writer.old.draft.tables.now otherwise.now (around writer.old targets) writer.old.facts) writer.old writer.new }
+{
+    let mut blocks = 0usize;
+    let mut inner = targets;
+    let mut last = otherwise;
+    'branches: while let Stmt::IfElse(line, first, test, body, _) = last {
+        first_branch(writer, inner, *line, body.as_slice(), first, test.get())?;
+        blocks = one_more(blocks)?;
+        inner = within(inner, 1)?;
+        last = behind_else(last);
+    }
+    statement(writer, inner, last)?;
+    end_blocks(&mut writer.draft.emitted, blocks)?;
+    Ok(())
 }
 
 // The body of a loop, which `break` and `continue` leave by these targets.

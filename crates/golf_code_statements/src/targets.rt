@@ -31,3 +31,10 @@ pub fn in_clause(targets: Targets, later: u32) -> Result<Targets, Memory>
         continues: targets.continues.checked_add(further).ok_or(Memory)?,
     })
 }
+
+/// One more than a count.
+pub fn one_more(count: usize) -> Result<usize, Memory>
+    ensures { IfOk result (λ n. n ≡ count + 1) }
+{
+    Ok(count.checked_add(1).ok_or(Memory)?)
+}

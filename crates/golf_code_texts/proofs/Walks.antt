@@ -40,7 +40,7 @@ with_more t xs ys = fold-append with_text t xs ys
 pub with_three : (t : Texts) (xs ys zs : Texts) → with_texts t (xs ++ (ys ++ zs)) ≡ with_texts (with_texts (with_texts t xs) ys) zs
 with_three t xs ys zs = with_more t xs (ys ++ zs) ∙ with_more (with_texts t xs) ys zs
 
-joined_map : {A : Type 0} (f : A → Texts) (xs : List A) → joined (map f xs) ≡ flat_map f xs
+pub joined_map : {A : Type 0} (f : A → Texts) (xs : List A) → joined (map f xs) ≡ flat_map f xs
 joined_map f [] = refl
 joined_map f (x ∷ xs) = ap (λ r. f x ++ r) (joined_map f xs)
 

@@ -1,19 +1,37 @@
 //! The texts of expressions.
 
-ghost use Rattle.std.specs.Prelude.{◌≡◌, ◌++◌, flat_map, OnOk};
+ghost use Rattle.std.specs.Prelude.{◌≡◌, ◌++◌, None, flat_map, OnOk};
+ghost use Rattle.golf_syntax_trees.specs.Spines.{left_of};
 ghost use Rattle.golf_code_of.specs.Texts.{expr_texts, call_texts};
 ghost use Rattle.golf_code_of.proofs.TextEquations.{element_texts};
 ghost use Rattle.golf_code_texts.specs.Adding.{with_texts};
+ghost use Rattle.golf_code_texts.specs.Spines.{rest_texts};
 
 use golf_base::Memory;
 use golf_code_of::TextTable;
-use golf_syntax_trees::{Element, Expr};
+use golf_syntax_trees::{Element, Expr, spine};
 use std::alloc::Global;
 
 /// Adds the texts of an expression.
+///
+/// A loop follows the spine of left operands.
 #[cycle(walking)]
-#[tactic(auto, using(crate::proofs::Walks::expressions))]
 pub fn expr(alloc: Global, table: &mut TextTable, e: &Expr) -> Result<(), Memory>
+    ensures { OnOk result (table.new ≡ with_texts table.old (expr_texts e.now)) }
+{
+    let (mut waiting, innermost) = spine(alloc, e)?;
+    whole(alloc, table, innermost)?;
+    while let Some(node) = waiting.pop() {
+        rest(alloc, table, node)?;
+    }
+    Ok(())
+}
+
+// Adds the texts of an expression without a left operand.
+#[cycle(walking)]
+#[tactic(auto, using(crate::proofs::Walks::expressions), unfolding(golf_syntax_trees::specs::Spines::left_of))]
+fn whole(alloc: Global, table: &mut TextTable, e: &Expr) -> Result<(), Memory>
+    requires { left_of e.now ≡ None }
     ensures { OnOk result (table.new ≡ with_texts table.old (expr_texts e.now)) }
 {
     match e {
@@ -29,16 +47,42 @@ pub fn expr(alloc: Global, table: &mut TextTable, e: &Expr) -> Result<(), Memory
         Expr::MakeSized(_, e) => expr(alloc, table, e.get()),
         Expr::New(_) => Ok(()),
         Expr::NewSync(_) => Ok(()),
-        Expr::Selector(e, _) => expr(alloc, table, e.get()),
-        Expr::Index(a, i) => both(alloc, table, a.get(), i.get()),
-        Expr::Call(f, xs) => call(alloc, table, xs.as_slice(), f.get()),
+        Expr::Selector(_, _) => unreachable!(),
+        Expr::Index(_, _) => unreachable!(),
+        Expr::Call(_, _) => unreachable!(),
         Expr::Unary(_, e) => expr(alloc, table, e.get()),
-        Expr::Binary(_, a, b) => both(alloc, table, a.get(), b.get()),
+        Expr::Binary(_, _, _) => unreachable!(),
+    }
+}
+
+// Adds the texts of what stands after the left operand.
+#[cycle(walking)]
+#[tactic(auto, using(crate::proofs::Walks::with_none), unfolding(crate::specs::Spines::rest_texts))]
+fn rest(alloc: Global, table: &mut TextTable, e: &Expr) -> Result<(), Memory>
+    ensures { OnOk result (table.new ≡ with_texts table.old (rest_texts e.now)) }
+{
+    match e {
+        Expr::Integer(_) => Ok(()),
+        Expr::Text(_) => Ok(()),
+        Expr::Name(_) => Ok(()),
+        Expr::Parens(_) => Ok(()),
+        Expr::StructLiteral(_, _) => Ok(()),
+        Expr::SyncLiteral(_) => Ok(()),
+        Expr::SliceLiteral(_, _) => Ok(()),
+        Expr::EmptyLiteral => Ok(()),
+        Expr::Make(_) => Ok(()),
+        Expr::MakeSized(_, _) => Ok(()),
+        Expr::New(_) => Ok(()),
+        Expr::NewSync(_) => Ok(()),
+        Expr::Selector(_, _) => Ok(()),
+        Expr::Index(_, i) => expr(alloc, table, i.get()),
+        Expr::Call(_, xs) => exprs(alloc, table, xs.as_slice()),
+        Expr::Unary(_, _) => Ok(()),
+        Expr::Binary(_, _, b) => expr(alloc, table, b.get()),
     }
 }
 
 // Adds the texts of two expressions, one after the other.
-#[cycle(walking)]
 #[tactic(auto, using(crate::proofs::Walks::with_more))]
 pub fn both(alloc: Global, table: &mut TextTable, a: &Expr, b: &Expr) -> Result<(), Memory>
     ensures { OnOk result (table.new ≡ with_texts table.old (expr_texts a.now ++ expr_texts b.now)) }
@@ -68,7 +112,6 @@ fn elements(alloc: Global, table: &mut TextTable, xs: &[Element]) -> Result<(), 
 }
 
 /// Adds the texts of a call.
-#[cycle(walking)]
 #[tactic(auto, using(crate::proofs::Walks::with_more))]
 pub fn call(alloc: Global, table: &mut TextTable, xs: &[Expr], f: &Expr) -> Result<(), Memory>
     ensures { OnOk result (table.new ≡ with_texts table.old (call_texts f.now xs.now)) }

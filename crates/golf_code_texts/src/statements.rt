@@ -3,6 +3,8 @@
 ghost use Rattle.std.specs.Prelude.{◌≡◌, flat_map, OnOk};
 ghost use Rattle.golf_code_of.specs.Texts.{stmt_texts, optional_simple_texts, expr_texts, header_texts, comm_texts};
 ghost use Rattle.golf_code_of.proofs.TextEquations.{clause_texts};
+ghost use Rattle.golf_syntax_trees.specs.declared.statements.Stmt.{out-Stmt, size-Stmt};
+ghost use Rattle.golf_code_texts.specs.Elses.{else_of, IsShorter};
 ghost use Rattle.golf_code_texts.specs.Adding.{with_texts};
 
 use crate::expressions::{call, expr};
@@ -50,7 +52,43 @@ fn both_parts(
     ensures { OnOk result (table.new ≡ with_texts (with_texts (with_texts (with_texts table.old (optional_simple_texts first.now)) (expr_texts test.now)) (flat_map stmt_texts body.now)) (stmt_texts otherwise.now)) }
 {
     tested(alloc, table, body, first, test)?;
-    statement(alloc, table, otherwise)
+    otherwise_at(alloc, table, otherwise)
+}
+
+// Returns the statement behind the `else` of an `if`, or the statement itself if it has none.
+#[tactic(auto, unfolding(crate::specs::Elses::else_of))]
+fn behind_else(stmt: &Stmt) -> &Stmt
+    ensures is { result.now ≡ else_of stmt.now }
+    ensures smaller { IsShorter (out-Stmt stmt.now) (size-Stmt result.now) (size-Stmt stmt.now) }
+{
+    match stmt {
+        Stmt::IfElse(_, _, _, _, otherwise) => otherwise.get(),
+        Stmt::Var(_) => stmt,
+        Stmt::Simple(_) => stmt,
+        Stmt::Go(_, _, _) => stmt,
+        Stmt::Defer(_, _, _) => stmt,
+        Stmt::Return(_, _) => stmt,
+        Stmt::Break(_) => stmt,
+        Stmt::Continue(_) => stmt,
+        Stmt::Block(_, _) => stmt,
+        Stmt::If(_, _, _, _) => stmt,
+        Stmt::For(_, _, _) => stmt,
+        Stmt::Select(_, _) => stmt,
+    }
+}
+
+// The statement behind `else`. A loop follows each `else if`, since nothing bounds their number.
+#[cycle(walking)]
+#[tactic(auto, using(crate::proofs::Walks::statements))]
+fn otherwise_at(alloc: Global, table: &mut TextTable, otherwise: &Stmt) -> Result<(), Memory>
+    ensures { OnOk result (table.new ≡ with_texts table.old (stmt_texts otherwise.now)) }
+{
+    let mut last = otherwise;
+    'branches: while let Stmt::IfElse(_, first, test, body, _) = last {
+        tested(alloc, table, body.as_slice(), first, test.get())?;
+        last = behind_else(last);
+    }
+    statement(alloc, table, last)
 }
 
 #[cycle(walking)]

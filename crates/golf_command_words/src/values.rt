@@ -1,6 +1,6 @@
 //! The values of options.
 
-ghost use Rattle.std.specs.Prelude.{◌≡◌, option_map, IfOk};
+ghost use Rattle.std.specs.Prelude.{◌≡◌, ◌∷◌, [], option_map, IfOk};
 ghost use Rattle.golf_command_words.specs.Values.{cut, digits_after as digits_behind, Gains, number_of, number_within as number_between, numbers_of, schedule_of};
 
 use golf_base::{List, Memory};
@@ -61,30 +61,36 @@ fn at_colon(text: &str) -> Option<(&str, &str)>
     text.split_once(':')
 }
 
-// Adds the numbers of a written list, of which `more` may come. It answers whether the text is such
-// a list.
-fn add_numbers(list: &mut List<u64>, more: u32, text: &str) -> Result<bool, Memory>
-    ensures { IfOk result (Gains (numbers_of more text.now) list.old list.new) }
+// Adds the number that a text writes. It answers whether the text writes one.
+fn add_number(list: &mut List<u64>, text: &str) -> Result<bool, Memory>
+    ensures { IfOk result (Gains (option_map (λ n. n ∷ []) (number_of text.now)) list.old list.new) }
 {
-    if more == 0 {
-        return Ok(false);
+    match number(text) {
+        Some(number) => {
+            list.push(number)?;
+            Ok(true)
+        }
+        None => Ok(false),
     }
-    match at_comma(text) {
-        None => match number(text) {
-            Some(last) => {
-                list.push(last)?;
-                Ok(true)
-            }
-            None => Ok(false),
-        },
-        Some((first, rest)) => match number(first) {
-            Some(first) => {
-                list.push(first)?;
-                add_numbers(list, more - 1, rest)
-            }
-            None => Ok(false),
-        },
+}
+
+// Adds the numbers of a written list of at most so many. It answers whether the text is such a list.
+fn add_numbers(list: &mut List<u64>, most: u32, text: &str) -> Result<bool, Memory>
+    ensures { IfOk result (Gains (numbers_of most text.now) list.old list.new) }
+{
+    let mut left = text;
+    let mut more = most;
+    while more > 0 {
+        let Some((first, rest)) = at_comma(left) else {
+            return add_number(list, left);
+        };
+        if !add_number(list, first)? {
+            return Ok(false);
+        }
+        left = rest;
+        more -= 1;
     }
+    Ok(false)
 }
 
 fn choices(alloc: Global, text: &str) -> Result<Option<Schedule>, Memory>

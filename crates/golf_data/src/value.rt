@@ -1,6 +1,7 @@
 //! Values, and the objects that they refer to.
 
 use golf_base::{List, ObjectId};
+use golf_ring::Ring;
 
 /// What a slot, an operand, a field, an element or a global holds. An `int` has 64 bits.
 #[derive(Clone, Copy, Debug, PartialEq, Eq)]
@@ -39,7 +40,7 @@ pub struct Channel {
     /// How many values the buffer takes; 0 for a channel without a buffer.
     pub capacity: u32,
     /// The values that were sent and not received, the oldest first.
-    pub buffer: List<Value>,
+    pub buffer: Ring<Value>,
     pub closed: bool,
     /// What a receive from the closed and empty channel gives.
     pub zero: Value,

@@ -14,6 +14,7 @@ use crate::calculating::{int_in, last_int};
 use crate::values::zero_of;
 use golf_base::{List, Memory, ObjectId};
 use golf_data::{Channel, Code, Object, PanicKind, Value};
+use golf_ring::Ring;
 use golf_state::{
     Acting, Given, State, fault, last_operand, last_operands, last_three_operands, make_onto,
     make_over, proceed, proceed_with,
@@ -229,7 +230,7 @@ pub fn new_channel(
     }
     let channel = Channel {
         capacity: size as u32,
-        buffer: List::new(alloc),
+        buffer: Ring::new(alloc),
         closed: false,
         zero: zero_of(zero),
     };

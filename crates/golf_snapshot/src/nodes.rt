@@ -6,7 +6,7 @@ ghost use Rattle.golf_model.specs.Refs.{object_refs, has_finaliser, refs_where};
 ghost use Rattle.golf_snapshot.specs.Parts.{ranks, number_of, row_of};
 ghost use Rattle.golf_snapshot.specs.Stepping.{entry_at, refs_at};
 
-use crate::references::{add_value, add_values};
+use crate::references::{add_buffer, add_value, add_values};
 use golf_base::{List, Memory, ObjectId};
 use golf_data::Object;
 use golf_heap::Heap;
@@ -109,7 +109,7 @@ fn add_object(heap: &Heap, nodes: &mut List<u32>, object: &Object) -> Result<(),
         Object::Struct(values) => add_values(heap, nodes, values.as_slice()),
         Object::Slice(values) => add_values(heap, nodes, values.as_slice()),
         Object::Chan(channel) => {
-            add_values(heap, nodes, channel.buffer.as_slice())?;
+            add_buffer(heap, nodes, &channel.buffer)?;
             add_value(heap, nodes, channel.zero)
         }
         Object::Cond(mutex) => add_value(heap, nodes, *mutex),

@@ -10,6 +10,7 @@ ghost use Rattle.golf_snapshot.specs.Parts.{ranks};
 use golf_base::{List, Memory};
 use golf_data::{Deferred, Frame, Goroutine, Leaving, Mode, Value, Wait};
 use golf_heap::Heap;
+use golf_ring::Ring;
 
 /// Adds the node of a value's object, if it is a reference.
 pub(crate) fn add_value(heap: &Heap, nodes: &mut List<u32>, value: Value) -> Result<(), Memory>
@@ -29,6 +30,19 @@ pub(crate) fn add_values(heap: &Heap, nodes: &mut List<u32>, values: &[Value]) -
         add_value(heap, nodes, *value)?;
     }
     Ok(())
+}
+
+/// Adds the nodes of the values of a buffer.
+pub(crate) fn add_buffer(
+    heap: &Heap,
+    nodes: &mut List<u32>,
+    buffer: &Ring<Value>,
+) -> Result<(), Memory>
+    ensures { OnOk result (nodes.new ≡ nodes.old ++ ranks heap.now.objects (refs buffer.now)) }
+{
+    let (older, newer) = buffer.as_slices();
+    add_values(heap, nodes, older)?;
+    add_values(heap, nodes, newer)
 }
 
 // Adds the nodes of these values, the last one first.

@@ -130,9 +130,11 @@ pub fn first_in_queue(
     ensures { result ≡ option_map waiting_of (first object.0 side (plain_entries places.now)) }
 {
     for holder in queue {
-        match waiter_by(*holder, places, object, side) {
-            Some(waiting) => return Some(waiting),
-            None => {}
+        if !holder.is_gone {
+            match waiter_by(*holder, places, object, side) {
+                Some(waiting) => return Some(waiting),
+                None => {}
+            }
         }
     }
     None

@@ -104,18 +104,18 @@ order-insert k es ls n r i = record { keys = Rises-insert 0 k es ls (omega arith
 queues-take : (n : ℕ) (qs : List Queue) → wait_queues_of (take n qs) ≡ take n (wait_queues_of qs)
 queues-take zero qs = refl
 queues-take (suc n) [] = refl
-queues-take (suc n) (q ∷ qs) = ap (λ (ls : WaitQueues). (key q.object.0 q.side, held q.holders.items) ∷ ls) (queues-take n qs)
+queues-take (suc n) (q ∷ qs) = ap (λ (ls : WaitQueues). (key q.object.0 q.side, held q.holders) ∷ ls) (queues-take n qs)
 
 queues-drop : (n : ℕ) (qs : List Queue) → wait_queues_of (drop n qs) ≡ drop n (wait_queues_of qs)
 queues-drop zero qs = refl
 queues-drop (suc n) [] = refl
 queues-drop (suc n) (q ∷ qs) = queues-drop n qs
 
-pub queues-insert : (qs : List Queue) (i : ℕ) (q : Queue) → wait_queues_of (insert_item qs i q) ≡ insert_item (wait_queues_of qs) i (key q.object.0 q.side, held q.holders.items)
+pub queues-insert : (qs : List Queue) (i : ℕ) (q : Queue) → wait_queues_of (insert_item qs i q) ≡ insert_item (wait_queues_of qs) i (key q.object.0 q.side, held q.holders)
 queues-insert qs i q =
-    map-append (λ (q : Queue). (key q.object.0 q.side, held q.holders.items)) (take i qs) (q ∷ drop i qs)
-    ∙ ap (λ (ls : WaitQueues). ls ++ (key q.object.0 q.side, held q.holders.items) ∷ wait_queues_of (drop i qs)) (queues-take i qs)
-    ∙ ap (λ (ls : WaitQueues). take i (wait_queues_of qs) ++ (key q.object.0 q.side, held q.holders.items) ∷ ls) (queues-drop i qs)
+    map-append (λ (q : Queue). (key q.object.0 q.side, held q.holders)) (take i qs) (q ∷ drop i qs)
+    ∙ ap (λ (ls : WaitQueues). ls ++ (key q.object.0 q.side, held q.holders) ∷ wait_queues_of (drop i qs)) (queues-take i qs)
+    ∙ ap (λ (ls : WaitQueues). take i (wait_queues_of qs) ++ (key q.object.0 q.side, held q.holders) ∷ ls) (queues-drop i qs)
 
 -- one more entry stands at its rank
 pub insert-rank : (k : ℕ) (es : List (ℕ × ℕ)) (ls : WaitQueues) → insert_item ls (rank k ls) (k, es) ≡ insert k es ls
@@ -143,16 +143,16 @@ pub record QueueAt (qs : List Queue) (k at : ℕ) : Type 0 where
   pub queue : Queue
   pub here : slice_get qs at ≡ Some queue
   pub same : key queue.object.0 queue.side ≡ k
-  pub found : find k (wait_queues_of qs) ≡ Some (held queue.holders.items)
+  pub found : find k (wait_queues_of qs) ≡ Some (held queue.holders)
 
 queue-read : (qs : List Queue) (k at : ℕ) (o : Option Queue) → slice_get qs at ≡ o → Standing k at (wait_queues_of qs) → QueueAt qs k at
 queue-read qs k at None h s =
-    let none : slice_get (wait_queues_of qs) at ≡ None = slice_get-map (λ (q : Queue). (key q.object.0 q.side, held q.holders.items)) qs at ∙ ap (option_map (λ (q : Queue). (key q.object.0 q.side, held q.holders.items))) h in
+    let none : slice_get (wait_queues_of qs) at ≡ None = slice_get-map (λ (q : Queue). (key q.object.0 q.side, held q.holders)) qs at ∙ ap (option_map (λ (q : Queue). (key q.object.0 q.side, held q.holders))) h in
     cc (sym none ∙ s.here)
 queue-read qs k at (Some q) h s =
-    let some : slice_get (wait_queues_of qs) at ≡ Some (key q.object.0 q.side, held q.holders.items) = slice_get-map (λ (q : Queue). (key q.object.0 q.side, held q.holders.items)) qs at ∙ ap (option_map (λ (q : Queue). (key q.object.0 q.side, held q.holders.items))) h in
-    let both : ◌≡◌ {A = Option (ℕ × List (ℕ × ℕ))} (Some s.entry) (Some (key q.object.0 q.side, held q.holders.items)) = sym s.here ∙ some in
-    let is : s.entry ≡ (key q.object.0 q.side, held q.holders.items) = cc both in
+    let some : slice_get (wait_queues_of qs) at ≡ Some (key q.object.0 q.side, held q.holders) = slice_get-map (λ (q : Queue). (key q.object.0 q.side, held q.holders)) qs at ∙ ap (option_map (λ (q : Queue). (key q.object.0 q.side, held q.holders))) h in
+    let both : ◌≡◌ {A = Option (ℕ × List (ℕ × ℕ))} (Some s.entry) (Some (key q.object.0 q.side, held q.holders)) = sym s.here ∙ some in
+    let is : s.entry ≡ (key q.object.0 q.side, held q.holders) = cc both in
     record { queue = q; here = h; same = ap (λ (e : ℕ × List (ℕ × ℕ)). e.0) (sym is) ∙ s.same; found = s.found ∙ ap (λ (e : ℕ × List (ℕ × ℕ)). Some e.1) is }
 
 module _ (qs seen again : List Queue) (k found at : ℕ) (b : Bool) (e : seen ≡ qs) (f : again ≡ qs) (n : found ≡ k) (is : at ≡ rank found (wait_queues_of seen)) (t : b ≡ has_key found (slice_get (wait_queues_of again) at)) (o : IsInOrder (wait_queues_of qs)) where
@@ -169,38 +169,38 @@ module _ (qs seen again : List Queue) (k found at : ℕ) (b : Bool) (e : seen �
   queue-absent h = nowhere k at (wait_queues_of qs) o.keys place (sym test ∙ h)
 
 -- the queue at a place is another one
-pub queues-set : (qs : List Queue) (k at : ℕ) (q r : Queue) → IsInOrder (wait_queues_of qs) → slice_get qs at ≡ Some q → key q.object.0 q.side ≡ k → r.object ≡ q.object → r.side ≡ q.side → wait_queues_of (slice_set qs at r) ≡ put k (held r.holders.items) (wait_queues_of qs)
+pub queues-set : (qs : List Queue) (k at : ℕ) (q r : Queue) → IsInOrder (wait_queues_of qs) → slice_get qs at ≡ Some q → key q.object.0 q.side ≡ k → r.object ≡ q.object → r.side ≡ q.side → wait_queues_of (slice_set qs at r) ≡ put k (held r.holders) (wait_queues_of qs)
 queues-set qs k at q r o h s object side =
     let number : key r.object.0 r.side ≡ key q.object.0 q.side = ap (λ (x : ObjectId). key x.0 r.side) object ∙ ap (λ (x : Side). key q.object.0 x) side in
-    set-keyed (λ (q : Queue). key q.object.0 q.side) (λ (q : Queue). held q.holders.items) 0 at qs q r o.keys h number
-    ∙ ap (λ (j : ℕ). put j (held r.holders.items) (wait_queues_of qs)) s
+    set-keyed (λ (q : Queue). key q.object.0 q.side) (λ (q : Queue). held q.holders) 0 at qs q r o.keys h number
+    ∙ ap (λ (j : ℕ). put j (held r.holders) (wait_queues_of qs)) s
 
 -- the queues after the queue of a key became another one
 pub record Rewritten (qs new : List Queue) (k : ℕ) (es : List (ℕ × ℕ)) : Type 0 where
   pub changed : Changed k es (wait_queues_of qs) (wait_queues_of new)
   pub order : IsInOrder (wait_queues_of new)
 
-pub rewritten : (qs : List Queue) (k at : ℕ) (p r : Queue) → QueueAt qs k at → p ≡ get_or qs at p → r.object ≡ p.object → r.side ≡ p.side → IsInOrder (wait_queues_of qs) → Rises 0 (held r.holders.items) → Rewritten qs (slice_set qs at r) k (held r.holders.items)
+pub rewritten : (qs : List Queue) (k at : ℕ) (p r : Queue) → QueueAt qs k at → p ≡ get_or qs at p → r.object ≡ p.object → r.side ≡ p.side → IsInOrder (wait_queues_of qs) → Rises 0 (held r.holders) → Rewritten qs (slice_set qs at r) k (held r.holders)
 rewritten qs k at p r q h object side o rises =
     let same : p ≡ q.queue = h ∙ get_or_from_slice_get qs at q.queue p q.here in
     let set = queues-set qs k at q.queue r o q.here q.same (object ∙ ap (λ (x : Queue). x.object) same) (side ∙ ap (λ (x : Queue). x.side) same) in
-    let es = held r.holders.items in
+    let es = held r.holders in
     record {
-      changed = subst (λ (ls : WaitQueues). Changed k es (wait_queues_of qs) ls) (sym set) (changed-put k es (held q.queue.holders.items) (wait_queues_of qs) q.found);
+      changed = subst (λ (ls : WaitQueues). Changed k es (wait_queues_of qs) ls) (sym set) (changed-put k es (held q.queue.holders) (wait_queues_of qs) q.found);
       order = subst IsInOrder (sym set) (order-put k es (wait_queues_of qs) rises o);
     }
 
-pub holders-was : (qs : List Queue) (k at : ℕ) (p : Queue) → QueueAt qs k at → p ≡ get_or qs at p → held p.holders.items ≡ wait_queue_at k (wait_queues_of qs)
+pub holders-was : (qs : List Queue) (k at : ℕ) (p : Queue) → QueueAt qs k at → p ≡ get_or qs at p → held p.holders ≡ wait_queue_at k (wait_queues_of qs)
 holders-was qs k at p q h =
-    ap (λ (x : Queue). held x.holders.items) (h ∙ get_or_from_slice_get qs at q.queue p q.here) ∙ sym (ap wait_queue_in q.found)
+    ap (λ (x : Queue). held x.holders) (h ∙ get_or_from_slice_get qs at q.queue p q.here) ∙ sym (ap wait_queue_in q.found)
 
 -- and its tickets rise
-pub rises-there : (qs : List Queue) (k at : ℕ) (p : Queue) → QueueAt qs k at → p ≡ get_or qs at p → IsInOrder (wait_queues_of qs) → Rises 0 (held p.holders.items)
+pub rises-there : (qs : List Queue) (k at : ℕ) (p : Queue) → QueueAt qs k at → p ≡ get_or qs at p → IsInOrder (wait_queues_of qs) → Rises 0 (held p.holders)
 rises-there qs k at p q h o = subst (Rises 0) (sym (holders-was qs k at p q h)) (rise-at k (wait_queues_of qs) o.queues)
 
-pub inserted : (qs new : List Queue) (k at : ℕ) (r : Queue) → find k (wait_queues_of qs) ≡ None → at ≡ rank k (wait_queues_of qs) → new ≡ insert_item qs at r → key r.object.0 r.side ≡ k → IsInOrder (wait_queues_of qs) → Rises 0 (held r.holders.items) → Rewritten qs new k (held r.holders.items)
+pub inserted : (qs new : List Queue) (k at : ℕ) (r : Queue) → find k (wait_queues_of qs) ≡ None → at ≡ rank k (wait_queues_of qs) → new ≡ insert_item qs at r → key r.object.0 r.side ≡ k → IsInOrder (wait_queues_of qs) → Rises 0 (held r.holders) → Rewritten qs new k (held r.holders)
 inserted qs new k at r none place is same o rises =
-    let es = held r.holders.items in
+    let es = held r.holders in
     let set : wait_queues_of new ≡ insert k es (wait_queues_of qs) =
     ap wait_queues_of is ∙ queues-insert qs at r
     ∙ ap (λ (n : ℕ). insert_item (wait_queues_of qs) n (key r.object.0 r.side, es)) place

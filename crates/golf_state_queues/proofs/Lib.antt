@@ -5,3 +5,4 @@ pub mod Adding
 pub mod Standing
 pub mod Partings
 pub mod Narrowing
+pub mod Lines

@@ -99,7 +99,15 @@ pub held-among : (gs : List ℕ) (hs : List TicketHolder) → held (filter (λ h
 held-among gs [] = refl
 held-among gs (h ∷ hs) =
     let e : ℕ × ℕ = (h.ticket, h.goroutine.0) in
-    elim (is_in h.goroutine.0 gs) as (λ x. held (cond x (h ∷ filter (λ i. is_in i.goroutine.0 gs) hs) (filter (λ i. is_in i.goroutine.0 gs) hs)) ≡ cond x (e ∷ among gs (held hs)) (among gs (held hs))) [
-      | true ↦ ap (λ (es : List (ℕ × ℕ)). e ∷ es) (held-among gs hs)
-      | false ↦ held-among gs hs
-    ]
+    let kept : List TicketHolder = filter (λ (i : TicketHolder). is_in i.goroutine.0 gs) hs in
+    let rest = held-among gs hs in
+    elim (is_in h.goroutine.0 gs) as (λ x. is_in h.goroutine.0 gs ≡ x → held (cond x (h ∷ kept) kept) ≡ among gs (cond h.is_gone (held hs) (e ∷ held hs))) [
+      | true ↦ λ q. elim h.is_gone as (λ b. cond b (held kept) (e ∷ held kept) ≡ among gs (cond b (held hs) (e ∷ held hs))) [
+        | true ↦ rest
+        | false ↦ ap (λ (es : List (ℕ × ℕ)). e ∷ es) rest ∙ sym (ap (λ x. cond x (e ∷ among gs (held hs)) (among gs (held hs))) q)
+      ]
+      | false ↦ λ q. elim h.is_gone as (λ b. held kept ≡ among gs (cond b (held hs) (e ∷ held hs))) [
+        | true ↦ rest
+        | false ↦ rest ∙ sym (ap (λ x. cond x (e ∷ among gs (held hs)) (among gs (held hs))) q)
+      ]
+    ] refl

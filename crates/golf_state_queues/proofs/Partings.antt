@@ -4,7 +4,6 @@
 use Rattle.std.proofs.Common.{◌≡◌, ℕ, zero, suc, ◌<◌, Bool, true, false, cond, not, ◌&&◌, ◌||◌, List, [], ◌∷◌, take, length, get_or, filter, Some, None, ◌==◌, nat_lt, inl, inr, refl, sym, ap, ◌∙◌, subst, arith, slice_get}
 use Rattle.std.specs.Prelude.{remove}
 use Rattle.std.proofs.lemmas.Bool.{cases_eq, ltb-true, ltb-false, eq-eqb, ne_eqb, true≢false}
-use Rattle.std.proofs.lemmas.List.{length-map}
 use Rattle.std.proofs.lemmas.Option.{slice_get_within}
 use Rattle.golf_data.specs.declared.goroutine.Wait.{Wait}
 use Rattle.golf_theory.specs.Maps.{Entry, find, Rises, AllBelow}
@@ -12,9 +11,10 @@ use Rattle.golf_theory.specs.Membership.{is_in}
 use Rattle.golf_theory.proofs.MapOrder.{Rises-less}
 use Rattle.golf_theory.proofs.Lists.{Every-from, filter-all, filter-same}
 use Rattle.golf_heap.specs.Objects.{rank}
-use Rattle.golf_state_queues.specs.WaitQueues.{WaitQueues, key, keys_of, held, wait_queue_in, wait_queue_at, is_holder, is_holder_in, parted, leaves, IsWithout, AreBelow, Keeps}
+use Rattle.golf_state_queues.specs.Lines.{spots}
+use Rattle.golf_state_queues.specs.WaitQueues.{WaitQueues, key, keys_of, held, wait_queue_in, wait_queue_at, is_holder, is_held_in, parted, leaves, IsWithout, AreBelow, Keeps}
 use Rattle.golf_state_queues.specs.declared.holders.TicketHolder.{TicketHolder}
-use Rattle.golf_state_queues.proofs.Held.{held-remove}
+use Rattle.golf_state_queues.proofs.Held.{Rises-held}
 use Rattle.golf_state_queues.proofs.HolderLaws.{Changed}
 
 -- ---- entries that pass a test
@@ -82,37 +82,52 @@ here : (b : Bool) (e : ℕ × ℕ) (es gs : List (ℕ × ℕ)) → gs ≡ es →
 here true e es gs h = sym h
 here false e es gs h = ap (λ (z : List (ℕ × ℕ)). e ∷ z) (sym h)
 
--- whoever leaves stands at the rank of its ticket
-parted-rank : (t g j : ℕ) (es : List (ℕ × ℕ)) (b : Bool) → Rises j es → is_holder_in t g (slice_get es (rank t es)) ≡ b → cond b (remove es (rank t es)) es ≡ parted t g es
+both-same : (b : Bool) (es : List (ℕ × ℕ)) → cond b es es ≡ es
+both-same true es = refl
+both-same false es = refl
+
+-- whoever leaves is at the rank of its ticket
+parted-rank : (t g j : ℕ) (hs : List TicketHolder) (b : Bool) → Rises j (spots hs) → is_held_in t g (slice_get hs (rank t (spots hs))) ≡ b → cond b (held (remove hs (rank t (spots hs)))) (held hs) ≡ parted t g (held hs)
 parted-rank t g j [] true r h = refl
 parted-rank t g j [] false r h = refl
-parted-rank t g j (e ∷ es) b r h =
-    elim (nat_lt e.0 t) as (λ x. nat_lt e.0 t ≡ x → is_holder_in t g (slice_get (e ∷ es) (cond x (suc (rank t es)) 0)) ≡ b
-    → cond b (remove (e ∷ es) (cond x (suc (rank t es)) 0)) (e ∷ es) ≡ cond (not (is_holder t g e)) (e ∷ parted t g es) (parted t g es)) [
-      | true ↦ λ q i.
-          let before = ltb-true e.0 t q in
-          let rest = parted-rank t g (suc e.0) es b r.1 i in
-          further b e es (remove es (rank t es)) (parted t g es) rest
-          ∙ sym (ap (λ c. cond (not ((e.1 == g) && c)) (e ∷ parted t g es) (parted t g es)) (ne_eqb e.0 t (λ a. omega (arith, a, before)))
-          ∙ ap (λ c. cond (not c) (e ∷ parted t g es) (parted t g es)) (and-false (e.1 == g)))
-      | false ↦ λ q i.
-          let late = ltb-false e.0 t q in
-          let above = parted-above t g (suc e.0) es (omega (arith, late)) r.1 in
-          here b e es (parted t g es) above ∙ ap (λ c. cond (not c) (e ∷ parted t g es) (parted t g es)) (sym i)
-    ] refl h
+parted-rank t g j (h ∷ hs) b r i =
+    let e : ℕ × ℕ = (h.ticket, h.goroutine.0) in
+    let n = rank t (spots hs) in
+    let es = held hs in
+    elim (nat_lt h.ticket t) as (λ x. nat_lt h.ticket t ≡ x → is_held_in t g (slice_get (h ∷ hs) (cond x (suc n) 0)) ≡ b
+    → cond b (held (remove (h ∷ hs) (cond x (suc n) 0))) (held (h ∷ hs)) ≡ parted t g (held (h ∷ hs))) [
+      | true ↦ λ q k.
+          let before = ltb-true h.ticket t q in
+          let rest = parted-rank t g (suc h.ticket) hs b r.1 k in
+          let fs = held (remove hs n) in
+          elim h.is_gone as (λ z. cond b (cond z fs (e ∷ fs)) (cond z es (e ∷ es)) ≡ parted t g (cond z es (e ∷ es))) [
+            | true ↦ rest
+            | false ↦
+                further b e es fs (parted t g es) rest
+                ∙ sym (ap (λ c. cond (not ((h.goroutine.0 == g) && c)) (e ∷ parted t g es) (parted t g es)) (ne_eqb h.ticket t (λ a. omega (arith, a, before)))
+                ∙ ap (λ c. cond (not c) (e ∷ parted t g es) (parted t g es)) (and-false (h.goroutine.0 == g)))
+          ]
+      | false ↦ λ q k.
+          let late = ltb-false h.ticket t q in
+          let above = parted-above t g (suc h.ticket) es (omega (arith, late)) (Rises-held (suc h.ticket) hs r.1) in
+          elim h.is_gone as (λ z. (not z && is_holder t g e) ≡ b → cond b es (cond z es (e ∷ es)) ≡ parted t g (cond z es (e ∷ es))) [
+            | true ↦ λ m. both-same b es ∙ sym above
+            | false ↦ λ m. here b e es (parted t g es) above ∙ ap (λ c. cond (not c) (e ∷ parted t g es) (parted t g es)) (sym m)
+          ] k
+    ] refl i
 
 -- in memory, as it is looked up
-module _ (t g at : ℕ) (hs seen again : List TicketHolder) (b : Bool) (r : Rises 0 (held hs)) (e : seen ≡ hs) (f : again ≡ hs) (is : at ≡ rank t (held seen)) (h : b ≡ is_holder_in t g (slice_get (held again) at)) where
-  test : is_holder_in t g (slice_get (held hs) at) ≡ b
-  test = sym (h ∙ ap (λ (xs : List TicketHolder). is_holder_in t g (slice_get (held xs) at)) f)
+module _ (t g at : ℕ) (hs seen again : List TicketHolder) (b : Bool) (r : Rises 0 (spots hs)) (e : seen ≡ hs) (f : again ≡ hs) (is : at ≡ rank t (spots seen)) (h : b ≡ is_held_in t g (slice_get again at)) where
+  test : is_held_in t g (slice_get hs at) ≡ b
+  test = sym (h ∙ ap (λ (xs : List TicketHolder). is_held_in t g (slice_get xs at)) f)
 
-  place : at ≡ rank t (held hs)
-  place = is ∙ ap (λ (xs : List TicketHolder). rank t (held xs)) e
+  place : at ≡ rank t (spots hs)
+  place = is ∙ ap (λ (xs : List TicketHolder). rank t (spots xs)) e
 
   parted-is : cond b (held (remove hs at)) (held hs) ≡ parted t g (held hs)
   parted-is =
-      ap (λ (es : List (ℕ × ℕ)). cond b es (held hs)) (held-remove at hs ∙ ap (λ (n : ℕ). remove (held hs) n) place)
-      ∙ parted-rank t g 0 (held hs) b r (ap (λ (n : ℕ). is_holder_in t g (slice_get (held hs) n)) (sym place) ∙ test)
+      ap (λ (n : ℕ). cond b (held (remove hs n)) (held hs)) place
+      ∙ parted-rank t g 0 hs b r (ap (λ (n : ℕ). is_held_in t g (slice_get hs n)) (sym place) ∙ test)
 
   pub parted-there : b ≡ true → held (remove hs at) ≡ parted t g (held hs)
   parted-there q = subst (λ c. cond c (held (remove hs at)) (held hs) ≡ parted t g (held hs)) q parted-is
@@ -121,9 +136,9 @@ module _ (t g at : ℕ) (hs seen again : List TicketHolder) (b : Bool) (r : Rise
   parted-absent q = subst (λ c. cond c (held (remove hs at)) (held hs) ≡ parted t g (held hs)) q parted-is
 
   pub holder-within : b ≡ true → at < length hs
-  holder-within q = elim (slice_get (held hs) at) as (λ o. slice_get (held hs) at ≡ o → is_holder_in t g o ≡ true → at < length hs) [
+  holder-within q = elim (slice_get hs at) as (λ o. slice_get hs at ≡ o → is_held_in t g o ≡ true → at < length hs) [
     | None ↦ λ s i. absurd (true≢false (sym i))
-    | Some x ↦ λ s i. omega (arith, slice_get_within (held hs) at x s, length-map {B = ℕ × ℕ} hs (λ (y : TicketHolder). (y.ticket, y.goroutine.0)))
+    | Some x ↦ λ s i. slice_get_within hs at x s
   ] refl (test ∙ q)
 
 -- ---- all queues

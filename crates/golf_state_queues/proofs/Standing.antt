@@ -70,12 +70,12 @@ pub below-standing : (ls : WaitQueues) → IsInOrder ls → (n : ℕ) → AreBel
 below-standing ls o n b = λ k. holders-below n k 0 ls o.keys (b k)
 
 -- in memory
-pub queues-standing : (qs : List Queue) → wait_queues_of (filter (λ q. has_anyone (held q.holders.items)) qs) ≡ standing (wait_queues_of qs)
+pub queues-standing : (qs : List Queue) → wait_queues_of (filter (λ q. has_anyone (held q.holders)) qs) ≡ standing (wait_queues_of qs)
 queues-standing [] = refl
 queues-standing (q ∷ qs) =
-    let e : ℕ × List (ℕ × ℕ) = (key q.object.0 q.side, held q.holders.items) in
+    let e : ℕ × List (ℕ × ℕ) = (key q.object.0 q.side, held q.holders) in
     let rest = queues-standing qs in
-    elim (has_anyone (held q.holders.items)) as (λ x. wait_queues_of (cond x (q ∷ filter (λ p. has_anyone (held p.holders.items)) qs) (filter (λ p. has_anyone (held p.holders.items)) qs)) ≡ cond x (e ∷ standing (wait_queues_of qs)) (standing (wait_queues_of qs))) [
+    elim (has_anyone (held q.holders)) as (λ x. wait_queues_of (cond x (q ∷ filter (λ p. has_anyone (held p.holders)) qs) (filter (λ p. has_anyone (held p.holders)) qs)) ≡ cond x (e ∷ standing (wait_queues_of qs)) (standing (wait_queues_of qs))) [
       | true ↦ ap (λ (ls : WaitQueues). e ∷ ls) rest
       | false ↦ rest
     ]

@@ -1,1 +1,2 @@
 pub mod WaitQueues
+pub mod Lines

@@ -1,5 +1,5 @@
 -- Queues of goroutines that wait, by object and side.
-use Rattle.std.specs.Prelude.{◌≡◌, ℕ, ◌+◌, ◌*◌, ◌<◌, ◌≤◌, Bool, true, false, not, ◌&&◌, List, [], ◌∷◌, map, filter, Option, Some, None, ◌==◌}
+use Rattle.std.specs.Prelude.{◌≡◌, ℕ, ◌+◌, ◌*◌, ◌<◌, ◌≤◌, Bool, true, false, cond, not, ◌&&◌, List, [], ◌∷◌, map, filter, Option, Some, None, ◌==◌}
 use Rattle.golf_theory.specs.Maps.{Entry, find, Rises, AllBelow}
 use Rattle.golf_theory.specs.Membership.{is_in}
 use Rattle.golf_base.specs.declared.ids.GoroutineId.{GoroutineId}
@@ -9,9 +9,10 @@ use Rattle.golf_model.specs.Waiting.{side_number}
 use Rattle.golf_state_queues.specs.declared.holders.TicketHolder.{TicketHolder}
 use Rattle.golf_state_queues.specs.declared.queues.Queue.{Queue}
 
--- goroutines by their tickets
+-- the goroutines in the queue, by their tickets
 abbrev pub held : List TicketHolder → List (ℕ × ℕ)
-held hs = map (λ h. (h.ticket, h.goroutine.0)) hs
+held [] = []
+held (h ∷ hs) = cond h.is_gone (held hs) ((h.ticket, h.goroutine.0) ∷ held hs)
 
 -- queues stand in rising order of object, and those of an object by their sides
 abbrev pub key : ℕ → Side → ℕ
@@ -21,7 +22,7 @@ abbrev pub WaitQueues : Type 0
 WaitQueues = List (ℕ × List (ℕ × ℕ))
 
 abbrev pub wait_queues_of : List Queue → WaitQueues
-wait_queues_of qs = map (λ q. (key q.object.0 q.side, held q.holders.items)) qs
+wait_queues_of qs = map (λ q. (key q.object.0 q.side, held q.holders)) qs
 
 abbrev pub wait_queue_in : Option (List (ℕ × ℕ)) → List (ℕ × ℕ)
 wait_queue_in None = []
@@ -77,9 +78,10 @@ Keeps P old new = (k : ℕ) → KeepsIn P (wait_queue_at k old) (wait_queue_at k
 abbrev pub is_holder : ℕ → ℕ → ℕ × ℕ → Bool
 is_holder t g h = (h.1 == g) && (h.0 == t)
 
-abbrev pub is_holder_in : ℕ → ℕ → Option (ℕ × ℕ) → Bool
-is_holder_in t g None = false
-is_holder_in t g (Some h) = is_holder t g h
+-- whether this entry is the goroutine with this ticket, and not gone
+abbrev pub is_held_in : ℕ → ℕ → Option TicketHolder → Bool
+is_held_in t g None = false
+is_held_in t g (Some h) = not h.is_gone && is_holder t g (h.ticket, h.goroutine.0)
 
 -- the queue without the goroutine with this ticket
 abbrev pub parted : ℕ → ℕ → List (ℕ × ℕ) → List (ℕ × ℕ)

@@ -1,11 +1,16 @@
-//! Those in a queue, by rising ticket.
+//! The entries of one wait queue, by rising ticket.
+//!
+//! An entry that is marked as gone keeps its ticket and its place, so the tickets still rise. `held` is
+//! the list of the others: the goroutines that are in the queue.
 
-ghost use Rattle.std.specs.Prelude.{◌≡◌, ◌<◌, ◌≤◌, ◌+◌, length, map, slice_get, OnOk};
+ghost use Rattle.std.specs.Prelude.{◌≡◌, ◌<◌, ◌≤◌, ◌+◌, ◌-◌, ◌&&◌, ℕ, false, not, drop, filter, length, map, slice_get, take, IfSome, OnOk};
 ghost use Rattle.golf_theory.specs.Maps.{Entry, Rises, AllBelow};
 ghost use Rattle.golf_theory.specs.Membership.{is_in};
 ghost use Rattle.golf_heap.specs.Objects.{rank};
-ghost use Rattle.golf_state_queues.specs.WaitQueues.{held, has_anyone, has_key, is_holder_in, listed, among, parted, AddsOnlyIn, KeepsIn, IsLastBefore};
+ghost use Rattle.golf_state_queues.specs.Lines.{spots};
+ghost use Rattle.golf_state_queues.specs.WaitQueues.{held, has_anyone, has_key, is_held_in, listed, among, parted, AddsOnlyIn, KeepsIn, IsLastBefore};
 
+use crate::line::Line;
 use golf_base::{GoroutineId, Memory};
 
 /// A goroutine that took a ticket.
@@ -13,59 +18,89 @@ use golf_base::{GoroutineId, Memory};
 pub struct TicketHolder {
     pub ticket: u64,
     pub goroutine: GoroutineId,
+    /// Whether it has left the queue.
+    pub is_gone: bool,
 }
 
 // How many have a smaller ticket.
 #[inline(always)]
 fn rank_of(holders: &[TicketHolder], ticket: u64) -> usize
-    requires { Rises 0 (held holders.now) }
-    ensures place { result ≡ rank ticket (held holders.now) }
+    requires { Rises 0 (spots holders.now) }
+    ensures place { result ≡ rank ticket (spots holders.now) }
     ensures within { result ≤ length holders.now }
 {
     holders.partition_point(|holder| holder.ticket < ticket)
 }
 
-/// The goroutine stands last in the queue, with a ticket that nobody who waits there has.
+/// Returns how many entries at the front are gone.
 #[inline(always)]
-pub fn join(
-    holders: &mut Vec<TicketHolder>,
-    ticket: u64,
-    goroutine: GoroutineId,
-) -> Result<(), Memory>
-    requires { Rises 0 (held holders.old.items) }
-    ensures rises { Rises 0 (held holders.new.items) }
-    ensures joins { OnOk result (Entry (held holders.new.items) ticket goroutine.0) }
-    ensures kept { KeepsIn (λ t g. t < ticket) (held holders.old.items) (held holders.new.items) }
-    ensures only { AddsOnlyIn ticket goroutine.0 (held holders.old.items) (held holders.new.items) }
-    ensures below { AllBelow (ticket + 1) (held holders.new.items) }
+pub fn start_of(holders: &[TicketHolder]) -> usize
+    ensures within { result ≤ length holders.now }
+    ensures same { held (drop result holders.now) ≡ held holders.now }
+{
+    let mut start = 0;
+    while start < holders.len() && holders[start].is_gone {
+        start += 1;
+    }
+    start
+}
+
+/// Returns the place behind the last entry that is not gone, or 0 if all are gone.
+#[inline(always)]
+pub fn end_of(holders: &[TicketHolder]) -> usize
+    ensures within { result ≤ length holders.now }
+    ensures same { held (take result holders.now) ≡ held holders.now }
+    ensures last { 0 < result → IfSome (slice_get holders.now (result - 1)) (λ h. h.is_gone ≡ false) }
+{
+    let mut end = holders.len();
+    while end > 0 && holders[end - 1].is_gone {
+        end -= 1;
+    }
+    end
+}
+
+/// The goroutine is last in the queue, with a ticket that no goroutine that waits there has.
+#[inline(always)]
+pub fn join(holders: &mut Line, ticket: u64, goroutine: GoroutineId) -> Result<(), Memory>
+    requires { Rises 0 (held holders.old) }
+    ensures rises { Rises 0 (held holders.new) }
+    ensures joins { OnOk result (Entry (held holders.new) ticket goroutine.0) }
+    ensures kept { KeepsIn (λ t g. t < ticket) (held holders.old) (held holders.new) }
+    ensures only { AddsOnlyIn ticket goroutine.0 (held holders.old) (held holders.new) }
+    ensures below { AllBelow (ticket + 1) (held holders.new) }
 {
     let at = rank_of(holders.as_slice(), ticket);
     holders.truncate(at);
-    holders.push(TicketHolder { ticket, goroutine })?;
+    holders.push(TicketHolder {
+        ticket,
+        goroutine,
+        is_gone: false,
+    })?;
     Ok(())
 }
 
-// Whether the goroutine with this ticket is the one at a place.
+// Whether the goroutine with this ticket is the one at a place, and is not gone.
 #[inline(always)]
-fn stands_at(holders: &[TicketHolder], at: usize, ticket: u64, goroutine: GoroutineId) -> bool
-    ensures { result ≡ is_holder_in ticket goroutine.0 (slice_get (held holders.now) at) }
+fn is_held_at(holders: &[TicketHolder], at: usize, ticket: u64, goroutine: GoroutineId) -> bool
+    ensures { result ≡ is_held_in ticket goroutine.0 (slice_get holders.now at) }
 {
     match holders.get(at) {
-        Some(holder) => holder.goroutine.0 == goroutine.0 && holder.ticket == ticket,
+        Some(holder) => {
+            !holder.is_gone && holder.goroutine.0 == goroutine.0 && holder.ticket == ticket
+        }
         None => false,
     }
 }
 
-/// The goroutine with this ticket is gone from the queue, if it stands there; all others stand where
-/// they stood.
+/// The goroutine with this ticket leaves the queue, if it is there. All others keep their places.
 #[inline(always)]
-pub fn part(holders: &mut Vec<TicketHolder>, ticket: u64, goroutine: GoroutineId)
-    requires { Rises 0 (held holders.old.items) }
-    ensures { held holders.new.items ≡ parted ticket goroutine.0 (held holders.old.items) }
+pub fn part(holders: &mut Line, ticket: u64, goroutine: GoroutineId)
+    requires { Rises 0 (held holders.old) }
+    ensures { held holders.new ≡ parted ticket goroutine.0 (held holders.old) }
 {
     let at = rank_of(holders.as_slice(), ticket);
-    if stands_at(holders.as_slice(), at, ticket, goroutine) {
-        holders.remove(at);
+    if is_held_at(holders.as_slice(), at, ticket, goroutine) {
+        holders.take_out(at);
     }
 }
 
@@ -95,32 +130,48 @@ fn is_among(goroutines: &[GoroutineId], g: GoroutineId) -> bool
     is_at(goroutines, at, g.0)
 }
 
-/// Those whose goroutine is among these, which rise, stand in the queue still, and nobody else.
+/// The first entries are gone from memory.
+pub fn drop_front(holders: &mut Vec<TicketHolder>, count: usize)
+    requires { count ≤ length holders.old.items }
+    ensures { holders.new.items ≡ drop count holders.old.items }
+{
+    let left = holders.len() - count;
+    holders.rotate_left(count);
+    holders.truncate(left);
+}
+
+/// Entries that are marked as gone are gone from memory.
+pub fn drop_gone(holders: &mut Vec<TicketHolder>)
+    ensures { holders.new.items ≡ filter (λ h. not h.is_gone) holders.old.items }
+{
+    holders.retain(|holder| !holder.is_gone);
+}
+
+/// Keeps the entries whose goroutine is among these, which rise.
 pub fn narrow(holders: &mut Vec<TicketHolder>, goroutines: &[GoroutineId])
     requires { Rises 0 (listed goroutines.now) }
-    ensures { held holders.new.items ≡ among (map (λ h. h.0) goroutines.now) (held holders.old.items) }
+    ensures { holders.new.items ≡ filter (λ h. is_in h.goroutine.0 (map (λ g. g.0) goroutines.now)) holders.old.items }
 {
     holders.retain(|holder| is_among(goroutines, holder.goroutine));
 }
 
-/// The last in a queue whose ticket is below this one.
+/// Returns the last in the queue whose ticket is below this one, or `None`. It passes over entries that
+/// are gone.
 pub fn last_before(holders: &[TicketHolder], ticket: u64) -> Option<TicketHolder>
-    requires { Rises 0 (held holders.now) }
+    requires { Rises 0 (spots holders.now) }
     ensures { IsLastBefore ticket (held holders.now) result }
 {
-    let at = rank_of(holders, ticket);
-    if at == 0 {
+    let before = &holders[..rank_of(holders, ticket)];
+    let end = end_of(before);
+    if end == 0 {
         return None;
     }
-    Some(holders[at - 1])
+    Some(before[end - 1])
 }
 
-/// Whether anyone stands in the queue.
+/// Returns whether a goroutine is in the queue.
 pub fn has_anyone(holders: &[TicketHolder]) -> bool
     ensures { result ≡ has_anyone (held holders.now) }
 {
-    match holders {
-        [] => false,
-        [..] => true,
-    }
+    end_of(holders) > 0
 }

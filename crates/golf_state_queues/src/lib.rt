@@ -4,6 +4,7 @@
 #![tactic(auto)]
 
 mod holders;
+mod line;
 mod queues;
 
 pub use holders::{TicketHolder, last_before};

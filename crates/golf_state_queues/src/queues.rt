@@ -5,9 +5,11 @@ ghost use Rattle.golf_theory.specs.Maps.{Entry, Rises};
 ghost use Rattle.golf_theory.specs.Membership.{is_in};
 ghost use Rattle.golf_heap.specs.Objects.{rank};
 ghost use Rattle.golf_model.specs.Waiting.{side_number};
+ghost use Rattle.golf_state_queues.specs.Lines.{spots};
 ghost use Rattle.golf_state_queues.specs.WaitQueues.{WaitQueues, IsInOrder, key, held, wait_queues_of, wait_queue_at, has_key, keys_of, leaves, listed, standing, narrowed, AddsOnly, AreBelow, IsWithout, Keeps, StandsInAll};
 
-use crate::holders::{TicketHolder, has_anyone, join, narrow, part};
+use crate::holders::{TicketHolder, has_anyone, join, part};
+use crate::line::Line;
 use golf_base::{GoroutineId, Memory, ObjectId};
 use golf_data::{Side, Wait};
 use std::alloc::Global;
@@ -18,7 +20,7 @@ use std::marker::Model;
 pub struct Queue {
     pub object: ObjectId,
     pub side: Side,
-    pub holders: Vec<TicketHolder>,
+    pub holders: Line,
 }
 
 /// For each object and side those who stood in the queue there, by rising ticket. Whoever waits there is
@@ -89,7 +91,7 @@ fn narrow_all(queues: &mut Vec<Queue>, goroutines: &[GoroutineId])
     ensures { wait_queues_of queues.new.items ≡ narrowed (map (λ g. g.0) goroutines.now) (wait_queues_of queues.old.items) }
 {
     for at in 0..queues.len() {
-        narrow(&mut queues[at].holders, goroutines);
+        queues[at].holders.narrow(goroutines);
     }
 }
 
@@ -103,11 +105,13 @@ impl Queues {
         }
     }
 
-    /// Those who stood in the queue for the object with that side.
+    /// Those who stood in the queue for the object with that side. Entries that are gone may be among
+    /// them. The caller passes over these.
     #[inline(always)]
     pub fn holders(&self, object: ObjectId, side: Side) -> &[TicketHolder]
         ensures holders { held result.now ≡ wait_queue_at (key object.0 side) self.now }
         ensures rises { Rises 0 (wait_queue_at (key object.0 side) self.now) }
+        ensures order { Rises 0 (spots result.now) }
     {
         let key = key_of(object, side);
         let at = rank_of(self.queues.as_slice(), key);
@@ -140,7 +144,7 @@ impl Queues {
         if stands_at(self.queues.as_slice(), at, key) {
             return join(&mut self.queues[at].holders, ticket, goroutine);
         }
-        let mut holders = Vec::with_capacity(*self.queues.allocator(), 1)?;
+        let mut holders = Line::new(*self.queues.allocator())?;
         join(&mut holders, ticket, goroutine)?;
         self.queues.insert(
             at,

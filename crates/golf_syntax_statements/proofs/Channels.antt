@@ -15,11 +15,6 @@ use Rattle.golf_syntax_trees.specs.declared.statements.SimpleKind.{SimpleKind}
 use Rattle.golf_syntax_trees.specs.declared.statements.SimpleKind.TheVariants as s
 use Rattle.golf_syntax_statements.specs.CommReading.{channel_in, channel_of, operand_of, comm_of}
 
-pub channel-Unary : (o : UnaryOperator) (c : Expr) → channel_of (ex.Unary o c) ≡ operand_of o c
-channel-Unary o c = ap channel_of (sym (ex.rolls-Unary o c)) ∙ ap channel_in (out-roll-Expr (F.Unary o c))
-
-pub ruleset channel_steps = (channel-Unary)
-
 -- an expression with a channel is a receive from it
 pub channel-is : (e c : Expr) → channel_of e ≡ Some c → e ≡ ex.Unary unary.Receive c
 channel-is e c h = at (out-Expr e) refl h

@@ -38,7 +38,8 @@ use Rattle.golf_syntax_expressions.proofs.SimpleLaws.{kind-sound, kind-complete}
 use Rattle.golf_syntax_expressions.proofs.SimpleLines.{unlined-kind}
 use Rattle.golf_syntax_statements.specs.CommReading.{channel_of, comm_of, assigned_at, comm_by, comm_at}
 use Rattle.golf_syntax_statements.proofs.Nothing.{Stops}
-use Rattle.golf_syntax_statements.proofs.Channels.{channel-Unary, channel-is}
+use Rattle.golf_syntax_statements.proofs.Channels.{channel-is}
+use Rattle.golf_syntax_trees.proofs.Parts.{channel_parts}
 
 -- a well-formed communication in these tokens, up to those that are left
 pub record IsComm (ts : List Token) (x : Communication × List Token) : Type 0 where
@@ -176,7 +177,7 @@ receive-form : (c : Expr) → (form (ex.Unary unary.Receive c)).good ≡ ((form 
 receive-form c = ap (λ (f : Form). f.good) (shape.form-Unary unary.Receive c)
 
 received : (c : Expr) → channel_of (ex.Unary unary.Receive c) ≡ Some c
-received c = channel-Unary unary.Receive c
+received c = channel_parts unary.Receive c
 
 pub comm-complete : (c : Communication) (ts rest : List Token) → comm_good c ≡ true → Spelt (print_comm c) ts rest → Stops rest → comm_at ts ≡ Some (c, rest)
 unfolding comm_at

@@ -33,6 +33,7 @@ use Rattle.golf_syntax_statements.specs.declared.pending.Select.{Select}
 use Rattle.golf_syntax_statements.specs.declared.pending.Head.{Head}
 use Rattle.golf_syntax_statements.specs.declared.pending.Pending.{Pending}
 use Rattle.golf_syntax_statements.specs.declared.pending.Pending.TheVariants as pendings
+use Rattle.golf_syntax_trees.proofs.Parts.{block_parts}
 use Rattle.golf_syntax_statements.specs.declared.pending.Move.{Move}
 use Rattle.golf_syntax_statements.specs.declared.pending.Move.TheVariants as moves
 use Rattle.golf_syntax_statements.specs.Moves.{Found, moved, weight, move_at, owned, closed_at, body_at, grown, selected, clause_at, case_at, headed_by, headed_at, colon_at, selected_by, pending_at, waited, statements_in, statements_of}
@@ -224,9 +225,6 @@ stmt-shorter ts us s e = at (stmt_at OfStmt ts) (stmt-leaves OfStmt ts) e
     at None l f = cc
 
 -- a block is a statement
-pub statements-Block : (l : ℕ) (b : List Stmt) → statements_of (st.Block l b) ≡ Some b
-statements-Block l b = ap statements_of (sym (st.rolls-Block l b)) ∙ ap statements_in (out-roll-Stmt (F.Block l b))
-
 pub block-none : (ts : List Token) → after punctuations.OpenBrace ts ≡ None → block_at ts ≡ None
 block-none ts e = ap (λ o. run stmt_at (given o (λ us. body us (after punctuations.CloseBrace us) found))) e
 
@@ -234,9 +232,9 @@ abbrev statements_at : Stmt × List Token → Option (List Stmt × List Token)
 statements_at x = statements_of x.0 >>= λ b. Some (b, x.1)
 
 block-body : (l : ℕ) (ts : List Token) (o : Option (List Token)) → run stmt_at (body ts o found) ≡ (run stmt_at (body ts o (λ b. just (st.Block l b.0) b.1)) >>= statements_at)
-block-body l ts (Some us) = sym (ap (λ o. o >>= λ b. Some (b, us)) (statements-Block l []))
+block-body l ts (Some us) = sym (ap (λ o. o >>= λ b. Some (b, us)) (block_parts l []))
 block-body l ts None =
-    bind-same (stmt_at (Body []) ts) (λ b. Some b) (λ b. statements_at (st.Block l b.0, b.1)) (λ b. sym (ap (λ o. o >>= λ c. Some (c, b.1)) (statements-Block l b.0)))
+    bind-same (stmt_at (Body []) ts) (λ b. Some b) (λ b. statements_at (st.Block l b.0, b.1)) (λ b. sym (ap (λ o. o >>= λ c. Some (c, b.1)) (block_parts l b.0)))
     ∙ sym (bind-assoc (stmt_at (Body []) ts) (λ b. Some (st.Block l b.0, b.1)) statements_at)
 
 block-stmt : (ts us : List Token) → after punctuations.OpenBrace ts ≡ Some us → block_at ts ≡ (stmt_at OfStmt ts >>= statements_at)
@@ -266,18 +264,10 @@ block-other ts us vs s e f g = block-stmt ts us e ∙ ap (λ o. o >>= statements
 pub block-nothing : (ts us : List Token) → after punctuations.OpenBrace ts ≡ Some us → stmt_at OfStmt ts ≡ None → block_at ts ≡ None
 block-nothing ts us e f = block-stmt ts us e ∙ ap (λ o. o >>= statements_at) f
 
--- the callee and the arguments of a call
-pub call-Call : (f : Expr) (arguments : List Expr) → call_of (ex.Call f arguments) ≡ Some (f, arguments)
-call-Call f arguments = ap call_of (sym (ex.rolls-Call f arguments)) ∙ ap call_in (out-roll-Expr (E.Call f arguments))
-
-pub ruleset call_steps = (call-Call)
-
 pub ruleset body_steps = (body-begins)
 
 pub ruleset read_steps = (waited-last, waited-none)
 
 pub ruleset shorter_steps = (stmt-shorter)
-
-pub ruleset block_steps = (statements-Block)
 
 pub ruleset braces_steps = (block-none, block-some, block-other, block-nothing)

@@ -17,18 +17,7 @@ use Rattle.golf_syntax_expressions.specs.Plan.{◌>>=◌}
 use Rattle.golf_syntax_expressions.specs.Front.{after, name_at}
 use Rattle.golf_syntax_expressions.specs.ExprReading.{Prefixed, expr_at}
 use Rattle.golf_syntax_expressions.specs.SimpleReading.{simple_at}
-
-abbrev pub operand_of : UnaryOperator → Expr → Option Expr
-operand_of unary.Receive c = Some c
-operand_of _ c = None
-
-abbrev pub channel_in : Expr-F Expr Element → Option Expr
-channel_in (F.Unary o c) = operand_of o c
-channel_in _ = None
-
--- the channel that an expression receives from
-abbrev pub channel_of : Expr → Option Expr
-channel_of e = channel_in (out-Expr e)
+pub use Rattle.golf_syntax_trees.specs.Parts.{operand_of, channel_in, channel_of}
 
 -- the communication that a simple statement is
 abbrev pub comm_of : SimpleKind → Option Communication

@@ -13,6 +13,7 @@ use Rattle.golf_syntax_trees.specs.declared.statements.Clause.{Clause}
 use Rattle.golf_syntax_trees.specs.declared.statements.Clause.TheVariants as cl
 use Rattle.golf_syntax_trees.specs.declared.statements.Clause.TheOpen.{Stmt-F}
 use Rattle.golf_syntax_trees.specs.declared.statements.Clause.TheOpen as F
+pub use Rattle.golf_syntax_trees.specs.Parts.{statements_in, statements_of}
 use Rattle.golf_syntax_expressions.specs.Plan.{◌>>=◌, run, moved_by, waited_by}
 use Rattle.golf_syntax_expressions.specs.Front.{after, after_keyword}
 use Rattle.golf_syntax_statements.specs.CommReading.{comm_at}
@@ -116,11 +117,3 @@ weight moves.Seek = 1
 weight (moves.Wait f) = 4
 weight (moves.Clauses s) = 1
 weight (moves.Headed s h) = 1
-
--- the statements of a block
-abbrev pub statements_in : Stmt-F Clause Stmt → Option (List Stmt)
-statements_in (F.Block l b) = Some b
-statements_in _ = None
-
-abbrev pub statements_of : Stmt → Option (List Stmt)
-statements_of s = statements_in (out-Stmt s)

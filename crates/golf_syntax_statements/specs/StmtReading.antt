@@ -21,6 +21,7 @@ use Rattle.golf_syntax_expressions.specs.SimpleReading.{simple_at}
 use Rattle.golf_syntax_statements.specs.VarReading.{var_at}
 use Rattle.golf_syntax_statements.specs.HeaderReading.{Test, test_at, header_at}
 use Rattle.golf_syntax_statements.specs.CommReading.{comm_at}
+pub use Rattle.golf_syntax_trees.specs.Parts.{call_in, call_of}
 
 -- What is read: a statement; statements with semicolons between, up to the brace that closes them; the clauses of a `select`, up to
 -- its brace, after a `default` or not; the statements of a clause. The lists hold what was read before.
@@ -57,13 +58,6 @@ abbrev pub block : {A : Type 0} → List Token → Goes A → StmtPlan A
 block ts more = given (after punctuations.OpenBrace ts) (λ us. body us (after punctuations.CloseBrace us) more)
 
 -- a call, as `go` and `defer` take it
-abbrev pub call_in : Expr-F Expr Element → Option (Expr × List Expr)
-call_in (F.Call f arguments) = Some (f, arguments)
-call_in _ = None
-
-abbrev pub call_of : Expr → Option (Expr × List Expr)
-call_of e = call_in (out-Expr e)
-
 unfoldable pub call_at : List Token → Option ((Expr × List Expr) × List Token)
 call_at ts = expr_at (Prefixed false) ts >>= λ e. call_of e.0 >>= λ c. Some (c, e.1)
 

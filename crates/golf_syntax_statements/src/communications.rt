@@ -9,37 +9,17 @@ use golf_base::Memory;
 use golf_lex_tokens::{Punctuation, Token};
 use golf_syntax_expressions::{Place, after, copied, name_at, operand_at, simple_at};
 use golf_syntax_trees::{
-    Communication, Expr, Name, OwnedCommunication, OwnedExpr, OwnedSimpleKind, SimpleKind,
-    UnaryOperator,
+    Communication, Name, OwnedCommunication, OwnedExpr, OwnedSimpleKind, SimpleKind,
 };
 use std::alloc::Global;
 
 // The channel that an expression receives from.
-#[tactic(auto, using(crate::proofs::Channels::channel_steps))]
 fn channel_of(e: OwnedExpr) -> Option<OwnedExpr>
     ensures { result ≡ comm_spec.channel_of e }
 {
-    match e.into_inner() {
-        Expr::Unary(operator, inner) => match operator {
-            UnaryOperator::Receive => Some(OwnedExpr::new(inner.into_inner())),
-            UnaryOperator::Negate | UnaryOperator::Not => None,
-        },
-        Expr::Integer(_)
-        | Expr::Text(_)
-        | Expr::Name(_)
-        | Expr::Parens(_)
-        | Expr::StructLiteral(_, _)
-        | Expr::SyncLiteral(_)
-        | Expr::SliceLiteral(_, _)
-        | Expr::EmptyLiteral
-        | Expr::Make(_)
-        | Expr::MakeSized(_, _)
-        | Expr::New(_)
-        | Expr::NewSync(_)
-        | Expr::Selector(_, _)
-        | Expr::Index(_, _)
-        | Expr::Call(_, _)
-        | Expr::Binary(_, _, _) => None,
+    match e.into_inner().into_channel() {
+        None => None,
+        Some(channel) => Some(OwnedExpr::new(channel.into_inner())),
     }
 }
 

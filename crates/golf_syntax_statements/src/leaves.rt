@@ -13,37 +13,21 @@ use crate::variables::var_at;
 use golf_base::Memory;
 use golf_lex_tokens::{Keyword, Token};
 use golf_syntax_expressions::{Place, expression_at, operand_at, simple_at};
-use golf_syntax_trees::{Expr, OwnedExpr, OwnedExprs, OwnedStmt, Stmt};
+use golf_syntax_trees::{OwnedExpr, OwnedExprs, OwnedStmt, Stmt};
 use std::alloc::Global;
 
 // The callee and the arguments of a call.
-#[tactic(auto, using(crate::proofs::Moves::call_steps))]
 fn call_of(e: OwnedExpr) -> Option<(OwnedExpr, OwnedExprs)>
     ensures { result ≡ stmt_spec.call_of e }
 {
-    match e.into_inner() {
-        Expr::Call(callee, arguments) => {
+    match e.into_inner().into_call() {
+        None => None,
+        Some((callee, arguments)) => {
             Some((
                 OwnedExpr::new(callee.into_inner()),
                 OwnedExprs::new(arguments),
             ))
         }
-        Expr::Integer(_)
-        | Expr::Text(_)
-        | Expr::Name(_)
-        | Expr::Parens(_)
-        | Expr::StructLiteral(_, _)
-        | Expr::SyncLiteral(_)
-        | Expr::SliceLiteral(_, _)
-        | Expr::EmptyLiteral
-        | Expr::Make(_)
-        | Expr::MakeSized(_, _)
-        | Expr::New(_)
-        | Expr::NewSync(_)
-        | Expr::Selector(_, _)
-        | Expr::Index(_, _)
-        | Expr::Unary(_, _)
-        | Expr::Binary(_, _, _) => None,
     }
 }
 

@@ -269,10 +269,13 @@ fn if_else(
     )
 }
 
-// The statements with one more.
-fn with_statement(done: OwnedStmts, found: OwnedStmt) -> Result<OwnedStmts, Memory>
+// The statements with one more. A body that has one statement alone takes no room for others.
+fn with_statement(alloc: Global, done: OwnedStmts, found: OwnedStmt) -> Result<OwnedStmts, Memory>
     ensures { IfOk result (λ all. all ≡ done ++ found ∷ []) }
 {
+    if done.get().is_empty() {
+        return OwnedStmts::one(alloc, found);
+    }
     let mut all = done;
     all.push(found)?;
     Ok(all)
@@ -289,7 +292,7 @@ pub fn resume_body(
     ensures value { IfOk result (λ o. moves_spec.moved o ≡ pending_at (Pending.Body owner done) (found, tokens.now)) }
     ensures less { IfOk result (λ o. IfSome o (λ x. weight x.0 + 8 * length x.1.now < 8 * length tokens.now)) }
 {
-    body_move(alloc, owner, with_statement(done, found)?, tokens)
+    body_move(alloc, owner, with_statement(alloc, done, found)?, tokens)
 }
 
 /// An `if`, after the statement that its `else` has.
@@ -318,7 +321,13 @@ pub fn resume_clause(
     ensures value { IfOk result (λ o. moves_spec.moved o ≡ pending_at (Pending.Clause select head done) (found, tokens.now)) }
     ensures less { IfOk result (λ o. IfSome o (λ x. weight x.0 + 8 * length x.1.now < 8 * length tokens.now + 3)) }
 {
-    case_move(alloc, select, head, with_statement(done, found)?, tokens)
+    case_move(
+        alloc,
+        select,
+        head,
+        with_statement(alloc, done, found)?,
+        tokens,
+    )
 }
 
 // All that is read from this on.
@@ -360,24 +369,10 @@ pub fn stmt_at(alloc: Global, tokens: &[Token]) -> Result<Option<(OwnedStmt, &[T
 }
 
 // The statements of a block.
-#[tactic(auto, using(crate::proofs::Moves::block_steps))]
 fn statements_of(statement: OwnedStmt) -> Option<OwnedStmts>
     ensures { result ≡ moves_spec.statements_of statement }
 {
-    match statement.into_inner() {
-        Stmt::Block(_, statements) => Some(OwnedStmts::new(statements)),
-        Stmt::Var(_)
-        | Stmt::Simple(_)
-        | Stmt::Go(_, _, _)
-        | Stmt::Defer(_, _, _)
-        | Stmt::Return(_, _)
-        | Stmt::Break(_)
-        | Stmt::Continue(_)
-        | Stmt::If(_, _, _, _)
-        | Stmt::IfElse(_, _, _, _, _)
-        | Stmt::For(_, _, _)
-        | Stmt::Select(_, _) => None,
-    }
+    statement.into_inner().into_statements()
 }
 
 /// The statements in braces at the front, and what follows the closing brace.

@@ -6,3 +6,5 @@ pub mod Statements
 pub mod Declarations
 pub mod Segments
 pub mod Reads
+pub mod Parts
+pub mod Spines

@@ -31,7 +31,6 @@ pub enum BinaryOperator {
 }
 
 /// An expression.
-#[derive(Drop)]
 #[cycle(expression)]
 pub enum Expr {
     /// The digits of an integer literal, also of one that is too large.
@@ -65,6 +64,119 @@ pub enum Expr {
     Call(Boxed<Expr>, List<Expr>),
     Unary(UnaryOperator, Boxed<Expr>),
     Binary(BinaryOperator, Boxed<Expr>, Boxed<Expr>),
+}
+
+// Left operands, whose number nothing bounds, are taken off by the loop. The cost of tokens bounds how deep all other
+// parts are, so these are dropped by recursion.
+impl Drop for Expr {
+    #[cycle(expression)]
+    fn drop(mut self) {
+        loop {
+            match self {
+                Expr::Integer(digits) => return drop(digits),
+                Expr::Text(bytes) => return drop(bytes),
+                Expr::Name(name) => return drop(name),
+                Expr::Parens(inner) => self = inner.into_inner(),
+                Expr::StructLiteral(name, elements) => {
+                    drop(name);
+                    return drop(elements);
+                }
+                Expr::SyncLiteral(name) => return drop(name),
+                Expr::SliceLiteral(element, items) => {
+                    drop(element);
+                    return drop(items);
+                }
+                Expr::EmptyLiteral => return,
+                Expr::Make(made) => return drop(made),
+                Expr::MakeSized(made, size) => {
+                    drop(made);
+                    self = size.into_inner();
+                }
+                Expr::New(name) => return drop(name),
+                Expr::NewSync(name) => return drop(name),
+                Expr::Selector(left, name) => {
+                    drop(name);
+                    self = left.into_inner();
+                }
+                Expr::Index(left, place) => {
+                    drop(place);
+                    self = left.into_inner();
+                }
+                Expr::Call(left, arguments) => {
+                    drop(arguments);
+                    self = left.into_inner();
+                }
+                Expr::Unary(_, inner) => self = inner.into_inner(),
+                Expr::Binary(_, left, right) => {
+                    drop(right);
+                    self = left.into_inner();
+                }
+            }
+        }
+    }
+}
+
+impl Expr {
+    ghost use Rattle.std.specs.Prelude.{◌≡◌};
+    ghost use Rattle.golf_syntax_trees.specs.Parts.{call_of, channel_of};
+
+    /// Returns callee and arguments, if it is a call.
+    #[tactic(auto, using(crate::proofs::Parts::call_parts))]
+    pub fn into_call(self) -> Option<(Boxed<Expr>, List<Expr>)>
+        ensures { result ≡ call_of self }
+    {
+        match self {
+            Expr::Call(callee, arguments) => Some((callee, arguments)),
+            Expr::Integer(..)
+            | Expr::Text(..)
+            | Expr::Name(..)
+            | Expr::Parens(..)
+            | Expr::StructLiteral(..)
+            | Expr::SyncLiteral(..)
+            | Expr::SliceLiteral(..)
+            | Expr::Make(..)
+            | Expr::MakeSized(..)
+            | Expr::New(..)
+            | Expr::NewSync(..)
+            | Expr::Selector(..)
+            | Expr::Index(..)
+            | Expr::Unary(..)
+            | Expr::Binary(..) => None,
+            Expr::EmptyLiteral => None,
+        }
+    }
+
+    /// Returns the channel, if it is a receive.
+    #[tactic(auto, using(crate::proofs::Parts::channel_parts))]
+    pub fn into_channel(self) -> Option<Boxed<Expr>>
+        ensures { result ≡ channel_of self }
+    {
+        match self {
+            Expr::Unary(operator, channel) => match operator {
+                UnaryOperator::Receive => Some(channel),
+                UnaryOperator::Negate | UnaryOperator::Not => {
+                    drop(channel);
+                    None
+                }
+            },
+            Expr::Integer(..)
+            | Expr::Text(..)
+            | Expr::Name(..)
+            | Expr::Parens(..)
+            | Expr::StructLiteral(..)
+            | Expr::SyncLiteral(..)
+            | Expr::SliceLiteral(..)
+            | Expr::Make(..)
+            | Expr::MakeSized(..)
+            | Expr::New(..)
+            | Expr::NewSync(..)
+            | Expr::Selector(..)
+            | Expr::Index(..)
+            | Expr::Call(..)
+            | Expr::Binary(..) => None,
+            Expr::EmptyLiteral => None,
+        }
+    }
 }
 
 /// `f: e` in a struct literal.

@@ -4,6 +4,7 @@
 mod builders;
 mod declarations;
 mod expressions;
+mod left_operands;
 mod owned;
 mod owned_lists;
 mod statements;
@@ -11,6 +12,7 @@ mod types;
 
 pub use declarations::{Const, Decl, Field, File, Func, Import, Receiver};
 pub use expressions::{BinaryOperator, Element, Expr, UnaryOperator};
+pub use left_operands::{left_operand, spine};
 pub use owned::{
     OwnedCommunication, OwnedDecl, OwnedExpr, OwnedHeader, OwnedSimple, OwnedSimpleKind, OwnedStmt,
     OwnedType, OwnedVar, OwnedVarContent,

@@ -1,6 +1,6 @@
 //! Lists of trees that are owned, each behind a type that contracts see as the list itself.
 
-ghost use Rattle.std.specs.Prelude.{◌≡◌, ◌∷◌, ◌++◌, [], OnOk, OnErr};
+ghost use Rattle.std.specs.Prelude.{◌≡◌, ◌∷◌, ◌++◌, [], IfOk, OnOk, OnErr};
 
 use crate::declarations::Decl;
 use crate::expressions::{Element, Expr};
@@ -178,6 +178,17 @@ impl OwnedStmts {
         OwnedStmts {
             inner: List::new(alloc),
         }
+    }
+
+    /// A list of one statement. It takes no room for a second one.
+    pub fn one(alloc: Global, item: OwnedStmt) -> Result<OwnedStmts, Memory>
+        ensures { IfOk result (λ all. all ≡ item ∷ []) }
+    {
+        let mut items = Vec::with_capacity(alloc, 1)?;
+        items.push(item.into_inner())?;
+        Ok(OwnedStmts {
+            inner: List::from_vec(items),
+        })
     }
 
     /// Lends the list.

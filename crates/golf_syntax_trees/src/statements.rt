@@ -5,6 +5,7 @@ use crate::owned::{
     OwnedCommunication, OwnedExpr, OwnedHeader, OwnedSimple, OwnedSimpleKind, OwnedType, OwnedVar,
     OwnedVarContent,
 };
+use crate::owned_lists::OwnedStmts;
 use crate::types::{Name, TypeExpr};
 use golf_base::{Boxed, List};
 
@@ -98,7 +99,6 @@ pub enum Communication {
 }
 
 /// A statement.
-#[derive(Drop)]
 #[cycle(statement)]
 pub enum Stmt {
     Var(OwnedVar),
@@ -117,6 +117,70 @@ pub enum Stmt {
     IfElse(u32, Option<OwnedSimple>, OwnedExpr, List<Stmt>, Boxed<Stmt>),
     For(u32, OwnedHeader, List<Stmt>),
     Select(u32, List<Clause>),
+}
+
+// Nothing bounds the number of `else if` in one another, so the loop follows them. The cost of tokens bounds how deep
+// all other parts are, and these are dropped by recursion.
+impl Drop for Stmt {
+    #[cycle(statement)]
+    fn drop(mut self) {
+        loop {
+            match self {
+                Stmt::Var(variable) => return drop(variable),
+                Stmt::Simple(simple) => return drop(simple),
+                Stmt::Go(_, callee, arguments) | Stmt::Defer(_, callee, arguments) => {
+                    drop(callee);
+                    return drop(arguments);
+                }
+                Stmt::Return(_, value) => return drop(value),
+                Stmt::Break(_) => return,
+                Stmt::Continue(_) => return,
+                Stmt::Block(_, body) => return drop(body),
+                Stmt::If(_, first, test, body) => {
+                    drop(first);
+                    drop(test);
+                    return drop(body);
+                }
+                Stmt::IfElse(_, first, test, body, otherwise) => {
+                    drop(first);
+                    drop(test);
+                    drop(body);
+                    self = otherwise.into_inner();
+                }
+                Stmt::For(_, header, body) => {
+                    drop(header);
+                    return drop(body);
+                }
+                Stmt::Select(_, clauses) => return drop(clauses),
+            }
+        }
+    }
+}
+
+impl Stmt {
+    ghost use Rattle.std.specs.Prelude.{◌≡◌};
+    ghost use Rattle.golf_syntax_trees.specs.Parts.{statements_of};
+
+    /// Returns the statements, if it is a block.
+    #[tactic(auto, using(crate::proofs::Parts::block_parts))]
+    pub fn into_statements(self) -> Option<OwnedStmts>
+        ensures { result ≡ statements_of self }
+    {
+        match self {
+            Stmt::Block(_, statements) => Some(OwnedStmts::new(statements)),
+            Stmt::Var(..)
+            | Stmt::Simple(..)
+            | Stmt::Go(..)
+            | Stmt::Defer(..)
+            | Stmt::Return(..)
+            | Stmt::Break(..)
+            | Stmt::Continue(..)
+            | Stmt::If(..)
+            | Stmt::IfElse(..)
+            | Stmt::For(..)
+            | Stmt::Select(..) => None,
+        }
+    }
 }
 
 /// A clause of `select`, on the line of its word.

@@ -1,8 +1,10 @@
-//! Tests of lists, boxes, sources and sinks.
+//! Tests of lists, rings, boxes, sources and sinks.
 #![tactic(auto)]
 
 #[cfg(test)]
 mod lists;
+#[cfg(test)]
+mod rings;
 #[cfg(test)]
 mod stdio;
 #[cfg(test)]

@@ -6,6 +6,7 @@ ghost use Rattle.golf_model.specs.Presence.{IsWhole};
 
 use golf_base::{List, Memory};
 use golf_data::{Channel, Object, Side, Value, Wait, WaitKind};
+use golf_ring::Ring;
 use golf_state::State;
 use std::alloc::Global;
 
@@ -18,7 +19,7 @@ pub fn stuck_state(alloc: Global) -> Result<State, Memory>
     let globals = List::new(alloc);
     let first = List::new(alloc);
     let mut state = State::new(alloc, globals, first, 1)?;
-    let buffer = List::new(alloc);
+    let buffer = Ring::new(alloc);
     let channel = state.make(Object::Chan(Channel {
         capacity: 0,
         buffer,

@@ -1,8 +1,9 @@
-use Rattle.std.proofs.Common.{◌≡◌, ◌++◌, ◌+◌, ◌*◌, max, map, drop}
+use Rattle.std.proofs.Common.{◌≡◌, ◌++◌, ◌+◌, ◌*◌, max, map, drop, length}
 use Rattle.std.specs.Prelude.{flat_map}
 use Rattle.golf_syntax_trees.specs.declared.expressions.Expr.{size-Expr}
 use Rattle.golf_check_types.specs.Expressions.{given_by, used, facts_of, put_facts}
 use Rattle.golf_check_types.specs.Judging.{judge_at, value_at}
+use Rattle.golf_check_expressions.specs.Spines.{Rising}
 use Rattle.golf_check_expressions.proofs.expressions.+judging.Given as goal
 
 abbrev pub invariant-all_given-loop-e : goal.invariant-all_given-loop-e
@@ -26,6 +27,16 @@ invariant-all_put-loop-e l =
       values : l.values ++ map given_by rest ≡ map given_by all;
       facts : l.facts ++ puts (map (λ e. e.field) left) rest ≡ l.fn.facts ++ puts (map (λ e. e.field) l.elements) all;
     }
+
+-- what waits goes on with what was found
+abbrev pub invariant-operand-loop-node : goal.invariant-operand-loop-node
+invariant-operand-loop-node l = Rising l.line l.scope l.fn.e l.fn.facts l.waiting l.operand l.at l.facts
+
+abbrev pub decreases-operand-loop-node : goal.decreases-operand-loop-node
+decreases-operand-loop-node l = length l.waiting
+
+abbrev pub decreases-rise : goal.decreases-rise
+decreases-rise l = 16 * size-Expr l.e.now
 
 abbrev pub decreases-whole : goal.decreases-whole
 decreases-whole l = 16 * size-Expr l.e.now
@@ -54,17 +65,14 @@ decreases-slice_at l = 16 * goal.size-slice_at l + 4
 abbrev pub decreases-sized_at : goal.decreases-sized_at
 decreases-sized_at l = 16 * size-Expr l.e.now + 3
 
-abbrev pub decreases-selector_at : goal.decreases-selector_at
-decreases-selector_at l = 16 * size-Expr l.e.now + 3
-
 abbrev pub decreases-unary_at : goal.decreases-unary_at
 decreases-unary_at l = 16 * size-Expr l.e.now + 3
 
 abbrev pub decreases-index_at : goal.decreases-index_at
-decreases-index_at l = 16 * max (size-Expr l.a.now) (size-Expr l.i.now) + 3
+decreases-index_at l = 16 * size-Expr l.i.now + 3
 
 abbrev pub decreases-binary_at : goal.decreases-binary_at
-decreases-binary_at l = 16 * max (size-Expr l.a.now) (size-Expr l.b.now) + 3
+decreases-binary_at l = 16 * size-Expr l.b.now + 3
 
 abbrev pub decreases-plain_at : goal.decreases-plain_at
 decreases-plain_at l = 16 * goal.size-plain_at l + 4
@@ -79,4 +87,4 @@ abbrev pub decreases-called : goal.decreases-called
 decreases-called l = 16 * goal.size-called l + 6
 
 abbrev pub decreases-call_at : goal.decreases-call_at
-decreases-call_at l = 16 * max (size-Expr l.f.now) (goal.size-call_at l) + 7
+decreases-call_at l = 16 * goal.size-call_at l + 7

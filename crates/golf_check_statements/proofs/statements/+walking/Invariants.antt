@@ -1,7 +1,10 @@
-use Rattle.std.proofs.Common.{◌≡◌, ◌++◌, ◌+◌, ◌*◌, max, map, drop}
+use Rattle.std.proofs.Common.{◌≡◌, ◌≤◌, ◌++◌, ◌+◌, ◌*◌, max, map, drop}
 use Rattle.golf_syntax_trees.specs.declared.statements.Stmt.{size-Stmt}
 use Rattle.golf_syntax_trees.specs.declared.statements.Clause.{size-Clause}
+use Rattle.golf_syntax_trees.specs.Spines.{risen}
+use Rattle.golf_check_types.specs.Scopes.{closed_to}
 use Rattle.golf_check_types.specs.Statements.{in_order, behind, walk, walk_clause_at}
+use Rattle.golf_check_statements.proofs.Branches.{Behind}
 use Rattle.golf_check_statements.proofs.statements.+walking.Given as goal
 
 abbrev pub invariant-all-loop-stmt : goal.invariant-all-loop-stmt
@@ -88,10 +91,23 @@ abbrev pub decreases-clauses_at : goal.decreases-clauses_at
 decreases-clauses_at l = 16 * goal.size-clauses_at l + 2
 
 abbrev pub decreases-both_parts : goal.decreases-both_parts
-decreases-both_parts l = 16 * max (goal.size-both_parts l) (size-Stmt l.otherwise.now) + 5
+decreases-both_parts l = 16 * max (goal.size-both_parts l) (size-Stmt l.otherwise.now) + 6
 
 abbrev pub decreases-else_at : goal.decreases-else_at
-decreases-else_at l = 16 * max (goal.size-else_at l) (size-Stmt l.otherwise.now) + 6
+decreases-else_at l = 16 * max (goal.size-else_at l) (size-Stmt l.otherwise.now) + 7
 
 abbrev pub decreases-clause_at : goal.decreases-clause_at
 decreases-clause_at l = 16 * size-Clause l.clause.now + 1
+
+-- the branches so far keep the rules, and the statement behind the last `else` goes on
+abbrev pub invariant-otherwise_at-branches : goal.invariant-otherwise_at-branches
+invariant-otherwise_at-branches l = record {
+  walks : Behind l.fn.otherwise l.fn.scope l.fn.facts l.last l.scope l.facts l.marks;
+  smaller : size-Stmt l.last ≤ size-Stmt l.fn.otherwise;
+}
+
+abbrev pub decreases-otherwise_at-branches : goal.decreases-otherwise_at-branches
+decreases-otherwise_at-branches l = size-Stmt l.last
+
+abbrev pub decreases-otherwise_at : goal.decreases-otherwise_at
+decreases-otherwise_at l = 16 * size-Stmt l.otherwise.now + 5

@@ -1,17 +1,12 @@
-use Rattle.std.proofs.Common.{subst}
+use Rattle.std.proofs.Common.{arith, drop, length, map, subst, ap, ◌∙◌}
 use Rattle.golf_code_layout.specs.Piece.{Piece}
-use Rattle.golf_code_facts.specs.Facts.{next_is, skip}
-use Rattle.golf_code_facts.specs.Expressions.{taking}
+use Rattle.golf_code_of.specs.Calls.{finalising}
+use Rattle.golf_code_facts.specs.Facts.{operand_in, next_is}
+use Rattle.golf_code_facts.specs.Expressions.{taking, arguments}
 use Rattle.golf_code_expressions.specs.Writing.{Extends}
-use Rattle.golf_code_expressions.proofs.Wholes.{plain_is, call_is, slice_is, none_written}
+use Rattle.golf_code_expressions.proofs.Wholes.{passed_over, call_is, slice_is, none_written}
+use Rattle.golf_code_expressions.proofs.Spines.{call_sets, rises, follow_smaller}
 use Rattle.golf_code_expressions.proofs.expressions.+writing.Goals as goal
-
-pub call_at-returns-else-sets_finaliser : goal.call_at-returns-else-sets_finaliser
-call_at-returns-else-sets_finaliser t c =
-    let w = c.args.writer.now in
-    subst (λ (p : Piece). Extends c.plain_at.result p w c.plain_at.new.writer)
-    (plain_is w.draft.tables.now c.args.line (next_is w.facts) c.operand-callee.result.now (taking w.draft.tables.now c.args.f.now c.args.line w.facts).piece c.args.xs.now (skip w.facts) c.sets_finaliser.result c.operand-callee.ensures c.sets_finaliser.ensures c.if-sets_finaliser.false)
-    c.plain_at.ensures
 
 pub whole-returns-in-SliceLiteral : goal.whole-returns-in-SliceLiteral
 whole-returns-in-SliceLiteral t c =
@@ -23,9 +18,22 @@ whole-returns-in-SliceLiteral t c =
 pub whole-returns-in-Call : goal.whole-returns-in-Call
 whole-returns-in-Call t c =
     let w = c.args.writer.now in
-    subst (λ (p : Piece). Extends c.call_at.result p w c.call_at.new.writer)
-    (call_is w.draft.tables.now c.args.line c.args.fact.now w.facts c.args.e.now c.in-Call.f c.get-in-Call.result.now c.in-Call.xs c.as_slice-in-Call.result.now c.in-Call.is c.get-in-Call.ensures c.as_slice-in-Call.ensures)
-    c.call_at.ensures
+    let u = w.draft.tables.now in
+    let ys = c.as_slice-in-Call.result.now in
+    subst (λ (p : Piece). Extends c.finalising_at.result p w c.finalising_at.new.writer)
+    (ap (λ fs. finalising c.args.line (arguments c.args.line (map (taking u) ys) fs)) c.skip.ensures
+    ∙ call_is u c.args.line c.args.fact.now w.facts c.args.e.now c.in-Call.field-0 c.in-Call.xs ys c.in-Call.is c.as_slice-in-Call.ensures (call_sets c.args.e.now c.in-Call.field-0 c.in-Call.xs (operand_in c.args.fact.now) (next_is w.facts) c.in-Call.is c.requires))
+    (passed_over c.finalising_at.result _ w c.finalising_at.new.writer c.skip.new.self c.finalising_at.ensures)
 
-pub expression-returns-in_default : goal.expression-returns-in_default
-expression-returns-in_default t c = none_written c.args.line c.args.e.now c.args.writer.now c.take.new.self c.in_default.ensures.none.0 c.in_default.ensures.none.1
+pub innermost_at-returns-in_default : goal.innermost_at-returns-in_default
+innermost_at-returns-in_default t c = none_written c.args.line c.args.e.now c.args.writer.now c.in_default.ensures.none.0
+
+pub expression-follow-requires : goal.expression-follow-requires
+expression-follow-requires t c =
+    let low = follow_smaller c.args.e.now c.args.writer.now c.args.line c.loop-node.waiting c.pop.new.self c.in-Some.node c.loop-node.writer.draft c.loop-node.invariant c.in-Some.ensures in
+    (omega (arith, c.decreases, low), tt)
+
+pub expression-loop-node-preserved : goal.expression-loop-node-preserved
+expression-loop-node-preserved t c =
+    rises c.args.e.now c.args.writer.now c.args.line c.loop-node.waiting c.pop.new.self c.in-Some.node c.loop-node.writer.draft c.loop-node.invariant c.in-Some.ensures c.from-writer.result c.follow.new.writer.draft
+    (c.from-writer.ensures ∙ (ap (λ n. drop n c.copy-all.result) c.len.ensures ∙ ap (drop (length c.pop.new.self)) c.copy-all.ensures)) c.in_ok-follow.ensures

@@ -1,9 +1,10 @@
-use Rattle.std.proofs.Common.{◌≡◌, ◌+◌, ◌*◌, max, map, drop}
+use Rattle.std.proofs.Common.{◌≡◌, ◌+◌, ◌*◌, map, drop, length}
 use Rattle.golf_syntax_trees.specs.declared.expressions.Expr.{size-Expr}
 use Rattle.golf_code_of.specs.Expressions.{elements}
 use Rattle.golf_code_of.specs.Calls.{pushes}
 use Rattle.golf_code_facts.specs.Expressions.{taking, arguments, pieces, puts}
 use Rattle.golf_code_expressions.specs.Writing.{with_piece}
+use Rattle.golf_code_expressions.specs.Spines.{Rising}
 use Rattle.golf_code_expressions.proofs.expressions.+writing.Given as goal
 
 -- the fields left, after those so far
@@ -31,11 +32,27 @@ invariant-arguments-loop-x l =
       draft : with_piece l.writer.draft (pushes (arguments l.line (map (taking t) (drop l.x-index l.xs)) l.writer.facts)) ≡ with_piece l.fn.writer.draft (pushes (arguments l.line (map (taking t) l.xs) l.fn.writer.facts));
     }
 
+-- what waits goes on with what was written
+abbrev pub invariant-expression-loop-node : goal.invariant-expression-loop-node
+invariant-expression-loop-node l = Rising l.line l.fn.e l.fn.writer l.waiting l.writer.draft
+
+abbrev pub decreases-expression-loop-node : goal.decreases-expression-loop-node
+decreases-expression-loop-node l = length l.waiting
+
 abbrev pub decreases-whole : goal.decreases-whole
 decreases-whole l = 16 * size-Expr l.e.now
 
+abbrev pub decreases-rest : goal.decreases-rest
+decreases-rest l = 16 * size-Expr l.e.now
+
+abbrev pub decreases-follow : goal.decreases-follow
+decreases-follow l = 16 * size-Expr l.e.now + 1
+
+abbrev pub decreases-innermost_at : goal.decreases-innermost_at
+decreases-innermost_at l = 16 * size-Expr l.e.now + 1
+
 abbrev pub decreases-expression : goal.decreases-expression
-decreases-expression l = 16 * size-Expr l.e.now + 1
+decreases-expression l = 16 * size-Expr l.e.now + 2
 
 abbrev pub decreases-unary_at : goal.decreases-unary_at
 decreases-unary_at l = 16 * size-Expr l.e.now + 3
@@ -46,23 +63,20 @@ decreases-sized_at l = 16 * size-Expr l.e.now + 3
 abbrev pub decreases-put_at : goal.decreases-put_at
 decreases-put_at l = 16 * size-Expr l.e.now + 3
 
-abbrev pub decreases-selector_at : goal.decreases-selector_at
-decreases-selector_at l = 16 * size-Expr l.e.now + 3
-
 abbrev pub decreases-index_at : goal.decreases-index_at
-decreases-index_at l = 16 * max (size-Expr l.a.now) (size-Expr l.i.now) + 3
+decreases-index_at l = 16 * size-Expr l.i.now + 3
 
-abbrev pub decreases-and_at : goal.decreases-and_at
-decreases-and_at l = 16 * max (size-Expr l.a.now) (size-Expr l.b.now) + 3
-
-abbrev pub decreases-or_at : goal.decreases-or_at
-decreases-or_at l = 16 * max (size-Expr l.a.now) (size-Expr l.b.now) + 3
+abbrev pub decreases-decided_at : goal.decreases-decided_at
+decreases-decided_at l = 16 * size-Expr l.b.now + 3
 
 abbrev pub decreases-both_at : goal.decreases-both_at
-decreases-both_at l = 16 * max (size-Expr l.a.now) (size-Expr l.b.now) + 3
+decreases-both_at l = 16 * size-Expr l.b.now + 3
+
+abbrev pub decreases-or_at : goal.decreases-or_at
+decreases-or_at l = 16 * size-Expr l.b.now + 4
 
 abbrev pub decreases-binary_at : goal.decreases-binary_at
-decreases-binary_at l = 16 * max (size-Expr l.a.now) (size-Expr l.b.now) + 4
+decreases-binary_at l = 16 * size-Expr l.b.now + 5
 
 abbrev pub decreases-put_all : goal.decreases-put_all
 decreases-put_all l = 16 * goal.size-put_all l + 4
@@ -79,8 +93,8 @@ decreases-slice_at l = 16 * goal.size-slice_at l + 5
 abbrev pub decreases-arguments : goal.decreases-arguments
 decreases-arguments l = 16 * goal.size-arguments l + 4
 
-abbrev pub decreases-plain_at : goal.decreases-plain_at
-decreases-plain_at l = 16 * max (size-Expr l.f.now) (goal.size-plain_at l) + 5
+abbrev pub decreases-call_at : goal.decreases-call_at
+decreases-call_at l = 16 * goal.size-call_at l + 5
 
 abbrev pub decreases-finaliser_at : goal.decreases-finaliser_at
 decreases-finaliser_at l = 16 * size-Expr l.x.now + 3
@@ -90,6 +104,3 @@ decreases-finalising_at l = 16 * goal.size-finalising_at l + 5
 
 abbrev pub decreases-finalising_with : goal.decreases-finalising_with
 decreases-finalising_with l = 16 * size-Expr l.x.now + 4
-
-abbrev pub decreases-call_at : goal.decreases-call_at
-decreases-call_at l = 16 * max (size-Expr l.f.now) (goal.size-call_at l) + 6

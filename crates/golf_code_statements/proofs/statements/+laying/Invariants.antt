@@ -1,10 +1,11 @@
-use Rattle.std.proofs.Common.{◌≡◌, ◌+◌, ◌*◌, max, length, map, drop}
+use Rattle.std.proofs.Common.{◌≡◌, ◌≤◌, ◌+◌, ◌*◌, max, length, map, drop}
 use Rattle.golf_syntax_trees.specs.declared.statements.Stmt.{size-Stmt}
 use Rattle.golf_syntax_trees.specs.declared.statements.Clause.{size-Clause}
 use Rattle.golf_code_facts.specs.Statements.{in_order}
 use Rattle.golf_code_facts.specs.Laying.{stmt_by, clause_by}
 use Rattle.golf_code_statements.specs.Clauses.{with_clauses}
 use Rattle.golf_code_statements.specs.Lays.{around, after}
+use Rattle.golf_code_statements.specs.Branches.{with_parts, shut}
 use Rattle.golf_code_statements.proofs.statements.+laying.Given as goal
 
 abbrev pub invariant-all-loop-stmt : goal.invariant-all-loop-stmt
@@ -40,7 +41,7 @@ abbrev pub decreases-if_at : goal.decreases-if_at
 decreases-if_at l = 16 * goal.size-if_at l + 4
 
 abbrev pub decreases-else_at : goal.decreases-else_at
-decreases-else_at l = 16 * max (goal.size-else_at l) (size-Stmt l.otherwise.now) + 4
+decreases-else_at l = 16 * max (goal.size-else_at l) (size-Stmt l.otherwise.now) + 6
 
 abbrev pub decreases-loop_body : goal.decreases-loop_body
 decreases-loop_body l = 16 * goal.size-loop_body l + 2
@@ -83,3 +84,23 @@ decreases-clauses_at l = 16 * goal.size-clauses_at l + 2
 
 abbrev pub decreases-select_at : goal.decreases-select_at
 decreases-select_at l = 16 * goal.size-select_at l + 3
+
+abbrev pub decreases-first_branch : goal.decreases-first_branch
+decreases-first_branch l = 16 * goal.size-first_branch l + 4
+
+abbrev pub decreases-otherwise_at : goal.decreases-otherwise_at
+decreases-otherwise_at l = 16 * size-Stmt l.otherwise.now + 5
+
+-- the branches so far are written, and their outer blocks are open
+abbrev pub invariant-otherwise_at-branches : goal.invariant-otherwise_at-branches
+invariant-otherwise_at-branches l =
+    let t = l.fn.writer.draft.tables.now in
+    let rest = after l.writer (stmt_by t l.last (around l.writer l.inner) l.writer.facts) in
+    record {
+      tables : l.writer.draft.tables ≡ l.fn.writer.draft.tables;
+      writer : with_parts rest (shut l.blocks rest.draft.emitted) ≡ after l.fn.writer (stmt_by t l.fn.otherwise (around l.fn.writer l.fn.targets) l.fn.writer.facts);
+      smaller : size-Stmt l.last ≤ size-Stmt l.fn.otherwise;
+    }
+
+abbrev pub decreases-otherwise_at-branches : goal.decreases-otherwise_at-branches
+decreases-otherwise_at-branches l = size-Stmt l.last

@@ -1,4 +1,4 @@
-use Rattle.std.proofs.Common.{◌≡◌, ◌+◌, ◌*◌, max, drop}
+use Rattle.std.proofs.Common.{◌≡◌, ◌≤◌, ◌+◌, ◌*◌, max, drop}
 use Rattle.std.specs.Prelude.{flat_map}
 use Rattle.golf_syntax_trees.specs.declared.statements.Stmt.{size-Stmt}
 use Rattle.golf_syntax_trees.specs.declared.statements.Clause.{size-Clause}
@@ -35,4 +35,17 @@ abbrev pub decreases-case : goal.decreases-case
 decreases-case l = 8 * goal.size-case l + 2
 
 abbrev pub decreases-both_parts : goal.decreases-both_parts
-decreases-both_parts l = 8 * max (goal.size-both_parts l) (size-Stmt l.otherwise.now) + 3
+decreases-both_parts l = 8 * max (goal.size-both_parts l) (size-Stmt l.otherwise.now) + 4
+
+-- the texts of the branches so far are added
+abbrev pub invariant-otherwise_at-branches : goal.invariant-otherwise_at-branches
+invariant-otherwise_at-branches l = record {
+  texts : with_texts l.table (stmt_texts l.last) ≡ with_texts l.fn.table (stmt_texts l.fn.otherwise);
+  smaller : size-Stmt l.last ≤ size-Stmt l.fn.otherwise;
+}
+
+abbrev pub decreases-otherwise_at-branches : goal.decreases-otherwise_at-branches
+decreases-otherwise_at-branches l = size-Stmt l.last
+
+abbrev pub decreases-otherwise_at : goal.decreases-otherwise_at
+decreases-otherwise_at l = 8 * size-Stmt l.otherwise.now + 3

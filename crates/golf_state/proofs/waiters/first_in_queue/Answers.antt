@@ -1,4 +1,4 @@
-use Rattle.std.proofs.Common.{◌≡◌, ℕ, ◌+◌, ◌<◌, List, [], length, drop, get_or, Option, Some, None, refl, sym, ap, ◌∙◌, arith, drop_of_length-le}
+use Rattle.std.proofs.Common.{◌≡◌, ℕ, ◌+◌, ◌<◌, cond, false, List, [], ◌∷◌, length, drop, get_or, Option, Some, None, sym, ap, ◌∙◌, arith, drop_of_length-le}
 use Rattle.std.specs.Prelude.{option_map}
 use Rattle.std.proofs.lemmas.List.{drop_more}
 use Rattle.golf_data.specs.declared.goroutine.Side.{Side}
@@ -14,25 +14,17 @@ use Rattle.golf_state.proofs.FirstLaws.{first-in-queue}
 use Rattle.golf_state.proofs.waiters.first_in_queue.Goals as goal
 
 module _ (o : ℕ) (side : Side) (gs : List (ℕ × GoroutineView)) where
-  one-more : (hs : List TicketHolder) (i : ℕ) (d : TicketHolder) → i < length hs
+  one-more : (hs : List TicketHolder) (i : ℕ) (d : TicketHolder) → i < length hs → (get_or hs i d).is_gone ≡ false
       → first_held o side gs (held (drop i hs)) ≡ or_later (waiter_by o side gs ((get_or hs i d).ticket, (get_or hs i d).goroutine.0)) (first_held o side gs (held (drop (i + 1) hs)))
-  one-more hs i d l = ap (λ (ks : List TicketHolder). first_held o side gs (held ks)) (drop_more hs i d l)
-
-  told-none : (m : Option Waiter) → None ≡ option_map waiting_of m → m ≡ None
-  told-none None e = refl
-  told-none (Some w) e = cc
+  one-more hs i d l g =
+      let h = get_or hs i d in
+      let es = held (drop (i + 1) hs) in
+      ap (λ (ks : List TicketHolder). first_held o side gs (held ks)) (drop_more hs i d l)
+      ∙ ap (λ b. first_held o side gs (cond b es ((h.ticket, h.goroutine.0) ∷ es))) g
 
   told-some : (m n : Option Waiter) (x : Waiting) → Some x ≡ option_map waiting_of m → Some x ≡ option_map waiting_of (or_later m n)
   told-some None n x e = cc
   told-some (Some w) n x e = e
-
-pub loop-holder-preserved : goal.loop-holder-preserved
-loop-holder-preserved c =
-    let o = c.args.object.0 in
-    let gs = plain_entries c.args.places.now in
-    let i = c.loop-holder.holder-index in
-    c.loop-holder.invariant ∙ one-more o c.args.side gs c.args.queue.now i _ c.loop-holder-test.true
-    ∙ ap (λ (m : Option Waiter). or_later m (first_held o c.args.side gs (held (drop (i + 1) c.args.queue.now)))) (told-none o c.args.side gs _ c.in-None.ensures)
 
 pub returns-in-Some : goal.returns-in-Some
 returns-in-Some c =
@@ -42,7 +34,8 @@ returns-in-Some c =
     let hs = c.args.queue.now in
     let i = c.loop-holder.holder-index in
     told-some o side gs _ (first_held o side gs (held (drop (i + 1) hs))) c.in-Some.waiting c.in-Some.ensures
-    ∙ ap (λ (m : Option Waiter). option_map waiting_of m) (sym (one-more o side gs hs i _ c.loop-holder-test.true) ∙ sym c.loop-holder.invariant ∙ first-in-queue o side gs c.requires.rises (held hs) c.requires.order c.requires.all)
+    ∙ ap (λ (m : Option Waiter). option_map waiting_of m)
+    (sym (one-more o side gs hs i _ c.loop-holder-test.true c.if-not-holder.true) ∙ sym c.loop-holder.invariant ∙ first-in-queue o side gs c.requires.rises (held hs) c.requires.order c.requires.all)
 
 pub returns : goal.returns
 returns c =

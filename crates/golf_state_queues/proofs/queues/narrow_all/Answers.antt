@@ -11,22 +11,22 @@ use Rattle.golf_state_queues.proofs.queues.narrow_all.Goals as goal
 record IsNarrowed (gs : List ℕ) (q r : Queue) : Type 0 where
   object : r.object ≡ q.object
   side : r.side ≡ q.side
-  holders : held r.holders.items ≡ among gs (held q.holders.items)
+  holders : held r.holders ≡ among gs (held q.holders)
 
 -- one queue more
 more : (gs : List ℕ) (at n : ℕ) (qs : List Queue) (ls : WaitQueues) (q r : Queue) → wait_queues_of qs ≡ changed_to (λ (e : ℕ × List (ℕ × ℕ)). (e.0, among gs e.1)) at ls → slice_get qs at ≡ Some q
     → IsNarrowed gs q r → n ≡ suc at → wait_queues_of (slice_set qs at r) ≡ changed_to (λ (e : ℕ × List (ℕ × ℕ)). (e.0, among gs e.1)) n ls
 more gs at n qs ls q r is here narrowed next =
     let f : ℕ × List (ℕ × ℕ) → ℕ × List (ℕ × ℕ) = λ e. (e.0, among gs e.1) in
-    let there : slice_get (wait_queues_of qs) at ≡ Some (key q.object.0 q.side, held q.holders.items) =
-    slice_get-map (λ (q : Queue). (key q.object.0 q.side, held q.holders.items)) qs at ∙ ap (option_map (λ (q : Queue). (key q.object.0 q.side, held q.holders.items))) here in
-    let first : slice_get ls at ≡ Some (key q.object.0 q.side, held q.holders.items) = sym (changed-read f at ls) ∙ ap (λ (ms : WaitQueues). slice_get ms at) (sym is) ∙ there in
-    let changed : (key r.object.0 r.side, held r.holders.items) ≡ f (key q.object.0 q.side, held q.holders.items) =
-    ap (λ (o : ℕ). (o, held r.holders.items)) (ap (λ o. key o.0 r.side) narrowed.object ∙ ap (λ d. key q.object.0 d) narrowed.side) ∙ ap (λ (es : List (ℕ × ℕ)). (key q.object.0 q.side, es)) narrowed.holders in
-    map-set (λ (q : Queue). (key q.object.0 q.side, held q.holders.items)) qs at r
-    ∙ ap (λ (ms : WaitQueues). slice_set ms at (key r.object.0 r.side, held r.holders.items)) is
+    let there : slice_get (wait_queues_of qs) at ≡ Some (key q.object.0 q.side, held q.holders) =
+    slice_get-map (λ (q : Queue). (key q.object.0 q.side, held q.holders)) qs at ∙ ap (option_map (λ (q : Queue). (key q.object.0 q.side, held q.holders))) here in
+    let first : slice_get ls at ≡ Some (key q.object.0 q.side, held q.holders) = sym (changed-read f at ls) ∙ ap (λ (ms : WaitQueues). slice_get ms at) (sym is) ∙ there in
+    let changed : (key r.object.0 r.side, held r.holders) ≡ f (key q.object.0 q.side, held q.holders) =
+    ap (λ (o : ℕ). (o, held r.holders)) (ap (λ o. key o.0 r.side) narrowed.object ∙ ap (λ d. key q.object.0 d) narrowed.side) ∙ ap (λ (es : List (ℕ × ℕ)). (key q.object.0 q.side, es)) narrowed.holders in
+    map-set (λ (q : Queue). (key q.object.0 q.side, held q.holders)) qs at r
+    ∙ ap (λ (ms : WaitQueues). slice_set ms at (key r.object.0 r.side, held r.holders)) is
     ∙ ap (λ (e : ℕ × List (ℕ × ℕ)). slice_set (changed_to f at ls) at e) changed
-    ∙ changed-more f at ls (key q.object.0 q.side, held q.holders.items) first
+    ∙ changed-more f at ls (key q.object.0 q.side, held q.holders) first
     ∙ ap (λ (k : ℕ). changed_to f k ls) (sym next)
 
 pub loop-at-init : goal.loop-at-init
@@ -36,7 +36,7 @@ pub loop-at-preserved : goal.loop-at-preserved
 loop-at-preserved c =
     let qs = c.loop-at.queues.items in
     let q = c.index_mut.result.now in
-    let r : Queue = record { object = q.object; side = q.side; holders = c.narrow.new.holders } in
+    let r : Queue = record { object = q.object; side = q.side; holders = c.narrow.new.self } in
     let within : c.loop-at.at < length qs = omega (arith, c.loop-at.invariant.size) in
     record {
       size = length-set qs c.loop-at.at r ∙ c.loop-at.invariant.size;

@@ -8,13 +8,13 @@ use Rattle.golf_state_queues.proofs.queues.Queues.drop_empty.Goals as goal
 pub invariant_of-self : goal.invariant_of-self
 invariant_of-self c =
     let qs = c.self.inside.queues.items in
-    let left : c.retain.new.self.items ≡ filter (λ (q : Queue). has_anyone (held q.holders.items)) qs = filter_same _ (λ (q : Queue). has_anyone (held q.holders.items)) _ (λ x b f' k. search rules) _ _ c.retain.ensures.filtered in
+    let left : c.retain.new.self.items ≡ filter (λ (q : Queue). has_anyone (held q.holders)) qs = filter_same _ (λ (q : Queue). has_anyone (held q.holders)) _ (λ x b f' k. search rules) _ _ c.retain.ensures.filtered in
     subst IsInOrder (sym (ap wait_queues_of left ∙ queues-standing qs)) (order-standing (wait_queues_of qs) c.self.invariant)
 
 pub returns-clause-queues : goal.returns-clause-queues
 returns-clause-queues c =
     let qs = c.self.inside.queues.items in
-    let left : c.retain.new.self.items ≡ filter (λ (q : Queue). has_anyone (held q.holders.items)) qs = filter_same _ (λ (q : Queue). has_anyone (held q.holders.items)) _ (λ x b f' k. search rules) _ _ c.retain.ensures.filtered in
+    let left : c.retain.new.self.items ≡ filter (λ (q : Queue). has_anyone (held q.holders)) qs = filter_same _ (λ (q : Queue). has_anyone (held q.holders)) _ (λ x b f' k. search rules) _ _ c.retain.ensures.filtered in
     rw (← c.self.view_is) (ap wait_queues_of left ∙ queues-standing qs)
 
 pub returns-clause-kept : goal.returns-clause-kept

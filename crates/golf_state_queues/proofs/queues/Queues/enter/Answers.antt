@@ -24,13 +24,13 @@ abbrev with-holders : (c : goal.After-self-1) → Queue
 with-holders c = record { object = c.index_mut.result.now.object; side = c.index_mut.result.now.side; holders = c.join.new.holders }
 
 -- its queue with the goroutine
-has-joined : (c : goal.After-self-1) → Rewritten c.self.inside.queues.items (slice_set c.self.inside.queues.items c.rank_of-at.result (with-holders c)) (key c.args.object.0 c.args.side) (held c.join.new.holders.items)
+has-joined : (c : goal.After-self-1) → Rewritten c.self.inside.queues.items (slice_set c.self.inside.queues.items c.rank_of-at.result (with-holders c)) (key c.args.object.0 c.args.side) (held c.join.new.holders)
 has-joined c =
     let p = c.index_mut.result.now in
     rewritten c.self.inside.queues.items (key c.args.object.0 c.args.side) c.rank_of-at.result p (with-holders c) (there c) c.index_mut.ensures.value refl refl c.self.invariant c.join.ensures.rises
 
 -- the queue as it was
-was : (c : goal.After-self-1) → held c.index_mut.result.now.holders.items ≡ wait_queue_at (key c.args.object.0 c.args.side) (wait_queues_of c.self.inside.queues.items)
+was : (c : goal.After-self-1) → held c.index_mut.result.now.holders ≡ wait_queue_at (key c.args.object.0 c.args.side) (wait_queues_of c.self.inside.queues.items)
 was c = holders-was c.self.inside.queues.items (key c.args.object.0 c.args.side) c.rank_of-at.result c.index_mut.result.now (there c) c.index_mut.ensures.value
 
 pub invariant_of-self : goal.invariant_of-self
@@ -42,7 +42,7 @@ returns-then-stands_at-clause-joins c =
 
 pub returns-then-stands_at-clause-again : goal.returns-then-stands_at-clause-again
 returns-then-stands_at-clause-again c =
-    let es = held c.join.new.holders.items in
+    let es = held c.join.new.holders in
     rw (← c.self.view_is)
     (on_ok_weaker c.join.result
     (λ i. keeps-changed (key c.args.object.0 c.args.side) es (wait_queues_of c.self.inside.queues.items) _ (has-joined c).changed (λ t g. (t ≡ c.args.ticket) × (g ≡ c.args.goroutine.0)) (λ t g e was.
@@ -51,14 +51,14 @@ returns-then-stands_at-clause-again c =
 
 pub returns-then-stands_at-clause-kept : goal.returns-then-stands_at-clause-kept
 returns-then-stands_at-clause-kept c =
-    let es = held c.join.new.holders.items in
+    let es = held c.join.new.holders in
     rw (← c.self.view_is)
     (keeps-changed (key c.args.object.0 c.args.side) es (wait_queues_of c.self.inside.queues.items) _ (has-joined c).changed (λ t g. t < c.args.ticket)
     (subst (λ (fs : List (ℕ × ℕ)). KeepsIn (λ t g. t < c.args.ticket) fs es) (was c) c.join.ensures.kept))
 
 pub returns-then-stands_at-clause-only : goal.returns-then-stands_at-clause-only
 returns-then-stands_at-clause-only c =
-    let es = held c.join.new.holders.items in
+    let es = held c.join.new.holders in
     rw (← c.self.view_is)
     (adds-changed c.args.ticket c.args.goroutine.0 (key c.args.object.0 c.args.side) es (wait_queues_of c.self.inside.queues.items) _ (has-joined c).changed
     (subst (λ (fs : List (ℕ × ℕ)). AddsOnlyIn c.args.ticket c.args.goroutine.0 fs es) (was c) c.join.ensures.only))
@@ -66,7 +66,7 @@ returns-then-stands_at-clause-only c =
 pub returns-then-stands_at-clause-below : goal.returns-then-stands_at-clause-below
 returns-then-stands_at-clause-below c =
     let all : AreBelow (c.args.ticket + 1) (wait_queues_of c.self.inside.queues.items) = subst (λ (ls : WaitQueues). AreBelow (c.args.ticket + 1) ls) (sym c.self.view_is) c.requires.below in
-    below-changed (key c.args.object.0 c.args.side) (held c.join.new.holders.items) (wait_queues_of c.self.inside.queues.items) _ (has-joined c).changed (c.args.ticket + 1) c.join.ensures.below all
+    below-changed (key c.args.object.0 c.args.side) (held c.join.new.holders) (wait_queues_of c.self.inside.queues.items) _ (has-joined c).changed (c.args.ticket + 1) c.join.ensures.below all
 
 -- ---- there is none
 
@@ -74,7 +74,7 @@ absent : (c : goal.In_ok-insert) → find (key c.args.object.0 c.args.side) (wai
 absent c = queue-absent c.self.inside.queues.items c.as_slice.result.now c.as_slice-2.result.now (key c.args.object.0 c.args.side) c.key_of-key.result c.rank_of-at.result c.stands_at.result c.as_slice.ensures.value c.as_slice-2.ensures.value c.key_of-key.ensures c.rank_of-at.ensures.place c.stands_at.ensures c.self.invariant c.if-stands_at.false
 
 -- a queue of the goroutine
-is-new : (c : goal.In_ok-insert) → Rewritten c.self.inside.queues.items c.insert.new.self.items (key c.args.object.0 c.args.side) (held c.join-2.new.holders.items)
+is-new : (c : goal.In_ok-insert) → Rewritten c.self.inside.queues.items c.insert.new.self.items (key c.args.object.0 c.args.side) (held c.join-2.new.holders)
 is-new c =
     let qs = c.self.inside.queues.items in
     let k = key c.args.object.0 c.args.side in
@@ -89,7 +89,7 @@ nobody-was c = ap wait_queue_in (absent c)
 -- whoever stands in other queues is kept
 others-kept : (c : goal.In_ok-insert) (P : ℕ → ℕ → Type 0) → Keeps P (wait_queues_of c.self.inside.queues.items) (wait_queues_of c.insert.new.self.items)
 others-kept c P =
-    let es = held c.join-2.new.holders.items in
+    let es = held c.join-2.new.holders in
     keeps-changed (key c.args.object.0 c.args.side) es (wait_queues_of c.self.inside.queues.items) (wait_queues_of c.insert.new.self.items) (is-new c).changed P
     (subst (λ (fs : List (ℕ × ℕ)). KeepsIn P fs es) (sym (nobody-was c)) (λ t g e i. absurd i))
 
@@ -107,12 +107,12 @@ returns-clause-kept c = rw (← c.self.view_is) (others-kept c (λ t g. t < c.ar
 
 pub returns-clause-only : goal.returns-clause-only
 returns-clause-only c =
-    let es = held c.join-2.new.holders.items in
+    let es = held c.join-2.new.holders in
     rw (← c.self.view_is)
     (adds-changed c.args.ticket c.args.goroutine.0 (key c.args.object.0 c.args.side) es (wait_queues_of c.self.inside.queues.items) (wait_queues_of c.insert.new.self.items) (is-new c).changed
-    (subst (λ (fs : List (ℕ × ℕ)). AddsOnlyIn c.args.ticket c.args.goroutine.0 fs es) (ap held c.in_ok-holders.ensures.items ∙ sym (nobody-was c)) c.join-2.ensures.only))
+    (subst (λ (fs : List (ℕ × ℕ)). AddsOnlyIn c.args.ticket c.args.goroutine.0 fs es) (ap held c.in_ok-holders.ensures ∙ sym (nobody-was c)) c.join-2.ensures.only))
 
 pub returns-clause-below : goal.returns-clause-below
 returns-clause-below c =
     let all : AreBelow (c.args.ticket + 1) (wait_queues_of c.self.inside.queues.items) = subst (λ (ls : WaitQueues). AreBelow (c.args.ticket + 1) ls) (sym c.self.view_is) c.requires.below in
-    below-changed (key c.args.object.0 c.args.side) (held c.join-2.new.holders.items) (wait_queues_of c.self.inside.queues.items) (wait_queues_of c.insert.new.self.items) (is-new c).changed (c.args.ticket + 1) c.join-2.ensures.below all
+    below-changed (key c.args.object.0 c.args.side) (held c.join-2.new.holders) (wait_queues_of c.self.inside.queues.items) (wait_queues_of c.insert.new.self.items) (is-new c).changed (c.args.ticket + 1) c.join-2.ensures.below all

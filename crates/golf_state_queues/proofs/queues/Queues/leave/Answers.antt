@@ -21,12 +21,12 @@ abbrev with-holders : (c : goal.After-self-1) → Queue
 with-holders c = record { object = c.index_mut.result.now.object; side = c.index_mut.result.now.side; holders = c.part.new.holders }
 
 -- its queue without the goroutine
-has-left : (c : goal.After-self-1) → Rewritten c.self.inside.queues.items (slice_set c.self.inside.queues.items c.rank_of-at.result (with-holders c)) (key c.args.object.0 c.args.side) (held c.part.new.holders.items)
+has-left : (c : goal.After-self-1) → Rewritten c.self.inside.queues.items (slice_set c.self.inside.queues.items c.rank_of-at.result (with-holders c)) (key c.args.object.0 c.args.side) (held c.part.new.holders)
 has-left c =
     let qs = c.self.inside.queues.items in
     let p = c.index_mut.result.now in
     let before = rises-there qs (key c.args.object.0 c.args.side) c.rank_of-at.result p (there c) c.index_mut.ensures.value c.self.invariant in
-    let rises : Rises 0 (held c.part.new.holders.items) = subst (Rises 0) (sym c.part.ensures) (Rises-filter (λ h. not (is_holder c.args.ticket c.args.goroutine.0 h)) 0 (held p.holders.items) before) in
+    let rises : Rises 0 (held c.part.new.holders) = subst (Rises 0) (sym c.part.ensures) (Rises-filter (λ h. not (is_holder c.args.ticket c.args.goroutine.0 h)) 0 (held p.holders) before) in
     rewritten qs (key c.args.object.0 c.args.side) c.rank_of-at.result p (with-holders c) (there c) c.index_mut.ensures.value refl refl c.self.invariant rises
 
 pub invariant_of-self : goal.invariant_of-self
@@ -38,7 +38,7 @@ returns-then-stands_at c =
     let k = key c.args.object.0 c.args.side in
     let was = holders-was qs k c.rank_of-at.result c.index_mut.result.now (there c) c.index_mut.ensures.value in
     rw (← c.self.view_is)
-    (without-changed c.args.ticket c.args.goroutine.0 k (held c.part.new.holders.items) (wait_queues_of qs) _ (has-left c).changed (c.part.ensures ∙ ap (λ (es : List (ℕ × ℕ)). parted c.args.ticket c.args.goroutine.0 es) was))
+    (without-changed c.args.ticket c.args.goroutine.0 k (held c.part.new.holders) (wait_queues_of qs) _ (has-left c).changed (c.part.ensures ∙ ap (λ (es : List (ℕ × ℕ)). parted c.args.ticket c.args.goroutine.0 es) was))
 
 pub returns-else-stands_at : goal.returns-else-stands_at
 returns-else-stands_at c =

@@ -1,0 +1,31 @@
+-- The texts of what stands after a left operand.
+use Rattle.std.specs.Prelude.{◌≡◌, List, [], flat_map}
+use Rattle.std.specs.Borrow.{Bor}
+use Rattle.golf_syntax_trees.specs.declared.expressions.Expr.{Expr, out-Expr, size-Expr}
+use Rattle.golf_syntax_trees.specs.declared.expressions.Element.{Element}
+use Rattle.golf_syntax_trees.specs.declared.expressions.Expr.TheOpen.{Expr-F, Index, Call, Binary}
+use Rattle.golf_syntax_trees.specs.Spines.{shown, Within, risen}
+use Rattle.golf_code_of.specs.Table.{Texts}
+use Rattle.golf_code_of.specs.Texts.{expr_texts}
+use Rattle.golf_code_texts.specs.Adding.{with_texts}
+
+abbrev pub rest_texts_step : Expr-F Expr Element → Texts
+rest_texts_step (Index a i) = expr_texts i
+rest_texts_step (Call f xs) = flat_map expr_texts xs
+rest_texts_step (Binary o a b) = expr_texts b
+rest_texts_step _ = []
+
+-- the texts of what stands after the left operand
+unfoldable pub rest_texts : Expr → Texts
+rest_texts e = rest_texts_step (out-Expr e)
+
+-- the table with the texts of an expression, if it has those of the left operand
+abbrev pub raised : Expr → Texts → Texts
+raised e t = with_texts t (rest_texts e)
+
+-- the rests of these are still to be added to the second table
+abbrev pub Rising : Expr → Texts → List (Bor Expr) → Texts → Type 0
+Rising e old ws new = record {
+  whole : risen raised (shown ws) new ≡ with_texts old (expr_texts e);
+  within : Within size-Expr (size-Expr e) (shown ws);
+}

@@ -1,0 +1,185 @@
+//! A wait queue in memory.
+//!
+//! Its invariant: the tickets rise, those of entries that are marked as gone too.
+
+ghost use Rattle.std.specs.Prelude.{◌≡◌, ◌<◌, ◌≤◌, [], ◌∷◌, ◌++◌, ◌-◌, drop, length, map, remove, take, IfOk, OnOk, OnErr};
+ghost use Rattle.golf_theory.specs.Maps.{AllBelow, Rises};
+ghost use Rattle.golf_state_queues.specs.Lines.{spots};
+ghost use Rattle.golf_state_queues.specs.WaitQueues.{among, held, listed};
+
+use crate::holders::{TicketHolder, drop_front, drop_gone, end_of, narrow, start_of};
+use golf_base::{GoroutineId, Memory};
+use std::alloc::Global;
+use std::marker::Model;
+
+// A queue with so few entries closes up as soon as a goroutine leaves.
+const FEW: usize = 8;
+
+/// The entries of a wait queue, in its order. Some may be marked as gone.
+///
+/// A goroutine leaves a long queue by a mark, so no other entry is moved. The queue closes up once more
+/// than half of its entries are gone. So a leave moves a few entries on average, however long the queue
+/// is. After a leave the first entry is not gone, nor is the last one.
+#[derive(Debug, Drop)]
+pub struct Line {
+    entries: Vec<TicketHolder>,
+    // how many entries are passed at the front
+    front: u32,
+    // how many entries are passed or marked
+    gone: u32,
+}
+
+impl Model for Line {
+    ghost use Rattle.std.specs.Prelude.{List, drop};
+    ghost use Rattle.golf_state_queues.specs.Lines.{IsLine};
+    ghost use Rattle.golf_state_queues.specs.declared.holders.TicketHolder.{TicketHolder};
+
+    ghost Value = { List TicketHolder };
+
+    ghost view = { λ l. drop l.front l.entries.items };
+
+    ghost invariant = { λ l. IsLine l.front l.entries.items };
+}
+
+// A count without so many, or 0 if they are more.
+fn less(count: u32, without: usize) -> u32
+    ensures { result ≡ count - without }
+{
+    match u32::try_from(without) {
+        Ok(without) => count.saturating_sub(without),
+        Err(_) => 0,
+    }
+}
+
+impl Line {
+    /// Returns the empty queue, with room for one entry.
+    #[inline(always)]
+    pub fn new(alloc: Global) -> Result<Line, Memory>
+        ensures { IfOk result (λ line. line ≡ []) }
+    {
+        Ok(Line {
+            entries: Vec::with_capacity(alloc, 1)?,
+            front: 0,
+            gone: 0,
+        })
+    }
+
+    /// Returns the entries.
+    #[inline(always)]
+    pub fn as_slice(&self) -> &[TicketHolder]
+        ensures value { result.now ≡ self.now }
+        ensures rises { Rises 0 (spots self.now) }
+    {
+        &self.entries.as_slice()[self.front as usize..]
+    }
+
+    /// Adds an entry at the end. On `Err` the queue is unchanged.
+    #[inline(always)]
+    pub fn push(&mut self, holder: TicketHolder) -> Result<(), Memory>
+        requires { AllBelow holder.ticket (spots self.old) }
+        ensures ok { OnOk result (self.new ≡ self.old ++ holder ∷ []) }
+        ensures err { OnErr result (self.new ≡ self.old) }
+    {
+        self.entries.push(holder)?;
+        Ok(())
+    }
+
+    /// Drops the entries from a place on.
+    #[inline(always)]
+    pub fn truncate(&mut self, at: usize)
+        requires { at ≤ length self.old }
+        ensures { self.new ≡ take at self.old }
+    {
+        self.entries.truncate(self.front as usize + at);
+    }
+
+    // The entries behind a place move up by one.
+    #[inline(always)]
+    fn move_up(&mut self, at: usize)
+        requires { at < length self.old }
+        ensures { self.new ≡ remove self.old at }
+    {
+        self.entries.remove(self.front as usize + at);
+    }
+
+    // The entry at a place is marked as gone.
+    #[inline(always)]
+    fn mark(&mut self, at: usize)
+        requires { at < length self.old }
+        ensures { held self.new ≡ held (remove self.old at) }
+    {
+        self.entries[self.front as usize + at].is_gone = true;
+        self.gone = self.gone.saturating_add(1);
+    }
+
+    // Entries that are gone are gone from memory.
+    fn close_up(&mut self)
+        ensures { held self.new ≡ held self.old }
+    {
+        drop_front(&mut self.entries, self.front as usize);
+        drop_gone(&mut self.entries);
+        self.front = 0;
+        self.gone = 0;
+    }
+
+    // Entries at the front that are gone are passed.
+    #[inline(always)]
+    fn pass_gone(&mut self)
+        ensures { held self.new ≡ held self.old }
+    {
+        let start = self.front as usize + start_of(self.as_slice());
+        if let Ok(front) = u32::try_from(start) {
+            self.front = front;
+        }
+    }
+
+    // Entries at the end that are gone are cut off.
+    #[inline(always)]
+    fn cut_gone(&mut self)
+        ensures { held self.new ≡ held self.old }
+    {
+        let count = self.as_slice().len();
+        let end = end_of(self.as_slice());
+        self.truncate(end);
+        self.gone = less(self.gone, count - end);
+    }
+
+    // The queue closes up if enough entries are gone. Else its first and last entries are not gone.
+    fn tidy(&mut self)
+        ensures { held self.new ≡ held self.old }
+    {
+        let count = self.entries.len();
+        if count <= FEW || self.gone as usize > count / 2 {
+            self.close_up();
+        } else {
+            self.pass_gone();
+            self.cut_gone();
+        }
+    }
+
+    /// The entry at a place is gone.
+    #[inline(always)]
+    pub fn take_out(&mut self, at: usize)
+        requires { at < length self.old }
+        ensures { held self.new ≡ held (remove self.old at) }
+    {
+        if self.gone == 0 && self.entries.len() <= FEW {
+            self.move_up(at);
+        } else {
+            self.mark(at);
+            self.tidy();
+        }
+    }
+
+    /// Those whose goroutine is among these, which rise, stay in the queue.
+    pub fn narrow(&mut self, goroutines: &[GoroutineId])
+        requires { Rises 0 (listed goroutines.now) }
+        ensures { held self.new ≡ among (map (λ h. h.0) goroutines.now) (held self.old) }
+    {
+        drop_front(&mut self.entries, self.front as usize);
+        drop_gone(&mut self.entries);
+        narrow(&mut self.entries, goroutines);
+        self.front = 0;
+        self.gone = 0;
+    }
+}
