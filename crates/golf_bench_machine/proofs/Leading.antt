@@ -1,9 +1,12 @@
--- What a collection needs: if nobody was removed, the removed are gone; and there are as many flags as goroutines.
+-- What a collection needs: if nobody was removed, the removed are gone; there are as many flags as goroutines; and goroutine 0 stays.
 -- For: `free`, `time_whole`, src/collections.rt
--- By: equations of lists and their lengths; no induction
-use Rattle.std.proofs.Common.{◌≡◌, ℕ, Bool, List, [], length, map, sym, ap, subst, ◌∙◌}
+-- By: induction over the entries of the map of goroutines; otherwise equations of lists and their lengths
+use Rattle.std.proofs.Common.{◌≡◌, ◌<◌, ◌==◌, ℕ, suc, cond, Bool, true, false, List, [], ◌∷◌, length, map, Some, None, refl, sym, ap, subst, ◌∙◌, arith, slice_get}
+use Rattle.std.specs.Prelude.{is_some}
+use Rattle.std.proofs.lemmas.Bool.{ne_eqb}
 use Rattle.std.proofs.lemmas.List.{length-map}
-use Rattle.golf_theory.specs.Maps.{keys}
+use Rattle.golf_heap.specs.Objects.{kept}
+use Rattle.golf_theory.specs.Maps.{find, keys, Rises}
 use Rattle.golf_base.specs.declared.ids.GoroutineId.{GoroutineId}
 use Rattle.golf_model.specs.Views.{GoroutineView}
 use Rattle.golf_data.specs.declared.report.Book.{Book}
@@ -15,6 +18,21 @@ use Rattle.golf_reclaim.specs.Noting.{AreGone}
 -- if nobody was removed, those who were are gone
 pub none-removed : (book : Book) (s : State) → book.reclaimed ≡ [] → AreGone book s
 none-removed book s none = λ g there gone. subst (λ gs. In g (numbers gs)) none gone
+
+find-above : (k g : ℕ) (es : List (ℕ × GoroutineView)) → Rises k es → g < k → find g es ≡ None
+find-above k g [] r l = refl
+find-above k g (e ∷ es) r l = ap (λ t. cond t (Some e.1) (find g es)) (ne_eqb g e.0 (λ q. omega (arith, q, r.0, l))) ∙ find-above (suc e.0) g es r.1 (omega (arith, r.0, l))
+
+-- goroutine 0 stays if the first flag is true
+pub first-stays : (k : ℕ) (flags : List Bool) (es : List (ℕ × GoroutineView)) → Rises k es → is_some (find 0 es) ≡ true → slice_get flags 0 ≡ Some true → is_some (find 0 (kept flags es)) ≡ true
+first-stays k [] es r there first = cc
+first-stays k (b ∷ bs) [] r there first = cc
+first-stays k (b ∷ bs) (e ∷ es) r there first =
+    let yes : b ≡ true = cc in
+    rw yes (elim (0 == e.0) as (λ t. 0 == e.0 ≡ t → is_some (cond t (Some e.1) (find 0 es)) ≡ true → is_some (cond t (Some e.1) (find 0 (kept bs es))) ≡ true) [
+      | true ↦ λ t i. refl
+      | false ↦ λ t i. let none = find-above (suc e.0) 0 es r.1 (omega arith) in cc
+    ] refl there)
 
 -- a flag for each of the goroutines is as many as there are
 pub stays-count : (stays : List Bool) (f : GoroutineId → Bool) (gs : List GoroutineId) (es : List (ℕ × GoroutineView)) → stays ≡ map f gs → map (λ (g : GoroutineId). g.0) gs ≡ keys es → length stays ≡ length es

@@ -1,7 +1,6 @@
 //! A collection, and the time that its parts take.
 
-ghost use Rattle.std.specs.Prelude.{◌<◌, ◌≤◌, IfOk};
-ghost use Rattle.golf_model.specs.Futures.{Numbered};
+ghost use Rattle.std.specs.Prelude.{◌≡◌, ◌<◌, ◌≤◌, true, IfOk, IsTrue, Some, slice_get};
 ghost use Rattle.golf_model.specs.Presence.{IsWhole};
 ghost use Rattle.golf_mark.specs.Marking.{MarksLeast};
 
@@ -44,15 +43,29 @@ fn mark<R: Threads + Sync>(
     Ok(ready.mark(rt, graph, &OpenGate))
 }
 
-// Frees what is not flagged.
+// Whether the first flag is true.
+fn is_first_set(flags: &[bool]) -> bool
+    ensures { IsTrue result → slice_get flags.now 0 ≡ Some true }
+{
+    match flags.first() {
+        Some(first) => *first,
+        None => false,
+    }
+}
+
+// Frees what is not flagged, unless goroutine 0 were gone with it.
 fn free(
     alloc: Global,
     state: &mut State,
     gone: &[GoroutineId],
     keep: &[bool],
 ) -> Result<(), Memory> {
-    let stays = outside(alloc, state.goroutines(), gone)?;
-    state.retain_goroutines(stays.as_slice());
+    let goroutines = state.goroutines(alloc)?;
+    let stays = outside(alloc, goroutines.as_slice(), gone)?;
+    let flags = stays.as_slice();
+    if is_first_set(flags) {
+        state.retain_goroutines(flags);
+    }
     if keep.len() == state.heap().count() as usize {
         state.retain_objects(keep);
     }
@@ -66,7 +79,6 @@ pub(crate) fn time_parts<R: Clock + Threads + Sync>(
     state: &mut State,
     options: CollectOptions,
 ) -> Result<Parts, BenchFault>
-    requires numbered { Numbered state.old }
     requires whole { IsWhole state.old }
     requires some { 0 < options.markers }
     requires few { options.markers ≤ 16 }

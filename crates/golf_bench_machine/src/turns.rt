@@ -98,5 +98,6 @@ pub(crate) fn count_goroutines(alloc: Global, kind: Kind, turns: u64) -> Result<
     let code = code_of(alloc, kind)?;
     let mut state = prepare(alloc, &code, 10)?;
     run(alloc, &code, &mut state, turns)?;
-    Ok(state.goroutines().len())
+    let goroutines = state.goroutines(alloc)?;
+    Ok(goroutines.len())
 }

@@ -37,7 +37,14 @@ pub record HasKept (g : GraphParts) (m : Marked) (sets_finalisers : Bool) (flags
   pub count : length flags ≡ sleeper_count g
   pub kept : (s : ℕ) → s < sleeper_count g → IsSet flags s ↔ IsKept g m sets_finalisers s
 
--- on the marked graph of a state a sleeper's flag is set if its goroutine is dead and the keep rule of the definitions keeps it
+-- a sleeper's flag is set if its goroutine is dead and the keep rule of the definitions keeps it
+abbrev pub FlagsKept : State → Bool → List Bool → Type 0
+FlagsKept s sets_finalisers flags = (j g : ℕ) → IsSleeper s j g → IsSet flags j ↔ (Dead s g × Keeps s sets_finalisers g)
+
+-- on the marked graph of a state
 abbrev pub KeepsAlike : Type 0
-KeepsAlike = (s : State) (m : Marked) (sets_finalisers : Bool) (flags : List Bool) → Numbered s → IsWhole s → MarksLeast (live_parts s) m → HasKept (live_parts s) m sets_finalisers flags
-    → (j g : ℕ) → IsSleeper s j g → IsSet flags j ↔ (Dead s g × Keeps s sets_finalisers g)
+KeepsAlike = (s : State) (m : Marked) (sets_finalisers : Bool) (flags : List Bool) → Numbered s → IsWhole s → MarksLeast (live_parts s) m → HasKept (live_parts s) m sets_finalisers flags → FlagsKept s sets_finalisers flags
+
+-- if the graph is that of a state, and marked
+abbrev pub KeepsOf : GraphParts → Marked → Bool → List Bool → Type 0
+KeepsOf g m sets_finalisers flags = (s : State) → Numbered s → IsWhole s → g ≡ live_parts s → MarksLeast g m → FlagsKept s sets_finalisers flags

@@ -4,7 +4,7 @@ ghost use Rattle.std.specs.Prelude.{◌≡◌, ◌<◌, ◌↔◌, ℕ, IfOk, On
 ghost use Rattle.golf_theory.specs.Membership.{In};
 ghost use Rattle.golf_model.specs.Graph.{IsInRange, node_count, sleeper_count};
 ghost use Rattle.golf_marks.specs.Flags.{IsSet};
-ghost use Rattle.golf_final.specs.Keeping.{HasKept, Prevents};
+ghost use Rattle.golf_final.specs.Keeping.{HasKept, KeepsOf, Prevents};
 ghost use Rattle.golf_final.specs.Backward.{IsBackward, HasNumbers};
 
 use golf_base::{List, Memory, ObjectId, OpenGate};
@@ -119,7 +119,8 @@ pub fn keeps(
 ) -> Result<List<bool>, Memory>
     requires nodes { length marked.now.flags ≡ node_count graph.now }
     requires sleepers { length marked.now.awake ≡ sleeper_count graph.now }
-    ensures { IfOk result (HasKept graph.now marked.now sets_finalisers) }
+    ensures kept { IfOk result (HasKept graph.now marked.now sets_finalisers) }
+    ensures rule { IfOk result (KeepsOf graph.now marked.now sets_finalisers) }
 {
     let backward = backward(alloc, graph, marked.flags.as_slice(), sets_finalisers)?;
     let leading = mark_alone(alloc, &backward, &OpenGate)?;

@@ -5,7 +5,6 @@ ghost use Rattle.golf_theory.specs.Maps.{keys};
 ghost use Rattle.golf_theory.specs.Membership.{is_in};
 ghost use Rattle.golf_heap.specs.Objects.{kept};
 ghost use Rattle.golf_model.specs.Collecting.{queue_outside};
-ghost use Rattle.golf_model.specs.Futures.{Numbered};
 ghost use Rattle.golf_model.specs.Presence.{IsWhole};
 
 use crate::keeping::is_set;
@@ -17,12 +16,12 @@ use std::alloc::Global;
 // For each finaliser whether its object's flag is set.
 fn flagged(alloc: Global, state: &State, flags: &[bool]) -> Result<List<bool>, Memory>
     requires count { length flags.now ≡ length state.now.objects }
-    requires numbered { Numbered state.now }
     requires whole { IsWhole state.now }
     ensures { IfOk result (λ stays. stays ≡ map (λ e. is_in e.0 (kept flags.now (keys state.now.objects))) state.now.finalisers) }
 {
     let mut stays = List::new(alloc);
-    for finaliser in state.finalisers() {
+    let finalisers = state.finalisers(alloc)?;
+    for finaliser in finalisers.as_slice() {
         let node = state.heap().rank(ObjectId(finaliser.0));
         stays.push(is_set(flags, node))?;
     }
@@ -38,7 +37,6 @@ pub fn queue_finalisers(
     retained: &Marked,
 ) -> Result<usize, Memory>
     requires count { length retained.now.flags ≡ length state.old.objects }
-    requires numbered { Numbered state.old }
     requires whole { IsWhole state.old }
     ensures ok { OnOk result (state.new ≡ queue_outside (kept retained.now.flags (keys state.old.objects)) state.old) }
     ensures count { IfOk result (λ count. length state.new.queue ≡ length state.old.queue + count) }

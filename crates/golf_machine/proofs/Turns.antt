@@ -1,12 +1,10 @@
 -- Whose turn it is, and what the turn is.
 -- For: `whose_turn`, `step` (golf_model/specs/Turn.antt) and `turn` (src/turning.rt), `act` (src/stepping.rt)
 -- By: cases of the goroutine's mode and of its first frame; no induction
-use Rattle.std.proofs.Common.{◌≡◌, ℕ, ◌+◌, ◌<◌, ◌%◌, ◌/◌, ◌^◌, Bool, true, not, ◌||◌, ◌==◌, List, [], ◌∷◌, length, get_or, map, Option, Some, None, refl, sym, ap, ◌∙◌, arith}
-use Rattle.std.specs.Prelude.{slice_get, option_map, option_and_then}
+use Rattle.std.proofs.Common.{◌≡◌, ℕ, ◌+◌, ◌<◌, ◌%◌, ◌/◌, ◌^◌, Bool, true, not, ◌||◌, ◌==◌, List, [], ◌∷◌, length, Option, Some, None, refl, sym, ap, ◌∙◌, arith}
+use Rattle.std.specs.Prelude.{slice_get, option_and_then}
 use Rattle.std.proofs.lemmas.Bool.{and_parts}
-use Rattle.std.proofs.lemmas.List.{length-map}
-use Rattle.std.proofs.lemmas.Option.{slice_get-map, slice_get-get_or, slice_get_within}
-use Rattle.golf_base.specs.declared.ids.GoroutineId.{GoroutineId}
+use Rattle.std.proofs.lemmas.Option.{slice_get_within}
 use Rattle.golf_data.specs.declared.code.Code.{Code}
 use Rattle.golf_data.specs.declared.code.Function.{Function}
 use Rattle.golf_data.specs.declared.code.CodeLine.{CodeLine}
@@ -35,21 +33,12 @@ awake (Some e) xs h = cc
 awake None [] h = cc
 awake None (x ∷ xs) h = omega arith
 
-module _ (s : State) (n : ℕ) (xs : List GoroutineId) (told : map (λ g. g.0) xs ≡ runnable s) (goes : ending s ≡ None) where
-  pub some_run : 0 < length xs
-  some_run = let l = awake s.recorded (runnable s) goes in let k = length-map xs (λ (g : GoroutineId). g.0) in let e = ap (λ (ys : List ℕ). length ys) told in omega (arith, l, k, e)
+pub some_run : (s : State) → ending s ≡ None → 0 < length (runnable s)
+some_run s goes = awake s.recorded (runnable s) goes
 
-  pub how_many : length xs ≡ length (runnable s)
-  how_many = sym (length-map xs (λ (g : GoroutineId). g.0)) ∙ ap (λ (ys : List ℕ). length ys) told
-
-  pub whose : whose_turn s n ≡ Some (get_or xs (n % length xs) (record { 0 = 0 })).0
-  whose =
-      let d : GoroutineId = record { 0 = 0 } in
-      let l = some_run in
-      ap (λ (ys : List ℕ). slice_get ys (n % length ys)) (sym told)
-      ∙ ap (λ k. slice_get (map (λ (g : GoroutineId). g.0) xs) (n % k)) (length-map xs (λ (g : GoroutineId). g.0))
-      ∙ slice_get-map (λ (g : GoroutineId). g.0) xs (n % length xs)
-      ∙ ap (option_map (λ (g : GoroutineId). g.0)) (slice_get-get_or xs (n % length xs) d (omega arith))
+-- the goroutine at the place that the number gives
+pub whose : (s : State) (n g place count : ℕ) → slice_get (runnable s) place ≡ Some g → place ≡ n % count → count ≡ length (runnable s) → whose_turn s n ≡ Some g
+whose s n g place count at is told = ap (λ k. slice_get (runnable s) (n % k)) (sym told) ∙ ap (λ p. slice_get (runnable s) p) (sym is) ∙ at
 
 mode-running : (m : Mode) → is_running m ≡ true → m ≡ Mode.Running
 mode-running Mode.Running h = refl
@@ -84,21 +73,14 @@ module _ (code : Code) (s : State) (n g : ℕ) (turn : whose_turn s n ≡ Some g
       ∙ ap (λ (m : Option ℕ). apply_all (clearing code (wants_collection code s n) m s1) s1) (sym turn)
       ∙ ap (λ (t : State). apply_all (clearing code (wants_collection code s n) (whose_turn s n) t) t) (turned-is s1 count e h)
 
--- the same by the place and the choice that the number was divided into
-module _ (code : Code) (s : State) (n : ℕ) (xs : List GoroutineId) (told : map (λ g. g.0) xs ≡ runnable s) (goes : ending s ≡ None) (place : ℕ) (at : place ≡ n % length xs) where
-  pub whose-at : whose_turn s n ≡ Some (get_or xs place (record { 0 = 0 })).0
-  whose-at = whose s n xs told goes ∙ ap (λ k. let d : GoroutineId = record { 0 = 0 } in Some (get_or xs k d).0) (sym at)
+-- the same by the choice that the number was divided into
+module _ (code : Code) (s : State) (n g : ℕ) (turn : whose_turn s n ≡ Some g) where
+  pub step-taken : (count choice : ℕ) (t : State) → count ≡ length (runnable s) → choice ≡ n / count → t ≡ taken code g choice s → t ≡ step code s n
+  step-taken count choice t told e is =
+      step-is code s n g turn (acted code g (n / count) s) t (goroutine_collects code (find g s.goroutines)) count told refl refl (is ∙ ap (λ k. taken code g k s) e)
 
-  pub step-taken : (choice : ℕ) (t : State) → choice ≡ n / length xs → t ≡ taken code (get_or xs place (record { 0 = 0 })).0 choice s → t ≡ step code s n
-  step-taken choice t e is =
-      let d : GoroutineId = record { 0 = 0 } in
-      let g = (get_or xs place d).0 in
-      step-is code s n g whose-at (acted code g (n / length xs) s) t (goroutine_collects code (find g s.goroutines)) (length xs) (how_many s n xs told goes) refl refl (is ∙ ap (λ k. taken code g k s) e)
-
-  pub wants-taken : (b : Bool) → b ≡ goroutine_collects code (find (get_or xs place (record { 0 = 0 })).0 s.goroutines) → wants_collection code s n ≡ b
-  wants-taken b h =
-      let d : GoroutineId = record { 0 = 0 } in
-      wants-is code s n (get_or xs place d).0 whose-at ∙ sym h
+  pub wants-taken : (b : Bool) → b ≡ goroutine_collects code (find g s.goroutines) → wants_collection code s n ≡ b
+  wants-taken b h = wants-is code s n g turn ∙ sym h
 
 -- ---- the goroutine's frames
 

@@ -43,9 +43,10 @@ fn lone_goroutine(state: &State) -> Option<GoroutineId>
     if !state.output().is_empty() {
         return None;
     }
-    match state.runnable() {
-        [g] => Some(*g),
-        [..] => None,
+    if state.runnable_count() == 1 {
+        Some(state.runnable_at(0))
+    } else {
+        None
     }
 }
 

@@ -118,9 +118,8 @@ pub fn turn(alloc: Global, code: &Code, state: &mut State, number: u64) -> Resul
     ensures turned { IfOk result (λ turned. turned ≡ turned_of (ending state.new) (wants_collection code.now state.old number)) }
     ensures err { OnErr result (state.new ≡ state.old) }
 {
-    let runnable = state.runnable();
-    let count = runnable.len() as u64;
+    let count = state.runnable_count() as u64;
     let (place, choice) = shared_out(number, count);
-    let g = runnable[place as usize];
+    let g = state.runnable_at(place as usize);
     take(alloc, code, state, g, choice)
 }

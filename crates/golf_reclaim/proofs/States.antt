@@ -3,19 +3,21 @@
 -- By: induction over the list of entries
 use Rattle.std.proofs.Common.{◌≡◌, ℕ, Bool, true, false, not, ◌&&◌, cond, List, [], ◌∷◌, map, filter, ◌⊎◌, inl, inr, refl, sym, ap, subst, ◌∙◌}
 use Rattle.std.proofs.lemmas.Bool.{or_parts, both_ways, cases_Bool, not-false}
+use Rattle.std.specs.Prelude.{is_some}
 use Rattle.golf_theory.specs.Membership.{In, is_in}
 use Rattle.golf_theory.specs.Maps.{find, keys, only}
 use Rattle.golf_theory.proofs.Lists.{In-left, In-right, In-cases, In-filter, In-filter_old}
 use Rattle.golf_theory.proofs.Tests.{is_in-from, In-from, is_in-same, same_test}
 use Rattle.golf_theory.proofs.MapEntries.{In-keys}
-use Rattle.golf_theory.proofs.MapFinds.{find-Entry}
-use Rattle.golf_theory.proofs.Derivations.{Reached-least, Reached-over}
+use Rattle.golf_theory.proofs.MapFinds.{find-Entry, find-only}
+use Rattle.golf_theory.proofs.Derivations.{Reached-least, Reached-over, Reached-root}
 use Rattle.golf_base.specs.declared.ids.GoroutineId.{GoroutineId}
 use Rattle.golf_model.specs.Values.{refs}
+use Rattle.golf_model.specs.Views.{GoroutineView}
 use Rattle.golf_model.specs.State.{State}
 use Rattle.golf_model.specs.Refs.{queue_refs, goroutine_refs_where, has_finaliser, refs_of_goroutine}
 use Rattle.golf_model.specs.Reaching.{RefersTo, reach, sources}
-use Rattle.golf_model.specs.Living.{live_list, has_object}
+use Rattle.golf_model.specs.Living.{Node, LiveRoot, LiveStep, live_list, has_object}
 use Rattle.golf_model.specs.Collecting.{queue_outside, plain_collect, removed, retained, real_collect}
 use Rattle.golf_model.specs.Futures.{Numbered}
 use Rattle.golf_model.specs.Presence.{IsWhole}
@@ -24,7 +26,7 @@ use Rattle.golf_heap.specs.Objects.{kept}
 use Rattle.golf_heap.proofs.Flagged.{kept-only}
 use Rattle.golf_model_futures.proofs.Collecting.{In-goroutine_refs_where, reach-from}
 use Rattle.golf_model_futures.proofs.CutCollecting.{queue_outside-same}
-use Rattle.golf_model_futures.proofs.Removing.{stays_by, reach-step, removed-ok, source-global, source-queue, source-goroutine, source-finalised}
+use Rattle.golf_model_futures.proofs.Removing.{gone-dead, stays_by, reach-step, removed-ok, source-global, source-queue, source-goroutine, source-finalised}
 
 -- the keys of flagged entries are those that pass
 kept-keys : {X : Type 0} (p : ℕ → Bool) (es : List (ℕ × X)) → kept (map (λ e. p e.0) es) (keys es) ≡ filter p (keys es)
@@ -119,6 +121,19 @@ module _ (s : State) (n : Numbered s) (recover sets : Bool) where
       let b : kept keep s.objects ≡ only (λ o. is_in o (retained s (removed s recover sets))) s.objects = ap (λ (fs : List Bool). kept fs s.objects) what ∙ kept-only (λ o. is_in o (retained s (removed s recover sets))) s.objects in
       ap (λ (u : State). record u { goroutines = kept stays u.goroutines; objects = kept keep u.objects }) is
       ∙ (λ i. record p { goroutines = a i; objects = b i })
+
+-- goroutine 0 is removed by no collection
+pub zero-stays : (s : State) (recover sets : Bool) (stays : List Bool) → stays ≡ map (λ e. not (is_in e.0 (removed s recover sets))) s.goroutines
+    → is_some (find 0 s.goroutines) ≡ true → is_some (find 0 (kept stays s.goroutines)) ≡ true
+zero-stays s recover sets stays who there =
+    let p : ℕ → Bool = λ g. not (is_in g (removed s recover sets)) in
+    let out : p 0 ≡ true = elim (cases_Bool (is_in 0 (removed s recover sets))) [
+      | inl t ↦ absurd ((gone-dead s recover sets 0 (In-from 0 (removed s recover sets) t)).2 (Reached-root (LiveRoot s) (LiveStep s) (Node.AGoroutine 0) LiveRoot.FinaliserGoroutine))
+      | inr f ↦ ap not f
+    ] in
+    ap (λ (fs : List Bool). is_some (find 0 (kept fs s.goroutines))) who
+    ∙ ap (λ (es : List (ℕ × GoroutineView)). is_some (find 0 es)) (kept-only p s.goroutines)
+    ∙ ap is_some (find-only p s.goroutines 0 out) ∙ there
 
 -- flags of the list of goroutines are flags of their entries
 pub stays-are : {X : Type 0} (p : ℕ → Bool) (gs : List GoroutineId) (es : List (ℕ × X)) → map (λ g. g.0) gs ≡ keys es → map (λ g. p g.0) gs ≡ map (λ e. p e.0) es

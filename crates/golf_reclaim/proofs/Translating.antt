@@ -61,7 +61,7 @@ module _ (s : State) (n : Numbered s) (w : IsWhole s) where
 
   pub retained-flags : (gone : List ℕ) (m : Marked) → MarksLeast (retained_parts s gone) m → m.flags ≡ map (λ e. is_in e.0 (reach s (sources s gone))) s.objects
   retained-flags gone m h = flags-are (λ (e : ℕ × Object). is_in e.0 (reach s (sources s gone))) s.objects m.flags (h.flag_count ∙ length-map s.objects (row_of s.objects)) (λ k e at.
-      let a = retained-graph s gone k e.0 n w (e.1, at) in
+      let a = retained-graph s gone n w k e.0 (e.1, at) in
       same_test (get_or m.flags k false) (is_in e.0 (reach s (sources s gone)))
       (λ t. is_in-from e.0 (reach s (sources s gone)) (reach-complete s (sources s gone) e.0 (a.0 ((h.flags k).0 t).1)))
       (λ t. (h.flags k).1 (below-count k e at, a.1 (reach-sound s (sources s gone) e.0 (In-from e.0 (reach s (sources s gone)) t)))))

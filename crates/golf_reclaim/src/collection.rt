@@ -2,7 +2,6 @@
 
 ghost use Rattle.std.specs.Prelude.{◌≡◌, ◌-◌, ◌<◌, ◌≤◌, ◌^◌, IfOk, OnErr, OnOk};
 ghost use Rattle.golf_model.specs.Collecting.{real_collect};
-ghost use Rattle.golf_model.specs.Futures.{Numbered};
 ghost use Rattle.golf_model.specs.Presence.{IsWhole};
 ghost use Rattle.golf_model.specs.Reporting.{book_after, report};
 ghost use Rattle.golf_reclaim.specs.Noting.{AreGone};
@@ -45,7 +44,6 @@ pub fn collect<R: Threads + Sync, G: Gate + Sync>(
     options: CollectOptions,
     gate: &G,
 ) -> Result<Report, Memory>
-    requires numbered { Numbered state.old }
     requires whole { IsWhole state.old }
     requires gone { AreGone book.old state.old }
     requires count { book.old.collections < 2 ^ 32 - 1 }
@@ -65,7 +63,8 @@ pub fn collect<R: Threads + Sync, G: Gate + Sync>(
     let live = found.live;
     let gone = found.gone.as_slice();
     let rest = find_retained(rt, alloc, state, live, gone, options.markers)?;
-    let stays = outside(alloc, state.goroutines(), gone)?;
+    let goroutines = state.goroutines(alloc)?;
+    let stays = outside(alloc, goroutines.as_slice(), gone)?;
     let new = book.unreported(alloc, found.dead.as_slice())?;
     let reported = entries(alloc, state, new.as_slice())?;
     book.note(alloc, state, &rest.marked, new.as_slice(), gone)?;

@@ -6,7 +6,6 @@ ghost use Rattle.golf_theory.specs.Maps.{keys};
 ghost use Rattle.golf_theory.specs.Membership.{is_in};
 ghost use Rattle.golf_heap.specs.Objects.{kept};
 ghost use Rattle.golf_model.specs.Collecting.{queue_outside};
-ghost use Rattle.golf_model.specs.Futures.{Numbered};
 ghost use Rattle.golf_model.specs.Presence.{IsWhole};
 ghost use Rattle.golf_model.specs.Reporting.{numbers};
 ghost use Rattle.golf_reclaim.specs.Noting.{noted, AreApart};
@@ -99,7 +98,6 @@ impl Ledger {
         gone: &[GoroutineId],
     ) -> Result<(), Memory>
         requires marked { length retained.now.flags ≡ length state.old.objects }
-        requires numbered { Numbered state.old }
         requires whole { IsWhole state.old }
         requires apart { AreApart (numbers new.now) (numbers self.old.reclaimed) }
         requires count { self.old.collections < 2 ^ 32 - 1 }

@@ -70,7 +70,6 @@ pub(crate) fn find_dead<R: Threads + Sync, G: Gate + Sync>(
     options: CollectOptions,
     gate: &G,
 ) -> Result<Found, Memory>
-    requires numbered { Numbered state.now }
     requires whole { IsWhole state.now }
     requires some { 0 < options.markers }
     requires few { options.markers ≤ 16 }
@@ -79,6 +78,7 @@ pub(crate) fn find_dead<R: Threads + Sync, G: Gate + Sync>(
     ensures dead { IfOk result (λ found. numbers found.dead ≡ dead state.now) }
     ensures gone { IfOk result (λ found. numbers found.gone ≡ removed state.now options.recover options.sets_finalisers) }
     ensures few { IfOk result (λ found. length found.dead < 2 ^ 32) }
+    ensures numbered { IfOk result (λ found. Numbered state.now) }
 {
     let live = live_graph(alloc, state)?;
     let marked = mark(rt, alloc, &live, options.markers, gate)?;
@@ -122,7 +122,6 @@ pub(crate) fn find_retained<R: Threads + Sync>(
     markers: u32,
 ) -> Result<Rest, Memory>
     requires live { live ≡ live_parts state.now }
-    requires numbered { Numbered state.now }
     requires whole { IsWhole state.now }
     requires some { 0 < markers }
     requires few { markers ≤ 16 }

@@ -8,10 +8,8 @@ use Rattle.golf_data.specs.declared.report.Book.{Book}
 use Rattle.golf_model.specs.State.{State, start}
 use Rattle.golf_model.specs.Collecting.{sets_finalisers}
 use Rattle.golf_model.specs.Running.{Event}
-use Rattle.golf_model.specs.Futures.{Numbered}
 use Rattle.golf_model.specs.Presence.{IsWhole}
 use Rattle.golf_model.specs.Reporting.{numbers, new_book}
-use Rattle.golf_model_futures.proofs.Leading.{leads-numbered}
 use Rattle.golf_model_order.proofs.Leading.{leads-whole}
 use Rattle.golf_reclaim.specs.Noting.{AreGone}
 use Rattle.golf_run_schedules.specs.declared.schedule.Schedule.{Schedule}
@@ -104,9 +102,6 @@ module _ {code : Code} {options : RunOptions} {event : Event} {rest : List Event
   }
 
   -- what the collection asks for
-  pub numbered-next : Numbered (turned code event state)
-  numbered-next = leads-numbered code (turned code event state) (turned-leads code event state next.goes next.going.under_way.leads)
-
   pub whole-next : IsWhole (turned code event state)
   whole-next = leads-whole code (turned code event state) (turned-leads code event state next.goes next.going.under_way.leads)
 

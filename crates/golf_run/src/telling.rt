@@ -1,7 +1,6 @@
 //! What a collection tells, written line by line.
 
 ghost use Rattle.std.specs.Prelude.{◌<◌, ◌++◌, [], ◌∷◌, IfOk, IfSome, None, map, slice_get, unwrap_or};
-ghost use Rattle.golf_model.specs.Futures.{Numbered};
 ghost use Rattle.golf_model.specs.Graph.{sleeper_count};
 ghost use Rattle.golf_model.specs.Presence.{IsWhole};
 ghost use Rattle.golf_why.specs.Explaining.{reached_at, reached_from, IsReady};
@@ -23,8 +22,7 @@ pub(crate) fn explanation(
     why: bool,
     state: &State,
 ) -> Result<Option<Explanation>, Memory>
-    requires numbered { Numbered state.now }
-    requires whole { IsWhole state.now }
+    requires { IsWhole state.now }
     ensures { IfOk result (ExplainsIf why state.now) }
 {
     if !why {

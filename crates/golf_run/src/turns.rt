@@ -2,7 +2,6 @@
 
 ghost use Rattle.std.specs.Prelude.{◌≡◌, ◌<◌, ◌-◌, ◌≤◌, ◌^◌};
 ghost use Rattle.golf_data.specs.Places.{HasPlaces};
-ghost use Rattle.golf_model.specs.Futures.{Numbered};
 ghost use Rattle.golf_model.specs.Presence.{IsWhole};
 ghost use Rattle.golf_reclaim.specs.Noting.{AreGone};
 ghost use Rattle.golf_run_schedules.specs.Options.{IsWithinLimits};
@@ -65,7 +64,6 @@ fn tell<R: Threads + Sync, E: Sink, G: Gate + Sync>(
     err: &mut E,
     gate: &G,
 ) -> Result<Totals, RunFault>
-    requires numbered { Numbered state.old }
     requires whole { IsWhole state.old }
     requires gone { AreGone book.old state.old }
     requires count { book.old.collections < 2 ^ 32 - 1 }

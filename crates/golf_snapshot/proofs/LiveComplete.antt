@@ -91,7 +91,7 @@ module _ (s : State) (n : Numbered s) (w : IsWhole s) where
   live-shown : (x : Node) → Live s x → Shown x
   live-shown x l = Reached-least (LiveRoot s) (LiveStep s) Shown shown-root shown-step x l
 
-  lives-alike : LivesAlike s
+  lives-alike : LivesAlike (live_parts s) s
   lives-alike = record {
     objects = λ k o i. (
       λ h. least-object s n w k o i.0 i.1 h,

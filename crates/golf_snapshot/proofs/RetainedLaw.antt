@@ -87,7 +87,7 @@ module _ (s : State) (n : Numbered s) (w : IsWhole s) (gone : List ℕ) where
   key-reached k o i r = subst Reaches (same-key r.0 (o, i.0) (sym r.1 ∙ i.1)) r.2
 
 pub retained-graph : RetainedGraph
-retained-graph s gone k o n w i = (
+retained-graph s gone n w k o i = (
   λ h. key-reached s n w gone k o i (closes-reached s n w gone k h),
   λ r. subst (Least (retained_parts s gone)) (rank-at 0 s.objects k o i.0 n.objects_rise i.1) (reached-closes s n w gone o r i.0 (Entry-at s.objects k (o, i.0) i.1)),
 )

@@ -7,6 +7,7 @@ use Rattle.golf_model.specs.Reaching.{Reach, sources}
 use Rattle.golf_model.specs.Living.{Node, Live}
 use Rattle.golf_model.specs.Graph.{Least}
 use Rattle.golf_model.specs.Presence.{IsWhole}
+use Rattle.golf_model.specs.declared.graph.GraphParts.{GraphParts}
 use Rattle.golf_model.specs.Futures.{Numbered}
 use Rattle.golf_snapshot.specs.Parts.{sleeping, live_parts, retained_parts}
 
@@ -18,15 +19,18 @@ IsObject s k o = (x : Object) × (slice_get s.objects k ≡ Some (o, x))
 abbrev pub IsSleeper : State → ℕ → ℕ → Type 0
 IsSleeper s j g = (r : GoroutineView) × (slice_get (sleeping s) j ≡ Some (g, r))
 
--- a node is in the least closed set if its object is live, and a sleeper if its goroutine is
-pub record LivesAlike (s : State) : Type 0 where
-  pub objects : (k o : ℕ) → IsObject s k o → Least (live_parts s) k ↔ Live s (Node.AnObject o)
-  pub goroutines : (j g : ℕ) → IsSleeper s j g → Least (live_parts s) (length s.objects + j) ↔ Live s (Node.AGoroutine g)
+-- a node is in the graph's least closed set if its object is live, and a sleeper if its goroutine is
+pub record LivesAlike (g : GraphParts) (s : State) : Type 0 where
+  pub objects : (k o : ℕ) → IsObject s k o → Least g k ↔ Live s (Node.AnObject o)
+  pub goroutines : (j h : ℕ) → IsSleeper s j h → Least g (length s.objects + j) ↔ Live s (Node.AGoroutine h)
 
 -- in every state in which references are to objects that are there
 abbrev pub LiveGraph : Type 0
-LiveGraph = (s : State) → Numbered s → IsWhole s → LivesAlike s
+LiveGraph = (s : State) → Numbered s → IsWhole s → LivesAlike (live_parts s) s
 
--- a node is in the least closed set if its object is reached
+-- a node is in the graph's least closed set if its object is reached without these goroutines
+abbrev pub ReachesAlike : GraphParts → State → List ℕ → Type 0
+ReachesAlike g s gone = (k o : ℕ) → IsObject s k o → Least g k ↔ Reach s (sources s gone) o
+
 abbrev pub RetainedGraph : Type 0
-RetainedGraph = (s : State) (gone : List ℕ) (k o : ℕ) → Numbered s → IsWhole s → IsObject s k o → Least (retained_parts s gone) k ↔ Reach s (sources s gone) o
+RetainedGraph = (s : State) (gone : List ℕ) → Numbered s → IsWhole s → ReachesAlike (retained_parts s gone) s gone

@@ -36,7 +36,8 @@ pub(crate) fn add_awake(
     ensures sleepers { IfOk result (λ sleepers. sleepers ≡ map (sleeper_of state.now.objects) (sleeping state.now)) }
 {
     let mut sleepers = Sleepers::new(alloc);
-    for g in state.goroutines() {
+    let goroutines = state.goroutines(alloc)?;
+    for g in goroutines.as_slice() {
         add_one(alloc, state, nodes, &mut sleepers, *g)?;
     }
     Ok(sleepers)

@@ -4,6 +4,7 @@ ghost use Rattle.std.specs.Prelude.{◌≡◌, ◌+◌, ◌<◌, ◌^◌, [], If
 ghost use Rattle.golf_model.specs.Presence.{IsWhole};
 ghost use Rattle.golf_model.specs.Futures.{Numbered};
 ghost use Rattle.golf_snapshot.specs.Parts.{ranks, live_roots, sleeping, sleeper_of, parts_of, live_parts};
+ghost use Rattle.golf_snapshot.specs.Stands.{LivesAlike};
 
 use crate::goroutines::{add_awake, add_queue};
 use crate::nodes::{add_finalised, children, finalised, numbers};
@@ -18,9 +19,10 @@ use std::alloc::Global;
 ///
 /// `Memory` also comes if nodes and sleepers together are too many for a `u32`.
 pub fn live_graph(alloc: Global, state: &State) -> Result<Graph, Memory>
-    requires numbered { Numbered state.now }
-    requires whole { IsWhole state.now }
-    ensures { IfOk result (λ graph. graph ≡ live_parts state.now) }
+    requires { IsWhole state.now }
+    ensures graph { IfOk result (λ graph. graph ≡ live_parts state.now) }
+    ensures lives { IfOk result (λ graph. LivesAlike graph state.now) }
+    ensures numbered { IfOk result (λ graph. Numbered state.now) }
 {
     let (roots, sleepers) = live_places(alloc, state)?;
     let parts = parts_of(alloc, state, roots, sleepers)?;
@@ -29,7 +31,6 @@ pub fn live_graph(alloc: Global, state: &State) -> Result<Graph, Memory>
 
 // The nodes of the objects that are live at once, and the sleepers.
 fn live_places(alloc: Global, state: &State) -> Result<(List<u32>, Sleepers), Memory>
-    requires { Numbered state.now }
     ensures roots { IfOk result (λ places. places.0 ≡ ranks state.now.objects (live_roots state.now)) }
     ensures sleepers { IfOk result (λ places. places.1 ≡ map (sleeper_of state.now.objects) (sleeping state.now)) }
 {
@@ -50,6 +51,7 @@ fn parts_of(
 ) -> Result<GraphParts, Memory>
     ensures parts { IfOk result (λ parts. parts ≡ record (parts_of state.now [] sleepers) { roots = roots }) }
     ensures few { IfOk result (λ parts. length state.now.objects + length sleepers < 2 ^ 32) }
+    ensures numbered { IfOk result (λ parts. IsWhole state.now → Numbered state.now) }
 {
     let heap = state.heap();
     if sleepers.len() > (u32::MAX - heap.count()) as usize {

@@ -10,6 +10,7 @@ ghost use Rattle.golf_model.specs.Presence.{IsWhole};
 ghost use Rattle.golf_model.specs.Reaching.{sources};
 ghost use Rattle.golf_model.specs.Refs.{goroutine_refs_where, refs_if};
 ghost use Rattle.golf_snapshot.specs.Parts.{ranks, live_parts, retained_parts};
+ghost use Rattle.golf_snapshot.specs.Stands.{ReachesAlike};
 ghost use Rattle.golf_snapshot.specs.Stepping.{entry_at, finalised_rows};
 
 use crate::among::{in_order, is_among};
@@ -29,9 +30,10 @@ pub fn retained_graph(
     gone: &[GoroutineId],
 ) -> Result<Graph, Memory>
     requires live { live ≡ live_parts state.now }
-    requires numbered { Numbered state.now }
     requires whole { IsWhole state.now }
-    ensures { IfOk result (λ graph. graph ≡ retained_parts state.now (map (λ g. g.0) gone.now)) }
+    ensures graph { IfOk result (λ graph. graph ≡ retained_parts state.now (map (λ g. g.0) gone.now)) }
+    ensures numbered { IfOk result (λ graph. Numbered state.now) }
+    ensures reached { IfOk result (λ graph. ReachesAlike graph state.now (map (λ g. g.0) gone.now)) }
 {
     let roots = source_nodes(alloc, state, &live, gone)?;
     Ok(live.without_sleepers(alloc, roots))
@@ -45,13 +47,14 @@ fn source_nodes(
     gone: &[GoroutineId],
 ) -> Result<List<u32>, Memory>
     requires { live.now ≡ live_parts state.now }
-    ensures { IfOk result (λ roots. roots ≡ ranks state.now.objects (sources state.now (map (λ g. g.0) gone.now))) }
+    ensures roots { IfOk result (λ roots. roots ≡ ranks state.now.objects (sources state.now (map (λ g. g.0) gone.now))) }
+    ensures numbered { IfOk result (λ roots. IsWhole state.now → Numbered state.now) }
 {
     let mut roots = List::new(alloc);
     add_values(state.heap(), &mut roots, state.globals())?;
     add_queue(state.heap(), &mut roots, state.queue())?;
     let gone = in_order(alloc, gone)?;
-    add_others(state, live, &mut roots, gone.as_slice())?;
+    add_others(alloc, state, live, &mut roots, gone.as_slice())?;
     add_finalised_rows(live, &mut roots)?;
     Ok(roots)
 }
@@ -61,6 +64,7 @@ fn source_nodes(
 // Adds the nodes of the goroutines whose numbers are not among these, which rise. The live graph has
 // those of a sleeper.
 fn add_others(
+    alloc: Global,
     state: &State,
     live: &Graph,
     nodes: &mut List<u32>,
@@ -72,7 +76,8 @@ fn add_others(
         ≡ nodes.old ++ ranks state.now.objects (goroutine_refs_where (λ g. not (is_in g gone.now)) state.now.goroutines)) }
 {
     let mut sleeper = 0;
-    for g in state.goroutines() {
+    let goroutines = state.goroutines(alloc)?;
+    for g in goroutines.as_slice() {
         if is_next(live, sleeper, *g) {
             add_sleeper_unless_gone(live, sleeper, nodes, gone, *g)?;
             sleeper += 1;

@@ -15,10 +15,10 @@ use Rattle.golf_model.specs.Views.{GoroutineView}
 use Rattle.golf_model.specs.Waiting.{ticket_of, waits_of}
 use Rattle.golf_state_queues.specs.WaitQueues.{WaitQueues, listed, key, keys_of, leaves, AreBelow, IsWithout, Keeps}
 use Rattle.golf_state_queues.proofs.Partings.{without-none, keeps-without, keeps-others}
-use Rattle.golf_state.specs.Inside.{numbers}
+use Rattle.golf_state_goroutines.specs.Blocks.{numbers}
 use Rattle.golf_state.specs.Left.{leaves_in, leaves_where}
 use Rattle.golf_state.specs.Enqueued.{AreEnqueued}
-use Rattle.golf_state.specs.Rising.{RisesFrom}
+use Rattle.golf_state_goroutines.specs.Rising.{RisesFrom}
 
 pub Rises-listed : (j : ℕ) (gs : List GoroutineId) → RisesFrom j (numbers gs) → Rises j (listed gs)
 Rises-listed j [] r = tt

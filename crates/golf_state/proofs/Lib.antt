@@ -1,11 +1,9 @@
 pub mod Tops
 pub mod PlaceLaws
+pub mod Orders
 pub mod WaiterLaws
-pub mod FinaliserLaws
 pub mod Readiness
 pub mod Wakings
-pub mod Numbered
-pub mod Rises
 pub mod Doings
 pub mod Serving
 pub mod Outcomings

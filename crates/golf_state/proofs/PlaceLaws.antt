@@ -1,18 +1,19 @@
 -- What changes of places do to the map of goroutines, and to the list of those that run.
--- For: `plain_entries`, `running_of` (golf_state/specs/Places.antt) and `goroutine_at` (src/places.rt)
+-- For: `plain_entries`, `running_of` (golf_state_goroutines/specs/Places.antt) and `Roster::get_mut`
 -- By: induction over the entries of the map for one that is put; otherwise the laws of maps and cases
-use Rattle.std.proofs.Common.{◌≡◌, ℕ, suc, ◌<◌, ◌≤◌, Bool, true, false, not, cond, ◌&&◌, ◌||◌, List, [], ◌∷◌, ◌++◌, length, get_or, Option, Some, None, ◌==◌, refl, sym, ap, ◌∙◌, subst, inl, inr, arith, slice_get, slice_set}
-use Rattle.std.specs.Prelude.{option_map}
-use Rattle.std.proofs.lemmas.Bool.{eqb-true, eq-eqb, ne_eqb}
-use Rattle.std.proofs.lemmas.List.{map-set, map-append, length-set, set-get_or}
-use Rattle.std.proofs.lemmas.Option.{slice_get_read, slice_get_within, slice_get-map, get_or_from_slice_get}
+use Rattle.std.proofs.Common.{◌≡◌, ℕ, suc, ◌+◌, ◌-◌, ◌<◌, ◌≤◌, add-one, Bool, true, false, not, cond, ◌&&◌, ◌||◌, List, [], ◌∷◌, ◌++◌, length, filter, Option, Some, None, ◌==◌, refl, sym, ap, ◌∙◌, subst, arith, slice_get, slice_set}
+use Rattle.std.specs.Prelude.{option_map, is_some}
+use Rattle.std.proofs.lemmas.Bool.{eqb-true, eqb-false, eq-eqb, ne_eqb}
+use Rattle.std.proofs.lemmas.List.{map-append, length-set}
+use Rattle.std.proofs.lemmas.Option.{slice_get-map}
+use Rattle.golf_data.specs.declared.goroutine.Goroutine.{Goroutine}
 use Rattle.golf_data.specs.declared.goroutine.Queued.{Queued}
 use Rattle.golf_heap.specs.Objects.{rank}
 use Rattle.golf_heap.proofs.Ranks.{at_key, find-rank}
-use Rattle.golf_theory.specs.Maps.{find, put, add, only, keys, keys_where, Rises, AllBelow}
+use Rattle.golf_theory.specs.Maps.{find, put, add, only, keys_where, Rises, AllBelow}
 use Rattle.golf_theory.specs.Stored.{placed, without}
-use Rattle.golf_theory.proofs.MapFinds.{cases_find, Entry-above, find-Entry}
-use Rattle.golf_theory.proofs.MapKeys.{keys-put, keys_where-same, keys_where-add, keys_where-put_out, keys_where-put_same, keys_where-only}
+use Rattle.golf_theory.proofs.MapFinds.{Entry-above, find-Entry, find-put, find-only}
+use Rattle.golf_theory.proofs.MapKeys.{keys_where-same, keys_where-add, keys_where-put_out, keys_where-put_same, keys_where-only}
 use Rattle.golf_theory.proofs.MapOrder.{Rises-put, AllBelow-put}
 use Rattle.golf_theory.proofs.Placing.{keys_where-put_in, put_below}
 use Rattle.golf_model.specs.Views.{GoroutineView, goroutine_view}
@@ -20,14 +21,13 @@ use Rattle.golf_model.specs.State.{is_running, not_empty, can_run}
 use Rattle.golf_model.specs.Changes.{behind_first}
 use Rattle.golf_state.specs.Inside.{AreKept}
 use Rattle.golf_state.specs.Looked.{is_running_in, is_blocked_in}
-use Rattle.golf_state.specs.Places.{plain_entry, plain_entries, running_of, starts_idle}
-use Rattle.golf_state.specs.Ready.{IsReady}
-use Rattle.golf_state.specs.declared.places.Place.{Place}
-use Rattle.golf_state_queues.proofs.Keyed.{set-keyed, found-keyed}
-use Rattle.golf_state.proofs.Readiness.{ready-set}
-
-number : Place → ℕ
-number p = p.number
+use Rattle.golf_state_goroutines.specs.Places.{plain_entry, plain_entries, running_of, is_idle, starts_idle}
+use Rattle.golf_state_goroutines.specs.Goroutines.{AllUnder, IsNone}
+use Rattle.golf_state.specs.Ready.{AllReady}
+use Rattle.golf_state.specs.Roominess.{IsReadyIn}
+use Rattle.golf_state_goroutines.specs.declared.places.Place.{Place}
+use Rattle.golf_state_goroutines.proofs.Keyed.{set-keyed}
+use Rattle.golf_state.proofs.Readiness.{ready-at, ready-set}
 
 -- ---- what is put
 
@@ -45,120 +45,158 @@ module _ {X : Type 0} where
         | false ↦ λ t i. ap (λ (r : List (ℕ × X)). e ∷ r) (put-same k (suc e.0) v es r.1 i)
       ] refl h
 
--- ---- if a goroutine stands
-
--- the goroutine of this number stands at the place, and is seen as this one
-pub record Standing (gs : List Place) (g at : ℕ) (p : Place) (v : GoroutineView) : Type 0 where
-  pub here : slice_get gs at ≡ Some p
-  pub number : p.number ≡ g
-  pub seen : goroutine_view p.goroutine ≡ v
-
-module _ (gs : List Place) (g at : ℕ) (r : Rises 0 (plain_entries gs)) (is : at ≡ rank g (plain_entries gs)) where
-  standing : (v : GoroutineView) → find g (plain_entries gs) ≡ Some v → (p : Place) × Standing gs g at p v
-  standing v f =
-      let k = found-keyed (λ (p : Place). p.number) (λ (p : Place). goroutine_view p.goroutine) g 0 gs v r f in
-      (k.0, record { here = ap (slice_get gs) is ∙ k.1; number = k.2; seen = k.3 })
-
-  -- one that is found is within the places
-  pub within : (v : GoroutineView) → find g (plain_entries gs) ≡ Some v → at < length gs
-  within v f = let k = standing v f in slice_get_within gs at k.0 k.1.here
-
-  -- and is what is read there
-  pub stands-found : (p : Place) (v : GoroutineView) → find g (plain_entries gs) ≡ Some v → p ≡ get_or gs at p → Standing gs g at p v
-  stands-found p v f h =
-      let k = standing v f in
-      let same : p ≡ k.0 = h ∙ get_or_from_slice_get gs at k.0 p k.1.here in
-      subst (λ (q : Place). Standing gs g at q v) (sym same) k.1
-
-  looked : (o : Option Place) → slice_get gs at ≡ o → find g (plain_entries gs) ≡ at_key g (option_map plain_entry o)
-  looked o h =
-      find-rank g 0 (plain_entries gs) r
-      ∙ ap (λ (n : ℕ). at_key g (slice_get (plain_entries gs) n)) (sym is)
-      ∙ ap (at_key g) (slice_get-map plain_entry gs at ∙ ap (option_map plain_entry) h)
-
-  -- what is read there has the number or is another one
-  pub found-there : (p : Place) → slice_get gs at ≡ Some p → p.number ≡ g → find g (plain_entries gs) ≡ Some (goroutine_view p.goroutine)
-  found-there p h n = looked (Some p) h ∙ ap (λ b. cond b (Some (goroutine_view p.goroutine)) None) (eq-eqb g p.number (sym n))
-
-  pub absent-there : (p : Place) → slice_get gs at ≡ Some p → (p.number ≡ g → ⊥) → find g (plain_entries gs) ≡ None
-  absent-there p h n = looked (Some p) h ∙ ap (λ b. cond b (Some (goroutine_view p.goroutine)) None) (ne_eqb g p.number (λ e. n (sym e)))
-
-  pub absent-past : slice_get gs at ≡ None → find g (plain_entries gs) ≡ None
-  absent-past h = looked None h
-
-  pub stands-read : (p : Place) → at < length gs → p ≡ get_or gs at p → p.number ≡ g → Standing gs g at p (goroutine_view p.goroutine)
-  stands-read p l h n = record { here = slice_get_read gs (length gs) at p refl l h; number = n; seen = refl }
+-- ---- goroutines that are there
 
 -- a goroutine that runs is there
-pub running-found : (gs : List Place) (g : ℕ) → is_running_in (find g (plain_entries gs)) ≡ true → (v : GoroutineView) × (find g (plain_entries gs) ≡ Some v) × (is_running v.mode ≡ true)
-running-found gs g h = elim (cases_find g (plain_entries gs)) [
-  | inl e ↦ cc (ap is_running_in (sym e) ∙ h)
-  | inr r ↦ (r.0, r.1, ap is_running_in (sym r.1) ∙ h)
-]
+pub running-there : (o : Option GoroutineView) → is_running_in o ≡ true → is_some o ≡ true
+running-there None h = cc
+running-there (Some v) h = refl
 
 -- and so is one that is blocked
-pub blocked-found : (gs : List Place) (g : ℕ) → is_blocked_in (find g (plain_entries gs)) ≡ true → (v : GoroutineView) × (find g (plain_entries gs) ≡ Some v) × (is_running v.mode ≡ false)
-blocked-found gs g h = elim (cases_find g (plain_entries gs)) [
-  | inl e ↦ cc (ap is_blocked_in (sym e) ∙ h)
-  | inr r ↦ (r.0, r.1, not-true (is_running r.0.mode) (ap is_blocked_in (sym r.1) ∙ h))
-]
-  where
-    not-true : (b : Bool) → not b ≡ true → b ≡ false
-    not-true true t = cc
-    not-true false t = refl
+pub blocked-there : (o : Option GoroutineView) → is_blocked_in o ≡ true → is_some o ≡ true
+blocked-there None h = cc
+blocked-there (Some v) h = refl
 
--- ---- changes
+not-true : (b : Bool) → not b ≡ true → b ≡ false
+not-true true t = cc
+not-true false t = refl
 
-pub set-at : (gs : List Place) (g at : ℕ) (p q : Place) (v : GoroutineView) → Rises 0 (plain_entries gs) → Standing gs g at p v → q.number ≡ p.number
-    → plain_entries (slice_set gs at q) ≡ put g (goroutine_view q.goroutine) (plain_entries gs)
-set-at gs g at p q v r s n =
-    set-keyed (λ (p : Place). p.number) (λ (p : Place). goroutine_view p.goroutine) 0 at gs p q r s.here n
-    ∙ ap (λ k. put k (goroutine_view q.goroutine) (plain_entries gs)) s.number
+-- one that is not
+pub none-there : (b : Bool) (o : Option GoroutineView) → b ≡ is_some o → b ≡ false → o ≡ None
+none-there b None e h = refl
+none-there b (Some v) e h = cc
 
--- a place that is seen as before
-pub same-at : (gs : List Place) (at : ℕ) (p q : Place) → p ≡ get_or gs at p → plain_entry q ≡ plain_entry p → plain_entries (slice_set gs at q) ≡ plain_entries gs
-same-at gs at p q h e =
-    map-set plain_entry gs at q ∙ ap (slice_set (plain_entries gs) at) e ∙ sym (map-set plain_entry gs at p) ∙ ap plain_entries (ap (slice_set gs at) h ∙ set-get_or gs at p)
+-- one that is there stays there
+there-put : (g : ℕ) (v : GoroutineView) (k : ℕ) (es : List (ℕ × GoroutineView)) → is_some (find k es) ≡ true → is_some (find k (put g v es)) ≡ true
+there-put g v k [] h = h
+there-put g v k (e ∷ es) h = elim (k == e.0) as (λ b. is_some (cond b (Some e.1) (find k es)) ≡ true → is_some (cond b (Some (cond (g == e.0) v e.1)) (find k (put g v es))) ≡ true) [
+  | true ↦ λ i. refl
+  | false ↦ λ i. there-put g v k es i
+] h
+
+pub there-add : (k : ℕ) (es fs : List (ℕ × GoroutineView)) → is_some (find k es) ≡ true → is_some (find k (es ++ fs)) ≡ true
+there-add k [] fs h = cc
+there-add k (e ∷ es) fs h = elim (k == e.0) as (λ b. is_some (cond b (Some e.1) (find k es)) ≡ true → is_some (cond b (Some e.1) (find k (es ++ fs))) ≡ true) [
+  | true ↦ λ i. refl
+  | false ↦ λ i. there-add k es fs i
+] h
+
+pub there-left : (g k : ℕ) (es : List (ℕ × GoroutineView)) → k < g → is_some (find k es) ≡ true → is_some (find k (only (λ h. not (h == g)) es)) ≡ true
+there-left g k es l h = ap (λ (o : Option GoroutineView). is_some o) (find-only (λ h. not (h == g)) es k (ap not (ne_eqb k g (λ e. omega (arith, e, l))))) ∙ h
 
 pub push-at : (gs : List Place) (q : Place) (k : ℕ) (v : GoroutineView) → plain_entry q ≡ (k, v) → plain_entries (gs ++ q ∷ []) ≡ add k v (plain_entries gs)
 push-at gs q k v e = map-append plain_entry gs (q ∷ []) ∙ ap (λ (p : ℕ × GoroutineView). plain_entries gs ++ p ∷ []) e
 
--- a goroutine becomes another one, and those that run with it
-pub kept-set : {present running runs : List ℕ} {room more next : ℕ} {v : GoroutineView} (gs : List Place) (g at : ℕ) (p q : Place)
-    → AreKept gs present running room next → Standing gs g at p v → q.number ≡ p.number → IsReady q
-    → runs ≡ running_of (put g (goroutine_view q.goroutine) (plain_entries gs)) → room ≤ more
-    → AreKept (slice_set gs at q) present runs more next
-kept-set {next = next} {v = v} gs g at p q k s n ready is l =
-    let w = goroutine_view q.goroutine in
-    let es = plain_entries gs in
-    let e = set-at gs g at p q v k.rises s n in
-    record {
-      rises = subst (Rises 0) (sym e) (Rises-put 0 g w es k.rises);
-      below = subst (AllBelow next) (sym e) (AllBelow-put next g w es k.below);
-      present = k.present ∙ sym (keys-put g w es) ∙ ap keys (sym e);
-      running = is ∙ ap running_of (sym e);
-      few = omega (arith, length-set gs at q, k.few);
-      limit = k.limit;
-      room = omega (arith, length-set gs at q, k.room, l);
-      ready = ready-set gs at q k.ready ready;
-    }
+-- ---- none of those that run
 
--- a place is seen as before
-pub kept-same : {present running : List ℕ} {room next : ℕ} (gs : List Place) (at : ℕ) (p q : Place)
-    → AreKept gs present running room next → p ≡ get_or gs at p → plain_entry q ≡ plain_entry p → IsReady q
-    → AreKept (slice_set gs at q) present running room next
-kept-same {next = next} gs at p q k h is ready =
-    let e = same-at gs at p q h is in
-    record {
-      rises = subst (Rises 0) (sym e) k.rises;
-      below = subst (AllBelow next) (sym e) k.below;
-      present = k.present ∙ ap keys (sym e);
-      running = k.running ∙ ap running_of (sym e);
-      few = omega (arith, length-set gs at q, k.few);
-      limit = k.limit;
-      room = omega (arith, length-set gs at q, k.room);
-      ready = ready-set gs at q k.ready ready;
-    }
+none-above : (g j : ℕ) (es : List (ℕ × GoroutineView)) → g < j → Rises j es → IsNone g (running_of es)
+none-above g j [] l r = tt
+none-above g j (e ∷ es) l r = elim (is_running e.1.mode) as (λ b. IsNone g (cond b (e.0 ∷ running_of es) (running_of es))) [
+  | true ↦ (λ i. omega (arith, i, l, r.0), none-above g (suc e.0) es (omega (arith, l, r.0)) r.1)
+  | false ↦ none-above g (suc e.0) es (omega (arith, l, r.0)) r.1
+]
+
+none-where : (g j : ℕ) (es : List (ℕ × GoroutineView)) (v : GoroutineView) → Rises j es → find g es ≡ Some v → is_running v.mode ≡ false → IsNone g (running_of es)
+none-where g j [] v r f b = tt
+none-where g j (e ∷ es) v r f b = elim (g == e.0) as (λ t. g == e.0 ≡ t → cond t (Some e.1) (find g es) ≡ Some v → IsNone g (running_of (e ∷ es))) [
+  | true ↦ λ t i.
+      let is : e.1 ≡ v = cc in
+      let same = eqb-true g e.0 t in
+      let out : is_running e.1.mode ≡ false = ap (λ (r : GoroutineView). is_running r.mode) is ∙ b in
+      rw out (none-above g (suc e.0) es (omega (arith, same)) r.1)
+  | false ↦ λ t i.
+      let rest = none-where g (suc e.0) es v r.1 i b in
+      elim (is_running e.1.mode) as (λ c. IsNone g (cond c (e.0 ∷ running_of es) (running_of es))) [
+        | true ↦ (λ q. eqb-false g e.0 t (sym q), rest)
+        | false ↦ rest
+      ]
+] refl f
+
+-- all of them are below
+pub under-next : (n : ℕ) (es : List (ℕ × GoroutineView)) (runs : List ℕ) → runs ≡ running_of es → AllBelow n es → AllUnder n runs
+under-next n es runs is a = rw is (under n es a)
+  where
+    under : (n : ℕ) (es : List (ℕ × GoroutineView)) → AllBelow n es → AllUnder n (running_of es)
+    under n [] a = tt
+    under n (e ∷ es) a = elim (is_running e.1.mode) as (λ b. AllUnder n (cond b (e.0 ∷ running_of es) (running_of es))) [
+      | true ↦ (a.0, under n es a.1)
+      | false ↦ under n es a.1
+    ]
+
+pub number-of : (p : Place) (n : ℕ) (v : GoroutineView) → plain_entry p ≡ (n, v) → p.number ≡ n
+number-of p n v e = ap (λ (d : ℕ × GoroutineView). d.0) e
+
+-- ---- one has left
+
+pub entries-left : (gs : List Place) (g : ℕ) → plain_entries (filter (λ p. not (p.number == g)) gs) ≡ only (λ h. not (h == g)) (plain_entries gs)
+entries-left [] g = refl
+entries-left (p ∷ gs) g = elim (p.number == g) as (λ b. plain_entries (cond (not b) (p ∷ filter (λ p. not (p.number == g)) gs) (filter (λ p. not (p.number == g)) gs)) ≡ cond (not b) (plain_entry p ∷ only (λ h. not (h == g)) (plain_entries gs)) (only (λ h. not (h == g)) (plain_entries gs))) [
+  | true ↦ entries-left gs g
+  | false ↦ ap (λ (es : List (ℕ × GoroutineView)). plain_entry p ∷ es) (entries-left gs g)
+]
+
+pub ready-left : (gs : List Place) (g : ℕ) → AllReady gs → AllReady (filter (λ p. not (p.number == g)) gs)
+ready-left [] g a = tt
+ready-left (p ∷ gs) g a = elim (p.number == g) as (λ b. AllReady (cond (not b) (p ∷ filter (λ p. not (p.number == g)) gs) (filter (λ p. not (p.number == g)) gs))) [
+  | true ↦ ready-left gs g a.1
+  | false ↦ (a.0, ready-left gs g a.1)
+]
+
+pub fewer-left : (gs : List Place) (g : ℕ) → length (filter (λ p. not (p.number == g)) gs) ≤ length gs
+fewer-left [] g = omega arith
+fewer-left (p ∷ gs) g = let rest = fewer-left gs g in elim (p.number == g) as (λ b. length (cond (not b) (p ∷ filter (λ p. not (p.number == g)) gs) (filter (λ p. not (p.number == g)) gs)) ≤ length (p ∷ gs)) [
+  | true ↦ omega (arith, rest)
+  | false ↦ omega (arith, rest)
+]
+
+-- ---- the goroutine that a roster lends, which stands at its rank
+
+module _ (gs : List Place) (g : ℕ) (x : Goroutine) (here : slice_get gs (rank g (plain_entries gs)) ≡ Some (record { number = g; goroutine = x })) (rises : Rises 0 (plain_entries gs)) where
+  pub lent-found : find g (plain_entries gs) ≡ Some (goroutine_view x)
+  lent-found =
+      find-rank g 0 (plain_entries gs) rises
+      ∙ ap (at_key g) (slice_get-map plain_entry gs (rank g (plain_entries gs)) ∙ ap (option_map plain_entry) here)
+      ∙ ap (λ b. cond b (Some (goroutine_view x)) None) (eq-eqb g g refl)
+
+  pub lent-runs : is_running_in (find g (plain_entries gs)) ≡ true → is_running x.mode ≡ true
+  lent-runs h = ap is_running_in (sym lent-found) ∙ h
+
+  pub lent-blocked : is_blocked_in (find g (plain_entries gs)) ≡ true → is_running x.mode ≡ false
+  lent-blocked h = not-true (is_running x.mode) (ap is_blocked_in (sym lent-found) ∙ h)
+
+  pub lent-ready : AllReady gs → IsReadyIn x.mode x.frames
+  lent-ready ready = ready-at gs (rank g (plain_entries gs)) (record { number = g; goroutine = x }) ready here
+
+  -- it becomes another one
+  pub lent-set : (y : Goroutine) → plain_entries (slice_set gs (rank g (plain_entries gs)) (record { number = g; goroutine = y })) ≡ put g (goroutine_view y) (plain_entries gs)
+  lent-set y = set-keyed (λ (p : Place). p.number) (λ (p : Place). goroutine_view p.goroutine) 0 (rank g (plain_entries gs)) gs (record { number = g; goroutine = x }) (record { number = g; goroutine = y }) rises here refl
+
+  -- and those that run with it
+  pub lent-kept : {running runs : List ℕ} {next : ℕ} (y : Goroutine) → AreKept gs running next → IsReadyIn y.mode y.frames
+      → runs ≡ running_of (put g (goroutine_view y) (plain_entries gs))
+      → AreKept (slice_set gs (rank g (plain_entries gs)) (record { number = g; goroutine = y })) runs next
+  lent-kept {next = next} y k ready is =
+      let at = rank g (plain_entries gs) in
+      let q : Place = record { number = g; goroutine = y } in
+      let w = goroutine_view y in
+      let es = plain_entries gs in
+      let e = lent-set y in
+      record {
+        rises = subst (Rises 0) (sym e) (Rises-put 0 g w es k.rises);
+        below = subst (AllBelow next) (sym e) (AllBelow-put next g w es k.below);
+        zero = ap (λ (fs : List (ℕ × GoroutineView)). is_some (find 0 fs)) e ∙ there-put g w 0 es k.zero;
+        running = is ∙ ap running_of (sym e);
+        few = omega (arith, length-set gs at q, k.few);
+        limit = k.limit;
+        ready = ready-set gs at q k.ready ready;
+      }
+
+  pub put-there : (y : Goroutine) → is_some (find g (plain_entries (slice_set gs (rank g (plain_entries gs)) (record { number = g; goroutine = y })))) ≡ true
+  put-there y = ap (λ (es : List (ℕ × GoroutineView)). is_some (find g es)) (lent-set y) ∙ ap is_some (find-put g (goroutine_view y) (plain_entries gs) (goroutine_view x) lent-found)
+
+  -- one that is blocked is none of those that run
+  pub none-runs : (runs : List ℕ) → runs ≡ running_of (plain_entries gs) → is_running x.mode ≡ false → IsNone g runs
+  none-runs runs is b = rw is (none-where g 0 (plain_entries gs) (goroutine_view x) rises lent-found b)
 
 -- ---- those that run
 
@@ -192,6 +230,31 @@ above queue g r n =
 
 runs_above : (queue : List Queued) (k : ℕ) (es : List (ℕ × GoroutineView)) → Rises (suc k) es → keys_where (can_run queue) es ≡ running_of es
 runs_above queue k es r = keys_where-same (can_run queue) (λ g r. is_running r.mode) es (λ g x i. let a = Entry-above (suc k) es g x r i in above queue g x (λ e. omega (arith, a, e)))
+
+find-low : (j k : ℕ) (es : List (ℕ × GoroutineView)) → k < j → Rises j es → find k es ≡ None
+find-low j k [] l r = refl
+find-low j k (e ∷ es) l r = ap (λ b. cond b (Some e.1) (find k es)) (ne_eqb k e.0 (λ q. omega (arith, q, l, r.0))) ∙ find-low (suc e.0) k es (omega (arith, l, r.0)) r.1
+
+-- goroutine 0 is the first, if it is there
+pub idle-found : (es : List (ℕ × GoroutineView)) (v : GoroutineView) → Rises 0 es → find 0 es ≡ Some v → is_idle v ≡ starts_idle es
+idle-found [] v r h = cc
+idle-found (e ∷ es) v r h = elim (0 == e.0) as (λ t. 0 == e.0 ≡ t → cond t (Some e.1) (find 0 es) ≡ Some v → is_idle v ≡ ((e.0 == 0) && is_idle e.1)) [
+  | true ↦ λ t i.
+      let same : v ≡ e.1 = cc in
+      ap is_idle same ∙ ap (λ b. b && is_idle e.1) (sym (eq-eqb e.0 0 (sym (eqb-true 0 e.0 t))))
+  | false ↦ λ t i. let none = find-low (suc e.0) 0 es (omega arith) r.1 in cc
+] refl h
+
+pub one-fewer : (xs : List ℕ) → length xs - 1 ≡ length (behind_first xs)
+one-fewer [] = omega arith
+one-fewer (x ∷ xs) = omega arith
+
+pub next-behind : (xs : List ℕ) (k : ℕ) → slice_get (behind_first xs) k ≡ slice_get xs (k + 1)
+next-behind xs k = rw add-one (next xs k)
+  where
+    next : (xs : List ℕ) (k : ℕ) → slice_get (behind_first xs) k ≡ slice_get xs (suc k)
+    next [] k = refl
+    next (x ∷ xs) k = refl
 
 -- if goroutine 0 has nothing to do, it runs by its mode alone, and is the first
 pub runs-idle : (queue : List Queued) (es : List (ℕ × GoroutineView)) → Rises 0 es → (not (not_empty queue) && starts_idle es) ≡ true → behind_first (running_of es) ≡ keys_where (can_run queue) es

@@ -1,20 +1,19 @@
 -- Goroutines that can be woken without more memory.
 -- For: `AllReady` (golf_state/specs/Ready.antt) and `HasRoom` (golf_state/specs/Roominess.antt)
 -- By: induction over the list of places
-use Rattle.std.proofs.Common.{◌≡◌, ℕ, zero, suc, ◌-◌, ◌<◌, ◌≤◌, true, false, cond, List, [], ◌∷◌, ◌++◌, length, get_or, Some, refl, sym, ap, ◌∙◌, subst, arith, slice_get, slice_set}
-use Rattle.std.specs.Prelude.{remove}
+use Rattle.std.proofs.Common.{◌≡◌, ℕ, zero, suc, ◌-◌, ◌<◌, ◌≤◌, true, false, cond, List, [], ◌∷◌, ◌++◌, length, Some, refl, sym, ap, ◌∙◌, subst, arith, slice_get, slice_set}
 use Rattle.std.proofs.lemmas.List.{length-set}
-use Rattle.std.proofs.lemmas.Option.{slice_get_read, slice_get_within}
+use Rattle.std.proofs.lemmas.Option.{slice_get_within}
 use Rattle.golf_data.specs.declared.goroutine.Frame.{Frame}
 use Rattle.golf_data.specs.declared.goroutine.Mode.{Mode}
 use Rattle.golf_model.specs.Views.{GoroutineView}
 use Rattle.golf_model.specs.State.{is_running}
-use Rattle.golf_state.specs.Places.{running_of}
+use Rattle.golf_state_goroutines.specs.Places.{running_of}
 use Rattle.golf_state.specs.Ready.{IsReady, AllReady}
 use Rattle.golf_state.specs.Roominess.{HasRoom, HasRoomIn, IsReadyIn}
 use Rattle.golf_state.specs.Wakening.{wakened}
 use Rattle.golf_state.specs.declared.frames.Wakening.{Wakening}
-use Rattle.golf_state.specs.declared.places.Place.{Place}
+use Rattle.golf_state_goroutines.specs.declared.places.Place.{Place}
 
 set-here : {X : Type 0} (xs : List X) (i : ℕ) (x : X) → i < length xs → slice_get (slice_set xs i x) i ≡ Some x
 set-here [] i x l = absurd (omega arith)
@@ -42,9 +41,6 @@ ready-at [] i p r h = cc
 ready-at (q ∷ ps) zero p r h = let same : q ≡ p = cc in subst IsReady same r.0
 ready-at (q ∷ ps) (suc i) p r h = ready-at ps i p r.1 h
 
-pub ready-read : (ps : List Place) (i : ℕ) (p : Place) → AllReady ps → i < length ps → p ≡ get_or ps i p → IsReady p
-ready-read ps i p r l h = ready-at ps i p r (slice_get_read ps (length ps) i p refl l h)
-
 pub ready-set : (ps : List Place) (i : ℕ) (q : Place) → AllReady ps → IsReady q → AllReady (slice_set ps i q)
 ready-set [] i q r h = tt
 ready-set (p ∷ ps) zero q r h = (h, r.1)
@@ -66,9 +62,3 @@ running-few (e ∷ es) = let h = running-few es in elim (is_running e.1.mode) as
   | true ↦ omega arith
   | false ↦ omega arith
 ]
-
-pub ready-remove : (ps : List Place) (i : ℕ) → AllReady ps → AllReady (remove ps i)
-ready-remove [] zero r = tt
-ready-remove [] (suc i) r = tt
-ready-remove (p ∷ ps) zero r = r.1
-ready-remove (p ∷ ps) (suc i) r = (r.0, ready-remove ps i r.1)

@@ -1,17 +1,12 @@
 -- Lists of which only the flagged items stay.
--- For: `retain_goroutines`, `queue_finalisers` (src/state.rt) and `unflagged_finalisers` (src/collecting.rt)
+-- For: `retain_goroutines`, `queue_finalisers` (src/state.rt)
 -- By: induction over the list of flags, with the list of items
-use Rattle.std.proofs.Common.{◌≡◌, ℕ, ◌+◌, ◌<◌, ◌≤◌, arith, Bool, true, false, cond, suc, List, [], ◌∷◌, ◌++◌, length, map, take, get_or, refl, sym, ap, ◌∙◌, append-nil}
-use Rattle.std.proofs.lemmas.List.{map-append}
-use Rattle.std.proofs.lemmas.Option.{slice_get-get_or}
+use Rattle.std.proofs.Common.{◌≡◌, ℕ, ◌≤◌, arith, Bool, true, false, cond, suc, List, [], ◌∷◌, length, map, refl, ap}
 use Rattle.golf_theory.specs.Maps.{Rises, AllBelow}
 use Rattle.golf_theory.proofs.MapOrder.{Rises-less}
-use Rattle.golf_data.specs.declared.goroutine.Queued.{Queued}
-use Rattle.golf_model.specs.Collecting.{queued}
-use Rattle.golf_heap.specs.Objects.{kept, left_out}
-use Rattle.golf_heap.proofs.Flagged.{left_out-at}
+use Rattle.golf_heap.specs.Objects.{kept}
 use Rattle.golf_state.specs.Ready.{AllReady}
-use Rattle.golf_state.specs.declared.places.Place.{Place}
+use Rattle.golf_state_goroutines.specs.declared.places.Place.{Place}
 
 -- ---- what is kept
 
@@ -59,26 +54,3 @@ Rises-kept j (b ∷ bs) (e ∷ es) r =
       | true ↦ (r.0, Rises-kept (suc e.0) bs es r.1)
       | false ↦ Rises-less j (suc e.0) (kept bs es) (omega (arith, r.0)) (Rises-kept (suc e.0) bs es r.1)
     ]
-
--- ---- the queue's entries
-
-abbrev entry : ℕ × ℕ → Queued
-entry e = record { object = record { 0 = e.0 }; function = e.1 }
-
-module _ (flags : List Bool) (fs : List (ℕ × ℕ)) where
-  -- those of the first that leave
-  abbrev pub queued-by : ℕ → List Queued
-  queued-by i = queued (left_out (take i flags) (take i fs))
-
-  pub queued-next : (i : ℕ) (d : ℕ × ℕ) (now later : List Queued) → i < length flags → i < length fs → get_or flags i false ≡ false → now ≡ queued-by i → later ≡ now ++ record { object = record { 0 = (get_or fs i d).0 }; function = (get_or fs i d).1 } ∷ [] → later ≡ queued-by (i + 1)
-  queued-next i d now later l m f so is =
-      let before : List (ℕ × ℕ) = left_out (take i flags) (take i fs) in
-      let x : ℕ × ℕ = get_or fs i d in
-      is ∙ ap (λ (z : List Queued). z ++ entry x ∷ []) so ∙ sym (map-append entry before (x ∷ []))
-      ∙ ap queued (sym (left_out-at flags fs i x false false l (slice_get-get_or fs i d m) f))
-
-  pub queued-same : (i : ℕ) (now : List Queued) → i < length flags → i < length fs → get_or flags i false ≡ true → now ≡ queued-by i → now ≡ queued-by (i + 1)
-  queued-same i now l m f so =
-      let d : ℕ × ℕ = (0, 0) in
-      let before : List (ℕ × ℕ) = left_out (take i flags) (take i fs) in
-      so ∙ ap queued (sym (append-nil before) ∙ sym (left_out-at flags fs i (get_or fs i d) false true l (slice_get-get_or fs i d m) f))

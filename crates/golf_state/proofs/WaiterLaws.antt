@@ -1,7 +1,7 @@
 -- The look for the first waiter.
 -- For: `first` (golf_model/specs/Waiting.antt) and `wait_for`, `first_waiter` (src/waiters.rt)
 -- By: cases of the next wait or place, for each turn of the loop; no induction
-use Rattle.std.proofs.Common.{◌≡◌, ℕ, ◌+◌, ◌<◌, ◌≤◌, true, false, cond, ◌&&◌, List, [], ◌∷◌, Option, Some, None, length, drop, get_or, ◌==◌, refl, sym, ap, ◌∙◌, arith, drop_of_length-le, inl}
+use Rattle.std.proofs.Common.{◌≡◌, ℕ, ◌+◌, ◌<◌, ◌≤◌, true, false, cond, ◌&&◌, List, [], ◌∷◌, ◌++◌, Option, Some, None, length, drop, get_or, ◌==◌, refl, sym, ap, ◌∙◌, arith, drop_of_length-le, inl}
 use Rattle.std.specs.Prelude.{option_map, nat_lt, IfSome}
 use Rattle.std.proofs.lemmas.List.{drop_more, length-map, get_or-map}
 use Rattle.golf_data.specs.declared.goroutine.Side.{Side}
@@ -15,10 +15,13 @@ use Rattle.golf_model.specs.Laws.{head}
 use Rattle.golf_model.proofs.Firsts.{first-head, waiters-sound}
 use Rattle.golf_model.specs.Views.{GoroutineView}
 use Rattle.golf_model.specs.Waiting.{Waiter, same_side, wait_for, waits_of, waiter_of, first, waiters, earlier}
-use Rattle.golf_state.specs.Places.{plain_entry, plain_entries}
+use Rattle.golf_state_goroutines.specs.Blocks.{places_in}
+use Rattle.golf_state_goroutines.specs.Places.{plain_entry, plain_entries}
 use Rattle.golf_state.specs.Seen.{sooner}
 use Rattle.golf_state.specs.Waited.{waiting_of}
-use Rattle.golf_state.specs.declared.places.Place.{Place}
+use Rattle.golf_state_goroutines.specs.declared.blocks.Block.{Block}
+use Rattle.golf_state_goroutines.specs.declared.places.Place.{Place}
+use Rattle.golf_state_goroutines.proofs.PlaceLaws.{entries-append}
 
 -- ---- along the waits of a goroutine
 
@@ -44,15 +47,21 @@ sooner-earlier (Some v) (Some w) =
     elim (nat_lt (waiting_of w).ticket (waiting_of v).ticket) as (λ b. cond b (Some (waiting_of w)) (Some (waiting_of v)) ≡ option_map waiting_of (cond b (Some w) (Some v))) [ true ↦ refl | false ↦ refl ]
 
 -- one goroutine more, before the others
-pub seen_more : (gs : List Place) (at : ℕ) (o : ℕ) (side : Side) (p : Place) → at < length gs → p ≡ get_or gs at p
-    → sooner (option_map waiting_of (waiter_of o side (plain_entry p))) (option_map waiting_of (first o side (drop (at + 1) (plain_entries gs)))) ≡ option_map waiting_of (first o side (drop at (plain_entries gs)))
-seen_more gs at o side p l h =
+pub seen_more : (gs : List Place) (at : ℕ) (o : ℕ) (side : Side) (p : Place) (rest : List (ℕ × GoroutineView)) → at < length gs → p ≡ get_or gs at p
+    → sooner (option_map waiting_of (waiter_of o side (plain_entry p))) (option_map waiting_of (first o side (drop (at + 1) (plain_entries gs) ++ rest))) ≡ option_map waiting_of (first o side (drop at (plain_entries gs) ++ rest))
+seen_more gs at o side p rest l h =
     let es = plain_entries gs in
     let within : at < length es = omega (arith, l, length-map gs plain_entry) in
     let read : get_or es at (plain_entry p) ≡ plain_entry p = get_or-map plain_entry gs at p (plain_entry p) l ∙ ap plain_entry (sym h) in
-    ap (λ (e : ℕ × GoroutineView). sooner (option_map waiting_of (waiter_of o side e)) (option_map waiting_of (first o side (drop (at + 1) es)))) (sym read)
-    ∙ sooner-earlier (waiter_of o side (get_or es at (plain_entry p))) (first o side (drop (at + 1) es))
-    ∙ ap (λ (fs : List (ℕ × GoroutineView)). option_map waiting_of (first o side fs)) (sym (drop_more es at (plain_entry p) within))
+    ap (λ (e : ℕ × GoroutineView). sooner (option_map waiting_of (waiter_of o side e)) (option_map waiting_of (first o side (drop (at + 1) es ++ rest)))) (sym read)
+    ∙ sooner-earlier (waiter_of o side (get_or es at (plain_entry p))) (first o side (drop (at + 1) es ++ rest))
+    ∙ ap (λ (fs : List (ℕ × GoroutineView)). option_map waiting_of (first o side (fs ++ rest))) (sym (drop_more es at (plain_entry p) within))
+
+-- one block more, before the others
+pub entries-more : (bs : List Block) (at : ℕ) (b : Block) → at < length bs
+    → plain_entries (get_or bs at b).places.items ++ plain_entries (places_in (drop (at + 1) bs)) ≡ plain_entries (places_in (drop at bs))
+entries-more bs at b l =
+    sym (ap (λ (cs : List Block). plain_entries (places_in cs)) (drop_more bs at b l) ∙ entries-append (get_or bs at b).places.items (places_in (drop (at + 1) bs)))
 
 -- ---- the first waiter is blocked
 

@@ -14,10 +14,10 @@ use Rattle.golf_model.specs.State.{is_running}
 use Rattle.golf_model.specs.Waiting.{wait_for, wait_on}
 use Rattle.golf_model.specs.Waking.{received, is_below, resumed, released_by, closed_on, closed_for, woken_by}
 use Rattle.golf_state.specs.Looked.{values_of}
-use Rattle.golf_state.specs.Places.{plain_entry, plain_entries, running_of}
+use Rattle.golf_state_goroutines.specs.Places.{plain_entry, plain_entries, running_of}
 use Rattle.golf_state.specs.Woken.{given_for, waking_of, wakening_by_close, wakening_on, released_where, wakening_of, wakened_by}
 use Rattle.golf_state.specs.declared.waking.Waking.{Waking}
-use Rattle.golf_state.specs.declared.places.Place.{Place}
+use Rattle.golf_state_goroutines.specs.declared.places.Place.{Place}
 
 -- ---- along the waits of a goroutine
 

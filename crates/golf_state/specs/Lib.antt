@@ -1,5 +1,3 @@
-pub mod Places
-pub mod Rising
 pub mod Looked
 pub mod Lending
 pub mod LendingTop

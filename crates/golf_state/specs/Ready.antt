@@ -1,6 +1,6 @@
 -- Places whose goroutines can be woken without memory.
 use Rattle.std.specs.Prelude.{List, [], ◌∷◌}
-use Rattle.golf_state.specs.declared.places.Place.{Place}
+use Rattle.golf_state_goroutines.specs.declared.places.Place.{Place}
 use Rattle.golf_state.specs.Roominess.{IsReadyIn}
 
 -- if it is blocked, its innermost frame has room

@@ -8,9 +8,9 @@ ghost use Rattle.golf_state.specs.Clearing.{tidied};
 ghost use Rattle.golf_state.specs.Roominess.{IsReadyIn};
 
 use crate::frames::top_mut;
-use crate::places::is_running;
 use golf_base::List;
 use golf_data::{Code, Frame, Goroutine, Leaving};
+use golf_state_goroutines::is_running;
 
 // The mask of a position of a function.
 #[inline(always)]

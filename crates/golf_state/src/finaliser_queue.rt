@@ -38,6 +38,11 @@ impl FinaliserQueue {
         }
     }
 
+    /// The allocator that it takes its memory from.
+    pub fn allocator(&self) -> Global {
+        *self.entries.allocator()
+    }
+
     /// Those that are to be called.
     pub fn as_slice(&self) -> &[Queued]
         ensures { result.now ≡ self.now }

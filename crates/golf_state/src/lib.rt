@@ -10,14 +10,11 @@
 mod acting;
 mod calls;
 mod clearing;
-mod collecting;
 mod finaliser_queue;
-mod finalisers;
 mod frames;
 mod operands;
 mod outcome;
 mod places;
-mod rising;
 mod state;
 mod waiters;
 mod wake_all;

@@ -1,11 +1,13 @@
 //! The state: what it tells, and the changes that a turn is made of.
 
-ghost use Rattle.std.specs.Prelude.{◌≡◌, ◌<◌, ◌≤◌, ◌^◌, ◌+◌, ◌-◌, ◌↔◌, IsTrue, [], ◌∷◌, ◌++◌, length, vec_capacity, map, true, false, Some, None, IfOk, OnOk, OnErr, IsSome, IfSome, is_some, option_map, slice_get};
+ghost use Rattle.std.specs.Prelude.{◌≡◌, ◌<◌, ◌≤◌, ◌^◌, ◌+◌, ◌-◌, ◌↔◌, IsTrue, [], length, map, true, false, Some, None, IfOk, OnOk, OnErr, IsSome, IfSome, is_some, option_map, slice_get};
 ghost use Rattle.std.specs.Borrow.{sem};
 ghost use Rattle.golf_theory.specs.Maps.{find, keys, Rises, IsRising};
 ghost use Rattle.golf_data.specs.declared.goroutine.Mode.{Mode};
+ghost use Rattle.golf_model.specs.Futures.{Numbered};
+ghost use Rattle.golf_model.specs.Presence.{IsWhole};
 ghost use Rattle.golf_model.specs.Views.{frame_view, frame_views, goroutine_view};
-ghost use Rattle.golf_model.specs.State.{runnable, ending, is_running};
+ghost use Rattle.golf_model.specs.State.{runnable, ending, is_running, not_empty};
 ghost use Rattle.golf_model.specs.Waiting.{first};
 ghost use Rattle.golf_model.specs.ReadersWriters.{readers_next};
 ghost use Rattle.golf_model.specs.Clearing.{clears};
@@ -22,14 +24,9 @@ ghost use Rattle.golf_state.specs.Seen.{waiter_by};
 ghost use Rattle.golf_state.specs.Lending.{LendsFrames, LendsObject};
 
 use crate::clearing::clear_goroutine;
-use crate::collecting::unflagged_finalisers;
 use crate::finaliser_queue::FinaliserQueue;
-use crate::finalisers::{function_of, put_finaliser, take_finaliser};
 use crate::frames::{Wakening, settle, waken};
-use crate::places::{
-    Place, goroutine_at, has_no_call, list_running, place_of, rank_of, take_place,
-};
-use crate::rising::{add_last, behind_first, leave_out, put_in};
+use crate::places::{has_no_call, running_at};
 use crate::waiters::{
     Waiting, enter_for_mutex, first_in_queue, first_waiter, forget, has_queue, leave_queues,
     move_mode, narrow_queues, waiter_by,
@@ -40,7 +37,9 @@ use golf_base::{GoroutineId, List, Memory, ObjectId};
 use golf_data::{
     Code, Ending, Frame, Goroutine, Mode, Object, Queued, Side, Value, Wait, WaitKind,
 };
-use golf_heap::{Heap, close_up};
+use golf_heap::Heap;
+use golf_state_finalisers::Finalisers;
+use golf_state_goroutines::{Roster, place_of};
 use golf_state_queues::{Queues, TicketHolder, last_before};
 use std::alloc::Global;
 use std::marker::Model;
@@ -53,11 +52,9 @@ use std::marker::Model;
 pub struct State {
     globals: List<Value>,
     heap: Heap,
-    finalisers: Vec<(u32, u32)>,
-    goroutines: Vec<Place>,
+    finalisers: Finalisers,
+    roster: Roster,
     next_goroutine: u32,
-    present: Vec<GoroutineId>,
-    running: Vec<GoroutineId>,
     waiting: Queues,
     are_mutexes_enqueued: bool,
     queue: FinaliserQueue,
@@ -85,10 +82,8 @@ impl Drop for State {
             globals: _,
             heap: _,
             finalisers: _,
-            goroutines: _,
+            roster: _,
             next_goroutine: _,
-            present: _,
-            running: _,
             waiting: _,
             are_mutexes_enqueued: _,
             queue: _,
@@ -110,19 +105,15 @@ impl State {
     ) -> Result<State, Memory>
         ensures { IfOk result (λ state. state ≡ opening globals (frame_views frames) line) }
     {
-        let mut goroutines = Vec::new(alloc);
-        goroutines.push(place_of(alloc, 0, List::new(alloc), 0)?)?;
-        goroutines.push(place_of(alloc, 1, frames, line)?)?;
-        let present = first_two(alloc)?;
-        let running = first_two(alloc)?;
+        let mut roster = Roster::new(alloc);
+        roster.add(place_of(alloc, 0, List::new(alloc), 0)?)?;
+        roster.add(place_of(alloc, 1, frames, line)?)?;
         Ok(State {
             globals,
             heap: Heap::new(alloc),
-            finalisers: Vec::new(alloc),
-            goroutines,
+            finalisers: Finalisers::new(alloc),
+            roster,
             next_goroutine: 2,
-            present,
-            running,
             waiting: Queues::new(alloc),
             are_mutexes_enqueued: true,
             queue: FinaliserQueue::new(alloc),
@@ -134,17 +125,30 @@ impl State {
 
     // ---- what it tells, without memory
 
-    /// The goroutines that can run, in rising order.
+    /// How many goroutines can run.
     #[inline(always)]
-    pub fn runnable(&self) -> &[GoroutineId]
-        ensures runnable { map (λ g. g.0) result.now ≡ runnable self.now }
+    pub fn runnable_count(&self) -> usize
+        ensures { result ≡ length (runnable self.now) }
+    {
+        let count = self.roster.running_count();
+        if has_no_call(self.queue.as_slice(), &self.roster) {
+            count.saturating_sub(1)
+        } else {
+            count
+        }
+    }
+
+    /// The goroutine at this place among those that can run, in rising order of number.
+    #[inline(always)]
+    pub fn runnable_at(&self, place: usize) -> GoroutineId
+        requires { place < length (runnable self.now) }
+        ensures at { slice_get (runnable self.now) place ≡ Some result.0 }
         ensures rises { IsRising self.now.goroutines }
     {
-        let running = self.running.as_slice();
-        if has_no_call(self.queue.as_slice(), self.goroutines.as_slice()) {
-            behind_first(running)
+        if has_no_call(self.queue.as_slice(), &self.roster) {
+            running_at(&self.roster, place + 1)
         } else {
-            running
+            running_at(&self.roster, place)
         }
     }
 
@@ -153,18 +157,19 @@ impl State {
     pub fn ending(&self) -> Option<Ending>
         ensures { result ≡ ending self.now }
     {
-        if self.recorded.is_none() && self.runnable().is_empty() {
+        if self.recorded.is_none() && self.runnable_count() == 0 {
             return Some(Ending::Asleep);
         }
         self.recorded
     }
 
     /// The goroutines that have not ended, in rising order; goroutine 0 among them.
-    pub fn goroutines(&self) -> &[GoroutineId]
-        ensures present { map (λ g. g.0) result.now ≡ keys self.now.goroutines }
+    pub fn goroutines(&self, alloc: Global) -> Result<List<GoroutineId>, Memory>
+        ensures present { IfOk result (λ gs. map (λ g. g.0) gs ≡ keys self.now.goroutines) }
         ensures rises { IsRising self.now.goroutines }
+        ensures zero { IsSome (find 0 self.now.goroutines) }
     {
-        self.present.as_slice()
+        self.roster.numbers(alloc)
     }
 
     /// The goroutine of this number, if it has not ended.
@@ -172,7 +177,7 @@ impl State {
     pub fn goroutine(&self, g: GoroutineId) -> Option<&Goroutine>
         ensures { option_map (λ r. goroutine_view r.now) result ≡ find g.0 self.now.goroutines }
     {
-        goroutine_at(self.goroutines.as_slice(), g.0)
+        self.roster.get(g.0)
     }
 
     /// The innermost frame of a goroutine, if it has not ended and has one.
@@ -201,10 +206,14 @@ impl State {
         self.globals.as_slice()
     }
 
-    /// The objects, and the last number that was given.
+    /// The objects, and the last number that was given. A state whose references are all to objects that
+    /// are there has given its numbers in order.
     pub fn heap(&self) -> &Heap
-        ensures { result.now ≡ record { objects = self.now.objects; last = self.now.last_object } }
+        ensures objects { result.now ≡ record { objects = self.now.objects; last = self.now.last_object } }
+        ensures numbered { IsWhole self.now → Numbered self.now }
     {
+        // Asked for what it says of the numbers of objects.
+        self.heap.count();
         &self.heap
     }
 
@@ -212,7 +221,7 @@ impl State {
     pub fn finaliser(&self, object: ObjectId) -> Option<u32>
         ensures { result ≡ find object.0 self.now.finalisers }
     {
-        function_of(self.finalisers.as_slice(), object.0)
+        self.finalisers.function_of(object.0)
     }
 
     /// The finalisers that are to be called, the next one first.
@@ -230,11 +239,15 @@ impl State {
         ensures blocked { IfSome (first object.0 side self.now.goroutines) (λ w. find w.number self.now.goroutines ≡ Some w.goroutine × is_running w.goroutine.mode ≡ false) }
         ensures rises { IsRising self.now.goroutines }
     {
-        let places = self.goroutines.as_slice();
         if has_queue(self.are_mutexes_enqueued, side) {
-            first_in_queue(self.waiting.holders(object, side), places, object, side)
+            first_in_queue(
+                self.waiting.holders(object, side),
+                &self.roster,
+                object,
+                side,
+            )
         } else {
-            first_waiter(places, object, side)
+            first_waiter(self.roster.blocks(), object, side)
         }
     }
 
@@ -285,9 +298,7 @@ impl State {
         ensures same { reframed g.0 (frames_of g.0 self.old) self.old ≡ self.old }
         ensures rises { IsRising self.old.goroutines }
     {
-        let at = rank_of(self.goroutines.as_slice(), g.0);
-        let place = &mut self.goroutines[at];
-        let goroutine = place.goroutine.get_mut();
+        let goroutine = self.roster.get_mut(g.0);
         &mut goroutine.frames
     }
 
@@ -301,10 +312,8 @@ impl State {
         ensures same { reframed g.0 (frames_of g.0 self.old) self.old ≡ self.old }
         ensures rises { IsRising self.old.goroutines }
     {
-        let at = rank_of(self.goroutines.as_slice(), g.0);
         let globals = self.globals.as_slice();
-        let place = &mut self.goroutines[at];
-        let goroutine = place.goroutine.get_mut();
+        let goroutine = self.roster.get_mut(g.0);
         (&mut goroutine.frames, globals)
     }
 
@@ -315,15 +324,9 @@ impl State {
     pub fn clear_slots(&mut self, code: &Code, g: GoroutineId)
         ensures { self.new ≡ apply_all (clears code.now g.0 (find g.0 self.old.goroutines)) self.old }
     {
-        let at = rank_of(self.goroutines.as_slice(), g.0);
-        if at >= self.goroutines.len() {
-            return;
+        if self.roster.has(g.0) {
+            clear_goroutine(code, self.roster.get_mut(g.0));
         }
-        if self.goroutines[at].number != g.0 {
-            return;
-        }
-        let place = &mut self.goroutines[at];
-        clear_goroutine(code, place.goroutine.get_mut());
     }
 
     /// Starts a goroutine with this frame, at this line.
@@ -334,16 +337,10 @@ impl State {
     {
         let number = self.next_goroutine;
         let next = number.checked_add(1).ok_or(Memory)?;
-        let g = GoroutineId(number);
-        let place = place_of(*self.goroutines.allocator(), number, frames, line)?;
-        let more = (self.goroutines.len() + 2).saturating_sub(self.running.len());
-        self.present.reserve(1)?;
-        self.running.reserve(more)?;
-        self.goroutines.push(place)?;
-        add_last(&mut self.present, g);
-        add_last(&mut self.running, g);
+        let place = place_of(self.queue.allocator(), number, frames, line)?;
+        self.roster.add(place)?;
         self.next_goroutine = next;
-        Ok(g)
+        Ok(GoroutineId(number))
     }
 
     /// The goroutine blocks, with the next ticket. Its innermost frame goes on at a place without so
@@ -363,16 +360,11 @@ impl State {
     {
         let ticket = self.next_ticket;
         let next_ticket = ticket.checked_add(1).ok_or(Memory)?;
-        let at = rank_of(self.goroutines.as_slice(), g.0);
-        if at >= self.goroutines.len() {
-            return Ok(());
-        }
-        if self.goroutines[at].number != g.0 {
+        if !self.roster.has(g.0) {
             return Ok(());
         }
         self.waiting.enter_all(waits.as_slice(), ticket, g)?;
-        let place = &mut self.goroutines[at];
-        let goroutine = place.goroutine.get_mut();
+        let goroutine = self.roster.get_mut(g.0);
         settle(goroutine, after, taken)?;
         goroutine.mode = Mode::Blocked {
             kind,
@@ -380,7 +372,7 @@ impl State {
             waits,
             ticket,
         };
-        leave_out(&mut self.running, g);
+        self.roster.stop_running(g.0);
         self.next_ticket = next_ticket;
         Ok(())
     }
@@ -391,12 +383,10 @@ impl State {
         requires { is_blocked g.0 self.old ≡ true }
         ensures { self.new ≡ looked_up g.0 (λ r. become g.0 (wakened how r)) self.old }
     {
-        let at = rank_of(self.goroutines.as_slice(), g.0);
-        let place = &mut self.goroutines[at];
-        let goroutine = place.goroutine.get_mut();
+        let goroutine = self.roster.get_mut(g.0);
         leave_queues(&mut self.waiting, g, &goroutine.mode);
         waken(goroutine, how);
-        put_in(&mut self.running, g);
+        self.roster.start_running(g.0);
     }
 
     /// All goroutines that wait on the object go on, as far as they are woken. It takes no memory,
@@ -436,7 +426,7 @@ impl State {
     pub(crate) fn is_waiting(&self, holder: TicketHolder, object: ObjectId, side: Side) -> bool
         ensures { result ≡ is_some (waiter_by object.0 side self.now.goroutines (holder.ticket, holder.goroutine.0)) }
     {
-        waiter_by(holder, self.goroutines.as_slice(), object, side).is_some()
+        waiter_by(holder, &self.roster, object, side).is_some()
     }
 
     /// How a goroutine goes on if all who wait on the object are woken, and it is one of them.
@@ -463,9 +453,7 @@ impl State {
         requires tickets { self.old.next_ticket + 1 < 2 ^ 64 }
         ensures { self.new ≡ looked_up g.0 (move_wait g.0 mutex.0) self.old }
     {
-        let at = rank_of(self.goroutines.as_slice(), g.0);
-        let place = &mut self.goroutines[at];
-        let goroutine = place.goroutine.get_mut();
+        let goroutine = self.roster.get_mut(g.0);
         leave_queues(&mut self.waiting, g, &goroutine.mode);
         move_mode(&mut goroutine.mode, mutex, self.next_ticket);
         let is_enqueued = self.are_mutexes_enqueued;
@@ -507,18 +495,17 @@ impl State {
     pub fn has_tickets(&self) -> bool
         ensures { IsTrue result ↔ (self.now.next_ticket + length self.now.goroutines < 2 ^ 64) }
     {
-        let count = self.present.len() as u64;
+        let count = self.roster.count() as u64;
         self.next_ticket.checked_add(count).is_some()
     }
 
-    /// The goroutine has ended.
+    /// The goroutine, which is not goroutine 0, has ended.
     pub fn leave(&mut self, g: GoroutineId)
+        requires { 0 < g.0 }
         ensures { self.new ≡ leave g.0 self.old }
     {
-        forget(&mut self.waiting, self.goroutines.as_slice(), g);
-        take_place(&mut self.goroutines, g.0);
-        leave_out(&mut self.present, g);
-        leave_out(&mut self.running, g);
+        forget(&mut self.waiting, &self.roster, g);
+        self.roster.take(g.0);
     }
 
     // ---- the program
@@ -545,38 +532,30 @@ impl State {
         ensures ok { OnOk result (self.new ≡ set_finaliser object.0 function self.old) }
         ensures err { OnErr result (self.new ≡ self.old) }
     {
-        put_finaliser(&mut self.finalisers, object.0, function)
+        self.finalisers.put(object.0, function)
     }
 
     /// The object has no finaliser from now on.
     pub fn clear_finaliser(&mut self, object: ObjectId)
         ensures { self.new ≡ clear_finaliser object.0 self.old }
     {
-        take_finaliser(&mut self.finalisers, object.0);
-    }
-
-    /// Finalisers are to be called, after those that are to be called already.
-    pub fn enqueue(&mut self, entries: &[Queued]) -> Result<(), Memory>
-        ensures ok { OnOk result (self.new ≡ record self.old { queue = self.old.queue ++ entries.now }) }
-        ensures err { OnErr result (self.new ≡ self.old) }
-    {
-        self.queue.add(entries)
-    }
-
-    /// The goroutine is taken away by a collection.
-    pub fn remove(&mut self, g: GoroutineId)
-        ensures { self.new ≡ leave g.0 self.old }
-    {
-        self.leave(g);
+        self.finalisers.take(object.0);
     }
 
     // ---- collections
 
-    /// The finalisers in rising order of their objects' numbers, each with its function.
-    pub fn finalisers(&self) -> &[(u32, u32)]
-        ensures { result.now ≡ self.now.finalisers }
+    /// Whether any object has a finaliser.
+    pub fn has_finaliser(&self) -> bool
+        ensures { result ≡ not_empty self.now.finalisers }
     {
-        self.finalisers.as_slice()
+        self.finalisers.count() > 0
+    }
+
+    /// Makes a list of the finalisers in rising order of their objects' numbers, each with its function.
+    pub fn finalisers(&self, alloc: Global) -> Result<List<(u32, u32)>, Memory>
+        ensures { IfOk result (λ finalisers. finalisers ≡ self.now.finalisers) }
+    {
+        self.finalisers.list(alloc)
     }
 
     /// The finalisers whose flag is false are set no longer, and are to be called, after those
@@ -587,10 +566,9 @@ impl State {
         ensures count { IfOk result (λ count. length self.new.queue ≡ length self.old.queue + count) }
         ensures err { OnErr result (self.new ≡ self.old) }
     {
-        let alloc = *self.finalisers.allocator();
-        let entries = unflagged_finalisers(alloc, self.finalisers.as_slice(), stays)?;
+        let entries = self.finalisers.unflagged(self.queue.allocator(), stays)?;
         self.queue.add(entries.as_slice())?;
-        close_up(&mut self.finalisers, stays);
+        self.finalisers.retain(stays);
         Ok(entries.len())
     }
 
@@ -604,16 +582,15 @@ impl State {
 
     /// Takes away the goroutines whose flag, in rising order of number, is false, and the queues in
     /// which nobody stands then. It takes no memory, and looks at those who stand in the queue only if
-    /// a goroutine is taken away.
+    /// a goroutine is taken away. Goroutine 0 stays.
     pub fn retain_goroutines(&mut self, stays: &[bool])
-        requires { length stays.now ≡ length self.old.goroutines }
+        requires count { length stays.now ≡ length self.old.goroutines }
+        requires zero { IsSome (find 0 (kept stays.now self.old.goroutines)) }
         ensures { self.new ≡ record self.old { goroutines = kept stays.now self.old.goroutines } }
     {
-        let were = self.present.len();
-        close_up(&mut self.goroutines, stays);
-        close_up(&mut self.present, stays);
-        narrow_queues(&mut self.waiting, self.present.as_slice(), were);
-        list_running(self.goroutines.as_slice(), &mut self.running);
+        let were = self.roster.count();
+        self.roster.retain(stays);
+        narrow_queues(&mut self.waiting, &self.roster, were);
     }
 
     // ---- the queue and the output
@@ -641,16 +618,4 @@ impl State {
     {
         self.output.clear();
     }
-}
-
-// Goroutines 0 and 1, with room for one more.
-fn first_two(alloc: Global) -> Result<Vec<GoroutineId>, Memory>
-    ensures both { IfOk result (λ goroutines. map (λ g. g.0) goroutines.items ≡ 0 ∷ 1 ∷ []) }
-    ensures room { IfOk result (λ goroutines. 2 < vec_capacity goroutines) }
-{
-    let mut goroutines = Vec::new(alloc);
-    goroutines.reserve(3)?;
-    goroutines.push(GoroutineId(0))?;
-    goroutines.push(GoroutineId(1))?;
-    Ok(goroutines)
 }

@@ -1,21 +1,23 @@
 //! Who waits on an object.
 
-ghost use Rattle.std.specs.Prelude.{◌≡◌, ◌<◌, ◌≤◌, ◌+◌, ◌==◌, ◌&&◌, ℕ, false, true, Some, None, length, map, option_map};
+ghost use Rattle.std.specs.Prelude.{◌≡◌, ◌<◌, ◌≤◌, ◌+◌, ◌++◌, ◌==◌, ◌&&◌, ℕ, List, false, true, Some, None, length, option_map};
 ghost use Rattle.golf_data.specs.declared.goroutine.Side.{Side};
-ghost use Rattle.golf_theory.specs.Maps.{Entry, Rises, find};
+ghost use Rattle.golf_theory.specs.Maps.{Entry, Rises, find, keys};
 ghost use Rattle.golf_theory.specs.Membership.{is_in};
 ghost use Rattle.golf_model.specs.Waiting.{same_side, wait_for, waiter_of, first};
+ghost use Rattle.golf_model.specs.Views.{GoroutineView};
+ghost use Rattle.golf_state_goroutines.specs.Blocks.{places_in};
 ghost use Rattle.golf_model.specs.Changes.{moved, moved_waits};
-ghost use Rattle.golf_state.specs.Places.{plain_entry, plain_entries};
-ghost use Rattle.golf_state_queues.specs.WaitQueues.{held, key, wait_queue_at, listed, narrowed, standing, IsWithout, Keeps, AreBelow};
+ghost use Rattle.golf_state_goroutines.specs.Places.{plain_entry, plain_entries};
+ghost use Rattle.golf_state_queues.specs.WaitQueues.{held, key, wait_queue_at, narrowed, standing, IsWithout, Keeps, AreBelow};
 ghost use Rattle.golf_state.specs.Seen.{sooner, waiter_by};
 ghost use Rattle.golf_state.specs.Left.{leaves_in, leaves_where};
 ghost use Rattle.golf_state.specs.Enqueued.{HasWaiters, has_queue};
 ghost use Rattle.golf_state.specs.Waited.{waiting_of};
 
-use crate::places::{Place, goroutine_at};
 use golf_base::{GoroutineId, List, ObjectId};
 use golf_data::{Mode, Side, Wait};
+use golf_state_goroutines::{Block, Place, Roster};
 use golf_state_queues::{Queues, TicketHolder, side_number};
 
 /// A goroutine that waits on an object, with its first fitting wait, and its ticket.
@@ -92,14 +94,13 @@ fn sooner(seen: Option<Waiting>, other: Option<Waiting>) -> Option<Waiting>
 #[inline(always)]
 pub fn waiter_by(
     holder: TicketHolder,
-    places: &[Place],
+    roster: &Roster,
     object: ObjectId,
     side: Side,
 ) -> Option<Waiting>
-    requires { Rises 0 (plain_entries places.now) }
-    ensures { result ≡ option_map waiting_of (waiter_by object.0 side (plain_entries places.now) (holder.ticket, holder.goroutine.0)) }
+    ensures { result ≡ option_map waiting_of (waiter_by object.0 side (plain_entries roster.now.places) (holder.ticket, holder.goroutine.0)) }
 {
-    match &goroutine_at(places, holder.goroutine.0)?.mode {
+    match &roster.get(holder.goroutine.0)?.mode {
         Mode::Running => None,
         Mode::Blocked { waits, ticket, .. } => {
             if *ticket != holder.ticket {
@@ -120,18 +121,18 @@ pub fn waiter_by(
 #[inline(always)]
 pub fn first_in_queue(
     queue: &[TicketHolder],
-    places: &[Place],
+    roster: &Roster,
     object: ObjectId,
     side: Side,
 ) -> Option<Waiting>
-    requires rises { Rises 0 (plain_entries places.now) }
+    requires rises { Rises 0 (plain_entries roster.now.places) }
     requires order { Rises 0 (held queue.now) }
-    requires all { HasWaiters object.0 side (plain_entries places.now) (held queue.now) }
-    ensures { result ≡ option_map waiting_of (first object.0 side (plain_entries places.now)) }
+    requires all { HasWaiters object.0 side (plain_entries roster.now.places) (held queue.now) }
+    ensures { result ≡ option_map waiting_of (first object.0 side (plain_entries roster.now.places)) }
 {
     for holder in queue {
         if !holder.is_gone {
-            match waiter_by(*holder, places, object, side) {
+            match waiter_by(*holder, roster, object, side) {
                 Some(waiting) => return Some(waiting),
                 None => {}
             }
@@ -153,39 +154,56 @@ pub fn leave_queues(queues: &mut Queues, g: GoroutineId, mode: &Mode)
 
 /// The goroutine of this number is gone from the queues that it stands in, if it is there; all others
 /// stand where they stood.
-pub fn forget(queues: &mut Queues, places: &[Place], g: GoroutineId)
-    requires { Rises 0 (plain_entries places.now) }
-    ensures { IsWithout (leaves_where g.0 (find g.0 (plain_entries places.now))) queues.old queues.new }
+pub fn forget(queues: &mut Queues, roster: &Roster, g: GoroutineId)
+    ensures { IsWithout (leaves_where g.0 (find g.0 (plain_entries roster.now.places))) queues.old queues.new }
 {
-    if let Some(goroutine) = goroutine_at(places, g.0) {
+    if let Some(goroutine) = roster.get(g.0) {
         leave_queues(queues, g, &goroutine.mode);
     }
 }
 
 /// If fewer goroutines are there than there were, those alone stand in the queue still, and nobody else;
 /// queues in which nobody stands then are gone. It takes no memory.
-pub fn narrow_queues(queues: &mut Queues, goroutines: &[GoroutineId], were: usize)
-    requires { Rises 0 (listed goroutines.now) }
-    ensures fewer { length goroutines.now < were → queues.new ≡ standing (narrowed (map (λ h. h.0) goroutines.now) queues.old) }
-    ensures as_many { were ≤ length goroutines.now → queues.new ≡ standing queues.old }
-    ensures kept { Keeps (λ t g. is_in g (map (λ h. h.0) goroutines.now) ≡ true) queues.old queues.new }
+pub fn narrow_queues(queues: &mut Queues, roster: &Roster, were: usize)
+    ensures fewer { length roster.now.places < were → queues.new ≡ standing (narrowed (keys (plain_entries roster.now.places)) queues.old) }
+    ensures as_many { were ≤ length roster.now.places → queues.new ≡ standing queues.old }
+    ensures kept { Keeps (λ t g. is_in g (keys (plain_entries roster.now.places)) ≡ true) queues.old queues.new }
     ensures below { (n : ℕ) → AreBelow n queues.old → AreBelow n queues.new }
 {
-    if goroutines.len() < were {
-        queues.retain(goroutines);
+    if roster.count() < were {
+        queues.retain(roster);
     }
     queues.drop_empty();
 }
 
-/// The goroutine of least ticket among those that wait on the object with that side. It looks at all.
-pub fn first_waiter(places: &[Place], object: ObjectId, side: Side) -> Option<Waiting>
-    ensures { result ≡ option_map waiting_of (first object.0 side (plain_entries places.now)) }
+// The goroutine of least ticket among those of the places that wait on the object with that side, and one
+// that comes after them.
+fn first_of(
+    places: &[Place],
+    object: ObjectId,
+    side: Side,
+    later: Option<Waiting>,
+) -> Option<Waiting>
+    ensures { (rest : List (ℕ × GoroutineView)) → later ≡ option_map waiting_of (first object.0 side rest) → result ≡ option_map waiting_of (first object.0 side (plain_entries places.now ++ rest)) }
 {
-    let mut best = None;
+    let mut best = later;
     let mut at = places.len();
     while at > 0 {
         at -= 1;
         best = sooner(waiter_in(&places[at], object, side), best);
+    }
+    best
+}
+
+/// The goroutine of least ticket among those that wait on the object with that side. It looks at all.
+pub fn first_waiter(blocks: &[Block], object: ObjectId, side: Side) -> Option<Waiting>
+    ensures { result ≡ option_map waiting_of (first object.0 side (plain_entries (places_in blocks.now))) }
+{
+    let mut best = None;
+    let mut at = blocks.len();
+    while at > 0 {
+        at -= 1;
+        best = first_of(blocks[at].places.as_slice(), object, side, best);
     }
     best
 }

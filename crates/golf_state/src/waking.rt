@@ -7,7 +7,6 @@ ghost use Rattle.golf_state.specs.Looked.{values_of};
 ghost use Rattle.golf_state.specs.Woken.{given_for, wakening_by_close, released_where, wakening_of};
 
 use crate::frames::{Given, Wakening, waken};
-use crate::places::Place;
 use crate::waiters::{leave_queues, wait_for};
 use golf_base::{GoroutineId, ObjectId};
 use golf_data::{Fault, Goroutine, Mode, PanicKind, Side, Value, Wait};

@@ -4,7 +4,7 @@
 use Rattle.std.proofs.Common.{◌≡◌, ℕ, zero, suc, ◌<◌, ◌≤◌, true, false, cond, List, [], ◌∷◌, ◌++◌, ◌+◌, ◌-◌, not, Bool, Option, take, drop, filter, length, get_or, Some, nat_lt, inl, inr, refl, sym, ap, ◌∙◌, subst, arith, slice_get, slice_set}
 use Rattle.std.specs.Prelude.{remove, IfSome}
 use Rattle.std.proofs.lemmas.Bool.{cases_lt, ltb-true, ltb-false}
-use Rattle.std.proofs.lemmas.List.{drop_more, map-append}
+use Rattle.std.proofs.lemmas.List.{map-append}
 use Rattle.std.proofs.lemmas.Option.{slice_get-get_or}
 use Rattle.golf_theory.specs.Maps.{Entry, Rises, AllBelow}
 use Rattle.golf_theory.proofs.MapFinds.{Entry-above, Entry-below}
@@ -221,12 +221,6 @@ held-some (h ∷ hs) =
       | true ↦ λ q. held-some hs
       | false ↦ λ q. ap (λ b. cond b (held kept) (e ∷ held kept)) q ∙ ap (λ (es : List (ℕ × ℕ)). e ∷ es) (held-some hs)
     ] refl
-
--- one more that is gone, from the front on
-pub held-pass : (i : ℕ) (hs : List TicketHolder) (d : TicketHolder) → i < length hs → (get_or hs i d).is_gone ≡ true → held (drop (i + 1) hs) ≡ held (drop i hs)
-held-pass i hs d l g =
-    let h = get_or hs i d in
-    sym (ap held (drop_more hs i d l) ∙ ap (λ b. cond b (held (drop (i + 1) hs)) ((h.ticket, h.goroutine.0) ∷ held (drop (i + 1) hs))) g)
 
 -- and from the end on
 pub held-cut : (i : ℕ) (hs : List TicketHolder) (d : TicketHolder) → i < length hs → (get_or hs i d).is_gone ≡ true → held (take i hs) ≡ held (take (suc i) hs)

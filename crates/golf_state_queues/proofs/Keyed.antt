@@ -1,5 +1,5 @@
 -- A list in rising order of number, as a map by number.
--- For: `rank_of`, `rank_among`, src/holders.rt; `rank_of`, src/queues.rt
+-- For: `rank_of`, src/holders.rt; `rank_of`, src/queues.rt
 -- By: induction over the list that is in rising order
 use Rattle.std.proofs.Common.{◌≡◌, ℕ, zero, suc, ◌<◌, ◌≤◌, true, false, cond, not, List, [], ◌∷◌, ◌++◌, map, Option, Some, None, ◌==◌, length, get_or, refl, sym, ap, ◌∙◌, arith, slice_get, slice_set}
 use Rattle.std.specs.Prelude.{remove, option_map}

@@ -3,15 +3,17 @@
 //! An entry that is marked as gone keeps its ticket and its place, so the tickets still rise. `held` is
 //! the list of the others: the goroutines that are in the queue.
 
-ghost use Rattle.std.specs.Prelude.{◌≡◌, ◌<◌, ◌≤◌, ◌+◌, ◌-◌, ◌&&◌, ℕ, false, not, drop, filter, length, map, slice_get, take, IfSome, OnOk};
-ghost use Rattle.golf_theory.specs.Maps.{Entry, Rises, AllBelow};
+ghost use Rattle.std.specs.Prelude.{◌≡◌, ◌<◌, ◌≤◌, ◌+◌, ◌-◌, ◌&&◌, false, not, drop, filter, length, slice_get, take, IfSome, OnOk};
+ghost use Rattle.golf_theory.specs.Maps.{keys, Entry, Rises, AllBelow};
 ghost use Rattle.golf_theory.specs.Membership.{is_in};
 ghost use Rattle.golf_heap.specs.Objects.{rank};
+ghost use Rattle.golf_state_goroutines.specs.Places.{plain_entries};
 ghost use Rattle.golf_state_queues.specs.Lines.{spots};
-ghost use Rattle.golf_state_queues.specs.WaitQueues.{held, has_anyone, has_key, is_held_in, listed, among, parted, AddsOnlyIn, KeepsIn, IsLastBefore};
+ghost use Rattle.golf_state_queues.specs.WaitQueues.{held, has_anyone, is_held_in, parted, AddsOnlyIn, KeepsIn, IsLastBefore};
 
 use crate::line::Line;
 use golf_base::{GoroutineId, Memory};
+use golf_state_goroutines::Roster;
 
 /// A goroutine that took a ticket.
 #[derive(Clone, Copy, Debug)]
@@ -104,30 +106,11 @@ pub fn part(holders: &mut Line, ticket: u64, goroutine: GoroutineId)
     }
 }
 
-// How many of these goroutines have a smaller number.
-fn rank_among(goroutines: &[GoroutineId], number: u32) -> usize
-    ensures place { Rises 0 (listed goroutines.now) → result ≡ rank number (listed goroutines.now) }
-    ensures within { result ≤ length goroutines.now }
+// Whether the goroutine is there.
+fn is_among(roster: &Roster, g: GoroutineId) -> bool
+    ensures { result ≡ is_in g.0 (keys (plain_entries roster.now.places)) }
 {
-    goroutines.partition_point(|other| other.0 < number)
-}
-
-// Whether the goroutine at a place has the number.
-fn is_at(goroutines: &[GoroutineId], at: usize, number: u32) -> bool
-    ensures { result ≡ has_key number (slice_get (listed goroutines.now) at) }
-{
-    match goroutines.get(at) {
-        Some(other) => other.0 == number,
-        None => false,
-    }
-}
-
-// Whether a goroutine is among these, if they rise.
-fn is_among(goroutines: &[GoroutineId], g: GoroutineId) -> bool
-    ensures { Rises 0 (listed goroutines.now) → result ≡ is_in g.0 (map (λ h. h.0) goroutines.now) }
-{
-    let at = rank_among(goroutines, g.0);
-    is_at(goroutines, at, g.0)
+    roster.has(g.0)
 }
 
 /// The first entries are gone from memory.
@@ -147,12 +130,11 @@ pub fn drop_gone(holders: &mut Vec<TicketHolder>)
     holders.retain(|holder| !holder.is_gone);
 }
 
-/// Keeps the entries whose goroutine is among these, which rise.
-pub fn narrow(holders: &mut Vec<TicketHolder>, goroutines: &[GoroutineId])
-    requires { Rises 0 (listed goroutines.now) }
-    ensures { holders.new.items ≡ filter (λ h. is_in h.goroutine.0 (map (λ g. g.0) goroutines.now)) holders.old.items }
+/// Keeps the entries whose goroutine is there.
+pub fn narrow(holders: &mut Vec<TicketHolder>, roster: &Roster)
+    ensures { holders.new.items ≡ filter (λ h. is_in h.goroutine.0 (keys (plain_entries roster.now.places))) holders.old.items }
 {
-    holders.retain(|holder| is_among(goroutines, holder.goroutine));
+    holders.retain(|holder| is_among(roster, holder.goroutine));
 }
 
 /// Returns the last in the queue whose ticket is below this one, or `None`. It passes over entries that

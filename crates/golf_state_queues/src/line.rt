@@ -2,13 +2,15 @@
 //!
 //! Its invariant: the tickets rise, those of entries that are marked as gone too.
 
-ghost use Rattle.std.specs.Prelude.{◌≡◌, ◌<◌, ◌≤◌, [], ◌∷◌, ◌++◌, ◌-◌, drop, length, map, remove, take, IfOk, OnOk, OnErr};
-ghost use Rattle.golf_theory.specs.Maps.{AllBelow, Rises};
+ghost use Rattle.std.specs.Prelude.{◌≡◌, ◌<◌, ◌≤◌, [], ◌∷◌, ◌++◌, ◌-◌, drop, length, remove, take, IfOk, OnOk, OnErr};
+ghost use Rattle.golf_theory.specs.Maps.{AllBelow, Rises, keys};
+ghost use Rattle.golf_state_goroutines.specs.Places.{plain_entries};
 ghost use Rattle.golf_state_queues.specs.Lines.{spots};
-ghost use Rattle.golf_state_queues.specs.WaitQueues.{among, held, listed};
+ghost use Rattle.golf_state_queues.specs.WaitQueues.{among, held};
 
 use crate::holders::{TicketHolder, drop_front, drop_gone, end_of, narrow, start_of};
-use golf_base::{GoroutineId, Memory};
+use golf_base::Memory;
+use golf_state_goroutines::Roster;
 use std::alloc::Global;
 use std::marker::Model;
 
@@ -171,14 +173,13 @@ impl Line {
         }
     }
 
-    /// Those whose goroutine is among these, which rise, stay in the queue.
-    pub fn narrow(&mut self, goroutines: &[GoroutineId])
-        requires { Rises 0 (listed goroutines.now) }
-        ensures { held self.new ≡ among (map (λ h. h.0) goroutines.now) (held self.old) }
+    /// Those whose goroutine is there stay in the queue.
+    pub fn narrow(&mut self, roster: &Roster)
+        ensures { held self.new ≡ among (keys (plain_entries roster.now.places)) (held self.old) }
     {
         drop_front(&mut self.entries, self.front as usize);
         drop_gone(&mut self.entries);
-        narrow(&mut self.entries, goroutines);
+        narrow(&mut self.entries, roster);
         self.front = 0;
         self.gone = 0;
     }

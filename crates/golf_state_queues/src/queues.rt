@@ -1,17 +1,19 @@
 //! The queues of all objects.
 
-ghost use Rattle.std.specs.Prelude.{◌≡◌, ◌<◌, ◌≤◌, ◌+◌, ℕ, [], ◌∷◌, true, length, map, OnOk, slice_get};
-ghost use Rattle.golf_theory.specs.Maps.{Entry, Rises};
+ghost use Rattle.std.specs.Prelude.{◌≡◌, ◌<◌, ◌≤◌, ◌+◌, ℕ, [], ◌∷◌, true, length, OnOk, slice_get};
+ghost use Rattle.golf_theory.specs.Maps.{keys, Entry, Rises};
 ghost use Rattle.golf_theory.specs.Membership.{is_in};
 ghost use Rattle.golf_heap.specs.Objects.{rank};
 ghost use Rattle.golf_model.specs.Waiting.{side_number};
+ghost use Rattle.golf_state_goroutines.specs.Places.{plain_entries};
 ghost use Rattle.golf_state_queues.specs.Lines.{spots};
-ghost use Rattle.golf_state_queues.specs.WaitQueues.{WaitQueues, IsInOrder, key, held, wait_queues_of, wait_queue_at, has_key, keys_of, leaves, listed, standing, narrowed, AddsOnly, AreBelow, IsWithout, Keeps, StandsInAll};
+ghost use Rattle.golf_state_queues.specs.WaitQueues.{WaitQueues, IsInOrder, key, held, wait_queues_of, wait_queue_at, has_key, keys_of, leaves, standing, narrowed, AddsOnly, AreBelow, IsWithout, Keeps, StandsInAll};
 
 use crate::holders::{TicketHolder, has_anyone, join, part};
 use crate::line::Line;
 use golf_base::{GoroutineId, Memory, ObjectId};
 use golf_data::{Side, Wait};
+use golf_state_goroutines::Roster;
 use std::alloc::Global;
 use std::marker::Model;
 
@@ -85,13 +87,12 @@ fn stands_at(queues: &[Queue], at: usize, key: u64) -> bool
     }
 }
 
-// In each queue those stand still whose goroutine is among these, which rise, and nobody else.
-fn narrow_all(queues: &mut Vec<Queue>, goroutines: &[GoroutineId])
-    requires { Rises 0 (listed goroutines.now) }
-    ensures { wait_queues_of queues.new.items ≡ narrowed (map (λ g. g.0) goroutines.now) (wait_queues_of queues.old.items) }
+// In each queue those stand still whose goroutine is there, and nobody else.
+fn narrow_all(queues: &mut Vec<Queue>, roster: &Roster)
+    ensures { wait_queues_of queues.new.items ≡ narrowed (keys (plain_entries roster.now.places)) (wait_queues_of queues.old.items) }
 {
     for at in 0..queues.len() {
-        queues[at].holders.narrow(goroutines);
+        queues[at].holders.narrow(roster);
     }
 }
 
@@ -199,15 +200,13 @@ impl Queues {
         }
     }
 
-    /// Those whose goroutine is among these, which rise, stand in the queue still, and nobody else. It
-    /// takes no memory.
-    pub fn retain(&mut self, goroutines: &[GoroutineId])
-        requires { Rises 0 (listed goroutines.now) }
-        ensures queues { self.new ≡ narrowed (map (λ g. g.0) goroutines.now) self.old }
-        ensures kept { Keeps (λ t g. is_in g (map (λ h. h.0) goroutines.now) ≡ true) self.old self.new }
+    /// Those whose goroutine is there stand in the queue still, and nobody else. It takes no memory.
+    pub fn retain(&mut self, roster: &Roster)
+        ensures queues { self.new ≡ narrowed (keys (plain_entries roster.now.places)) self.old }
+        ensures kept { Keeps (λ t g. is_in g (keys (plain_entries roster.now.places)) ≡ true) self.old self.new }
         ensures below { (n : ℕ) → AreBelow n self.old → AreBelow n self.new }
     {
-        narrow_all(&mut self.queues, goroutines);
+        narrow_all(&mut self.queues, roster);
     }
 
     /// Queues in which nobody stands are gone. It takes no memory.

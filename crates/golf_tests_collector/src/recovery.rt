@@ -6,6 +6,7 @@ use golf_base::{Memory, ObjectId};
 use golf_data::{Code, Instr, Object, Report, Value};
 use golf_reclaim::Ledger;
 use golf_state::State;
+use golf_tests_support::{count_finalisers, count_goroutines};
 use std::alloc::Global;
 use std::process::Abort;
 use std::test::Fail;
@@ -53,8 +54,8 @@ fn seen_after(state: &State, report: &Report) -> After {
         objects: report.objects,
         there: state.heap().count(),
         locked: is_locked(state.heap().get(ObjectId(1))),
-        goroutines: state.goroutines().len(),
-        finalisers: state.finalisers().len(),
+        goroutines: count_goroutines(state),
+        finalisers: count_finalisers(state),
         queued: state.queue().len(),
         first: state.queue().first().map(|queued| queued.object),
     }
@@ -421,8 +422,8 @@ struct Standing {
 fn standing_of(state: &State, book: &Ledger) -> Standing {
     Standing {
         objects: state.heap().count(),
-        goroutines: state.goroutines().len(),
-        finalisers: state.finalisers().len(),
+        goroutines: count_goroutines(state),
+        finalisers: count_finalisers(state),
         queued: state.queue().len(),
         collections: book.collections(),
         reported: book.reported().len(),

@@ -2,9 +2,8 @@
 //! (`SetFinalizer`) and from the rules of this runtime.
 
 use crate::programs::program;
-use crate::stepping::{FINALISERS, MAIN, after, holds, take};
+use crate::stepping::{FINALISERS, MAIN, after, holds, runnable, take};
 use golf_base::ObjectId;
-use golf_data::Queued;
 use golf_state::State;
 use std::alloc::Global;
 use std::test::Fail;
@@ -14,10 +13,13 @@ use std::test::Fail;
 fn finalised(alloc: Global, finaliser: &str, turns: u32) -> Result<State, Fail> {
     let code = program(alloc, "NewStruct(0); Jump(1)", finaliser)?;
     let mut state = after(alloc, &code, &[(0, 2)])?;
-    state.enqueue(&[Queued {
-        object: ObjectId(1),
-        function: 1,
-    }])?;
+    if state.finaliser(ObjectId(1)).is_none() {
+        state.set_finaliser(ObjectId(1), 1)?;
+    }
+    let set = state.finalisers(alloc)?;
+    if set.len() == 1 {
+        state.queue_finalisers(&[false])?;
+    }
     take(alloc, &code, &mut state, 0, turns)?;
     Ok(state)
 }
@@ -25,7 +27,8 @@ fn finalised(alloc: Global, finaliser: &str, turns: u32) -> Result<State, Fail> 
 // Whether goroutine 0 stands first among those that can run, and has no frame.
 fn stands_first(alloc: Global) -> Result<bool, Fail> {
     let state = finalised(alloc, "", 0)?;
-    Ok(state.runnable() == [FINALISERS, MAIN].as_slice() && state.depth(FINALISERS) == 0)
+    let running = runnable(alloc, &state)?;
+    Ok(running.as_slice() == [FINALISERS, MAIN].as_slice() && state.depth(FINALISERS) == 0)
 }
 
 // Whether it takes the call in a turn.
@@ -37,10 +40,12 @@ fn takes_the_call(alloc: Global) -> Result<bool, Fail> {
 // Whether it prints the object's field, and is there after it.
 fn prints_and_stays(alloc: Global) -> Result<bool, Fail> {
     let state = finalised(alloc, "Load(0); Field(0); Print(1); Return", 5)?;
+    let running = runnable(alloc, &state)?;
+    let goroutines = state.goroutines(alloc)?;
     Ok(
         state.output() == b"0\n".as_slice()
-            && state.runnable() == [MAIN].as_slice()
-            && state.goroutines() == [FINALISERS, MAIN].as_slice(),
+            && running.as_slice() == [MAIN].as_slice()
+            && goroutines.as_slice() == [FINALISERS, MAIN].as_slice(),
     )
 }
 

@@ -9,7 +9,7 @@ use golf_base::{Memory, ObjectId};
 use golf_data::{Code, Ending, Side};
 use golf_machine::start;
 use golf_state::State;
-use golf_tests_support::take_turn;
+use golf_tests_support::{count_goroutines, take_turn};
 use std::alloc::Global;
 use std::test::Fail;
 
@@ -29,8 +29,8 @@ struct Seen {
 
 fn see(state: &State) -> Seen {
     Seen {
-        running: state.runnable().len(),
-        goroutines: state.goroutines().len(),
+        running: state.runnable_count(),
+        goroutines: count_goroutines(state),
         depth: state.depth(MAIN),
         stands: stands(state, MAIN),
         blocked: blocked(state, MAIN),

@@ -2,7 +2,7 @@
 
 use crate::codes::Texts;
 use crate::programs::program;
-use crate::stepping::{MAIN, OTHER, after};
+use crate::stepping::{MAIN, OTHER, after, runnable};
 use golf_base::{GoroutineId, ObjectId};
 use golf_data::{Ending, Goroutine, Mode, PanicKind, Side, Value, WaitKind};
 use golf_machine::Turned;
@@ -50,9 +50,9 @@ pub fn can_run<R: AllocGlobal + Abort>(
 ) -> Result<(), Fail> {
     for (turns, count, first) in rows {
         let state = run(rt.alloc(), texts, *turns)?;
-        let running = state.runnable();
+        let running = runnable(rt.alloc(), &state)?;
         assert!(rt;
-            running.len() == *count && running.first() == Some(first),
+            running.len() == *count && running.as_slice().first() == Some(first),
             "{turns:?}"
         );
     }

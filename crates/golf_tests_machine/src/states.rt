@@ -3,6 +3,7 @@
 use golf_base::{GoroutineId, List, Memory, Room};
 use golf_data::{Deferred, Frame, Leaving, Slots};
 use golf_state::{State, begin_return, enter_deferred, return_frame};
+use golf_tests_support::count_goroutines;
 use std::alloc::Global;
 use std::test::Fail;
 
@@ -41,7 +42,7 @@ fn started_anew(alloc: Global) -> Result<(GoroutineId, usize), Memory> {
     let second = state.spawn(List::new(alloc), 3)?;
     state.leave(second);
     let third = state.spawn(List::new(alloc), 4)?;
-    Ok((third, state.goroutines().len()))
+    Ok((third, count_goroutines(&state)))
 }
 
 // How many bytes are printed, and how many are left once they are cleared.

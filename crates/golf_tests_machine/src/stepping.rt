@@ -1,6 +1,6 @@
 //! Turns of goroutines by their places, and what a state shows after them.
 
-use golf_base::{GoroutineId, Memory};
+use golf_base::{GoroutineId, List, Memory};
 use golf_data::{Code, Mode, WaitKind};
 use golf_machine::start;
 use golf_state::State;
@@ -74,4 +74,13 @@ pub fn stands(state: &State, g: GoroutineId) -> Option<(u32, usize)> {
 pub fn holds<R: Abort>(rt: &R, claim: bool) -> Result<(), Fail> {
     assert!(rt; claim);
     Ok(())
+}
+
+/// The goroutines that can run, in rising order of number.
+pub fn runnable(alloc: Global, state: &State) -> Result<List<GoroutineId>, Memory> {
+    let mut goroutines = List::new(alloc);
+    for place in 0..state.runnable_count() {
+        goroutines.push(state.runnable_at(place))?;
+    }
+    Ok(goroutines)
 }

@@ -3,6 +3,7 @@
 #![tactic(auto)]
 
 mod codes;
+mod counting;
 mod fault;
 mod gates;
 mod making;
@@ -12,6 +13,7 @@ mod shapes;
 mod turns;
 
 pub use codes::{can_run, code, function, lines};
+pub use counting::{count_finalisers, count_goroutines};
 pub use fault::BenchFault;
 pub use gates::{CountingGate, MeetingGate, StealingGate};
 pub use making::{GraphFault, GraphMaker};

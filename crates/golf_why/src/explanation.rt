@@ -2,7 +2,6 @@
 
 ghost use Rattle.std.specs.Prelude.{◌≡◌, ◌<◌, IfOk, length, slice_get, None, unwrap_or};
 ghost use Rattle.golf_theory.specs.Maps.{find};
-ghost use Rattle.golf_model.specs.Futures.{Numbered};
 ghost use Rattle.golf_model.specs.Graph.{sleeper_count};
 ghost use Rattle.golf_model.specs.Presence.{IsWhole};
 ghost use Rattle.golf_model.specs.Reporting.{entry_of};
@@ -91,8 +90,7 @@ impl Explanation {
     /// The only error is `Memory`, which also comes if objects and blocked goroutines together are too
     /// many for a `u32`.
     pub fn new(alloc: Global, state: &State) -> Result<Explanation, Memory>
-        requires numbered { Numbered state.now }
-        requires whole { IsWhole state.now }
+        requires { IsWhole state.now }
         ensures explains { IfOk result (Explains state.now) }
         ensures ready { IfOk result IsReady }
     {

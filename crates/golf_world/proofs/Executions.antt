@@ -1,9 +1,8 @@
 -- Histories that grow by an entry: the state, the reports and the book after them.
 -- For: `new`, `take_turn`, src/execution.rt; `IsExecution`, specs/History.antt
 -- By: induction over the list of entries, and over the list of states right before collections
-use Rattle.std.proofs.Common.{◌≡◌, ℕ, zero, suc, ◌%◌, ◌<◌, ◌⊎◌, inl, inr, Bool, true, false, List, [], ◌∷◌, ◌++◌, length, take, map, get_or, Option, Some, None, slice_get, refl, sym, ap, ◌∙◌, subst, arith, length-append, append-nil, append_assoc}
+use Rattle.std.proofs.Common.{◌≡◌, ℕ, zero, suc, ◌%◌, ◌<◌, ◌⊎◌, inl, inr, Bool, true, false, List, [], ◌∷◌, ◌++◌, length, take, Option, Some, None, slice_get, refl, sym, ap, ◌∙◌, subst, arith, length-append, append-nil, append_assoc}
 use Rattle.std.specs.Prelude.{is_some, option_to_list}
-use Rattle.std.proofs.lemmas.List.{length-map}
 use Rattle.golf_base.specs.declared.ids.GoroutineId.{GoroutineId}
 use Rattle.golf_data.specs.declared.code.Code.{Code}
 use Rattle.golf_data.specs.declared.goroutine.Ending.{Ending}
@@ -195,11 +194,10 @@ module _ (code : Code) where
       let same : count ≡ length (runnable (after code es)) = n.many ∙ ap (λ (u : State). length (runnable u)) n.execution.state in
       n.is ∙ (λ i. number_at p (n.here i) (same i))
 
-  pub does_turn : {passes at number count : ℕ} {s : State} {b : Book} {es old new : List HistoryEntry} {rs : List Report} (p : ℕ) (qs : List GoroutineId) → TakesNext code passes p number at count s b es rs → length es < 100000 → ending s ≡ None → map (λ g. g.0) qs ≡ runnable s → es ≡ old → new ≡ es ++ entry p number ∷ []
-      → Does code p (Stepped.Turned at (get_or qs (number % count) (record { 0 = 0 })) number) old new
-  does_turn {at = at} {number = number} {count = count} {s = s} {es = es} {new = new} p qs n few goes told same made =
-      let lengths : length qs ≡ count = sym (length-map qs (λ (g : GoroutineId). g.0)) ∙ ap (λ (ys : List ℕ). length ys) told ∙ sym n.many in
-      let who : whose_turn (after code es) number ≡ Some (get_or qs (number % count) (record { 0 = 0 })).0 =
-      ap (λ (u : State). whose_turn u number) (sym n.execution.state) ∙ whose s number qs told goes ∙ ap (λ (k : ℕ). let d : GoroutineId = record { 0 = 0 } in Some (get_or qs (number % k) d).0) lengths in
-      subst (λ (l : List HistoryEntry). Does code p (Stepped.Turned at (get_or qs (number % count) (record { 0 = 0 })) number) l new) same
+  pub does_turn : {passes number at count : ℕ} {s : State} {b : Book} {es old new : List HistoryEntry} {rs : List Report} (p : ℕ) (g : GoroutineId) → TakesNext code passes p number at count s b es rs → length es < 100000 → ending s ≡ None → slice_get (runnable s) (number % count) ≡ Some g.0 → es ≡ old → new ≡ es ++ entry p number ∷ []
+      → Does code p (Stepped.Turned at g number) old new
+  does_turn {number = number} {at = at} {count = count} {s = s} {es = es} {new = new} p g n few goes here same made =
+      let who : whose_turn (after code es) number ≡ Some g.0 =
+      ap (λ (u : State). whose_turn u number) (sym n.execution.state) ∙ whose s number g.0 (number % count) count here refl n.many in
+      subst (λ (l : List HistoryEntry). Does code p (Stepped.Turned at g number) l new) same
       (n.here, few, ap ending (sym n.execution.state) ∙ goes, next_is p n, who, made)

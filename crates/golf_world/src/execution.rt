@@ -46,7 +46,7 @@ impl<W: WorldName> Model for Execution<W> {
 fn how_many(state: &State) -> u64
     ensures { result ≡ length (runnable state.now) }
 {
-    state.runnable().len() as u64
+    state.runnable_count() as u64
 }
 
 // The number with which a pass takes the turn at a place, if so many can run.
@@ -114,7 +114,7 @@ impl<W: WorldName> Execution<W> {
         self.reports.reserve(1)?;
         let count = how_many(&self.state);
         let number = number_of(pass, at, count);
-        let goroutine = self.state.runnable()[(number % count) as usize];
+        let goroutine = self.state.runnable_at((number % count) as usize);
         let report = turn_and_collect(rt, alloc, code, &mut self.state, &mut self.book, number)?;
         add_report(&mut self.reports, report);
         self.entries.push_ready(HistoryEntry { pass, number });

@@ -1,9 +1,10 @@
 //! Steps on the table of a world, under its lock. In each the pass's seat is joined to the keeper's and split off
 //! again.
 
-ghost use Rattle.std.specs.Prelude.{◌≡◌, ◌<◌, ◌∷◌, ◌++◌, [], length};
+ghost use Rattle.std.specs.Prelude.{◌≡◌, ◌<◌, ◌∷◌, ◌++◌, [], None, length};
 ghost use mathlib.Core.List.{IsPrefix};
-ghost use Rattle.golf_world.specs.History.{entry, next_number};
+ghost use Rattle.golf_model.specs.State.{ending};
+ghost use Rattle.golf_world.specs.History.{after, entry, next_number};
 ghost use Rattle.golf_world.specs.Rule.{keeper_view, pass_view};
 ghost use Rattle.golf_world.specs.Seats.{mine_in};
 
@@ -25,6 +26,7 @@ pub(crate) fn append<W: WorldName>(
     requires keeper { keeper.old.me ≡ (keeper_view W.passes keeper.old.me.0.seen, []) }
     requires own { own.me ≡ (pass_view W.passes pass (mine_in own.me.0.held) own.me.0.seen, []) }
     requires few { length keeper.old.me.0.seen < 100000 }
+    requires goes { ending (after W.code keeper.old.me.0.seen) ≡ None }
     ensures keeper_table { keeper.new.table_id ≡ table.now.table_id }
     ensures own_table { result.table_id ≡ table.now.table_id }
     ensures later { IsPrefix own.me.0.seen keeper.old.me.0.seen }

@@ -56,8 +56,8 @@ pub(crate) fn turn_and_collect<R: Threads + Sync>(
     ensures state { OnErr result (state.new ≡ state.old) }
     ensures book { OnErr result (book.new ≡ book.old) }
 {
-    let runnable = state.runnable();
-    let g = runnable[(number % runnable.len() as u64) as usize];
+    let count = state.runnable_count() as u64;
+    let g = state.runnable_at((number % count) as usize);
     let at = place_of(state, g);
     match turn(alloc, code, state, number)? {
         Turned::WantsCollection => {}

@@ -1,8 +1,11 @@
-use Rattle.std.proofs.Common.{ℕ, ◌+◌, ◌<◌, Bool, List, length, ap, sym, subst, arith}
+use Rattle.std.proofs.Common.{ℕ, ◌+◌, ◌<◌, Bool, List, length, ap, sym, subst, rules, arith}
 use Rattle.std.specs.Prelude.{◌↔◌, IsTrue}
 use Rattle.std.proofs.lemmas.List.{length_push}
 use Rattle.golf_marks.specs.Flags.{IsSet}
-use Rattle.golf_final.specs.Keeping.{IsKept}
+use Rattle.golf_model.specs.declared.graph.GraphParts.{GraphParts}
+use Rattle.golf_mark.specs.Marking.{MarksLeast}
+use Rattle.golf_final.specs.Keeping.{IsKept, HasKept}
+use Rattle.golf_final.proofs.KeepLaw.{keeps-alike}
 use Rattle.golf_final.specs.Backward.{IsBackward}
 use Rattle.golf_final.proofs.Parts.{more-flags}
 use Rattle.golf_final.proofs.Leading.{kept-alike}
@@ -23,3 +26,13 @@ loop-sleeper-preserved c =
       flags = subst (λ (bs : List Bool). (t : ℕ) → t < s + 1 → IsSet bs t ↔ IsKept g m c.args.sets_finalisers t) (sym c.in_ok-push.ensures.ok)
           (more-flags (IsKept g m c.args.sets_finalisers) c.loop-sleeper.kept s c.is_kept.result c.loop-sleeper.invariant.count last c.loop-sleeper.invariant.flags);
     }
+
+pub returns-clause-kept : goal.returns-clause-kept
+returns-clause-kept c = search rules
+
+pub returns-clause-rule : goal.returns-clause-rule
+returns-clause-rule c = λ s n w is marks.
+    let g = c.args.graph.now in
+    let m = c.args.marked.now in
+    let sets = c.args.sets_finalisers in
+    keeps-alike s m sets c.loop-sleeper.kept n w (subst (λ (p : GraphParts). MarksLeast p m) is marks) (subst (λ (p : GraphParts). HasKept p m sets c.loop-sleeper.kept) is (returns-clause-kept c))

@@ -1,5 +1,7 @@
 use Rattle.std.proofs.Common.{◌≡◌, ℕ, ◌-◌, Bool, not, List, filter, length, map, refl, sym, ap, ◌∙◌, arith}
 use Rattle.std.proofs.lemmas.List.{length-map}
+use Rattle.std.specs.Prelude.{is_some}
+use Rattle.golf_theory.specs.Maps.{find}
 use Rattle.golf_theory.specs.Membership.{is_in}
 use Rattle.golf_base.specs.declared.ids.GoroutineId.{GoroutineId}
 use Rattle.golf_data.specs.declared.report.Book.{Book}
@@ -11,26 +13,39 @@ use Rattle.golf_model.specs.Collecting.{plain_collect, removed, retained}
 use Rattle.golf_model.specs.Reporting.{numbers, entries, retained_objects}
 use Rattle.golf_heap.specs.Objects.{kept}
 use Rattle.golf_reclaim.proofs.Reports.{report-is, book-is, dead-apart, new-apart, fewer-gone}
-use Rattle.golf_reclaim.proofs.States.{queued-alike, collected, stays-are}
+use Rattle.golf_reclaim.proofs.States.{zero-stays, queued-alike, collected, stays-are}
 use Rattle.golf_reclaim.proofs.Translating.{retained-flags}
 use Rattle.golf_reclaim.proofs.Promises.{are-still, is-unseen, leaves-exactly, moves-on}
 use Rattle.golf_reclaim.proofs.collection.collect.Goals as goal
 
 pub unreported-requires : goal.unreported-requires
 unreported-requires g c =
-    dead-apart c.args.state.now c.args.book.now c.as_slice.result.now c.requires.gone (ap numbers c.as_slice.ensures ∙ c.in_ok-found.ensures.dead)
+    dead-apart c.args.state.now c.args.book.now c.as_slice-2.result.now c.requires.gone (ap numbers c.as_slice-2.ensures ∙ c.in_ok-found.ensures.dead)
 
 pub note-requires-clause-apart : goal.note-requires-clause-apart
 note-requires-clause-apart g c =
-    new-apart c.args.state.now c.args.book.now c.as_slice.result.now c.as_slice-3.result.now c.requires.gone (ap numbers c.as_slice.ensures ∙ c.in_ok-found.ensures.dead) (c.as_slice-3.ensures ∙ c.in_ok-new.ensures)
+    new-apart c.args.state.now c.args.book.now c.as_slice-2.result.now c.as_slice-4.result.now c.requires.gone (ap numbers c.as_slice-2.ensures ∙ c.in_ok-found.ensures.dead) (c.as_slice-4.ensures ∙ c.in_ok-new.ensures)
 
-pub retain_goroutines-requires : goal.retain_goroutines-requires
-retain_goroutines-requires g c =
+pub retain_goroutines-requires-clause-count : goal.retain_goroutines-requires-clause-count
+retain_goroutines-requires-clause-count g c =
     let s = c.args.state.now in
     let out : List ℕ = numbers c.as_slice-gone.result.now in
-    let stays : c.as_slice-4.result.now ≡ map (λ (e : ℕ × GoroutineView). not (is_in e.0 out)) s.goroutines =
-    c.as_slice-4.ensures ∙ c.in_ok-stays.ensures ∙ stays-are (λ k. not (is_in k out)) c.goroutines.result.now s.goroutines c.goroutines.ensures.present in
+    let stays : c.as_slice-5.result.now ≡ map (λ (e : ℕ × GoroutineView). not (is_in e.0 out)) s.goroutines =
+    c.as_slice-5.ensures ∙ c.in_ok-stays.ensures ∙ stays-are (λ k. not (is_in k out)) c.as_slice.result.now s.goroutines (ap (λ (hs : List GoroutineId). map (λ h. h.0) hs) c.as_slice.ensures ∙ c.in_ok-goroutines.ensures.present) in
     ap length stays ∙ length-map s.goroutines (λ (e : ℕ × GoroutineView). not (is_in e.0 out)) ∙ ap (λ (u : State). length u.goroutines) (sym c.in_ok-note.ensures.state)
+
+pub retain_goroutines-requires-clause-zero : goal.retain_goroutines-requires-clause-zero
+retain_goroutines-requires-clause-zero g c =
+    let s = c.args.state.now in
+    let recover : Bool = c.args.options.recover in
+    let sets : Bool = c.args.options.sets_finalisers in
+    let gone : List ℕ = removed s recover sets in
+    let out : numbers c.as_slice-gone.result.now ≡ gone = ap numbers c.as_slice-gone.ensures ∙ c.in_ok-found.ensures.gone in
+    let stays : c.as_slice-5.result.now ≡ map (λ (e : ℕ × GoroutineView). not (is_in e.0 gone)) s.goroutines =
+    c.as_slice-5.ensures ∙ c.in_ok-stays.ensures ∙ ap (λ (l : List ℕ). map (λ (h : GoroutineId). not (is_in h.0 l)) c.as_slice.result.now) out
+    ∙ stays-are (λ k. not (is_in k gone)) c.as_slice.result.now s.goroutines (ap (λ (hs : List GoroutineId). map (λ h. h.0) hs) c.as_slice.ensures ∙ c.in_ok-goroutines.ensures.present) in
+    ap (λ (u : State). is_some (find 0 (kept c.as_slice-5.result.now u.goroutines))) c.in_ok-note.ensures.state
+    ∙ zero-stays s recover sets c.as_slice-5.result.now stays c.goroutines.ensures.zero
 
 pub overflow_sub-result : goal.overflow_sub-result
 overflow_sub-result g c =
@@ -45,24 +60,24 @@ overflow_cast-result-2 g c =
 pub returns-clause-state : goal.returns-clause-state
 returns-clause-state g c =
     let s = c.args.state.now in
-    let n = c.requires.numbered in
+    let n = c.in_ok-found.ensures.numbered in
     let w = c.requires.whole in
     let recover : Bool = c.args.options.recover in
     let sets : Bool = c.args.options.sets_finalisers in
     let gone : List ℕ = removed s recover sets in
     let out : numbers c.as_slice-gone.result.now ≡ gone = ap numbers c.as_slice-gone.ensures ∙ c.in_ok-found.ensures.gone in
-    let stays : c.as_slice-4.result.now ≡ map (λ (e : ℕ × GoroutineView). not (is_in e.0 gone)) s.goroutines =
-    c.as_slice-4.ensures ∙ c.in_ok-stays.ensures ∙ ap (λ (l : List ℕ). map (λ (h : GoroutineId). not (is_in h.0 l)) c.goroutines.result.now) out
-    ∙ stays-are (λ k. not (is_in k gone)) c.goroutines.result.now s.goroutines c.goroutines.ensures.present in
-    let keep : c.as_slice-5.result.now ≡ map (λ (e : ℕ × Object). is_in e.0 (retained s gone)) s.objects =
-    c.as_slice-5.ensures ∙ c.in_ok-rest.ensures.keep ∙ ap (λ (l : List ℕ). map (λ (e : ℕ × Object). is_in e.0 (retained s l)) s.objects) out in
+    let stays : c.as_slice-5.result.now ≡ map (λ (e : ℕ × GoroutineView). not (is_in e.0 gone)) s.goroutines =
+    c.as_slice-5.ensures ∙ c.in_ok-stays.ensures ∙ ap (λ (l : List ℕ). map (λ (h : GoroutineId). not (is_in h.0 l)) c.as_slice.result.now) out
+    ∙ stays-are (λ k. not (is_in k gone)) c.as_slice.result.now s.goroutines (ap (λ (hs : List GoroutineId). map (λ h. h.0) hs) c.as_slice.ensures ∙ c.in_ok-goroutines.ensures.present) in
+    let keep : c.as_slice-6.result.now ≡ map (λ (e : ℕ × Object). is_in e.0 (retained s gone)) s.objects =
+    c.as_slice-6.ensures ∙ c.in_ok-rest.ensures.keep ∙ ap (λ (l : List ℕ). map (λ (e : ℕ × Object). is_in e.0 (retained s l)) s.objects) out in
     let flags : c.in_ok-rest.rest.marked.flags ≡ map (λ (e : ℕ × Object). is_in e.0 (reach s (sources s gone))) s.objects =
     retained-flags s n w (numbers c.as_slice-gone.result.now) c.in_ok-rest.rest.marked c.in_ok-rest.ensures.marked
     ∙ ap (λ (l : List ℕ). map (λ (e : ℕ × Object). is_in e.0 (reach s (sources s l))) s.objects) out in
     let queued : c.note.new.state ≡ plain_collect s = c.in_ok-note.ensures.state ∙ queued-alike s n recover sets w c.in_ok-rest.rest.marked.flags flags in
     c.retain_objects.ensures
-    ∙ ap (λ (u : State). record u { objects = kept c.as_slice-5.result.now u.objects }) c.retain_goroutines.ensures
-    ∙ collected s n recover sets c.note.new.state c.as_slice-4.result.now c.as_slice-5.result.now queued stays keep
+    ∙ ap (λ (u : State). record u { objects = kept c.as_slice-6.result.now u.objects }) c.retain_goroutines.ensures
+    ∙ collected s n recover sets c.note.new.state c.as_slice-5.result.now c.as_slice-6.result.now queued stays keep
 
 pub returns-clause-report : goal.returns-clause-report
 returns-clause-report g c =
@@ -75,7 +90,7 @@ returns-clause-report g c =
     let new = c.in_ok-new.new in
     let are = c.in_ok-found.ensures.dead in
     let out : numbers gone ≡ removed s recover sets = ap numbers c.as_slice-gone.ensures ∙ c.in_ok-found.ensures.gone in
-    let fresh = c.in_ok-new.ensures ∙ ap (λ (l : List GoroutineId). filter (λ (h : GoroutineId). not (is_in h.0 (numbers b.reported))) l) c.as_slice.ensures in
+    let fresh = c.in_ok-new.ensures ∙ ap (λ (l : List GoroutineId). filter (λ (h : GoroutineId). not (is_in h.0 (numbers b.reported))) l) c.as_slice-2.ensures in
     let less = fewer-gone s b recover sets c.requires.gone found gone are out in
     report-is s b recover sets c.requires.gone found new gone are out fresh (record {
       number = c.collections.result;
@@ -87,7 +102,7 @@ returns-clause-report g c =
     })
     (c.collections.ensures ∙ ap (λ (x : Book). x.collections) c.in_ok-note.ensures.book)
     c.in_ok-found.ensures.objects
-    (c.in_ok-reported.ensures ∙ ap (λ (l : List GoroutineId). entries s (numbers l)) c.as_slice-2.ensures)
+    (c.in_ok-reported.ensures ∙ ap (λ (l : List GoroutineId). entries s (numbers l)) c.as_slice-3.ensures)
     (omega (arith, less, c.len.ensures))
     refl
     (c.in_ok-rest.ensures.objects ∙ ap (λ (l : List ℕ). length (retained_objects s l)) out)
@@ -99,11 +114,11 @@ returns-clause-book g c =
     let recover : Bool = c.args.options.recover in
     let sets : Bool = c.args.options.sets_finalisers in
     let out : numbers c.as_slice-gone.result.now ≡ removed s recover sets = ap numbers c.as_slice-gone.ensures ∙ c.in_ok-found.ensures.gone in
-    let fresh = c.as_slice-3.ensures ∙ c.in_ok-new.ensures ∙ ap (λ (l : List GoroutineId). filter (λ (h : GoroutineId). not (is_in h.0 (numbers b.reported))) l) c.as_slice.ensures in
-    c.in_ok-note.ensures.book ∙ book-is s b recover sets c.requires.gone c.in_ok-found.found.dead c.as_slice-3.result.now c.as_slice-gone.result.now c.in_ok-found.ensures.dead out fresh
+    let fresh = c.as_slice-4.ensures ∙ c.in_ok-new.ensures ∙ ap (λ (l : List GoroutineId). filter (λ (h : GoroutineId). not (is_in h.0 (numbers b.reported))) l) c.as_slice-2.ensures in
+    c.in_ok-note.ensures.book ∙ book-is s b recover sets c.requires.gone c.in_ok-found.found.dead c.as_slice-4.result.now c.as_slice-gone.result.now c.in_ok-found.ensures.dead out fresh
 
 pub returns-clause-still : goal.returns-clause-still
-returns-clause-still g c = are-still c.args.state.now c.args.book.now c.args.options.recover c.args.options.sets_finalisers _ c.requires.numbered (returns-clause-report g c)
+returns-clause-still g c = are-still c.args.state.now c.args.book.now c.args.options.recover c.args.options.sets_finalisers _ c.in_ok-found.ensures.numbered (returns-clause-report g c)
 
 pub returns-clause-unseen : goal.returns-clause-unseen
 returns-clause-unseen g c = is-unseen c.args.state.now c.retain_objects.new.self c.args.options.recover c.args.options.sets_finalisers (returns-clause-state g c)

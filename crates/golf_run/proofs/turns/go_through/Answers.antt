@@ -1,6 +1,5 @@
 use Rattle.std.proofs.Common.{refl, sym, subst, ap, ◌∙◌}
 use Rattle.std.specs.Io.KnownBytes.{Appends}
-use Rattle.golf_model.specs.Futures.{Numbered}
 use Rattle.golf_model.specs.Presence.{IsWhole}
 use Rattle.golf_reclaim.specs.Noting.{AreGone}
 use Rattle.golf_run_texts.specs.Output.{joined}
@@ -10,7 +9,7 @@ use Rattle.golf_run.specs.HasRun.{sinks}
 use Rattle.golf_run.specs.UnderWay.{IsGoing}
 use Rattle.golf_run.specs.HasGone.{WentThrough}
 use Rattle.golf_run.proofs.Ending.{went, tell-stopped, turn-stopped}
-use Rattle.golf_run.proofs.Stepping.{starts, going-quiet, going-loud, numbered-next, whole-next, gone-next, few-next, event-next, report-next}
+use Rattle.golf_run.proofs.Stepping.{starts, going-quiet, going-loud, whole-next, gone-next, few-next, event-next, report-next}
 use Rattle.golf_run.proofs.Silent.{come-next, stopped-going}
 use Rattle.golf_run.proofs.Advanced.{advanced-some, advanced-not, advanced-none}
 use Rattle.golf_run.proofs.turns.go_through.Goals as goal
@@ -26,11 +25,6 @@ returns-in_err-collects g c =
     let a = advanced-not c.in_err-collects.was c.advance.ensures in
     let next = come-next a.come c.loop-book.invariant.going in
     turn-stopped c.from_residual-in_err-collects.result c.from_residual-in_err-collects.ensures.0 c.from_residual-in_err-collects.ensures.1 (event-next next c.loop-book.invariant.steady) (record { after = c.advance.new.state; failed = a.failed })
-
-pub tell-requires-clause-numbered : goal.tell-requires-clause-numbered
-tell-requires-clause-numbered g c = λ κs within.
-    let a = advanced-some c.in-Some.is c.in_ok-collects.ensures in
-    subst Numbered (sym a.stands) (numbered-next (come-next a.come c.loop-book.invariant.going))
 
 pub tell-requires-clause-whole : goal.tell-requires-clause-whole
 tell-requires-clause-whole g c = λ κs within.

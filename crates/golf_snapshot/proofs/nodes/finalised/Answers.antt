@@ -16,4 +16,4 @@ pub returns : goal.returns
 returns c =
     let s = c.args.state.now in
     map-done (λ (d : ℕ × Object). has_finaliser s d.0) c.heap-heap.result.now.objects c.loop-rank.rank c.loop-rank.flags (omega arith) c.loop-rank.invariant
-    ∙ ap (λ (h : NumberedObjects). map (λ (d : ℕ × Object). has_finaliser s d.0) h.objects) c.heap-heap.ensures
+    ∙ ap (λ (h : NumberedObjects). map (λ (d : ℕ × Object). has_finaliser s d.0) h.objects) c.heap-heap.ensures.objects

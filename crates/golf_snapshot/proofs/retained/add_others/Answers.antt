@@ -1,4 +1,4 @@
-use Rattle.std.proofs.Common.{◌≡◌, ℕ, ◌+◌, Bool, true, false, not, length, take, get_or, refl, ◌∙◌, arith}
+use Rattle.std.proofs.Common.{◌≡◌, ℕ, ◌+◌, Bool, true, false, not, List, map, length, take, get_or, refl, ap, ◌∙◌, arith}
 use Rattle.golf_theory.specs.Membership.{is_in}
 use Rattle.golf_base.specs.declared.ids.GoroutineId.{GoroutineId}
 use Rattle.golf_snapshot.specs.Stepping.{sleepers_of}
@@ -27,18 +27,19 @@ loop-g-preserved c =
     let s = c.args.state.now in
     let live = c.args.live.now in
     let i = c.loop-g.g-index in
-    let gs = c.goroutines-g-items.result.now in
-    let listed = c.goroutines-g-items.ensures in
+    let gs = c.as_slice-g-items.result.now in
+    let rises = c.goroutines.ensures.rises in
+    let present = ap (λ (xs : List GoroutineId). map (λ g. g.0) xs) c.as_slice-g-items.ensures ∙ c.in_ok-goroutines.ensures.present in
     let d : GoroutineId = record { 0 = 0 } in
     let g : GoroutineId = get_or gs i d in
     let test : ℕ → Bool = λ h. not (is_in h c.args.gone.now) in
-    let here = entry-listed s.goroutines gs i d listed.rises listed.present c.loop-g-test.true in
+    let here = entry-listed s.goroutines gs i d rises present c.loop-g-test.true in
     let old = c.loop-g.invariant in
     elim c.if-is_next.branch [
       | then-is_next+in_ok-add_sleeper_unless_gone w ↦ (
-          let yes = next-sleeps s live c.requires.live c.loop-g.sleeper g listed.rises (c.is_next.ensures.next.0 w.if-is_next.true) in
+          let yes = next-sleeps s live c.requires.live c.loop-g.sleeper g rises (c.is_next.ensures.next.0 w.if-is_next.true) in
           let more : length (sleepers_of s.objects (take (i + 1) s.goroutines)) ≡ c.loop-g.sleeper + 1 = count-next s live c.requires.live i g.0 c.loop-g.sleeper here.0 here.1 here.2 old.1 true yes in (
-            gather-listed (TestedNodes s.objects test) refl (tested-append s.objects test) c.args.nodes.now s.goroutines gs i d listed.rises listed.present c.loop-g-test.true old.0
+            gather-listed (TestedNodes s.objects test) refl (tested-append s.objects test) c.args.nodes.now s.goroutines gs i d rises present c.loop-g-test.true old.0
                 (sleeper-nodes s live c.requires.live i g.0 c.loop-g.sleeper here.0 here.1 here.2 old.1 test c.loop-g.nodes c.if-is_next.nodes yes (w.nodes-is ∙ w.in_ok-add_sleeper_unless_gone.ensures)),
             omega (arith, w.sleeper-is, more),
           )
@@ -46,7 +47,7 @@ loop-g-preserved c =
       | else-is_next+in_ok-add_unless_gone w ↦ (
           let awake = else-awake s live c.requires.live i g.0 c.loop-g.sleeper here.0 here.1 here.2 old.1 (λ e. let yes = c.is_next.ensures.next.1 e in let no = w.if-is_next.false in cc) in
           let same : length (sleepers_of s.objects (take (i + 1) s.goroutines)) ≡ c.loop-g.sleeper + 0 = count-next s live c.requires.live i g.0 c.loop-g.sleeper here.0 here.1 here.2 old.1 false awake in (
-            gather-listed (TestedNodes s.objects test) refl (tested-append s.objects test) c.args.nodes.now s.goroutines gs i d listed.rises listed.present c.loop-g-test.true old.0
+            gather-listed (TestedNodes s.objects test) refl (tested-append s.objects test) c.args.nodes.now s.goroutines gs i d rises present c.loop-g-test.true old.0
                 (w.nodes-is ∙ w.in_ok-add_unless_gone.ensures),
             omega (arith, w.sleeper-is, same),
           )
@@ -57,4 +58,4 @@ pub returns : goal.returns
 returns c =
     let s = c.args.state.now in
     let test : ℕ → Bool = λ g. not (is_in g c.args.gone.now) in
-    gather-end (TestedNodes s.objects test) refl (tested-append s.objects test) c.args.nodes.now c.loop-g.nodes s.goroutines c.goroutines-g-items.result.now c.loop-g.g-index c.goroutines-g-items.ensures.present c.loop-g-test.false c.loop-g.invariant.0
+    gather-end (TestedNodes s.objects test) refl (tested-append s.objects test) c.args.nodes.now c.loop-g.nodes s.goroutines c.as_slice-g-items.result.now c.loop-g.g-index (ap (λ (xs : List GoroutineId). map (λ g. g.0) xs) c.as_slice-g-items.ensures ∙ c.in_ok-goroutines.ensures.present) c.loop-g-test.false c.loop-g.invariant.0

@@ -6,7 +6,7 @@ use Rattle.golf_model.specs.Views.{GoroutineView}
 use Rattle.golf_model.specs.Waiting.{Waiter}
 use Rattle.golf_state_queues.specs.WaitQueues.{held}
 use Rattle.golf_state_queues.specs.declared.holders.TicketHolder.{TicketHolder}
-use Rattle.golf_state.specs.Places.{plain_entries}
+use Rattle.golf_state_goroutines.specs.Places.{plain_entries}
 use Rattle.golf_state.specs.Seen.{waiter_by, or_later, first_held}
 use Rattle.golf_state.specs.Waited.{waiting_of}
 use Rattle.golf_state.specs.declared.waiters.Waiting.{Waiting}
@@ -30,7 +30,7 @@ pub returns-in-Some : goal.returns-in-Some
 returns-in-Some c =
     let o = c.args.object.0 in
     let side = c.args.side in
-    let gs = plain_entries c.args.places.now in
+    let gs = plain_entries c.args.roster.now.places in
     let hs = c.args.queue.now in
     let i = c.loop-holder.holder-index in
     told-some o side gs _ (first_held o side gs (held (drop (i + 1) hs))) c.in-Some.waiting c.in-Some.ensures
@@ -41,7 +41,7 @@ pub returns : goal.returns
 returns c =
     let o = c.args.object.0 in
     let side = c.args.side in
-    let gs = plain_entries c.args.places.now in
+    let gs = plain_entries c.args.roster.now.places in
     let hs = c.args.queue.now in
     let end : held (drop c.loop-holder.holder-index hs) ≡ [] = ap held (drop_of_length-le hs (omega arith)) in
     ap (λ (m : Option Waiter). option_map waiting_of m)

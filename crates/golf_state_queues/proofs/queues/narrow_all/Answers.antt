@@ -1,7 +1,9 @@
-use Rattle.std.proofs.Common.{◌≡◌, ℕ, suc, ◌+◌, ◌<◌, List, Some, length, map, refl, sym, ap, ◌∙◌, arith, slice_get, slice_set}
+use Rattle.std.proofs.Common.{◌≡◌, ℕ, suc, ◌+◌, ◌<◌, List, Some, length, refl, sym, ap, ◌∙◌, arith, slice_get, slice_set}
 use Rattle.std.specs.Prelude.{option_map}
 use Rattle.std.proofs.lemmas.List.{length-map, length-set}
 use Rattle.std.proofs.lemmas.Option.{slice_get_read, slice_get-map}
+use Rattle.golf_theory.specs.Maps.{keys}
+use Rattle.golf_state_goroutines.specs.Places.{plain_entries}
 use Rattle.golf_state_queues.specs.WaitQueues.{WaitQueues, key, held, among, wait_queues_of}
 use Rattle.golf_state_queues.specs.declared.queues.Queue.{Queue}
 use Rattle.golf_state_queues.proofs.Narrowing.{changed_to, changed-read, changed-more, changed-all, map-set}
@@ -40,7 +42,7 @@ loop-at-preserved c =
     let within : c.loop-at.at < length qs = omega (arith, c.loop-at.invariant.size) in
     record {
       size = length-set qs c.loop-at.at r ∙ c.loop-at.invariant.size;
-      queues = more (map (λ g. g.0) c.args.goroutines.now) c.loop-at.at (c.loop-at.at + 1) qs (wait_queues_of c.args.queues.now.items) q r
+      queues = more (keys (plain_entries c.args.roster.now.places)) c.loop-at.at (c.loop-at.at + 1) qs (wait_queues_of c.args.queues.now.items) q r
           c.loop-at.invariant.queues (slice_get_read qs (length qs) c.loop-at.at q refl within c.index_mut.ensures.value) (record { object = refl; side = refl; holders = c.narrow.ensures }) (omega arith);
     }
 
@@ -48,4 +50,4 @@ pub returns : goal.returns
 returns c =
     let same : length (wait_queues_of c.args.queues.now.items) ≡ length c.args.queues.now.items = length-map c.args.queues.now.items _ in
     c.loop-at.invariant.queues
-    ∙ changed-all (λ (e : ℕ × List (ℕ × ℕ)). (e.0, among (map (λ g. g.0) c.args.goroutines.now) e.1)) c.loop-at.at (wait_queues_of c.args.queues.now.items) (omega (arith, same))
+    ∙ changed-all (λ (e : ℕ × List (ℕ × ℕ)). (e.0, among (keys (plain_entries c.args.roster.now.places)) e.1)) c.loop-at.at (wait_queues_of c.args.queues.now.items) (omega (arith, same))

@@ -1,4 +1,6 @@
-use Rattle.std.proofs.Common.{◌≡◌, ℕ, List, length, map}
+use Rattle.std.proofs.Common.{◌≡◌, ℕ, List, length}
+use Rattle.golf_theory.specs.Maps.{keys}
+use Rattle.golf_state_goroutines.specs.Places.{plain_entries}
 use Rattle.golf_state_queues.specs.WaitQueues.{among, wait_queues_of}
 use Rattle.golf_state_queues.proofs.Narrowing.{changed_to}
 use Rattle.golf_state_queues.proofs.queues.narrow_all.Given as goal
@@ -7,5 +9,5 @@ use Rattle.golf_state_queues.proofs.queues.narrow_all.Given as goal
 abbrev pub invariant-loop-at : goal.invariant-loop-at
 invariant-loop-at l = record {
   size : length l.queues.items ≡ length l.initial.queues.items;
-  queues : wait_queues_of l.queues.items ≡ changed_to (λ (e : ℕ × List (ℕ × ℕ)). (e.0, among (map (λ g. g.0) l.goroutines) e.1)) l.at (wait_queues_of l.initial.queues.items);
+  queues : wait_queues_of l.queues.items ≡ changed_to (λ (e : ℕ × List (ℕ × ℕ)). (e.0, among (keys (plain_entries l.roster.places)) e.1)) l.at (wait_queues_of l.initial.queues.items);
 }

@@ -1,13 +1,9 @@
 use Rattle.std.proofs.Common.{◌∙◌, ap, sym}
 use Rattle.std.specs.Prelude.{is_some}
 use Rattle.std.proofs.option.Match.{None-if_not_some}
-use Rattle.golf_model_futures.proofs.Leading.{leads-numbered}
 use Rattle.golf_model_order.proofs.Leading.{leads-whole}
 use Rattle.golf_tests_collector.proofs.Leading.{collected-or}
 use Rattle.golf_tests_collector.proofs.collecting.collect_once.Goals as goal
-
-pub collect-requires-clause-numbered : goal.collect-requires-clause-numbered
-collect-requires-clause-numbered g c = λ κs within. leads-numbered c.args.code.now c.args.state.now c.requires
 
 pub collect-requires-clause-whole : goal.collect-requires-clause-whole
 collect-requires-clause-whole g c = λ κs within. leads-whole c.args.code.now c.args.state.now c.requires

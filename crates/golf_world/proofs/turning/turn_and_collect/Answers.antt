@@ -1,10 +1,9 @@
-use Rattle.std.proofs.Common.{◌≡◌, ℕ, ◌%◌, List, [], length, get_or, Some, refl, sym, ap, ◌∙◌, subst, ◌⊎◌, inl, inr}
-use Rattle.golf_base.specs.declared.ids.GoroutineId.{GoroutineId}
+use Rattle.std.proofs.Common.{◌≡◌, ℕ, ◌%◌, [], Some, refl, sym, ap, ◌∙◌, subst, ◌⊎◌, inl, inr}
 use Rattle.golf_data.specs.declared.goroutine.Ending.{Ending}
 use Rattle.golf_model.specs.State.{State}
 use Rattle.golf_model.specs.Turn.{step, whose_turn}
 use Rattle.golf_model.specs.Waking.{on_top}
-use Rattle.golf_model.specs.Futures.{Leads, Numbered}
+use Rattle.golf_model.specs.Futures.{Leads}
 use Rattle.golf_model.specs.Presence.{IsWhole}
 use Rattle.golf_model_futures.proofs.Leading.{leads-numbered}
 use Rattle.golf_model_order.proofs.Leading.{leads-whole}
@@ -27,12 +26,6 @@ returns-in-Went g c = record {
   book = tt;
 }
 
-pub collect-requires-clause-numbered : goal.collect-requires-clause-numbered
-collect-requires-clause-numbered g c κs within =
-    let code = c.args.code.now in
-    let s = c.args.state.now in
-    subst Numbered (sym c.in_ok-turn.ensures.ok) (leads-numbered code (step code s c.args.number) (Leads.Turn s c.args.number c.requires.leads c.requires.goes))
-
 pub collect-requires-clause-whole : goal.collect-requires-clause-whole
 collect-requires-clause-whole g c κs within =
     let code = c.args.code.now in
@@ -44,11 +37,10 @@ put_back-requires g c =
     let code = c.args.code.now in
     let s = c.args.state.now in
     let n : ℕ = c.args.number in
-    let xs : List GoroutineId = c.runnable-runnable.result.now in
-    let who : ℕ = (get_or xs (n % length xs) (record { 0 = 0 })).0 in
-    let turn : whose_turn s n ≡ Some who = whose s n xs c.runnable-runnable.ensures.runnable c.requires.goes in
+    let who : ℕ = c.runnable_at-g.result.0 in
+    let turn : whose_turn s n ≡ Some who = whose s n who (n % c.runnable_count-count.result) c.runnable_count-count.result c.runnable_at-g.ensures.at refl c.runnable_count-count.ensures in
     let wants = loud c.in_ok-turn.field-0 code s c.turn.new.state n c.in-WantsCollection.is c.in_ok-turn.ensures.turned in
-    let at = at-collect code s n who c.runnable-runnable.ensures.rises turn wants in
+    let at = at-collect code s n who c.runnable_at-g.ensures.rises turn wants in
     ap (runs who) (c.in-Err.ensures.err_state ∙ c.in_ok-turn.ensures.ok) ∙ runs_after who s (step code s n) at
 
 pub returns-in-Err-clause-state : goal.returns-in-Err-clause-state
@@ -56,11 +48,10 @@ returns-in-Err-clause-state g c =
     let code = c.args.code.now in
     let s = c.args.state.now in
     let n : ℕ = c.args.number in
-    let xs : List GoroutineId = c.runnable-runnable.result.now in
-    let who : ℕ = (get_or xs (n % length xs) (record { 0 = 0 })).0 in
-    let turn : whose_turn s n ≡ Some who = whose s n xs c.runnable-runnable.ensures.runnable c.requires.goes in
+    let who : ℕ = c.runnable_at-g.result.0 in
+    let turn : whose_turn s n ≡ Some who = whose s n who (n % c.runnable_count-count.result) c.runnable_count-count.result c.runnable_at-g.ensures.at refl c.runnable_count-count.ensures in
     let wants = loud c.in_ok-turn.field-0 code s c.turn.new.state n c.in-WantsCollection.is c.in_ok-turn.ensures.turned in
-    let at = at-collect code s n who c.runnable-runnable.ensures.rises turn wants in
+    let at = at-collect code s n who c.runnable_at-g.ensures.rises turn wants in
     let rises = (leads-numbered code (step code s n) (Leads.Turn s n c.requires.leads c.requires.goes)).goroutines_rise in
     c.put_back.ensures ∙ ap (λ (u : State). reframed who (on_top (went c.place_of-at.result 0 []) (frames_of who u)) u) (c.in-Err.ensures.err_state ∙ c.in_ok-turn.ensures.ok)
     ∙ put-back-is who c.place_of-at.result s (step code s n) at c.place_of-at.ensures rises

@@ -14,9 +14,9 @@ rises (Err e) old new k f none low ok err = subst (Rises 0) (sym err) low
 pub invariant_of-self : goal.invariant_of-self
 invariant_of-self c =
     let s = c.self.inside in
-    let none : find c.args.object.0 s.finalisers.items ≡ None = ap (λ (t : State). find c.args.object.0 t.finalisers) c.self.view_is ∙ c.requires in
+    let none : find c.args.object.0 s.finalisers ≡ None = ap (λ (t : State). find c.args.object.0 t.finalisers) c.self.view_is ∙ c.requires in
     record {
       kept = c.self.invariant.kept;
       enqueued = c.self.invariant.enqueued;
-      finalisers = rises c.put_finaliser.result s.finalisers.items c.put_finaliser.new.finalisers.items c.args.object.0 c.args.function none c.self.invariant.finalisers c.put_finaliser.ensures.ok c.put_finaliser.ensures.err;
+      finalisers = rises c.put.result s.finalisers c.put.new.self c.args.object.0 c.args.function none c.self.invariant.finalisers c.put.ensures.ok c.put.ensures.err;
     }

@@ -1,5 +1,6 @@
-use Rattle.std.proofs.Common.{◌≡◌, ℕ, not, List, drop, filter, map, sym, ap, ◌∙◌, subst, arith}
-use Rattle.golf_theory.specs.Maps.{Rises}
+use Rattle.std.proofs.Common.{◌≡◌, ℕ, not, List, drop, filter, sym, ap, ◌∙◌, subst, arith}
+use Rattle.golf_theory.specs.Maps.{Rises, keys}
+use Rattle.golf_state_goroutines.specs.Places.{plain_entries}
 use Rattle.golf_theory.specs.Membership.{is_in}
 use Rattle.golf_state_queues.specs.Lines.{spots}
 use Rattle.golf_state_queues.specs.WaitQueues.{among, held}
@@ -9,7 +10,7 @@ use Rattle.golf_state_queues.proofs.Narrowing.{held-among}
 use Rattle.golf_state_queues.proofs.line.Line.narrow.Goals as goal
 
 abbrev stays : (c : goal.After-self-2-1) → List ℕ
-stays c = map (λ g. g.0) c.args.goroutines.now
+stays c = keys (plain_entries c.args.roster.now.places)
 
 abbrev packed : (c : goal.After-self-2-1) → List TicketHolder
 packed c = filter (λ h. not h.is_gone) (drop c.self.inside.front c.self.inside.entries.items)

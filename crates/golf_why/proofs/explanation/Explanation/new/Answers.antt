@@ -6,8 +6,8 @@ use Rattle.golf_why.proofs.explanation.Explanation.new.Goals as goal
 pub returns-clause-explains : goal.returns-clause-explains
 unfolding certificate_size
 returns-clause-explains c = record {
-  graph = c.in_ok-graph.ensures;
+  graph = c.in_ok-graph.ensures.graph;
   asleep = c.in_ok-asleep.ensures;
   reasons = c.in_ok-reasons.ensures;
-  places = c.in_ok-places.ensures ∙ ap (λ g. length (least_in_order g)) c.in_ok-graph.ensures;
+  places = c.in_ok-places.ensures ∙ ap (λ g. length (least_in_order g)) c.in_ok-graph.ensures.graph;
 }

@@ -43,5 +43,5 @@ returns-clause-ok g c =
     let goes : ending inside.state ≡ None = sym c.ending.ensures ∙ c.in_default.is in
     let few : length es < 100000 = omega (arith, c.len-at.ensures, c.if-at-ge-MOST.false) in
     let made : c.push_ready.new.self.items ≡ es ++ entry c.args.pass n ∷ [] = c.push_ready.ensures.items ∙ ap (λ (l : List HistoryEntry). l ++ entry c.args.pass n ∷ []) c.reserve.ensures.items in
-    does_turn code c.args.pass c.runnable.result.now (record { execution = c.self.invariant; here = c.len-at.ensures; many = c.how_many-count.ensures; is = c.number_of-number.ensures })
-    few goes c.runnable.ensures.runnable c.self.view_is made
+    does_turn code c.args.pass c.runnable_at-goroutine.result (record { execution = c.self.invariant; here = c.len-at.ensures; many = c.how_many-count.ensures; is = c.number_of-number.ensures })
+    few goes c.runnable_at-goroutine.ensures.at c.self.view_is made

@@ -1,0 +1,6 @@
+mod PairLaws
+mod Parts
+mod BlockLaws
+mod Places
+mod Halves
+mod Queueing

@@ -1,0 +1,112 @@
+//! All finalisers of a running program.
+
+ghost use Rattle.std.specs.Prelude.{◌≡◌, ◌==◌, [], None, not, length, IfOk, OnOk, OnErr};
+ghost use Rattle.golf_theory.specs.Maps.{find, insert, only};
+ghost use Rattle.golf_heap.specs.Objects.{kept, left_out};
+ghost use Rattle.golf_model.specs.Collecting.{queued};
+
+use crate::adding::put_in;
+use crate::blocks::{Block, block_of};
+use crate::collecting::{count_pairs, list_pairs, unflagged_in};
+use crate::pairs::function_in;
+use crate::taking::{retain_from, take_from};
+use golf_base::{List, Memory};
+use golf_data::Queued;
+use std::alloc::Global;
+use std::marker::Model;
+
+/// All finalisers, each an object and a function, in rising order of the objects' numbers.
+///
+/// They are in blocks of at most 512. `put` and `take` cost two binary searches, and move at most the
+/// other finalisers of the block. They move the later blocks only if they split or remove a block.
+/// A call that answers `Memory` leaves the finalisers unchanged.
+#[derive(Debug, Drop)]
+pub struct Finalisers {
+    blocks: Vec<Block>,
+    count: usize,
+}
+
+impl Model for Finalisers {
+    ghost use Rattle.std.specs.Prelude.{ℕ, List};
+
+    ghost Value = { List (ℕ × ℕ) };
+
+    ghost use Rattle.golf_state_finalisers.specs.Inside.{finalisers_of, AreFinalisers};
+
+    ghost view = { finalisers_of };
+
+    ghost invariant = { AreFinalisers };
+}
+
+impl Finalisers {
+    /// Returns the empty `Finalisers`. It takes no memory.
+    pub fn new(alloc: Global) -> Finalisers
+        ensures { result ≡ [] }
+    {
+        Finalisers {
+            blocks: Vec::new(alloc),
+            count: 0,
+        }
+    }
+
+    /// Returns how many finalisers there are.
+    pub fn count(&self) -> usize
+        ensures { result ≡ length self.now }
+    {
+        self.count
+    }
+
+    /// Returns the function of the object's finaliser, or `None`.
+    pub fn function_of(&self, object: u32) -> Option<u32>
+        ensures { result ≡ find object self.now }
+    {
+        let blocks = self.blocks.as_slice();
+        let block = blocks.get(block_of(blocks, object))?;
+        function_in(block.pairs.as_slice(), object)
+    }
+
+    /// Sets the finaliser of an object that has none.
+    pub fn put(&mut self, object: u32, function: u32) -> Result<(), Memory>
+        requires { find object self.old ≡ None }
+        ensures ok { OnOk result (self.new ≡ insert object function self.old) }
+        ensures err { OnErr result (self.new ≡ self.old) }
+    {
+        put_in(&mut self.blocks, object, function)?;
+        self.count += 1;
+        Ok(())
+    }
+
+    /// Removes the object's finaliser, if it has one. It takes no memory.
+    pub fn take(&mut self, object: u32)
+        ensures { self.new ≡ only (λ p. not (p == object)) self.old }
+    {
+        let gone = take_from(&mut self.blocks, object);
+        self.count -= gone;
+    }
+
+    /// Returns all finalisers in rising order of their objects' numbers.
+    pub fn list(&self, alloc: Global) -> Result<List<(u32, u32)>, Memory>
+        ensures { IfOk result (λ pairs. pairs ≡ self.now) }
+    {
+        list_pairs(alloc, self.blocks.as_slice())
+    }
+
+    /// Returns the entries of the finaliser queue for the finalisers whose flag is false. The flags are
+    /// in rising order of the objects' numbers.
+    pub fn unflagged(&self, alloc: Global, stays: &[bool]) -> Result<List<Queued>, Memory>
+        requires { length stays.now ≡ length self.now }
+        ensures { IfOk result (λ entries. entries ≡ queued (left_out stays.now self.now)) }
+    {
+        unflagged_in(alloc, self.blocks.as_slice(), stays)
+    }
+
+    /// Keeps the finalisers whose flag is true. The flags are in rising order of the objects' numbers.
+    /// It takes no memory.
+    pub fn retain(&mut self, stays: &[bool])
+        requires { length stays.now ≡ length self.old }
+        ensures { self.new ≡ kept stays.now self.old }
+    {
+        retain_from(&mut self.blocks, stays);
+        self.count = count_pairs(self.blocks.as_slice());
+    }
+}

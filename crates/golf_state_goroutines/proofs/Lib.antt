@@ -1,0 +1,15 @@
+pub mod Keyed
+pub mod Rises
+pub mod Numbered
+pub mod Listing
+pub mod Ranges
+pub mod Middles
+pub mod Gathers
+pub mod PlaceLaws
+pub mod Splits
+pub mod Summing
+pub mod BlockLaws
+pub mod Openings
+pub mod Rosters
+pub mod Retains
+pub mod Readings

@@ -1,0 +1,42 @@
+-- The goroutines that are there, and what becomes of them.
+use Rattle.std.specs.Prelude.{◌≡◌, ℕ, ◌<◌, ◌==◌, not, List, [], ◌∷◌, ◌++◌, filter, slice_set}
+use Rattle.golf_theory.specs.Stored.{placed, without}
+use Rattle.golf_data.specs.declared.goroutine.Goroutine.{Goroutine}
+use Rattle.golf_heap.specs.Objects.{rank}
+use Rattle.golf_state_goroutines.specs.Places.{plain_entries}
+use Rattle.golf_state_goroutines.specs.declared.places.Place.{Place}
+
+-- the goroutines in rising order of number, and the numbers of those that run in rising order
+pub record Goroutines : Type 0 where
+  pub places : List Place
+  pub running : List ℕ
+
+-- one more, after the others, that runs
+abbrev pub added : Place → Goroutines → Goroutines
+added p r = record { places = r.places ++ p ∷ []; running = r.running ++ p.number ∷ [] }
+
+-- without the goroutine of this number
+abbrev pub parted : ℕ → Goroutines → Goroutines
+parted g r = record { places = filter (λ p. not (p.number == g)) r.places; running = without g r.running }
+
+-- the goroutine of this number runs no more
+abbrev pub stopped : ℕ → Goroutines → Goroutines
+stopped g r = record r { running = without g r.running }
+
+-- the goroutine of this number runs
+abbrev pub started : ℕ → Goroutines → Goroutines
+started g r = record r { running = placed g r.running }
+
+-- the goroutine of this number, which is there, becomes this one
+abbrev pub changed : ℕ → Goroutine → Goroutines → Goroutines
+changed g x r = record r { places = slice_set r.places (rank g (plain_entries r.places)) (record { number = g; goroutine = x }) }
+
+-- all numbers are below n
+abbrev pub AllUnder : ℕ → List ℕ → Type 0
+AllUnder n [] = Unit {0}
+AllUnder n (x ∷ xs) = (x < n) × AllUnder n xs
+
+-- the number is none of these
+abbrev pub IsNone : ℕ → List ℕ → Type 0
+IsNone g [] = Unit {0}
+IsNone g (x ∷ xs) = (x ≡ g → ⊥) × IsNone g xs

@@ -1,0 +1,26 @@
+-- How the places of goroutines in memory stand for the map of the definitions.
+use Rattle.std.specs.Prelude.{ℕ, Bool, false, not, ◌==◌, ◌&&◌, List, [], ◌∷◌, map}
+use Rattle.golf_theory.specs.Maps.{keys_where}
+use Rattle.golf_model.specs.Views.{GoroutineView, goroutine_view}
+use Rattle.golf_model.specs.State.{is_running, not_empty}
+use Rattle.golf_state_goroutines.specs.declared.places.Place.{Place}
+
+abbrev pub plain_entry : Place → ℕ × GoroutineView
+plain_entry p = (p.number, goroutine_view p.goroutine)
+
+-- the goroutines by number
+abbrev pub plain_entries : List Place → List (ℕ × GoroutineView)
+plain_entries ps = map plain_entry ps
+
+-- the numbers of the goroutines that are not blocked, in rising order
+abbrev pub running_of : List (ℕ × GoroutineView) → List ℕ
+running_of gs = keys_where (λ g r. is_running r.mode) gs
+
+-- running, and without a frame
+abbrev pub is_idle : GoroutineView → Bool
+is_idle r = is_running r.mode && not (not_empty r.frames)
+
+-- the first one is goroutine 0, and idle
+abbrev pub starts_idle : List (ℕ × GoroutineView) → Bool
+starts_idle [] = false
+starts_idle (e ∷ es) = (e.0 == 0) && is_idle e.1

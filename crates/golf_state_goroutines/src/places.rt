@@ -1,0 +1,129 @@
+//! The goroutines of one block by number.
+
+ghost use Rattle.std.specs.Prelude.{◌≡◌, ◌≤◌, ◌*◌, ◌/◌, ◌++◌, ◌==◌, not, filter, map, length, vec_capacity, IfOk, IfSome, option_map};
+ghost use Rattle.golf_theory.specs.Maps.{find, keys, Rises};
+ghost use Rattle.golf_heap.specs.Objects.{rank};
+ghost use Rattle.golf_data.specs.declared.goroutine.Mode.{Mode};
+ghost use Rattle.golf_model.specs.Views.{frame_views, goroutine_view};
+ghost use Rattle.golf_model.specs.State.{is_running};
+ghost use Rattle.golf_state_goroutines.specs.Places.{plain_entry, plain_entries, running_of};
+
+use crate::rising::add_last;
+use golf_base::{Boxed, GoroutineId, List, Memory};
+use golf_data::{Frame, Goroutine, Mode};
+use std::alloc::Global;
+
+/// A goroutine and its number. It is small, so that little is moved when one before it ends.
+#[derive(Debug, Drop)]
+pub struct Place {
+    pub number: u32,
+    pub goroutine: Boxed<Goroutine>,
+}
+
+/// The place of a goroutine of this number that runs with these frames, started at this line.
+pub fn place_of(
+    alloc: Global,
+    number: u32,
+    frames: List<Frame>,
+    started: u32,
+) -> Result<Place, Memory>
+    ensures { IfOk result (λ place. plain_entry place ≡ (number, record { frames = frame_views frames; mode = Mode.Running; started = started })) }
+{
+    let goroutine = Goroutine {
+        frames,
+        mode: Mode::Running,
+        started,
+    };
+    Ok(Place {
+        number,
+        goroutine: Boxed::new(alloc, goroutine)?,
+    })
+}
+
+// The index at which the goroutine of this number stands if none before it in its block has ended,
+// and if it does.
+#[inline(always)]
+fn index_of(places: &[Place], number: u32) -> Option<usize>
+    requires { Rises (number / 256 * 256) (plain_entries places.now) }
+    ensures { IfSome result (λ at. at ≡ rank number (plain_entries places.now)) }
+{
+    let index = (number % 256) as usize;
+    let place = places.get(index)?;
+    if place.number == number {
+        Some(index)
+    } else {
+        None
+    }
+}
+
+/// How many places have a smaller number.
+#[inline(always)]
+pub fn rank_of(places: &[Place], number: u32) -> usize
+    requires { Rises (number / 256 * 256) (plain_entries places.now) }
+    ensures { result ≡ rank number (plain_entries places.now) }
+{
+    match index_of(places, number) {
+        Some(at) => at,
+        None => places.partition_point(|place| place.number < number),
+    }
+}
+
+/// The goroutine of this number, if it is there.
+#[inline(always)]
+pub fn goroutine_at(places: &[Place], number: u32) -> Option<&Goroutine>
+    requires { Rises (number / 256 * 256) (plain_entries places.now) }
+    ensures { option_map (λ r. goroutine_view r.now) result ≡ find number (plain_entries places.now) }
+{
+    let place = places.get(rank_of(places, number))?;
+    if place.number == number {
+        Some(place.goroutine.get())
+    } else {
+        None
+    }
+}
+
+/// The goroutine of this number is gone, if it is there.
+pub fn take_place(places: &mut Vec<Place>, number: u32)
+    requires { Rises (number / 256 * 256) (plain_entries places.old.items) }
+    ensures { places.new.items ≡ filter (λ p. not (p.number == number)) places.old.items }
+{
+    let at = rank_of(places.as_slice(), number);
+    if at < places.len() && places[at].number == number {
+        places.remove(at);
+    }
+}
+
+/// Whether a goroutine in this mode runs.
+#[inline(always)]
+pub fn is_running(mode: &Mode) -> bool
+    ensures { result ≡ is_running mode.now }
+{
+    match mode {
+        Mode::Running => true,
+        Mode::Blocked { .. } => false,
+    }
+}
+
+/// The goroutines that run, in rising order, in a list that has room for all.
+pub fn list_running(places: &[Place], running: &mut Vec<GoroutineId>)
+    requires { length places.now ≤ vec_capacity running.old }
+    ensures running { map (λ g. g.0) running.new.items ≡ running_of (plain_entries places.now) }
+    ensures room { vec_capacity running.old ≤ vec_capacity running.new }
+{
+    running.clear();
+    for place in places {
+        if is_running(&place.goroutine.get().mode) {
+            add_last(running, GoroutineId(place.number));
+        }
+    }
+}
+
+/// Adds the numbers of the places after the others.
+pub fn add_numbers(list: &mut List<GoroutineId>, places: &[Place]) -> Result<(), Memory>
+    ensures { IfOk result (λ u. map (λ g. g.0) list.new ≡ map (λ g. g.0) list.old ++ keys (plain_entries places.now)) }
+{
+    for place in places {
+        list.push(GoroutineId(place.number))?;
+    }
+    Ok(())
+}

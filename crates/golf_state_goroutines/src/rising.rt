@@ -1,0 +1,53 @@
+//! Goroutines in rising order of number.
+
+ghost use Rattle.std.specs.Prelude.{◌≡◌, ◌<◌, ◌≤◌, ◌+◌, ◌∷◌, ◌++◌, [], map, vec_len, vec_capacity, length};
+ghost use Rattle.golf_theory.specs.Stored.{placed, without};
+ghost use Rattle.golf_state_goroutines.specs.Rising.{RisesFrom, leading};
+
+use golf_base::GoroutineId;
+
+// How many goroutines stand before the first whose number is not below the bound.
+#[inline(always)]
+fn leading(goroutines: &[GoroutineId], bound: u64) -> usize
+    requires { RisesFrom 0 (map (λ h. h.0) goroutines.now) }
+    ensures place { result ≡ leading bound (map (λ h. h.0) goroutines.now) }
+    ensures within { result ≤ length goroutines.now }
+{
+    goroutines.partition_point(|other| u64::from(other.0) < bound)
+}
+
+/// Takes a goroutine out, if it is one of them.
+#[inline(always)]
+pub fn leave_out(goroutines: &mut Vec<GoroutineId>, g: GoroutineId)
+    requires { RisesFrom 0 (map (λ h. h.0) goroutines.old.items) }
+    ensures others { map (λ h. h.0) goroutines.new.items ≡ without g.0 (map (λ h. h.0) goroutines.old.items) }
+    ensures room { vec_capacity goroutines.new ≡ vec_capacity goroutines.old }
+{
+    let at = leading(goroutines.as_slice(), u64::from(g.0));
+    if at < goroutines.len() && goroutines[at].0 == g.0 {
+        goroutines.remove(at);
+    }
+}
+
+/// Puts a goroutine at its place, for which there is room.
+#[inline(always)]
+pub fn put_in(goroutines: &mut Vec<GoroutineId>, g: GoroutineId)
+    requires room { vec_len goroutines.old < vec_capacity goroutines.old }
+    requires rises { RisesFrom 0 (map (λ h. h.0) goroutines.old.items) }
+    ensures all { map (λ h. h.0) goroutines.new.items ≡ placed g.0 (map (λ h. h.0) goroutines.old.items) }
+    ensures room { vec_capacity goroutines.old ≤ vec_capacity goroutines.new }
+{
+    let at = leading(goroutines.as_slice(), u64::from(g.0) + 1);
+    let _ = goroutines.insert(at, g);
+}
+
+/// Adds a goroutine at the end, for which there is room.
+pub fn add_last(goroutines: &mut Vec<GoroutineId>, g: GoroutineId)
+    requires { vec_len goroutines.old < vec_capacity goroutines.old }
+    ensures all { map (λ h. h.0) goroutines.new.items ≡ map (λ h. h.0) goroutines.old.items ++ g.0 ∷ [] }
+    ensures room { vec_capacity goroutines.old ≤ vec_capacity goroutines.new }
+    ensures len { vec_len goroutines.new ≡ vec_len goroutines.old + 1 }
+{
+    let end = goroutines.len();
+    let _ = goroutines.insert(end, g);
+}
