@@ -1,0 +1,151 @@
+package lower
+
+import (
+	"fmt"
+	"go/ast"
+	"go/constant"
+	"go/types"
+)
+
+// intrinsic are the functions of _std that are of the subset, or need a form of their own.
+func (f *fctx) intrinsic(fn *types.Func, c *ast.CallExpr) (string, bool) {
+	p := f.p
+	switch name := fn.FullName(); name {
+	case "fmt.Println", "fmt.Printf", "fmt.Print", "fmt.Fprintln", "fmt.Fprintf", "fmt.Fprint":
+		p.refuse("%s whose results are used", name)
+	case "fmt.Sprintf":
+		return p.textOfPieces(f.formatPieces(c, 0)), true
+	case "fmt.Sprint", "fmt.Sprintln":
+		f.noEllipsis(c)
+		return p.textOfPieces(f.printPieces(map[string]string{"fmt.Sprint": "Print", "fmt.Sprintln": "Println"}[name], c.Args)), true
+	case "fmt.Errorf":
+		return f.errorf(c), true
+	case "errors.As":
+		return f.errorsAs(c), true
+	case "strconv.Itoa":
+		return p.golf("Itoa", f.expr(c.Args[0])), true
+	case "strconv.Quote":
+		return p.golf("Quote", f.expr(c.Args[0])), true
+	case "golf.litBytes":
+		p.usesBytes = true
+		return fmt.Sprintf("golf_litBytes(%s)", f.expr(c.Args[0])), true
+	case "runtime.GC":
+		p.imports["runtime"] = true
+		return "runtime.GC()", true
+	case "sync.NewCond":
+		if p.genericCond {
+			return p.condNew(f.rval(c.Args[0], fn.Signature().Params().At(0).Type())), true
+		}
+		p.imports["sync"] = true
+		return fmt.Sprintf("sync.NewCond(%s)", f.expr(c.Args[0])), true
+	case "net.DialUDP":
+		if !isNil(p, c.Args[2]) {
+			p.refuse("net.DialUDP with an address")
+		}
+	case "(sync.Locker).Lock", "(sync.Locker).Unlock":
+		// c.L of a condition on a *sync.Mutex
+		sel := ast.Unparen(c.Fun).(*ast.SelectorExpr)
+		if s, ok := ast.Unparen(sel.X).(*ast.SelectorExpr); ok && !p.genericCond && native(deref(f.typeOf(s.X))) == "sync.Cond" {
+			return fmt.Sprintf("%s.L.%s()", f.expr(s.X), fn.Name()), true
+		}
+	}
+	return "", false
+}
+
+func (f *fctx) noEllipsis(c *ast.CallExpr) {
+	if c.Ellipsis.IsValid() {
+		f.p.refuse("printing a slice of operands")
+	}
+}
+
+// errorf is fmt.Errorf; %w keeps the error inside.
+func (f *fctx) errorf(c *ast.CallExpr) string {
+	p := f.p
+	v := p.info.Types[c.Args[0]].Value
+	if v == nil {
+		p.refuse("fmt.Errorf with a format that is no constant")
+	}
+	if len(c.Args) == 1 {
+		parts, wrong := parseFormat(constant.StringVal(v))
+		if wrong != "" {
+			p.refuse("%s in fmt.Errorf", wrong)
+		}
+		s := ""
+		for _, x := range parts {
+			if x.verb != nil {
+				p.refuse("fmt.Errorf with too few operands")
+			}
+			s += x.lit
+		}
+		return fmt.Sprintf("%s(%s)", p.stdFunc("errors", "New"), p.constant(constant.MakeString(s), types.Typ[types.String]))
+	}
+	wrapped := -1
+	parts, _ := parseFormat(constant.StringVal(v))
+	for _, x := range parts {
+		if x.verb != nil && x.verb.char == 'w' {
+			if wrapped >= 0 {
+				p.refuse("fmt.Errorf with two errors inside")
+			}
+			wrapped = x.arg
+		}
+	}
+	if wrapped < 0 || wrapped+1 >= len(c.Args) {
+		return fmt.Sprintf("%s(%s)", p.stdFunc("errors", "New"), p.textOfPieces(f.formatPieces(c, 0)))
+	}
+	if !types.Identical(f.typeOf(c.Args[wrapped+1]), errorType) {
+		p.refuse("%%w of a value of type %s", f.typeOf(c.Args[wrapped+1]))
+	}
+	// the error is evaluated once, in its place
+	var inner string
+	f.wrapped = &inner
+	text := p.textOfPieces(f.formatPieces(c, 0))
+	f.wrapped = nil
+	return fmt.Sprintf("%s(%s, %s)", p.stdFunc("fmt", "wrap"), text, inner)
+}
+
+// errorsAs is errors.As: the variable that the second operand points to has a type that is known.
+func (f *fctx) errorsAs(c *ast.CallExpr) string {
+	p := f.p
+	pt, ok := under(f.typeOf(c.Args[1])).(*types.Pointer)
+	if !ok {
+		p.refuse("errors.As with this operand")
+	}
+	t := pt.Elem()
+	xs := f.ordered(func() string { return f.expr(c.Args[0]) }, func() string { return f.expr(c.Args[1]) })
+	fn := p.aux("as", "error "+typeKey(t), func(name string, b *buffer) {
+		unwrap := p.stdFunc("errors", "Unwrap")
+		v := "err"
+		if !isIface(t) {
+			v = p.copyOf(t, "err."+p.dynOf(t).field())
+		}
+		set := "to.v = " + v
+		if isRef(t) {
+			set = p.set(t, "to", v)
+		}
+		b.add(0, "func %s(err *golf_any, to %s) bool {", name, p.lt(pt))
+		b.add(0, "for err != nil {")
+		b.add(0, "if %s {", p.holds("err", t))
+		b.add(0, "%s", set)
+		b.add(0, "return true")
+		b.add(0, "}")
+		b.add(0, "err = %s(err)", unwrap)
+		b.add(0, "}")
+		b.add(0, "return false")
+		b.add(0, "}")
+	})
+	return fmt.Sprintf("%s(%s, %s)", fn, xs[0], xs[1])
+}
+
+// exit is os.Exit: the status is told in a line, and a fatal error ends the program without deferred calls.
+func (f *fctx) exit(code string) {
+	p := f.p
+	p.imports["fmt"] = true
+	p.imports["sync"] = true
+	if p.opt.Collect {
+		f.emit("%s()", p.collector())
+	}
+	f.emit("fmt.Println(%q, %s, %q)", tie+"exit", code, tie)
+	m := f.fresh("exit")
+	f.emit("%s := &sync.Mutex{}", m)
+	f.emit("%s.Unlock()", m)
+}
