@@ -5,6 +5,7 @@ import (
 	"go/ast"
 	"go/token"
 	"go/types"
+	"regexp"
 	"strings"
 )
 
@@ -108,19 +109,28 @@ func hasBreak(body *ast.BlockStmt, label string) bool {
 }
 
 // cases are the clauses of a switch as a chain of ifs, the default last.
-func (f *fctx) cases(pos token.Pos, n int, cond func(int) string, deflt int, body func(int)) {
+func (f *fctx) cases(n int, cond func(int) string, deflt int, body func(int)) {
 	depth := 0
 	first := true
 	for i := 0; i < n; i++ {
 		if i == deflt {
 			continue
 		}
-		if !first {
+		var c string
+		b := f.capture(func() { c = cond(i) })
+		switch {
+		case first:
+			f.splice(b)
+			f.emit("if %s {", bare(c))
+			depth++
+		case len(b.lines) == 0:
+			f.emit("} else if %s {", bare(c))
+		default:
 			f.emit("} else {")
+			f.splice(b)
+			f.emit("if %s {", bare(c))
+			depth++
 		}
-		c := cond(i)
-		f.emit("if %s {", bare(c))
-		depth++
 		first = false
 		body(i)
 	}
@@ -140,7 +150,6 @@ func (f *fctx) cases(pos token.Pos, n int, cond func(int) string, deflt int, bod
 
 func (f *fctx) switchStmt(s *ast.SwitchStmt, label string) {
 	p := f.p
-	f.emit("{")
 	if s.Init != nil {
 		f.stmt(s.Init)
 		f.at(s.Pos())
@@ -154,8 +163,13 @@ func (f *fctx) switchStmt(s *ast.SwitchStmt, label string) {
 	var tt types.Type
 	if s.Tag != nil {
 		tt = types.Default(f.typeOf(s.Tag))
-		tag = f.fresh("t")
-		f.emit("var %s %s = %s", tag, p.lt(tt), f.rval(s.Tag, tt))
+		x := f.rval(s.Tag, tt)
+		if simpleRE.MatchString(x) && !strings.Contains(x, ".") && !isNil(p, s.Tag) && f.stable(s.Tag) {
+			tag = x
+		} else {
+			tag = f.fresh("t")
+			f.emit("var %s %s = %s", tag, p.lt(tt), x)
+		}
 	}
 	clauses := make([]*ast.CaseClause, len(s.Body.List))
 	deflt := -1
@@ -179,7 +193,7 @@ func (f *fctx) switchStmt(s *ast.SwitchStmt, label string) {
 		}
 		f.stmts(list)
 	}
-	f.cases(s.Pos(), len(clauses), func(i int) string {
+	f.cases(len(clauses), func(i int) string {
 		f.at(clauses[i].Pos())
 		var cs []string
 		for _, e := range clauses[i].List {
@@ -208,12 +222,10 @@ func (f *fctx) switchStmt(s *ast.SwitchStmt, label string) {
 		f.emit("}")
 		f.pop()
 	}
-	f.emit("}")
 }
 
 func (f *fctx) typeSwitch(s *ast.TypeSwitchStmt, label string) {
 	p := f.p
-	f.emit("{")
 	if s.Init != nil {
 		f.stmt(s.Init)
 		f.at(s.Pos())
@@ -239,7 +251,7 @@ func (f *fctx) typeSwitch(s *ast.TypeSwitchStmt, label string) {
 			deflt = i
 		}
 	}
-	f.cases(s.Pos(), len(clauses), func(i int) string {
+	f.cases(len(clauses), func(i int) string {
 		f.at(clauses[i].Pos())
 		var cs []string
 		for _, e := range clauses[i].List {
@@ -254,8 +266,8 @@ func (f *fctx) typeSwitch(s *ast.TypeSwitchStmt, label string) {
 		c := clauses[i]
 		if v, ok := p.info.Implicits[c].(*types.Var); ok {
 			val := x
-			if !isIface(v.Type()) {
-				val = p.copyOf(v.Type(), x+"."+p.dynOf(v.Type()).field())
+			if !isIface(p.vtype(v)) {
+				val = p.copyOf(p.vtype(v), x+"."+p.dynOf(p.vtype(v)).field())
 			}
 			f.declare(v, val)
 		}
@@ -267,7 +279,6 @@ func (f *fctx) typeSwitch(s *ast.TypeSwitchStmt, label string) {
 		f.emit("}")
 		f.pop()
 	}
-	f.emit("}")
 }
 
 func (f *fctx) selectStmt(s *ast.SelectStmt, label string) {
@@ -330,22 +341,11 @@ func (f *fctx) selectStmt(s *ast.SelectStmt, label string) {
 
 func (f *fctx) forStmt(s *ast.ForStmt, label string) {
 	p := f.p
+	ib := &buffer{}
 	if s.Init != nil {
-		f.emit("{")
-		f.stmt(s.Init)
-		f.at(s.Pos())
+		ib = f.capture(func() { f.stmt(s.Init) })
 	}
-	// variables of the header that each iteration has for itself
-	var own []*types.Var
-	if a, ok := s.Init.(*ast.AssignStmt); ok && a.Tok == token.DEFINE {
-		for _, l := range a.Lhs {
-			if id, ok := l.(*ast.Ident); ok {
-				if v, ok := p.info.Defs[id].(*types.Var); ok && (p.isBoxed(v) || isRef(v.Type())) {
-					own = append(own, v)
-				}
-			}
-		}
-	}
+	own := f.ownVars(s)
 	cond := "true"
 	cb := &buffer{}
 	if s.Cond != nil {
@@ -357,161 +357,296 @@ func (f *fctx) forStmt(s *ast.ForStmt, label string) {
 		pb = f.capture(func() { f.stmt(s.Post) })
 	}
 	f.at(s.Pos())
-	simple := len(own) == 0 && len(cb.lines) == 0 && len(pb.lines) <= 1
-	if len(pb.lines) == 1 {
-		t := pb.lines[0].text
-		simple = simple && !strings.HasPrefix(t, "var ") && !strings.Contains(t, ":=") && !strings.Contains(t, "{")
+	if len(own) == 0 && len(cb.lines) == 0 && (len(pb.lines) == 0 || len(pb.lines) == 1 && isSimple(pb.lines[0].text)) {
+		f.simpleFor(s, ib, cond, pb, label)
+		return
 	}
-	c := f.push(label, 'f')
-	_ = c
-	if simple {
-		switch {
-		case len(pb.lines) == 1:
-			f.emit("for ; %s; %s {", bare(cond), pb.lines[0].text)
-		case s.Cond != nil:
-			f.emit("for %s {", bare(cond))
-		default:
-			f.emit("for {")
+	f.splice(ib)
+	f.push(label, 'f')
+	// the last part of the header runs at the begin of each round but the first
+	first := f.fresh("first")
+	f.emit("%s := true", first)
+	f.emit("for {")
+	f.emit("if !%s {", first)
+	for _, v := range own {
+		n := f.varName(v)
+		if isRef(p.vtype(v)) {
+			f.emit("%s = %s", n, p.copyOf(p.vtype(v), n))
+			continue
 		}
-	} else {
-		// the last part of the header runs at the begin of each round but the first
-		first := f.fresh("first")
-		f.emit("%s := true", first)
-		f.emit("for {")
-		f.emit("if !%s {", first)
-		for _, v := range own {
-			n := p.objName(v)
-			if isRef(v.Type()) {
-				f.emit("%s = %s", n, p.copyOf(v.Type(), n))
-				continue
-			}
-			f.emit("%s = (&%s{v: %s.v})", n, p.box(p.lt(v.Type())), n)
-		}
-		f.splice(pb)
+		f.emit("%s = &%s{v: %s.v}", n, p.box(p.lt(p.vtype(v))), n)
+	}
+	f.splice(pb)
+	f.emit("}")
+	f.emit("%s = false", first)
+	f.splice(cb)
+	if s.Cond != nil {
+		f.emit("if !%s {", cond)
+		f.emit("break")
 		f.emit("}")
-		f.emit("%s = false", first)
-		f.splice(cb)
-		if s.Cond != nil {
-			f.emit("if !%s {", cond)
-			f.emit("break")
-			f.emit("}")
-		}
 	}
 	f.stmts(s.Body.List)
 	f.at(s.Body.Rbrace)
 	f.emit("}")
 	f.pop()
-	if s.Init != nil {
-		f.emit("}")
+}
+
+// ownVars are the variables of the header that each iteration has for itself.
+func (f *fctx) ownVars(s *ast.ForStmt) []*types.Var {
+	p := f.p
+	var own []*types.Var
+	if a, ok := s.Init.(*ast.AssignStmt); ok && a.Tok == token.DEFINE {
+		for _, l := range a.Lhs {
+			if id, ok := l.(*ast.Ident); ok {
+				if v, ok := p.info.Defs[id].(*types.Var); ok && (p.isBoxed(v) || isRef(p.vtype(v))) {
+					own = append(own, v)
+				}
+			}
+		}
 	}
+	return own
+}
+
+// isSimple: the statement may stand in the header of a loop.
+func isSimple(t string) bool {
+	return !strings.HasPrefix(t, "var ") && !strings.Contains(t, ":=") && !strings.Contains(t, "{") && !strings.HasPrefix(t, "_ =")
+}
+
+var initRE = regexp.MustCompile(`^[A-Za-z_][A-Za-z0-9_]* := [^&{]*$`)
+
+// simpleFor is a loop with a header of the subset.
+func (f *fctx) simpleFor(s *ast.ForStmt, ib *buffer, cond string, pb *buffer, label string) {
+	init, post := "", ""
+	if len(ib.lines) == 1 && initRE.MatchString(ib.lines[0].text) {
+		init = ib.lines[0].text
+	} else {
+		f.splice(ib)
+	}
+	if len(pb.lines) == 1 {
+		post = pb.lines[0].text
+	}
+	if s.Cond == nil {
+		cond = ""
+	}
+	f.push(label, 'f')
+	switch {
+	case init == "" && post == "" && cond == "":
+		f.emit("for {")
+	case init == "" && post == "":
+		f.emit("for %s {", bare(cond))
+	case post == "":
+		f.emit("for %s; %s; {", init, bare(cond))
+	default:
+		f.emit("for %s; %s; %s {", init, bare(cond), post)
+	}
+	f.stmts(s.Body.List)
+	f.at(s.Body.Rbrace)
+	f.emit("}")
+	f.pop()
 }
 
 // rangeStmt: the variables are new in each iteration, as in Go since 1.22.
 func (f *fctx) rangeStmt(s *ast.RangeStmt, label string) {
 	p := f.p
 	t := f.typeOf(s.X)
-	set := func(e ast.Expr, x string, xt types.Type) {
-		if e == nil || isBlank(e) {
-			return
-		}
-		if s.Tok == token.DEFINE {
-			v := p.info.Defs[e.(*ast.Ident)].(*types.Var)
-			f.declare(v, x)
-			return
-		}
-		f.place(e)(f.convert(x, xt, f.typeOf(e)))
-	}
-	f.emit("{")
-	end := func() {
-		f.stmts(s.Body.List)
-		f.at(s.Body.Rbrace)
-		f.emit("}")
-		f.pop()
-		f.emit("}")
-	}
-	i := f.fresh("i")
-	hasVal := s.Value != nil && !isBlank(s.Value)
+	r := &ranger{f: f, s: s, label: label, hasVal: s.Value != nil && !isBlank(s.Value)}
 	switch u := under(deref(t)).(type) {
 	case *types.Basic:
-		if p.isText(t) {
-			f.rangeText(s, i, set, hasVal, label)
-			end()
-			return
-		}
-		if u.Info()&types.IsInteger == 0 {
+		switch {
+		case p.isText(t):
+			r.text()
+		case u.Info()&types.IsInteger != 0:
+			r.integer(t)
+		default:
 			p.refuse("range over type %s", t)
 		}
-		n := f.temp(f.expr(s.X))
-		f.push(label, 'f')
-		f.emit("for %s := 0; %s < %s; %s++ {", i, i, n, i)
-		set(s.Key, i, t)
-		end()
 	case *types.Slice:
-		x := f.temp(f.expr(s.X))
-		n := f.temp(p.sliceLen(u.Elem(), x))
-		f.push(label, 'f')
-		f.emit("for %s := 0; %s < %s; %s++ {", i, i, n, i)
-		set(s.Key, i, types.Typ[types.Int])
-		if hasVal {
-			set(s.Value, p.copyOf(u.Elem(), f.element(u.Elem(), x, i)), u.Elem())
-		}
-		end()
+		r.slice(u)
 	case *types.Array:
-		x := f.expr(s.X)
-		if hasVal && !isPtr(t) {
-			x = p.copyOf(t, x)
-		}
-		x = f.temp(x)
-		f.push(label, 'f')
-		f.emit("for %s := 0; %s < %d; %s++ {", i, i, u.Len(), i)
-		set(s.Key, i, types.Typ[types.Int])
-		if hasVal {
-			set(s.Value, p.copyOf(u.Elem(), x+"["+i+"]"), u.Elem())
-		}
-		end()
+		r.array(t, u)
 	case *types.Map:
-		// over the keys of now, but for those that are deleted meanwhile
-		m := f.temp(f.expr(s.X))
-		ks := f.temp(fmt.Sprintf("%s(%s)", p.mapFunc(u, "keys"), m))
-		at := f.fresh("at")
-		f.push(label, 'f')
-		f.emit("for %s := 0; %s < len(%s); %s++ {", i, i, ks, i)
-		f.emit("%s := %s(%s, %s[%s])", at, p.mapFunc(u, "find"), m, ks, i)
-		f.emit("if %s < 0 {", at)
-		f.emit("continue")
-		f.emit("}")
-		if s.Key != nil && !isBlank(s.Key) {
-			set(s.Key, p.copyOf(u.Key(), ks+"["+i+"]"), u.Key())
-		}
-		if hasVal {
-			set(s.Value, p.copyOf(u.Elem(), fmt.Sprintf("%s(%s, %s)", p.mapFunc(u, "at"), m, at)), u.Elem())
-		}
-		end()
+		r.mapping(u)
 	case *types.Chan:
-		x := f.expr(s.X)
-		f.push(label, 'f')
-		if s.Key == nil || isBlank(s.Key) {
-			f.emit("for range %s {", x)
-		} else {
-			f.emit("for %s := range %s {", i, x)
-			set(s.Key, i, u.Elem())
-		}
-		end()
+		r.channel(u)
 	default:
 		p.refuse("range over type %s", t)
 	}
+	f.stmts(s.Body.List)
+	f.at(s.Body.Rbrace)
+	f.emit("}")
+	f.pop()
 }
 
-// rangeText begins the loop over the runes of a string.
-func (f *fctx) rangeText(s *ast.RangeStmt, i string, set func(ast.Expr, string, types.Type), hasVal bool, label string) {
-	p := f.p
-	b := f.temp(p.golf("Bytes", f.expr(s.X)))
+// ranger writes the beginning of a range loop.
+type ranger struct {
+	f      *fctx
+	s      *ast.RangeStmt
+	label  string
+	hasVal bool
+}
+
+// set gives the value of an iteration to a variable of the header.
+func (r *ranger) set(e ast.Expr, x string, xt types.Type) {
+	f := r.f
+	if e == nil || isBlank(e) {
+		return
+	}
+	if r.s.Tok == token.DEFINE {
+		f.declare(f.p.info.Defs[e.(*ast.Ident)].(*types.Var), x)
+		return
+	}
+	f.place(e)(f.convert(x, xt, f.typeOf(e)))
+}
+
+// plain is the name that the loop can give to a variable of the header itself; other is a name in its place.
+func (r *ranger) plain(e ast.Expr, other string) (name string, isPlain bool) {
+	f := r.f
+	if r.s.Tok != token.DEFINE || e == nil || isBlank(e) {
+		return f.fresh(other), false
+	}
+	v := f.p.info.Defs[e.(*ast.Ident)].(*types.Var)
+	i := f.p.vars[v]
+	if i == nil || !i.used || i.assigned || i.captured || f.p.isBoxed(v) || isRef(f.p.vtype(v)) {
+		return f.fresh(other), false
+	}
+	return f.varName(v), true
+}
+
+// key is the variable that counts, and what gives it to the key of the header.
+func (r *ranger) key() (string, func(types.Type)) {
+	i, plain := r.plain(r.s.Key, "i")
+	return i, func(t types.Type) {
+		if !plain {
+			r.set(r.s.Key, i, t)
+		}
+	}
+}
+
+func (r *ranger) integer(t types.Type) {
+	f := r.f
+	n := f.expr(r.s.X)
+	if !literalRE.MatchString(n) {
+		n = f.temp(n)
+	}
+	i, setKey := r.key()
+	f.push(r.label, 'f')
+	f.emit("for %s := 0; %s < %s; %s++ {", i, i, n, i)
+	setKey(t)
+}
+
+func (r *ranger) slice(u *types.Slice) {
+	f, p := r.f, r.f.p
+	x := f.expr(r.s.X)
+	v, plain := "", false
+	if r.hasVal {
+		v, plain = r.plain(r.s.Value, "x")
+	}
+	if !p.grows(u.Elem()) && (!r.hasVal || plain) {
+		// the loop of the subset
+		i, plainKey := "_", true
+		if r.s.Key != nil && !isBlank(r.s.Key) {
+			i, plainKey = r.plain(r.s.Key, "i")
+		}
+		f.push(r.label, 'f')
+		switch {
+		case r.hasVal:
+			f.emit("for %s, %s := range %s {", i, v, bare(x))
+		case i == "_":
+			f.emit("for range %s {", bare(x))
+		default:
+			f.emit("for %s := range %s {", i, bare(x))
+		}
+		if !plainKey {
+			r.set(r.s.Key, i, types.Typ[types.Int])
+		}
+		return
+	}
+	x = f.temp(x)
+	n := f.temp(p.sliceLen(u.Elem(), x))
+	i, setKey := r.key()
+	f.push(r.label, 'f')
+	f.emit("for %s := 0; %s < %s; %s++ {", i, i, n, i)
+	setKey(types.Typ[types.Int])
+	if r.hasVal {
+		r.set(r.s.Value, p.copyOf(u.Elem(), f.element(u.Elem(), x, i)), u.Elem())
+	}
+}
+
+func (r *ranger) array(t types.Type, u *types.Array) {
+	f, p := r.f, r.f.p
+	x := f.expr(r.s.X)
+	if r.hasVal && !isPtr(t) {
+		x = p.copyOf(t, x)
+	}
+	x = f.temp(x)
+	i, setKey := r.key()
+	f.push(r.label, 'f')
+	f.emit("for %s := 0; %s < %d; %s++ {", i, i, u.Len(), i)
+	setKey(types.Typ[types.Int])
+	if r.hasVal {
+		r.set(r.s.Value, p.copyOf(u.Elem(), x+"["+i+"]"), u.Elem())
+	}
+}
+
+// mapping goes over the keys of now, except for those that are deleted meanwhile.
+func (r *ranger) mapping(u *types.Map) {
+	f, p := r.f, r.f.p
+	m := f.temp(f.expr(r.s.X))
+	ks := f.temp(fmt.Sprintf("%s(%s)", p.mapFunc(u, "keys"), m))
+	at := f.fresh("at")
+	i := f.fresh("i")
+	f.push(r.label, 'f')
+	f.emit("for %s := 0; %s < len(%s); %s++ {", i, i, ks, i)
+	f.emit("%s := %s(%s, %s[%s])", at, p.mapFunc(u, "find"), m, ks, i)
+	f.emit("if %s < 0 {", at)
+	f.emit("continue")
+	f.emit("}")
+	if r.s.Key != nil && !isBlank(r.s.Key) {
+		r.set(r.s.Key, p.copyOf(u.Key(), ks+"["+i+"]"), u.Key())
+	}
+	if r.hasVal {
+		r.set(r.s.Value, p.copyOf(u.Elem(), fmt.Sprintf("%s(%s, %s)", p.mapFunc(u, "at"), m, at)), u.Elem())
+	}
+}
+
+func (r *ranger) channel(u *types.Chan) {
+	f := r.f
+	x := f.expr(r.s.X)
+	f.push(r.label, 'f')
+	if r.s.Key == nil || isBlank(r.s.Key) {
+		f.emit("for range %s {", bare(x))
+		return
+	}
+	i, setKey := r.key()
+	f.emit("for %s := range %s {", i, bare(x))
+	setKey(u.Elem())
+}
+
+// text goes over the runes of a string.
+func (r *ranger) text() {
+	f, p := r.f, r.f.p
+	b := f.temp(p.golf("Bytes", f.expr(r.s.X)))
 	w := f.temp("0")
-	f.push(label, 'f')
+	i, setKey := r.key()
+	f.push(r.label, 'f')
 	f.emit("for %s := 0; %s < %s; %s += %s {", i, i, p.sliceLen(types.Typ[types.Byte], b), i, w)
 	f.emit("%s = %s", w, p.golf("Width", b, i))
-	set(s.Key, i, types.Typ[types.Int])
-	if hasVal {
-		set(s.Value, p.golf("Rune", b, i), types.Typ[types.Rune])
+	setKey(types.Typ[types.Int])
+	if r.hasVal {
+		r.set(r.s.Value, p.golf("Rune", b, i), types.Typ[types.Rune])
 	}
+}
+
+// stable: nobody assigns to the variable, so that it can be read again later.
+func (f *fctx) stable(e ast.Expr) bool {
+	id, ok := ast.Unparen(e).(*ast.Ident)
+	if !ok {
+		return false
+	}
+	v, ok := f.p.info.Uses[id].(*types.Var)
+	if !ok || v.Pkg() != nil && v.Parent() == v.Pkg().Scope() {
+		return false
+	}
+	i := f.p.vars[v]
+	return i != nil && !i.assigned && !i.addr
 }

@@ -141,21 +141,35 @@ type piece struct {
 // printPieces are the pieces of Println and Print: each operand, with spaces as they put them.
 func (f *fctx) printPieces(name string, args []ast.Expr) []piece {
 	p := f.p
-	var gs []func() string
-	for _, a := range args {
-		gs = append(gs, func() string { return f.printed(a, &verb{char: 'v'}) })
-	}
+	xs, ts, vs := f.printOperands(args)
 	var r []piece
-	for i, x := range f.ordered(gs...) {
-		if i > 0 && (name == "Println" || !isString(f.typeOf(args[i])) && !isString(f.typeOf(args[i-1]))) {
+	for i, x := range xs {
+		if i > 0 && (name == "Println" || !isString(ts[i]) && !isString(ts[i-1])) {
 			r = append(r, piece{lit: " ", isLit: true})
 		}
-		r = append(r, p.pieceOf(x, f.typeOf(args[i]), p.info.Types[args[i]].Value, &verb{char: 'v'}))
+		r = append(r, p.pieceOf(x, ts[i], vs[i], &verb{char: 'v'}))
 	}
 	if name == "Println" {
 		r = append(r, piece{lit: "\n", isLit: true})
 	}
 	return r
+}
+
+// printOperands are the operands of Println and Print with their types and, if they are constants, values.
+func (f *fctx) printOperands(args []ast.Expr) (xs []string, ts []types.Type, vs []constant.Value) {
+	if len(args) == 1 {
+		if tup, ok := f.typeOf(args[0]).(*types.Tuple); ok && tup.Len() > 1 {
+			xs, ts = f.multi(args[0], tup.Len())
+			return xs, ts, make([]constant.Value, len(xs))
+		}
+	}
+	var gs []func() string
+	for _, a := range args {
+		gs = append(gs, func() string { return f.printed(a, &verb{char: 'v'}) })
+		ts = append(ts, f.typeOf(a))
+		vs = append(vs, f.p.info.Types[a].Value)
+	}
+	return f.ordered(gs...), ts, vs
 }
 
 // formatPieces are the pieces of a format with its operands.
@@ -211,8 +225,9 @@ func (f *fctx) printed(a ast.Expr, v *verb) string {
 		if f.wrapped == nil {
 			f.p.refuse("%%w outside of fmt.Errorf")
 		}
-		*f.wrapped = f.pin(f.expr(a))
-		return *f.wrapped
+		x := f.pin(f.expr(a))
+		*f.wrapped = f.convert(x, f.typeOf(a), errorType)
+		return x
 	}
 	return f.expr(a)
 }

@@ -46,10 +46,12 @@ func (p *prog) format(x string, t types.Type, v *verb, depth int, methods bool) 
 	case *types.Basic:
 		return p.formatBasic(x, t, u, v)
 	case *types.Pointer:
-		if depth > 0 || !isRef(u.Elem()) {
-			break
+		if depth > 0 || !isRef(u.Elem()) || native(u.Elem()) != "" {
+			return p.formatAddress(x, t, v)
 		}
 		return p.formatPointer(x, u, v)
+	case *types.Chan, *types.Signature:
+		return p.formatAddress(x, t, v)
 	case *types.Struct:
 		if isStruct(t) {
 			return p.formatStruct(x, t, u, v)
@@ -131,6 +133,23 @@ func (p *prog) formatPointer(x string, u *types.Pointer, v *verb) string {
 		b.add(0, "return %s", p.textConst("<nil>"))
 		b.add(0, "}")
 		b.add(0, "return %s", p.golf("Join", p.textConst("&"), text))
+		b.add(0, "}")
+	})
+	return fmt.Sprintf("%s(%s)", fn, x)
+}
+
+// formatAddress is <nil>; the number of an address cannot be told.
+func (p *prog) formatAddress(x string, t types.Type, v *verb) string {
+	if v.char != 'v' {
+		p.refuse("%%%c of a value of type %s", v.char, t)
+	}
+	l := p.lt(t)
+	fn := p.aux("format", "address "+l, func(name string, b *buffer) {
+		b.add(0, "func %s(x %s) *%s {", name, l, p.structName(p.textType()))
+		b.add(0, "if x != nil {")
+		b.add(0, "panic(\"lowering: printing an address is not supported\")")
+		b.add(0, "}")
+		b.add(0, "return %s", p.textConst("<nil>"))
 		b.add(0, "}")
 	})
 	return fmt.Sprintf("%s(%s)", fn, x)

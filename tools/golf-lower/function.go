@@ -143,7 +143,7 @@ func (p *prog) result(sig *types.Signature) string {
 	case 1:
 		return p.lt(p.subst(sig.Results().At(0).Type()))
 	}
-	return p.lt(p.subst(sig.Results()))
+	return p.lt(p.tuple(sig.Results()))
 }
 
 func (p *prog) varType(v *types.Var) string {
@@ -313,7 +313,7 @@ func (f *fctx) namedResult() string {
 	if len(parts) == 1 {
 		return parts[0]
 	}
-	return f.p.pack(f.p.subst(f.sig.Results()).(*types.Tuple), parts)
+	return f.p.pack(f.p.tuple(f.sig.Results()), parts)
 }
 
 // pack makes the struct of several results.
@@ -369,6 +369,8 @@ func (f *fctx) declare(v *types.Var, value string) {
 		f.emit("%s := &%s{v: %s}", n, p.box(l), value)
 	case value == "nil":
 		f.emit("var %s %s", n, l)
+	case strings.HasPrefix(l, "<-chan ") || strings.HasPrefix(l, "chan<- "):
+		f.emit("var %s %s = %s", n, l, bare(value)) // the channel may have both directions
 	default:
 		f.emit("%s := %s", n, bare(value))
 	}

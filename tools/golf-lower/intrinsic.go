@@ -92,9 +92,6 @@ func (f *fctx) errorf(c *ast.CallExpr) string {
 	if wrapped < 0 || wrapped+1 >= len(c.Args) {
 		return fmt.Sprintf("%s(%s)", p.stdFunc("errors", "New"), p.textOfPieces(f.formatPieces(c, 0)))
 	}
-	if !types.Identical(f.typeOf(c.Args[wrapped+1]), errorType) {
-		p.refuse("%%w of a value of type %s", f.typeOf(c.Args[wrapped+1]))
-	}
 	// the error is evaluated once, in its place
 	var inner string
 	f.wrapped = &inner

@@ -86,8 +86,11 @@ func (f *fctx) hold(pieces []piece, to string) {
 	if to == "Write" {
 		if ops, _, ok := p.operands(pieces); ok {
 			p.imports["fmt"] = true
-			held := p.texts && p.hasGo
+			held := p.texts && p.hasGo && !isStd(p.fset.Position(p.pos).Filename)
 			if held {
+				for i := range ops {
+					ops[i] = f.pin(ops[i])
+				}
 				f.emit("%s", p.golf("Hold"))
 			}
 			f.emit("fmt.Println(%s)", strings.Join(ops, ", "))

@@ -105,7 +105,7 @@ func (f *fctx) declStmt(d *ast.GenDecl) {
 			parts, ts := f.multi(vs.Values[0], len(vs.Names))
 			for i, v := range vars {
 				if vs.Names[i].Name != "_" {
-					f.declare(v, f.convert(parts[i], ts[i], v.Type()))
+					f.declare(v, f.convert(parts[i], ts[i], f.p.vtype(v)))
 				}
 			}
 			continue
@@ -114,7 +114,7 @@ func (f *fctx) declStmt(d *ast.GenDecl) {
 		for i := range vs.Values {
 			t := f.typeOf(vs.Values[i])
 			if vars[i] != nil {
-				t = vars[i].Type()
+				t = f.p.vtype(vars[i])
 			}
 			gs = append(gs, func() string { return f.rval(vs.Values[i], t) })
 		}
@@ -124,7 +124,7 @@ func (f *fctx) declStmt(d *ast.GenDecl) {
 			if len(xs) > 0 {
 				x = xs[i]
 			} else {
-				x = f.p.zero(v.Type())
+				x = f.p.zero(f.p.vtype(v))
 			}
 			if vs.Names[i].Name == "_" {
 				f.emit("_ = %s", x)
@@ -279,7 +279,7 @@ func (f *fctx) assignStmt(s *ast.AssignStmt) {
 		l := s.Lhs[0]
 		lt := f.lhsType(l, f.typeOf(s.Rhs[0]))
 		if v := f.newVar(s, l); v != nil {
-			f.declare(v, f.rval(s.Rhs[0], v.Type()))
+			f.declare(v, f.rval(s.Rhs[0], f.p.vtype(v)))
 			return
 		}
 		f.assignOne(l, func() string { return f.rval(s.Rhs[0], lt) })
@@ -321,7 +321,7 @@ func (f *fctx) assignStmt(s *ast.AssignStmt) {
 	for i, r := range s.Rhs {
 		t := f.lhsType(s.Lhs[i], f.typeOf(r))
 		if v := f.newVar(s, s.Lhs[i]); v != nil {
-			t = v.Type()
+			t = f.p.vtype(v)
 		}
 		x := f.rval(r, t)
 		if !literalRE.MatchString(x) {
@@ -362,7 +362,7 @@ func (f *fctx) storePart(s *ast.AssignStmt, l ast.Expr, x string, t types.Type) 
 		return
 	}
 	if v := f.newVar(s, l); v != nil {
-		f.declare(v, f.convert(x, t, v.Type()))
+		f.declare(v, f.convert(x, t, f.p.vtype(v)))
 		return
 	}
 	f.place(l)(f.convert(x, t, f.typeOf(l)))
@@ -465,7 +465,7 @@ func (f *fctx) opAssign(l ast.Expr, op token.Token, value func() string) {
 
 func (f *fctx) returnStmt(s *ast.ReturnStmt) {
 	p := f.p
-	res := f.sig.Results()
+	res := p.tuple(f.sig.Results())
 	if len(s.Results) == 0 {
 		if res.Len() == 0 || f.inner {
 			f.emit("return")
@@ -513,8 +513,8 @@ func (f *fctx) returnStmt(s *ast.ReturnStmt) {
 			}
 			for i, r := range f.named {
 				if r.Name() != "_" {
-					if isRef(r.Type()) {
-						f.emit("%s", p.set(r.Type(), f.varRef(r), parts[i]))
+					if isRef(p.vtype(r)) {
+						f.emit("%s", p.set(p.vtype(r), f.varRef(r), parts[i]))
 					} else {
 						f.emit("%s = %s", f.varRef(r), parts[i])
 					}
@@ -537,7 +537,6 @@ func (f *fctx) returnStmt(s *ast.ReturnStmt) {
 
 func (f *fctx) ifStmt(s *ast.IfStmt) {
 	if s.Init != nil {
-		f.emit("{")
 		f.stmt(s.Init)
 		f.at(s.Cond.Pos())
 	}
@@ -546,16 +545,26 @@ func (f *fctx) ifStmt(s *ast.IfStmt) {
 	f.emit("if %s {", bare(c))
 	f.stmts(s.Body.List)
 	f.at(s.Body.Rbrace)
-	if s.Else != nil {
+	switch e := s.Else.(type) {
+	case *ast.BlockStmt:
 		f.emit("} else {")
-		if b, ok := s.Else.(*ast.BlockStmt); ok {
-			f.stmts(b.List)
-		} else {
-			f.stmt(s.Else)
-		}
+		f.stmts(e.List)
+	case *ast.IfStmt:
+		f.elseIf(e)
+		return
 	}
 	f.emit("}")
-	if s.Init != nil {
-		f.emit("}")
+}
+
+// elseIf is an else with an if, which needs a block of its own if its condition needs statements.
+func (f *fctx) elseIf(s *ast.IfStmt) {
+	b := f.capture(func() { f.ifStmt(s) })
+	if first := b.lines[0].text; strings.HasPrefix(first, "if ") {
+		b.lines[0].text = "} else " + first
+		f.splice(b)
+		return
 	}
+	f.emit("} else {")
+	f.splice(b)
+	f.emit("}")
 }

@@ -227,7 +227,7 @@ func (n *textFinder) call(c *ast.CallExpr) bool {
 	switch p.calleeName(c) {
 	case "fmt.Println", "fmt.Print":
 		for _, a := range c.Args {
-			if !direct(info.TypeOf(a), 'v') {
+			if !allDirect(info.TypeOf(a)) {
 				return true
 			}
 		}
@@ -249,4 +249,18 @@ func (p *prog) calleeName(c *ast.CallExpr) string {
 		return fn.FullName()
 	}
 	return ""
+}
+
+// allDirect: Println of the subset writes a value of this type, or each of several results.
+func allDirect(t types.Type) bool {
+	tup, ok := t.(*types.Tuple)
+	if !ok {
+		return direct(t, 'v')
+	}
+	for i := 0; i < tup.Len(); i++ {
+		if !direct(tup.At(i).Type(), 'v') {
+			return false
+		}
+	}
+	return true
 }

@@ -510,6 +510,9 @@ func (p *prog) equal(t types.Type, a, b string) string {
 	switch {
 	case isIface(t):
 		p.usesAnyEqual = true
+		if p.texts {
+			p.stdFunc("golf", "Equal")
+		}
 		return fmt.Sprintf("golf_any_equal(%s, %s)", a, b)
 	case isArray(t):
 		el := under(t).(*types.Array).Elem()
