@@ -138,7 +138,7 @@ func (f *fctx) copySlices(elem types.Type, c *ast.CallExpr) string {
 		}
 		return s + "[" + i + "]"
 	}
-	fn := p.aux("copyslice", l+suffix(p, elem), func(name string, b *buffer) {
+	fn := p.aux("copyslice", l+suffix(elem), func(name string, b *buffer) {
 		mv := at("d", "i") + " = " + at("s", "i")
 		if isRef(elem) {
 			mv = p.set2(elem, at("d", "i"), at("s", "i"))

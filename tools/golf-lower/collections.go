@@ -4,13 +4,14 @@ import (
 	"fmt"
 	"go/ast"
 	"go/types"
+	"strings"
 )
 
 // sliceStruct is the struct of slices that are appended to or sliced: a part of an array.
 // Such a struct is never changed, so that it is a value.
 func (p *prog) sliceStruct(elem types.Type) string {
 	l := p.lt(elem)
-	return p.aux("sl", l+suffix(p, elem), func(n string, b *buffer) {
+	return p.aux("slice", valueKey(l, elem), func(n string, b *buffer) {
 		z := p.zero(elem)
 		ref := isRef(elem)
 		set := "a[i] = s.a[s.off+i]"
@@ -168,11 +169,19 @@ func (p *prog) hasNative(t types.Type) bool {
 }
 
 // suffix keeps structs and pointers to them apart, which are alike in the subset.
-func suffix(p *prog, t types.Type) string {
+func suffix(t types.Type) string {
 	if isRef(t) {
 		return " value"
 	}
 	return ""
+}
+
+// valueKey is the key of a type of elements: a struct and a pointer to it are alike in the subset.
+func valueKey(l string, t types.Type) string {
+	if isRef(t) && strings.HasPrefix(l, "*") {
+		return l[1:]
+	}
+	return l + suffix(t)
 }
 
 // sliceOf makes a slice of an array of the subset.
@@ -237,7 +246,7 @@ func (f *fctx) sliceExpr(e *ast.SliceExpr) string {
 // mapStruct is the association list of a map type.
 func (p *prog) mapStruct(m *types.Map) string {
 	k, v := p.lt(m.Key()), p.lt(m.Elem())
-	return p.aux("map", k+suffix(p, m.Key())+","+v+suffix(p, m.Elem())+ifaceSuffix(m.Key()), func(n string, b *buffer) {
+	return p.aux("map", valueKey(k, m.Key())+","+valueKey(v, m.Elem())+ifaceSuffix(m.Key()), func(n string, b *buffer) {
 		eq := p.equal(m.Key(), "m.keys[i]", "k")
 		z := p.zero(m.Elem())
 		w := func(format string, args ...any) { b.add(0, format, args...) }

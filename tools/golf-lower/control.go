@@ -309,6 +309,13 @@ func (f *fctx) selectStmt(s *ast.SelectStmt, label string) {
 			ch := ast.Unparen(m.Rhs[0]).(*ast.UnaryExpr).X
 			et := f.elemOf(ch)
 			c := f.expr(ch)
+			r := &ranger{f: f, s: &ast.RangeStmt{Tok: m.Tok}}
+			if len(m.Lhs) == 1 && !isRef(et) {
+				if name, plain := r.plain(m.Lhs[0], "t"); plain {
+					cl.head = fmt.Sprintf("case %s := <-%s:", name, c)
+					break
+				}
+			}
 			v, ok := f.fresh("t"), f.fresh("ok")
 			if len(m.Lhs) == 1 {
 				cl.head = fmt.Sprintf("case %s := <-%s:", v, c)
@@ -506,7 +513,7 @@ func (r *ranger) plain(e ast.Expr, other string) (name string, isPlain bool) {
 	}
 	v := f.p.info.Defs[e.(*ast.Ident)].(*types.Var)
 	i := f.p.vars[v]
-	if i == nil || !i.used || i.assigned || i.captured || f.p.isBoxed(v) || isRef(f.p.vtype(v)) {
+	if i == nil || !i.used || i.assigned || f.p.isBoxed(v) || isRef(f.p.vtype(v)) {
 		return f.fresh(other), false
 	}
 	return f.varName(v), true

@@ -166,8 +166,7 @@ type function struct {
 }
 
 func (p *prog) function(fn *function) {
-	b := p.functionBuf(fn)
-	p.funcs.lines = append(p.funcs.lines, b.lines...)
+	p.chunk(p.functionBuf(fn))
 }
 
 // functionBuf lowers a function into a buffer of its own.
@@ -279,7 +278,7 @@ func (f *fctx) outer(fn *function, header string, params, args []string) string 
 	outer.add(f.ln, "%s(%s)", innerName, strings.Join(args, ", "))
 	outer.add(f.ln, "return %s", f.namedResult())
 	outer.add(f.ln, "}")
-	p.funcs.lines = append(p.funcs.lines, outer.lines...)
+	p.chunk(&outer)
 	return fmt.Sprintf("func %s(%s)", innerName, strings.Join(params, ", "))
 }
 

@@ -58,7 +58,9 @@ func Lower(sources []Source, opt Options) (out *Output, err error) {
 			head.add(0, "import %q", i)
 		}
 	}
-	return p.finish(head, &p.globals, &p.decls, &p.funcs), nil
+	out = p.finish(append([]*buffer{head, &p.globals}, p.ordered()...)...)
+	tidy(out)
+	return out, nil
 }
 
 // prog is the state of one lowering.
@@ -109,7 +111,8 @@ type prog struct {
 	queue  []func()
 	globs  map[*types.Var]bool // globals that are referred to
 
-	decls, globals, funcs buffer
+	globals, decls buffer
+	chunks         []chunk // functions and the user's types
 
 	pos   token.Pos // of what is being lowered
 	depth int       // of types in types

@@ -102,7 +102,7 @@ func (p *prog) program() {
 	}
 	p.initialisers()
 	// main begins with what Go does before main.
-	b := &p.funcs
+	b := &buffer{}
 	b.add(mainBuf.lines[0].orig, "%s", mainBuf.lines[0].text)
 	if p.opt.Collect {
 		b.add(mainBuf.lines[0].orig, "defer %s()", p.collector())
@@ -112,7 +112,9 @@ func (p *prog) program() {
 		b.add(0, "%s()", s)
 	}
 	b.lines = append(b.lines, mainBuf.lines[1:]...)
+	p.chunk(b)
 	p.tables()
+	p.drain()
 }
 
 // starts finds main and the functions named init.
@@ -177,7 +179,7 @@ func (p *prog) initialisers() {
 	}
 	dropUnused(b)
 	b.add(0, "}")
-	p.funcs.lines = append(p.funcs.lines, b.lines...)
+	p.chunk(b)
 }
 
 func (p *prog) anyGlobal(vars []*types.Var) bool {

@@ -2,6 +2,7 @@ package lower
 
 import (
 	"fmt"
+	"go/token"
 	"go/types"
 	"sort"
 	"strings"
@@ -227,7 +228,7 @@ func writeKey(sb *strings.Builder, t types.Type) {
 
 // mangle makes a name of a type of the subset.
 func mangle(s string) string {
-	r := strings.NewReplacer("chan<- ", "sendchan_", "<-chan ", "recvchan_", "chan ", "chan_", "[]", "s_", "*", "p_", "struct{}", "empty", ".", "_", " ", "_", "(", "_", ")", "_", ",", "_")
+	r := strings.NewReplacer("*golf_Text", "string", "*golf_any", "any", "chan<- ", "sendchan_", "<-chan ", "recvchan_", "chan ", "chan_", "[]", "s_", "*", "p_", "struct{}", "empty", ".", "_", " ", "_", "(", "_", ")", "_", ",", "_")
 	return strings.Map(func(c rune) rune {
 		if c == '_' || '0' <= c && c <= '9' || 'a' <= c && c <= 'z' || 'A' <= c && c <= 'Z' {
 			return c
@@ -332,7 +333,11 @@ func (p *prog) structOf(t types.Type) *structInfo {
 		s.fields = append(s.fields, f)
 	}
 	b := &buffer{}
-	b.add(0, "type %s struct {", s.name)
+	orig := token.NoPos
+	if named {
+		orig = p.orig(n.Obj().Pos())
+	}
+	b.add(orig, "type %s struct {", s.name)
 	for _, f := range s.fields {
 		l := p.lt(f.v.Type())
 		if f.boxed {
@@ -344,7 +349,7 @@ func (p *prog) structOf(t types.Type) *structInfo {
 		b.add(0, "golf_addr int")
 	}
 	b.add(0, "}")
-	p.decls.lines = append(p.decls.lines, b.lines...)
+	p.chunk(b)
 	return s
 }
 
