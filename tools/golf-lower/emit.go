@@ -93,7 +93,9 @@ func (p *prog) finish(parts ...*buffer) *Output {
 			if strings.HasPrefix(t, "}") || strings.HasPrefix(t, "case ") || strings.HasPrefix(t, "default:") {
 				d--
 			}
-			sb.WriteString(strings.Repeat("\t", max(d, 0)))
+			if t != "" {
+				sb.WriteString(strings.Repeat("\t", max(d, 0)))
+			}
 			sb.WriteString(t)
 			sb.WriteString("\n")
 			out.Lines = append(out.Lines, places.of(l.orig))

@@ -53,6 +53,7 @@ func Lower(sources []Source, opt Options) (out *Output, err error) {
 	p.program()
 	head := &buffer{}
 	head.add(0, "package main")
+	head.add(0, "")
 	for _, i := range []string{"fmt", "runtime", "sync"} {
 		if p.imports[i] {
 			head.add(0, "import %q", i)

@@ -457,7 +457,11 @@ func (f *fctx) opAssign(l ast.Expr, op token.Token, value func() string) {
 	y := value()
 	r := f.arith(op, t, lv, y)
 	if strings.HasPrefix(r, "("+lv+" ") {
-		f.emit("%s %s= %s", lv, op, y)
+		if y == "1" && (op == token.ADD || op == token.SUB) {
+			f.emit("%s%s%s", lv, op, op)
+			return
+		}
+		f.emit("%s %s= %s", lv, op, bare(y))
 		return
 	}
 	f.emit("%s = %s", lv, r)
