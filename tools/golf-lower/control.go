@@ -283,6 +283,9 @@ func (f *fctx) typeSwitch(s *ast.TypeSwitchStmt, label string) {
 
 func (f *fctx) selectStmt(s *ast.SelectStmt, label string) {
 	p := f.p
+	if f.onlyCase(s, label) {
+		return
+	}
 	type clause struct {
 		head string
 		pre  *buffer
@@ -396,6 +399,20 @@ func (f *fctx) forStmt(s *ast.ForStmt, label string) {
 	f.at(s.Body.Rbrace)
 	f.emit("}")
 	f.pop()
+}
+
+// onlyCase is a select with one case, which Go takes as the send or receive alone.
+func (f *fctx) onlyCase(s *ast.SelectStmt, label string) bool {
+	if len(s.Body.List) != 1 || hasBreak(s.Body, label) {
+		return false
+	}
+	c := s.Body.List[0].(*ast.CommClause)
+	if c.Comm == nil {
+		return false
+	}
+	f.stmt(c.Comm)
+	f.stmts(c.Body)
+	return true
 }
 
 // ownVars are the variables of the header that each iteration has for itself.

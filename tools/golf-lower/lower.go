@@ -59,7 +59,11 @@ func Lower(sources []Source, opt Options) (out *Output, err error) {
 			head.add(0, "import %q", i)
 		}
 	}
-	out = p.finish(append([]*buffer{head, &p.globals}, p.ordered()...)...)
+	parts := append([]*buffer{head, &p.globals}, p.ordered()...)
+	if opt.Late {
+		p.late(parts)
+	}
+	out = p.finish(parts...)
 	tidy(out)
 	return out, nil
 }

@@ -100,6 +100,9 @@ func (p *prog) program() {
 		fn := p.info.Defs[main.Name].(*types.Func)
 		mainBuf = p.functionBuf(&function{name: "main", sig: fn.Signature(), body: main.Body, pos: main.Pos()})
 	}
+	if p.opt.Late {
+		p.stdFunc("time", "Late")
+	}
 	p.initialisers()
 	// main begins with what Go does before main.
 	b := &buffer{}

@@ -92,6 +92,7 @@ func readPrograms(dir string) []*program {
 
 var (
 	caseRE    = regexp.MustCompile(`make(?:Flaky)?Test\((?:testCase\{name: )?"(\w+)"\}?`)
+	wrapRE    = regexp.MustCompile(`^\w+\\\.gowrap\d+\\\(`)
 	patternRE = regexp.MustCompile("`([^`]*)`")
 )
 
@@ -112,6 +113,7 @@ func readWanted(test string) map[string][]*leak {
 			// a writer of a RWMutex waits for a mutex inside of it
 			p := strings.ReplaceAll(m[1], `sync\.RWMutex\.Lock`, `sync\.(RW)?Mutex\.Lock`)
 			p = strings.ReplaceAll(p, `sync\.Mutex\.Lock`, `sync\.(RW)?Mutex\.Lock`)
+			p = wrapRE.ReplaceAllString(p, `.*\(`) // Go's own function around a call that is started
 			r[name] = append(r[name], &leak{m[1], regexp.MustCompile(p)})
 		}
 	}

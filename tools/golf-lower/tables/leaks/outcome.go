@@ -84,7 +84,7 @@ func (o *outcome) missing() []*leak {
 	return r
 }
 
-var reportRE = regexp.MustCompile(`(?m)^goroutine \d+: (.*?) at line \d+, started at line (\d+)$`)
+var reportRE = regexp.MustCompile(`(?m)^goroutine (\d+): (.*?) at line (\d+), started at line (\d+)$`)
 
 // look is one run: the wanted leaks that it reports.
 func (o *outcome) look(low *lower.Output, schedule string) map[*leak]bool {
@@ -93,10 +93,24 @@ func (o *outcome) look(low *lower.Output, schedule string) map[*leak]bool {
 	extra := map[string]bool{}
 	text := strings.Split(low.Text, "\n")
 	for _, m := range reportRE.FindAllStringSubmatch(errs, -1) {
-		n, _ := strconv.Atoi(m[2])
-		s := fmt.Sprintf("%s(...) [%s]", started(low, text, n), m[1])
+		if m[1] == "1" {
+			continue // main, which Go does not count
+		}
+		wait, _ := strconv.Atoi(m[3])
+		start, _ := strconv.Atoi(m[4])
+		name := started(low, text, start)
+		if name == "time_run" || name == "sync_groupGo" {
+			name = low.Lines[wait-1].Func // a function that a package has started
+		}
+		s := fmt.Sprintf("%s(...) [%s]", name, m[2])
 		known := false
+		method, isMethod := strings.CutPrefix(s, "golf_method_")
 		for _, l := range o.p.wanted {
+			// a call through an interface: the method of one of its types
+			if isMethod && strings.Contains(l.pattern, `\)\.`+strings.Split(method, "(")[0]+`\(`) && strings.Contains(s, short(l.pattern)[strings.Index(short(l.pattern), " ["):]) {
+				found[l] = true
+				known = true
+			}
 			if l.re.MatchString(s) {
 				found[l] = true
 				known = true
