@@ -2,6 +2,7 @@ package lower
 
 import (
 	"fmt"
+	"go/ast"
 	"go/token"
 	"regexp"
 	"strings"
@@ -39,6 +40,32 @@ func (p *prog) late(parts []*buffer) {
 			}
 			b.lines[i].text = "go " + made[m[1]] + strings.TrimPrefix(l.text, "go "+m[1])
 		}
+	}
+}
+
+// pause lets a goroutine wait, now and then, before a statement that can block.
+func (f *fctx) pause(s ast.Stmt) {
+	p := f.p
+	if !p.opt.Late || !f.ln.IsValid() {
+		return
+	}
+	found := false
+	ast.Inspect(s, func(n ast.Node) bool {
+		switch n := n.(type) {
+		case *ast.FuncLit, *ast.BlockStmt, *ast.GoStmt, *ast.DeferStmt:
+			return false
+		case *ast.SendStmt, *ast.SelectStmt:
+			found = true
+		case *ast.UnaryExpr:
+			found = found || n.Op == token.ARROW
+		case *ast.CallExpr:
+			name := p.calleeName(n)
+			found = found || strings.HasPrefix(name, "(*sync.") || strings.HasPrefix(name, "(sync.") || p.isBuiltin(n) == "close"
+		}
+		return !found
+	})
+	if found {
+		f.emit("%s()", p.stdFunc("time", "Pause"))
 	}
 }
 

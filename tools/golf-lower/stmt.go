@@ -35,6 +35,7 @@ func (f *fctx) block(list []ast.Stmt) {
 func (f *fctx) stmt(s ast.Stmt) {
 	f.at(s.Pos())
 	p := f.p
+	f.pause(s)
 	label := f.label
 	f.label = ""
 	switch s := s.(type) {

@@ -9,6 +9,7 @@
 package main
 
 import (
+	"context"
 	"flag"
 	"fmt"
 	"os"
@@ -19,6 +20,7 @@ import (
 	"sort"
 	"strings"
 	"sync"
+	"time"
 )
 
 var (
@@ -28,6 +30,7 @@ var (
 	late  = flag.Bool("late", true, "try seeds with goroutines that start late")
 	only  = flag.String("only", "", "the programs whose names match")
 	jobs  = flag.Int("jobs", 2, "programs at the same time")
+	limit = flag.Duration("limit", time.Minute, "the time of a run")
 	first = flag.Int("runs", 4, "the runs of each program")
 )
 
@@ -141,11 +144,16 @@ func runAll(list []*program) []*outcome {
 
 // golfRun runs golf on a lowered text.
 func golfRun(text, schedule string) string {
-	cmd := exec.Command(*golf, "run", "--turns", "10000000", "--schedule", schedule)
+	ctx, cancel := context.WithTimeout(context.Background(), *limit)
+	defer cancel()
+	cmd := exec.CommandContext(ctx, *golf, "run", "--turns", "10000000", "--schedule", schedule)
 	cmd.Stdin = strings.NewReader(text)
 	cmd.Stdout = nil
 	var errs strings.Builder
 	cmd.Stderr = &errs
 	cmd.Run()
+	if ctx.Err() != nil {
+		errs.WriteString("\nstopped after " + limit.String() + "\n")
+	}
 	return errs.String()
 }
