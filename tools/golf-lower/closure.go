@@ -25,27 +25,17 @@ type fnMember struct {
 }
 
 func (p *prog) fnStruct(sig *types.Signature) *fnInfo {
-	tk := "sig " + typeKey(sig)
-	if fi, ok := p.fns[tk]; ok {
-		if fi == nil {
-			p.refuse("recursive function type")
-		}
+	key := typeKey(sig)
+	if fi, ok := p.fns[key]; ok {
 		return fi
 	}
-	p.fns[tk] = nil
-	var params []string
+	fi := &fnInfo{name: p.fresh("fn"), byKey: map[string]*fnMember{}}
+	p.fns[key] = fi // a function type may contain itself
 	for i := 0; i < sig.Params().Len(); i++ {
-		params = append(params, p.lt(sig.Params().At(i).Type()))
+		fi.params = append(fi.params, p.lt(sig.Params().At(i).Type()))
 	}
-	res := p.result(sig)
-	key := "(" + strings.Join(params, ",") + ")" + res
-	fi, ok := p.fns[key]
-	if !ok {
-		fi = &fnInfo{name: p.fresh("fn"), params: params, result: res, byKey: map[string]*fnMember{}}
-		p.fns[key] = fi
-		p.fnList = append(p.fnList, fi)
-	}
-	p.fns[tk] = fi
+	fi.result = p.result(sig)
+	p.fnList = append(p.fnList, fi)
 	return fi
 }
 

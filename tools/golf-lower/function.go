@@ -388,28 +388,34 @@ func (f *fctx) varRef(v *types.Var) string {
 }
 
 var (
-	wordRE = regexp.MustCompile(`[A-Za-z_][A-Za-z0-9_]*`)
-	tempRE = regexp.MustCompile(`^((?:case )?)(t[0-9]*) := (.*)$`)
-	pairRE = regexp.MustCompile(`^((?:case )?)(t[0-9]*), (ok[0-9]*) := (.*)$`)
+	stringRE = regexp.MustCompile(`"([^"\\]|\\.)*"`)
+	wordRE   = regexp.MustCompile(`\.?[A-Za-z_][A-Za-z0-9_]*`)
+	declRE   = regexp.MustCompile(`^((?:case )?)([A-Za-z_][A-Za-z0-9_]*) := (.*)$`)
+	varRE    = regexp.MustCompile(`^var ([A-Za-z_][A-Za-z0-9_]*) ([^=]+?)(?: = (.*))?$`)
+	pairRE   = regexp.MustCompile(`^((?:case )?)([A-Za-z_][A-Za-z0-9_]*), ([A-Za-z_][A-Za-z0-9_]*) := (.*)$`)
 )
 
-// dropUnused takes away temporaries that nobody reads, so that the output is Go too.
+// dropUnused takes away variables that nobody reads, so that the output is Go too.
 func dropUnused(b *buffer) {
 	count := map[string]int{}
 	for _, l := range b.lines {
-		for _, w := range wordRE.FindAllString(l.text, -1) {
+		for _, w := range wordRE.FindAllString(stringRE.ReplaceAllString(l.text, ""), -1) {
 			count[w]++
 		}
 	}
 	for i := range b.lines {
-		t := b.lines[i].text
-		if m := tempRE.FindStringSubmatch(t); m != nil && count[m[2]] == 1 {
-			b.lines[i].text = "_ = " + m[3]
+		l := &b.lines[i]
+		if m := declRE.FindStringSubmatch(l.text); m != nil && count[m[2]] == 1 {
+			l.text = "_ = " + m[3]
 			if m[1] != "" {
-				b.lines[i].text = m[1] + m[3]
+				l.text = m[1] + m[3]
 			}
-		}
-		if m := pairRE.FindStringSubmatch(t); m != nil {
+		} else if m := varRE.FindStringSubmatch(l.text); m != nil && count[m[1]] == 1 {
+			l.text = ""
+			if m[3] != "" {
+				l.text = "_ = " + m[3]
+			}
+		} else if m := pairRE.FindStringSubmatch(l.text); m != nil {
 			v, ok := m[2], m[3]
 			if count[v] == 1 {
 				v = "_"
@@ -417,10 +423,9 @@ func dropUnused(b *buffer) {
 			if count[ok] == 1 {
 				ok = "_"
 			}
+			l.text = m[1] + v + ", " + ok + " := " + m[4]
 			if v == "_" && ok == "_" {
-				b.lines[i].text = m[1] + m[4]
-			} else {
-				b.lines[i].text = m[1] + v + ", " + ok + " := " + m[4]
+				l.text = m[1] + m[4]
 			}
 		}
 	}

@@ -20,6 +20,8 @@ func (f *fctx) intrinsic(fn *types.Func, c *ast.CallExpr) (string, bool) {
 		return p.textOfPieces(f.printPieces(map[string]string{"fmt.Sprint": "Print", "fmt.Sprintln": "Println"}[name], c.Args)), true
 	case "fmt.Errorf":
 		return f.errorf(c), true
+	case "sort.Slice", "sort.SliceStable":
+		return f.sortSlice(c), true
 	case "errors.As":
 		return f.errorsAs(c), true
 	case "strconv.Itoa":
@@ -98,6 +100,19 @@ func (f *fctx) errorf(c *ast.CallExpr) string {
 	text := p.textOfPieces(f.formatPieces(c, 0))
 	f.wrapped = nil
 	return fmt.Sprintf("%s(%s, %s)", p.stdFunc("fmt", "wrap"), text, inner)
+}
+
+// sortSlice is sort.Slice of a slice whose type is known.
+func (f *fctx) sortSlice(c *ast.CallExpr) string {
+	p := f.p
+	s, ok := under(f.typeOf(c.Args[0])).(*types.Slice)
+	if !ok {
+		p.refuse("sort.Slice of a value of type %s", f.typeOf(c.Args[0]))
+	}
+	fn := p.pkgs["sort"].types.Scope().Lookup("slice").(*types.Func)
+	less := p.callee(c).Signature().Params().At(1).Type()
+	xs := f.ordered(func() string { return f.expr(c.Args[0]) }, func() string { return f.rval(c.Args[1], less) })
+	return fmt.Sprintf("%s(%s, %s)", p.funcRef(fn, []types.Type{s.Elem()}), xs[0], xs[1])
 }
 
 // errorsAs is errors.As: the variable that the second operand points to has a type that is known.

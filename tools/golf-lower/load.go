@@ -150,8 +150,10 @@ func (p *prog) load(sources []Source) error {
 		return firstError(err)
 	}
 	p.user = p.pkgs["main"]
-	if _, err := p.Import("golf"); err != nil {
-		return err
+	for _, name := range []string{"golf", "errors", "fmt", "time"} {
+		if _, err := p.Import(name); err != nil {
+			return err
+		}
 	}
 	p.texts = p.needsTexts()
 	for _, k := range p.list {
