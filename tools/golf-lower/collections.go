@@ -129,6 +129,15 @@ func (p *prog) sliceStruct(elem types.Type) string {
 		w("}")
 		w("return &%s{a: s.a, off: s.off + lo, n: hi - lo, c: s.c - lo}", n)
 		w("}")
+		w("func %s_slice3(s *%s, lo int, hi int, top int) *%s {", n, n, n)
+		w("if top < 0 || top > %s_cap(s) || hi < 0 || hi > top || lo < 0 || lo > hi {", n)
+		w("panic(\"runtime error: slice bounds out of range\")")
+		w("}")
+		w("if s == nil {")
+		w("return nil")
+		w("}")
+		w("return &%s{a: s.a, off: s.off + lo, n: hi - lo, c: top - lo}", n)
+		w("}")
 	})
 }
 
@@ -202,9 +211,6 @@ func (p *prog) sliceLen(elem types.Type, s string) string {
 
 func (f *fctx) sliceExpr(e *ast.SliceExpr) string {
 	p := f.p
-	if e.Slice3 {
-		p.refuse("slice with a capacity")
-	}
 	if p.isText(f.typeOf(e.X)) {
 		return f.textSlice(e)
 	}
@@ -227,7 +233,11 @@ func (f *fctx) sliceExpr(e *ast.SliceExpr) string {
 			return f.expr(b)
 		}
 	}
-	xs := f.ordered(func() string { return f.expr(e.X) }, bound(e.Low, "0"), bound(e.High, "-1"))
+	gs := []func() string{func() string { return f.expr(e.X) }, bound(e.Low, "0"), bound(e.High, "-1")}
+	if e.Slice3 {
+		gs = append(gs, bound(e.Max, ""))
+	}
+	xs := f.ordered(gs...)
 	if arr {
 		xs[0] = fmt.Sprintf("%s_of(%s)", n, xs[0])
 	}
@@ -240,7 +250,10 @@ func (f *fctx) sliceExpr(e *ast.SliceExpr) string {
 			xs[2] = fmt.Sprintf("%s(%s)", p.stdFunc("golf", "Bound"), xs[2])
 		}
 	}
-	return fmt.Sprintf("%s_slice(%s, %s, %s)", n, xs[0], xs[1], xs[2])
+	if e.Slice3 {
+		return fmt.Sprintf("%s_slice3(%s)", n, strings.Join(xs, ", "))
+	}
+	return fmt.Sprintf("%s_slice(%s)", n, strings.Join(xs, ", "))
 }
 
 // mapStruct is the association list of a map type.

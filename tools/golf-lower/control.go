@@ -224,6 +224,16 @@ func (f *fctx) switchStmt(s *ast.SwitchStmt, label string) {
 	}
 }
 
+// anyTemp is an interface in a variable.
+func (f *fctx) anyTemp(x string) string {
+	if x != "nil" {
+		return f.pin(x)
+	}
+	t := f.fresh("t")
+	f.emit("var %s *golf_any", t)
+	return t
+}
+
 func (f *fctx) typeSwitch(s *ast.TypeSwitchStmt, label string) {
 	p := f.p
 	if s.Init != nil {
@@ -242,7 +252,7 @@ func (f *fctx) typeSwitch(s *ast.TypeSwitchStmt, label string) {
 	case *ast.ExprStmt:
 		e = a.X.(*ast.TypeAssertExpr).X
 	}
-	x := f.temp(f.expr(e))
+	x := f.anyTemp(f.expr(e))
 	deflt := -1
 	clauses := make([]*ast.CaseClause, len(s.Body.List))
 	for i, c := range s.Body.List {

@@ -11,7 +11,9 @@ func (f *fctx) conversion(c *ast.CallExpr) string {
 	to, a := f.typeOf(c), c.Args[0]
 	from := f.typeOf(a)
 	if isNil(p, a) {
-		return "nil"
+		t := f.fresh("t") // nil alone has no type
+		f.emit("var %s %s", t, p.lt(to))
+		return t
 	}
 	if p.texts && (isString(to) || isString(from)) && !isLit(to) && !isLit(from) {
 		if x := f.textConversion(a, from, to); x != "" {

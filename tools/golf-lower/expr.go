@@ -20,6 +20,9 @@ func (p *prog) constant(v constant.Value, t types.Type) string {
 		if p.texts && !isLit(t) {
 			return p.textConst(constant.StringVal(v))
 		}
+		if isLit(t) {
+			p.noteLiteral(constant.StringVal(v))
+		}
 		return p.quote(constant.StringVal(v))
 	}
 	if b, ok := under(t).(*types.Basic); ok && b.Info()&(types.IsFloat|types.IsComplex) != 0 && b.Info()&types.IsUntyped == 0 {
@@ -109,7 +112,7 @@ func (f *fctx) expr(e ast.Expr) string {
 	case *ast.SliceExpr:
 		return f.sliceExpr(e)
 	case *ast.TypeAssertExpr:
-		x := f.pin(f.expr(e.X))
+		x := f.anyTemp(f.expr(e.X))
 		t := f.typeOf(e)
 		if tup, ok := t.(*types.Tuple); ok {
 			t = tup.At(0).Type()

@@ -114,6 +114,9 @@ func (f *fctx) pin(x string) string {
 }
 
 func (f *fctx) temp(x string) string {
+	if x == "nil" { // it has no type
+		return x
+	}
 	t := f.fresh("t")
 	f.emit("%s := %s", t, x)
 	return t
@@ -358,7 +361,7 @@ func (f *fctx) declare(v *types.Var, value string) {
 	l := p.lt(p.vtype(v))
 	if i := p.vars[v]; i == nil || !i.used {
 		if !simpleRE.MatchString(value) && !literalRE.MatchString(value) {
-			f.emit("_ = %s", value)
+			f.discard(value)
 		}
 		return
 	}
@@ -406,14 +409,14 @@ func dropUnused(b *buffer) {
 	for i := range b.lines {
 		l := &b.lines[i]
 		if m := declRE.FindStringSubmatch(l.text); m != nil && count[m[2]] == 1 {
-			l.text = "_ = " + m[3]
+			l.text = discard(m[3])
 			if m[1] != "" {
 				l.text = m[1] + m[3]
 			}
 		} else if m := varRE.FindStringSubmatch(l.text); m != nil && count[m[1]] == 1 {
 			l.text = ""
 			if m[3] != "" {
-				l.text = "_ = " + m[3]
+				l.text = discard(m[3])
 			}
 		} else if m := pairRE.FindStringSubmatch(l.text); m != nil {
 			v, ok := m[2], m[3]
@@ -429,4 +432,19 @@ func dropUnused(b *buffer) {
 			}
 		}
 	}
+}
+
+// discard evaluates a value that nobody reads.
+func (f *fctx) discard(x string) {
+	if x = discard(x); x != "" {
+		f.emit("%s", x)
+	}
+}
+
+// discard evaluates what nobody reads.
+func discard(x string) string {
+	if literalRE.MatchString(x) {
+		return ""
+	}
+	return "_ = " + x
 }

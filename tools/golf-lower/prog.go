@@ -237,7 +237,7 @@ func (p *prog) initPiece(in *types.Initializer) *buffer {
 	v := in.Lhs[0]
 	switch {
 	case v.Name() == "_":
-		f.emit("_ = %s", f.rval(in.Rhs, v.Type()))
+		f.discard(f.rval(in.Rhs, v.Type()))
 	case isRef(v.Type()) && native(v.Type()) == "":
 		f.emit("%s", p.set(v.Type(), p.globalRef(v), f.rval(in.Rhs, v.Type())))
 	case isRef(v.Type()): // a zero value of sync

@@ -128,7 +128,7 @@ func (f *fctx) declStmt(d *ast.GenDecl) {
 				x = f.p.zero(f.p.vtype(v))
 			}
 			if vs.Names[i].Name == "_" {
-				f.emit("_ = %s", x)
+				f.discard(x)
 				continue
 			}
 			f.declare(v, x)
@@ -162,7 +162,7 @@ func (f *fctx) exprStmt(e ast.Expr) {
 		case "fmt.Errorf", "fmt.Sprintf", "fmt.Sprint", "fmt.Sprintln":
 			// nobody sees the text
 			for _, a := range c.Args {
-				f.emit("_ = %s", f.expr(a))
+				f.discard(f.expr(a))
 			}
 			return
 		case "(*sync.Once).Do":
@@ -191,7 +191,7 @@ func (f *fctx) exprStmt(e ast.Expr) {
 			// io.Discard.Write([]byte(s)): only s is evaluated
 			if s, ok := ast.Unparen(sel.X).(*ast.SelectorExpr); ok && s.Sel.Name == "Discard" {
 				if cv, ok := ast.Unparen(c.Args[0]).(*ast.CallExpr); ok && p.info.Types[cv.Fun].IsType() {
-					f.emit("_ = %s", f.expr(cv.Args[0]))
+					f.discard(f.expr(cv.Args[0]))
 					return
 				}
 			}
@@ -258,7 +258,7 @@ func (f *fctx) multi(e ast.Expr, n int) ([]string, []types.Type) {
 		v := f.temp(fmt.Sprintf("%s(%s, %s)", p.mapFunc(m, "at"), x, i))
 		return []string{p.copyOf(m.Elem(), v), fmt.Sprintf("(%s >= 0)", i)}, []types.Type{m.Elem(), types.Typ[types.Bool]}
 	case *ast.TypeAssertExpr:
-		x := f.pin(f.expr(e.X))
+		x := f.anyTemp(f.expr(e.X))
 		t := ts[0]
 		v, ok := f.assertOK(x, t)
 		return []string{v, ok}, []types.Type{t, types.Typ[types.Bool]}
@@ -372,7 +372,7 @@ func (f *fctx) storePart(s *ast.AssignStmt, l ast.Expr, x string, t types.Type) 
 // assignOne is l = value.
 func (f *fctx) assignOne(l ast.Expr, value func() string) {
 	if isBlank(l) {
-		f.emit("_ = %s", value())
+		f.discard(value())
 		return
 	}
 	var st func(string)
@@ -392,7 +392,7 @@ func (f *fctx) place(l ast.Expr) func(string) {
 	p := f.p
 	l = ast.Unparen(l)
 	if isBlank(l) {
-		return func(x string) { f.emit("_ = %s", x) }
+		return func(x string) { f.discard(x) }
 	}
 	t := f.typeOf(l)
 	if ix, ok := l.(*ast.IndexExpr); ok {

@@ -50,11 +50,16 @@ func (p *prog) textConst(s string) string {
 	if s == "" {
 		return "nil"
 	}
+	p.noteLiteral(s)
+	return p.golf("Const", p.quote(s), fmt.Sprint(len(s)))
+}
+
+// noteLiteral notes a constant whose bytes may be asked for.
+func (p *prog) noteLiteral(s string) {
 	if !p.literals[s] {
 		p.literals[s] = true
 		p.litList = append(p.litList, s)
 	}
-	return p.golf("Const", p.quote(s), fmt.Sprint(len(s)))
 }
 
 // literalBytes writes the function that has the bytes of each constant.
