@@ -15,6 +15,8 @@ func (f *fctx) builtin(b string, c *ast.CallExpr) string {
 		}
 	}
 	switch b {
+	case "recover":
+		p.refuse("recover, since a panic ends the program here")
 	case "len", "cap":
 		t := f.typeOf(c.Args[0])
 		if p.isText(t) {

@@ -154,7 +154,7 @@ func (f *fctx) exit(code string) {
 	p.imports["fmt"] = true
 	p.imports["sync"] = true
 	if p.opt.Collect {
-		f.emit("%s()", p.collector())
+		f.emit("%s()", p.lastCollector())
 	}
 	f.emit("fmt.Println(%q, %s, %q)", tie+"exit", code, tie)
 	m := f.fresh("exit")

@@ -10,6 +10,7 @@ import (
 	"go/token"
 	"go/types"
 	"path"
+	"regexp"
 	"strings"
 )
 
@@ -184,9 +185,20 @@ func firstError(err error) error {
 	}
 	var te types.Error
 	if errors.As(err, &te) {
-		return &Error{te.Fset.Position(te.Pos), te.Msg}
+		msg := te.Msg
+		if m := importRE.FindStringSubmatch(msg); m != nil {
+			msg = m[1]
+		} else if m := undefinedRE.FindStringSubmatch(msg); m != nil {
+			msg = m[1] + ": not supported, or no name of its package"
+		}
+		return &Error{te.Fset.Position(te.Pos), msg}
 	}
 	return err
 }
+
+var (
+	importRE    = regexp.MustCompile(`^could not import .* \((.*)\)$`)
+	undefinedRE = regexp.MustCompile(`^undefined: (\w+\.\w+)$`)
+)
 
 func isStd(file string) bool { return strings.HasPrefix(file, "$std/") }

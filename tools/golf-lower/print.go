@@ -158,6 +158,9 @@ func (f *fctx) goCall(c *ast.CallExpr) string {
 		case "print", "println":
 			return f.printCall(c)
 		}
+		if b == "recover" {
+			p.refuse("recover, since a panic ends the program here")
+		}
 		p.refuse("%s after go or defer", b)
 	}
 	switch name := p.calleeName(c); name {

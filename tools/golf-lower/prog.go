@@ -108,7 +108,7 @@ func (p *prog) program() {
 	b := &buffer{}
 	b.add(mainBuf.lines[0].orig, "%s", mainBuf.lines[0].text)
 	if p.opt.Collect {
-		b.add(mainBuf.lines[0].orig, "defer %s()", p.collector())
+		b.add(mainBuf.lines[0].orig, "defer %s()", p.lastCollector())
 	}
 	b.add(0, "golf_init()")
 	for _, s := range starts {
@@ -142,11 +142,24 @@ func (p *prog) starts() (main *ast.FuncDecl, inits []*ast.FuncDecl) {
 	return main, inits
 }
 
-// collector is a function that collects, for defer.
+// collector is a function that collects, for go and defer.
 func (p *prog) collector() string {
 	p.imports["runtime"] = true
 	return p.aux("golf", "gc", func(name string, b *buffer) {
 		b.add(0, "func %s() {", name)
+		b.add(0, "runtime.GC()")
+		b.add(0, "}")
+	})
+}
+
+// lastCollector is a function that collects once the other goroutines have had some turns, so that one that has just been
+// started can come to where it blocks.
+func (p *prog) lastCollector() string {
+	p.imports["runtime"] = true
+	return p.aux("golf", "last gc", func(name string, b *buffer) {
+		b.add(0, "func %s() {", name)
+		b.add(0, "for i := 0; i < 300; i++ {")
+		b.add(0, "}")
 		b.add(0, "runtime.GC()")
 		b.add(0, "}")
 	})

@@ -81,7 +81,7 @@ func (f *fctx) stmt(s ast.Stmt) {
 		switch s.Stmt.(type) {
 		case *ast.ForStmt, *ast.RangeStmt, *ast.SwitchStmt, *ast.TypeSwitchStmt, *ast.SelectStmt:
 		default:
-			p.refuse("label of this statement")
+			p.refuse("goto, and the label of a statement that is no loop, switch or select")
 		}
 		f.stmt(s.Stmt)
 	case *ast.DeclStmt:

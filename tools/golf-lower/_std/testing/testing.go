@@ -133,3 +133,6 @@ func (b *B) Loop() bool
 type M struct{ n int }
 
 func (m *M) Run() int
+
+func Short() bool   { return false }
+func Verbose() bool { return false }

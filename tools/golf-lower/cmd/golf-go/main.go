@@ -112,11 +112,11 @@ func run(args []string, stdout, stderr io.Writer) int {
 			return noWrite
 		}
 	}
-	return execute(w, low, stdout, stderr)
+	return execute(w, low, tests, stdout, stderr)
 }
 
 // execute runs golf on the lowered text.
-func execute(w words, low *lower.Output, stdout, stderr io.Writer) int {
+func execute(w words, low *lower.Output, tests bool, stdout, stderr io.Writer) int {
 	golf := os.Getenv("GOLF")
 	if golf == "" {
 		golf = "golf"
@@ -148,7 +148,7 @@ func execute(w words, low *lower.Output, stdout, stderr io.Writer) int {
 		fmt.Fprintln(stderr, written)
 		return noWrite
 	}
-	r := &reporter{low: low, decoder: d, all: w.chosen || w.threads, status: cmd.ProcessState.ExitCode(), out: stderr}
+	r := &reporter{low: low, decoder: d, tests: tests, all: w.chosen || w.threads, status: cmd.ProcessState.ExitCode(), out: stderr}
 	for _, l := range strings.SplitAfter(errs.String(), "\n") {
 		if l != "" {
 			r.line(strings.TrimSuffix(l, "\n"))

@@ -21,6 +21,7 @@ var (
 type reporter struct {
 	low         *lower.Output
 	decoder     *lower.Decoder
+	tests       bool
 	all         bool // also the lines of collections that report nothing
 	status      int
 	out         io.Writer
@@ -85,6 +86,9 @@ func (r *reporter) exit(line string) {
 	at := ""
 	if n >= 1 && n <= len(r.low.Lines) && r.low.Lines[n-1].Line > 0 {
 		at = " at " + r.place(n)
+	}
+	if r.tests && at == "" {
+		return // the output says that a test has failed
 	}
 	fmt.Fprintf(r.out, "golf-go: os.Exit(%d)%s\n", r.decoder.Exit, at)
 }
