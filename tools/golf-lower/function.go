@@ -186,7 +186,7 @@ func (p *prog) functionBuf(fn *function) *buffer {
 	for i := 0; i < fn.sig.Results().Len(); i++ {
 		if r := fn.sig.Results().At(i); r.Name() != "" {
 			f.named = append(f.named, r)
-			shared = shared || p.isBoxed(r)
+			shared = shared || p.isBoxed(r) || isRef(p.vtype(r))
 		}
 	}
 	res := p.result(fn.sig)
