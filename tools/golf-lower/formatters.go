@@ -298,7 +298,7 @@ func (p *prog) formatCase(f *formatter, d *dyn) (stmt string) {
 			stmt = fmt.Sprintf("panic(%s)", p.quote("lowering: "+what+" is not supported"))
 		}
 	}()
-	defer guard(&err)
+	defer p.guard(&err)
 	if f.verb.char == 'T' {
 		return "return " + p.textConst(types.TypeString(d.t, (*types.Package).Name))
 	}

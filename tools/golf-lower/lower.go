@@ -41,7 +41,7 @@ func (e *Error) Error() string {
 // Lower lowers the files of one package.
 func Lower(sources []Source, opt Options) (out *Output, err error) {
 	p := newProg(opt)
-	defer guard(&err)
+	defer p.guard(&err)
 	if err := p.load(sources); err != nil {
 		return nil, err
 	}
@@ -135,14 +135,14 @@ func newProg(opt Options) *prog {
 	}
 }
 
-// guard turns a refusal into an error.
-func guard(err *error) {
+// guard turns a refusal into an error. A failure of the lowering itself is one too: it is told with the place.
+func (p *prog) guard(err *error) {
 	switch e := recover().(type) {
 	case nil:
 	case *Error:
 		*err = e
 	default:
-		panic(e)
+		*err = &Error{p.fset.Position(p.pos), fmt.Sprintf("the lowering fails here: %v", e)}
 	}
 }
 

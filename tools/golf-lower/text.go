@@ -163,9 +163,7 @@ func (n *textFinder) visit(node ast.Node) bool {
 	}
 	switch e := node.(type) {
 	case *ast.ImportSpec:
-		if e.Path.Value == `"strings"` || e.Path.Value == `"strconv"` || e.Path.Value == `"log"` {
-			n.found = n.found || e.Path.Value != `"log"`
-		}
+		n.found = n.found || e.Path.Value == `"strings"` || e.Path.Value == `"strconv"`
 	case *ast.BinaryExpr:
 		switch e.Op {
 		case token.ADD, token.LSS, token.LEQ, token.GTR, token.GEQ:
@@ -174,7 +172,6 @@ func (n *textFinder) visit(node ast.Node) bool {
 		if c, ok := ast.Unparen(e.X).(*ast.CallExpr); ok && isZero(info.Types[e.Y]) &&
 			(e.Op == token.EQL || e.Op == token.NEQ || e.Op == token.GTR) {
 			if id, ok := c.Fun.(*ast.Ident); ok && id.Name == "len" {
-				n.found = n.found && true
 				n.fine[c] = true
 			}
 		}
@@ -201,7 +198,9 @@ func (n *textFinder) visit(node ast.Node) bool {
 	return !n.found
 }
 
-func isZero(tv types.TypeAndValue) bool { return tv.Value != nil && constant.Sign(tv.Value) == 0 }
+func isZero(tv types.TypeAndValue) bool {
+	return tv.Value != nil && tv.Value.Kind() == constant.Int && constant.Sign(tv.Value) == 0
+}
 
 // call: the call makes or needs a string that is made at run time.
 func (n *textFinder) call(c *ast.CallExpr) bool {
