@@ -7,6 +7,7 @@ import (
 	"strings"
 )
 
+// builtin is a call of a built-in function.
 func (f *fctx) builtin(b string, c *ast.CallExpr) string {
 	p := f.p
 	if len(c.Args) == 1 {
@@ -18,50 +19,9 @@ func (f *fctx) builtin(b string, c *ast.CallExpr) string {
 	case "recover":
 		p.refuse("recover, since a panic ends the program here")
 	case "len", "cap":
-		t := f.typeOf(c.Args[0])
-		if p.isText(t) {
-			return p.golf("Len", f.expr(c.Args[0]))
-		}
-		switch u := under(deref(t)).(type) {
-		case *types.Slice:
-			if b == "cap" {
-				return fmt.Sprintf("%s_cap(%s)", p.sliceStruct(u.Elem()), f.expr(c.Args[0]))
-			}
-			return p.sliceLen(u.Elem(), f.expr(c.Args[0]))
-		case *types.Chan:
-			if b == "cap" {
-				p.refuse("cap of a channel")
-			}
-			return fmt.Sprintf("len(%s)", f.expr(c.Args[0]))
-		case *types.Map:
-			return fmt.Sprintf("%s(%s)", p.mapFunc(u, "len"), f.expr(c.Args[0]))
-		case *types.Array:
-			return fmt.Sprint(u.Len())
-		}
-		p.refuse("%s of type %s", b, t)
+		return f.lenCall(b, c.Args[0])
 	case "make":
-		t := f.typeOf(c)
-		switch u := under(t).(type) {
-		case *types.Chan:
-			l := p.lt(u)
-			if u.Dir() != types.SendRecv {
-				p.refuse("make of a channel with a direction")
-			}
-			if len(c.Args) == 1 {
-				return fmt.Sprintf("make(%s)", l)
-			}
-			return fmt.Sprintf("make(%s, %s)", l, f.expr(c.Args[1]))
-		case *types.Map:
-			return p.mapFunc(u, "new") + "()"
-		case *types.Slice:
-			if len(c.Args) == 3 {
-				xs := f.ordered(func() string { return f.expr(c.Args[1]) }, func() string { return f.expr(c.Args[2]) })
-				n := p.sliceStruct(u.Elem())
-				return fmt.Sprintf("%s_slice(%s_of(%s), 0, %s)", n, n, p.makeNative(u.Elem(), xs[1]), xs[0])
-			}
-			return p.sliceOf(u.Elem(), p.makeNative(u.Elem(), f.expr(c.Args[1])), 0)
-		}
-		p.refuse("make of type %s", t)
+		return f.makeCall(c)
 	case "new":
 		t := deref(f.typeOf(c))
 		if isRef(t) {
@@ -69,30 +29,7 @@ func (f *fctx) builtin(b string, c *ast.CallExpr) string {
 		}
 		return fmt.Sprintf("(&%s{v: %s})", p.box(p.lt(t)), p.zero(t))
 	case "append":
-		s := under(f.typeOf(c)).(*types.Slice)
-		n := p.sliceStruct(s.Elem())
-		var gs []func() string
-		for i, a := range c.Args {
-			t := s.Elem()
-			if i == 0 || c.Ellipsis.IsValid() {
-				t = nil
-			}
-			gs = append(gs, func() string { return f.rval(a, t) })
-		}
-		xs := f.ordered(gs...)
-		if c.Ellipsis.IsValid() && p.isText(f.typeOf(c.Args[1])) {
-			xs[1] = p.golf("Copy", xs[1])
-		}
-		if c.Ellipsis.IsValid() {
-			return fmt.Sprintf("%s_join(%s, %s)", n, xs[0], xs[1])
-		}
-		switch len(xs) {
-		case 1:
-			return xs[0]
-		case 2:
-			return fmt.Sprintf("%s_add(%s, %s)", n, xs[0], xs[1])
-		}
-		return fmt.Sprintf("%s_join(%s, %s_of([]%s{%s}))", n, xs[0], n, p.lt(s.Elem()), strings.Join(xs[1:], ", "))
+		return f.appendCall(c)
 	case "close":
 		return fmt.Sprintf("close(%s)", f.expr(c.Args[0]))
 	case "delete":
@@ -117,17 +54,123 @@ func (f *fctx) builtin(b string, c *ast.CallExpr) string {
 		}
 		return fmt.Sprintf("panic(%s)", text)
 	case "min", "max":
-		if l := p.lt(f.typeOf(c)); l == "int" && len(c.Args) == 2 {
-			xs := f.ordered(func() string { return f.expr(c.Args[0]) }, func() string { return f.expr(c.Args[1]) })
-			name := "Min"
-			if b == "max" {
-				name = "Max"
-			}
-			return fmt.Sprintf("%s(%s, %s)", p.stdFunc("golf", name), xs[0], xs[1])
-		}
+		return f.minCall(b, c)
 	}
 	p.refuse("%s", b)
 	return ""
+}
+
+// lenCall is len or cap.
+func (f *fctx) lenCall(b string, a ast.Expr) string {
+	p := f.p
+	t := f.typeOf(a)
+	if p.isText(t) {
+		return p.golf("Len", f.expr(a))
+	}
+	switch u := under(deref(t)).(type) {
+	case *types.Slice:
+		if b == "cap" {
+			return fmt.Sprintf("%s_cap(%s)", p.sliceStruct(u.Elem()), f.expr(a))
+		}
+		return p.sliceLen(u.Elem(), f.expr(a))
+	case *types.Chan:
+		if b == "cap" {
+			p.refuse("cap of a channel")
+		}
+		return fmt.Sprintf("len(%s)", f.expr(a))
+	case *types.Map:
+		return fmt.Sprintf("%s(%s)", p.mapFunc(u, "len"), f.expr(a))
+	case *types.Array:
+		f.discard(f.expr(a))
+		return fmt.Sprint(u.Len())
+	}
+	p.refuse("%s of type %s", b, t)
+	return ""
+}
+
+func (f *fctx) makeCall(c *ast.CallExpr) string {
+	p := f.p
+	t := f.typeOf(c)
+	switch u := under(t).(type) {
+	case *types.Chan:
+		if u.Dir() != types.SendRecv {
+			p.refuse("make of a channel with a direction")
+		}
+		if len(c.Args) == 1 {
+			return fmt.Sprintf("make(%s)", p.lt(u))
+		}
+		return fmt.Sprintf("make(%s, %s)", p.lt(u), f.expr(c.Args[1]))
+	case *types.Map:
+		if len(c.Args) == 2 {
+			f.discard(f.expr(c.Args[1]))
+		}
+		return p.mapFunc(u, "new") + "()"
+	case *types.Slice:
+		if len(c.Args) == 3 {
+			xs := f.ordered(func() string { return f.expr(c.Args[1]) }, func() string { return f.expr(c.Args[2]) })
+			n := p.sliceStruct(u.Elem())
+			return fmt.Sprintf("%s_slice(%s_of(%s), 0, %s)", n, n, p.makeNative(u.Elem(), xs[1]), xs[0])
+		}
+		return p.sliceOf(u.Elem(), p.makeNative(u.Elem(), f.expr(c.Args[1])), 0)
+	}
+	p.refuse("make of type %s", t)
+	return ""
+}
+
+func (f *fctx) appendCall(c *ast.CallExpr) string {
+	p := f.p
+	s := under(f.typeOf(c)).(*types.Slice)
+	n := p.sliceStruct(s.Elem())
+	var gs []func() string
+	for i, a := range c.Args {
+		t := s.Elem()
+		if i == 0 || c.Ellipsis.IsValid() {
+			t = nil
+		}
+		gs = append(gs, func() string { return f.rval(a, t) })
+	}
+	xs := f.ordered(gs...)
+	switch {
+	case c.Ellipsis.IsValid() && p.isText(f.typeOf(c.Args[1])):
+		return fmt.Sprintf("%s_join(%s, %s)", n, xs[0], p.sliceOfCopy(s.Elem(), xs[1]))
+	case c.Ellipsis.IsValid():
+		return fmt.Sprintf("%s_join(%s, %s)", n, xs[0], xs[1])
+	case len(xs) == 1:
+		return xs[0]
+	case len(xs) == 2:
+		return fmt.Sprintf("%s_add(%s, %s)", n, xs[0], xs[1])
+	}
+	return fmt.Sprintf("%s_join(%s, %s_of([]%s{%s}))", n, xs[0], n, p.lt(s.Elem()), strings.Join(xs[1:], ", "))
+}
+
+// sliceOfCopy has the bytes of a string as a slice of the element type.
+func (p *prog) sliceOfCopy(elem types.Type, text string) string {
+	if typeKey(elem) != "uint8" {
+		p.refuse("bytes of type %s", elem)
+	}
+	return p.golf("Copy", text)
+}
+
+// minCall is min or max of numbers or strings.
+func (f *fctx) minCall(b string, c *ast.CallExpr) string {
+	p := f.p
+	t := f.typeOf(c)
+	name := map[string]string{"min": "Min", "max": "Max"}[b]
+	if p.isText(t) {
+		name += "Text"
+	} else if p.lt(t) != "int" {
+		p.refuse("%s of type %s", b, t)
+	}
+	var gs []func() string
+	for _, a := range c.Args {
+		gs = append(gs, func() string { return f.expr(a) })
+	}
+	xs := f.ordered(gs...)
+	r := xs[0]
+	for _, x := range xs[1:] {
+		r = p.golf(name, r, x)
+	}
+	return r
 }
 
 // copySlices is the built-in copy.

@@ -4,142 +4,145 @@ import (
 	"fmt"
 	"go/ast"
 	"go/types"
+	"regexp"
 	"strings"
 )
 
-// sliceStruct is the struct of slices that are appended to or sliced: a part of an array.
-// Such a struct is never changed, so that it is a value.
+// sliceText is the struct of slices that are appended to or sliced, a part of an array, with its functions. Such a struct
+// is never changed, so that it is a value. N stands for its name and E for the type of the elements; "MOVE x <- y" is an
+// assignment of an element; a line after "REF" is there if elements have storage of their own.
+//
+// N_ix is the index in the array, and one outside of it if it is outside of the slice. N_grow makes room for k more.
+const sliceText = `
+type N struct {
+	a []E
+	off int
+	n int
+	c int
+}
+func N_len(s *N) int {
+	if s == nil {
+		return 0
+	}
+	return s.n
+}
+func N_cap(s *N) int {
+	if s == nil {
+		return 0
+	}
+	return s.c
+}
+func N_arr(s *N) []E {
+	if s == nil {
+		return nil
+	}
+	return s.a
+}
+func N_ix(s *N, i int) int {
+	if s == nil {
+		return i
+	}
+	if i >= 0 && i < s.n {
+		return s.off + i
+	}
+	if i >= 0 && i < len(s.a) {
+		return len(s.a)
+	}
+	return i
+}
+func N_of(a []E) *N {
+	return &N{a: a, n: len(a), c: len(a)}
+}
+func N_grow(s *N, k int) *N {
+	m := N_len(s)
+	if m+k <= N_cap(s) {
+		return &N{a: s.a, off: s.off, n: m + k, c: s.c}
+	}
+	c := 2 * N_cap(s)
+	if c < m+k {
+		c = m + k
+	}
+	a := make([]E, c)
+	for i := 0; i < m; i++ {
+		a[i] = COPY s.a[s.off+i]
+	}
+	REF for i := m; i < c; i++ {
+		REF a[i] = ZERO
+	REF }
+	return &N{a: a, n: m + k, c: c}
+}
+func N_add(s *N, x E) *N {
+	t := N_grow(s, 1)
+	MOVE t.a[t.off+t.n-1] <- x
+	return t
+}
+func N_join(s *N, x *N) *N {
+	k := N_len(x)
+	if k == 0 {
+		return s
+	}
+	t := N_grow(s, k)
+	at := t.off + t.n - k
+	if at <= x.off {
+		for i := 0; i < k; i++ {
+			MOVE t.a[at+i] <- x.a[x.off+i]
+		}
+	} else {
+		for i := k - 1; i >= 0; i-- {
+			MOVE t.a[at+i] <- x.a[x.off+i]
+		}
+	}
+	return t
+}
+func N_slice(s *N, lo int, hi int) *N {
+	if hi == -1 {
+		hi = N_len(s)
+	}
+	return N_slice3(s, lo, hi, N_cap(s))
+}
+func N_slice3(s *N, lo int, hi int, top int) *N {
+	if top < 0 || top > N_cap(s) || hi < 0 || hi > top || lo < 0 || lo > hi {
+		panic("runtime error: slice bounds out of range")
+	}
+	if s == nil {
+		return nil
+	}
+	return &N{a: s.a, off: s.off + lo, n: hi - lo, c: top - lo}
+}`
+
 func (p *prog) sliceStruct(elem types.Type) string {
 	l := p.lt(elem)
 	return p.aux("slice", valueKey(l, elem), func(n string, b *buffer) {
-		z := p.zero(elem)
-		ref := isRef(elem)
-		set := "a[i] = s.a[s.off+i]"
-		w := func(format string, args ...any) { b.add(0, format, args...) }
-		w("type %s struct {", n)
-		w("a []%s", l)
-		w("off int")
-		w("n int")
-		w("c int")
-		w("}")
-		w("func %s_len(s *%s) int {", n, n)
-		w("if s == nil {")
-		w("return 0")
-		w("}")
-		w("return s.n")
-		w("}")
-		w("func %s_cap(s *%s) int {", n, n)
-		w("if s == nil {")
-		w("return 0")
-		w("}")
-		w("return s.c")
-		w("}")
-		w("func %s_arr(s *%s) []%s {", n, n, l)
-		w("if s == nil {")
-		w("return nil")
-		w("}")
-		w("return s.a")
-		w("}")
-		// the index in the array; one outside of it if it is outside of the slice
-		w("func %s_ix(s *%s, i int) int {", n, n)
-		w("if s == nil {")
-		w("return i")
-		w("}")
-		w("if i >= 0 && i < s.n {")
-		w("return s.off + i")
-		w("}")
-		w("if i >= 0 && i < len(s.a) {")
-		w("return len(s.a)")
-		w("}")
-		w("return i")
-		w("}")
-		w("func %s_of(a []%s) *%s {", n, l, n)
-		w("return &%s{a: a, n: len(a), c: len(a)}", n)
-		w("}")
-		// room for k more elements
-		w("func %s_grow(s *%s, k int) *%s {", n, n, n)
-		w("m := %s_len(s)", n)
-		w("if m+k <= %s_cap(s) {", n)
-		w("return &%s{a: s.a, off: s.off, n: m + k, c: s.c}", n)
-		w("}")
-		w("c := 2 * %s_cap(s)", n)
-		w("if c < m+k {")
-		w("c = m + k")
-		w("}")
-		w("a := make([]%s, c)", l)
-		w("for i := 0; i < m; i++ {")
-		if ref {
-			w("a[i] = %s", p.copyOf2(elem, "s.a[s.off+i]"))
-		} else {
-			w("%s", set)
+		zero := p.zero(elem)
+		for _, t := range strings.Split(strings.TrimPrefix(sliceText, "\n"), "\n") {
+			t = strings.TrimLeft(t, "\t")
+			t, ref := strings.CutPrefix(t, "REF ")
+			if ref && !isRef(elem) {
+				continue
+			}
+			if x, ok := strings.CutPrefix(t, "MOVE "); ok {
+				dst, src, _ := strings.Cut(x, " <- ")
+				t = dst + " = " + src
+				if isRef(elem) {
+					t = p.set2(elem, dst, src)
+				}
+			}
+			if dst, src, ok := strings.Cut(t, " = COPY "); ok {
+				t = dst + " = " + p.copyOf2(elem, src)
+			}
+			t = strings.Replace(t, "= ZERO", "= "+zero, 1)
+			b.add(0, "%s", nameRE.ReplaceAllStringFunc(t, func(w string) string {
+				if w == "E" {
+					return l
+				}
+				return n + strings.TrimPrefix(w, "N")
+			}))
 		}
-		w("}")
-		if ref {
-			w("for i := m; i < c; i++ {")
-			w("a[i] = %s", z)
-			w("}")
-		}
-		w("return &%s{a: a, n: m + k, c: c}", n)
-		w("}")
-		w("func %s_add(s *%s, x %s) *%s {", n, n, l, n)
-		w("t := %s_grow(s, 1)", n)
-		if ref {
-			w("%s", p.set2(elem, "t.a[t.off+t.n-1]", "x"))
-		} else {
-			w("t.a[t.off+t.n-1] = x")
-		}
-		w("return t")
-		w("}")
-		w("func %s_join(s *%s, x *%s) *%s {", n, n, n, n)
-		w("k := %s_len(x)", n)
-		w("if k == 0 {")
-		w("return s")
-		w("}")
-		w("t := %s_grow(s, k)", n)
-		w("at := t.off + t.n - k")
-		// append copies as if all at once: forward if the target is before the source
-		w("if at <= x.off {")
-		w("for i := 0; i < k; i++ {")
-		if ref {
-			w("%s", p.set2(elem, "t.a[at+i]", "x.a[x.off+i]"))
-		} else {
-			w("t.a[at+i] = x.a[x.off+i]")
-		}
-		w("}")
-		w("} else {")
-		w("for i := k - 1; i >= 0; i-- {")
-		if ref {
-			w("%s", p.set2(elem, "t.a[at+i]", "x.a[x.off+i]"))
-		} else {
-			w("t.a[at+i] = x.a[x.off+i]")
-		}
-		w("}")
-		w("}")
-		w("return t")
-		w("}")
-		w("func %s_slice(s *%s, lo int, hi int) *%s {", n, n, n)
-		w("if hi == -1 {")
-		w("hi = %s_len(s)", n)
-		w("}")
-		w("if hi < 0 || hi > %s_cap(s) || lo < 0 || lo > hi {", n)
-		w("panic(\"runtime error: slice bounds out of range\")")
-		w("}")
-		w("if s == nil {")
-		w("return nil")
-		w("}")
-		w("return &%s{a: s.a, off: s.off + lo, n: hi - lo, c: s.c - lo}", n)
-		w("}")
-		w("func %s_slice3(s *%s, lo int, hi int, top int) *%s {", n, n, n)
-		w("if top < 0 || top > %s_cap(s) || hi < 0 || hi > top || lo < 0 || lo > hi {", n)
-		w("panic(\"runtime error: slice bounds out of range\")")
-		w("}")
-		w("if s == nil {")
-		w("return nil")
-		w("}")
-		w("return &%s{a: s.a, off: s.off + lo, n: hi - lo, c: top - lo}", n)
-		w("}")
 	})
 }
+
+// nameRE finds the names of the templates that stand for others.
+var nameRE = regexp.MustCompile(`\b(N(_[a-z0-9]+)?|E)\b`)
 
 // grows: slices of this element type are parts of arrays.
 func (p *prog) grows(elem types.Type) bool { return p.growAll || p.growing[typeKey(elem)] }
@@ -256,108 +259,123 @@ func (f *fctx) sliceExpr(e *ast.SliceExpr) string {
 	return fmt.Sprintf("%s_slice(%s)", n, strings.Join(xs, ", "))
 }
 
-// mapStruct is the association list of a map type.
+// mapText is the list of keys and values of a map type, with its functions. N stands for its name, K and V for the types of
+// keys and values, and EQUAL for the comparison of a key with k. N_keys has the keys of now, for range.
+const mapText = `
+type N struct {
+	keys []K
+	vals []V
+	n int
+}
+func N_new() *N {
+	return &N{keys: make([]K, 4), vals: make([]V, 4)}
+}
+func N_len(m *N) int {
+	if m == nil {
+		return 0
+	}
+	return m.n
+}
+func N_find(m *N, k K) int {
+	if m == nil {
+		return -1
+	}
+	for i := 0; i < m.n; i++ {
+		if EQUAL {
+			return i
+		}
+	}
+	return -1
+}
+func N_at(m *N, i int) V {
+	if i < 0 {
+		return ZERO
+	}
+	return m.vals[i]
+}
+func N_get(m *N, k K) V {
+	return N_at(m, N_find(m, k))
+}
+func N_put(m *N, k K, v V) {
+	i := N_find(m, k)
+	if m == nil {
+		panic("assignment to entry in nil map")
+	}
+	if i >= 0 {
+		m.vals[i] = v
+		return
+	}
+	if m.n == len(m.keys) {
+		ks := make([]K, 2*m.n)
+		vs := make([]V, 2*m.n)
+		for j := 0; j < m.n; j++ {
+			ks[j] = m.keys[j]
+			vs[j] = m.vals[j]
+		}
+		m.keys = ks
+		m.vals = vs
+	}
+	m.keys[m.n] = k
+	m.vals[m.n] = v
+	m.n++
+}
+func N_with(m *N, k K, v V) *N {
+	N_put(m, k, v)
+	return m
+}
+func N_delete(m *N, k K) {
+	i := N_find(m, k)
+	if i < 0 {
+		return
+	}
+	m.n--
+	for i < m.n {
+		m.keys[i] = m.keys[i+1]
+		m.vals[i] = m.vals[i+1]
+		i++
+	}
+	ks := make([]K, 1)
+	vs := make([]V, 1)
+	m.keys[m.n] = ks[0]
+	m.vals[m.n] = vs[0]
+}
+func N_clear(m *N) {
+	if m != nil {
+		m.keys = make([]K, 4)
+		m.vals = make([]V, 4)
+		m.n = 0
+	}
+}
+func N_keys(m *N) []K {
+	n := N_len(m)
+	ks := make([]K, n)
+	for i := 0; i < n; i++ {
+		ks[i] = m.keys[i]
+	}
+	return ks
+}`
+
 func (p *prog) mapStruct(m *types.Map) string {
 	k, v := p.lt(m.Key()), p.lt(m.Elem())
 	return p.aux("map", valueKey(k, m.Key())+","+valueKey(v, m.Elem())+ifaceSuffix(m.Key()), func(n string, b *buffer) {
-		eq := p.equal(m.Key(), "m.keys[i]", "k")
-		z := p.zero(m.Elem())
-		w := func(format string, args ...any) { b.add(0, format, args...) }
-		w("type %s struct {", n)
-		w("keys []%s", k)
-		w("vals []%s", v)
-		w("n int")
-		w("}")
-		w("func %s_new() *%s {", n, n)
-		w("return &%s{keys: make([]%s, 4), vals: make([]%s, 4)}", n, k, v)
-		w("}")
-		w("func %s_len(m *%s) int {", n, n)
-		w("if m == nil {")
-		w("return 0")
-		w("}")
-		w("return m.n")
-		w("}")
-		w("func %s_find(m *%s, k %s) int {", n, n, k)
-		w("if m == nil {")
-		w("return -1")
-		w("}")
-		w("for i := 0; i < m.n; i++ {")
-		w("if %s {", eq)
-		w("return i")
-		w("}")
-		w("}")
-		w("return -1")
-		w("}")
-		w("func %s_at(m *%s, i int) %s {", n, n, v)
-		w("if i < 0 {")
-		w("return %s", z)
-		w("}")
-		w("return m.vals[i]")
-		w("}")
-		w("func %s_get(m *%s, k %s) %s {", n, n, k, v)
-		w("return %s_at(m, %s_find(m, k))", n, n)
-		w("}")
-		w("func %s_put(m *%s, k %s, v %s) {", n, n, k, v)
-		w("i := %s_find(m, k)", n)
-		w("if m == nil {")
-		w("panic(\"assignment to entry in nil map\")")
-		w("}")
-		w("if i >= 0 {")
-		w("m.vals[i] = v")
-		w("return")
-		w("}")
-		w("if m.n == len(m.keys) {")
-		w("ks := make([]%s, 2*m.n)", k)
-		w("vs := make([]%s, 2*m.n)", v)
-		w("for j := 0; j < m.n; j++ {")
-		w("ks[j] = m.keys[j]")
-		w("vs[j] = m.vals[j]")
-		w("}")
-		w("m.keys = ks")
-		w("m.vals = vs")
-		w("}")
-		w("m.keys[m.n] = k")
-		w("m.vals[m.n] = v")
-		w("m.n++")
-		w("}")
-		w("func %s_with(m *%s, k %s, v %s) *%s {", n, n, k, v, n)
-		w("%s_put(m, k, v)", n)
-		w("return m")
-		w("}")
-		w("func %s_delete(m *%s, k %s) {", n, n, k)
-		w("i := %s_find(m, k)", n)
-		w("if i < 0 {")
-		w("return")
-		w("}")
-		w("m.n--")
-		w("for i < m.n {")
-		w("m.keys[i] = m.keys[i+1]")
-		w("m.vals[i] = m.vals[i+1]")
-		w("i++")
-		w("}")
-		w("e := make([]%s, 1)", k)
-		w("u := make([]%s, 1)", v)
-		w("m.keys[m.n] = e[0]")
-		w("m.vals[m.n] = u[0]")
-		w("}")
-		w("func %s_clear(m *%s) {", n, n)
-		w("if m != nil {")
-		w("m.keys = make([]%s, 4)", k)
-		w("m.vals = make([]%s, 4)", v)
-		w("m.n = 0")
-		w("}")
-		w("}")
-		// the keys now, for range
-		w("func %s_keys(m *%s) []%s {", n, n, k)
-		w("n := %s_len(m)", n)
-		w("ks := make([]%s, n)", k)
-		w("for i := 0; i < n; i++ {")
-		w("ks[i] = m.keys[i]")
-		w("}")
-		w("return ks")
-		w("}")
+		equal := p.equal(m.Key(), "m.keys[i]", "k")
+		zero := p.zero(m.Elem())
+		words := map[string]string{"K": k, "V": v}
+		for _, t := range strings.Split(strings.TrimPrefix(mapText, "\n"), "\n") {
+			t = strings.TrimLeft(t, "\t")
+			t = mapRE.ReplaceAllStringFunc(t, func(w string) string {
+				if x, ok := words[w]; ok {
+					return x
+				}
+				return n + strings.TrimPrefix(w, "N")
+			})
+			t = strings.Replace(t, "EQUAL", bare(equal), 1)
+			b.add(0, "%s", strings.Replace(t, "ZERO", zero, 1))
+		}
 	})
 }
+
+var mapRE = regexp.MustCompile(`\b(N(_[a-z0-9]+)?|K|V)\b`)
 
 func ifaceSuffix(t types.Type) string {
 	if isIface(t) {

@@ -523,3 +523,17 @@ func Signum(x int) *Text {
 	}
 	return Join(Const("+", 1), Itoa(x))
 }
+
+func MinText(a, b *Text) *Text {
+	if Compare(b, a) < 0 {
+		return b
+	}
+	return a
+}
+
+func MaxText(a, b *Text) *Text {
+	if Compare(b, a) > 0 {
+		return b
+	}
+	return a
+}

@@ -1,4 +1,4 @@
-// Command gotests lowers Go's own tests (test/*.go of Go's source) and writes a table: how many are lowered, why others are
+// Command gotests lowers Go's own tests (below test in Go's source) and writes a table: how many are lowered, why others are
 // not, and which do by Go and by golf what the original does.
 //
 //	go run ./tables/gotests -golf PROGRAM [-goroot ROOT] [-only REGEXP] [-jobs N]
@@ -9,6 +9,7 @@ import (
 	"context"
 	"flag"
 	"fmt"
+	"io/fs"
 	"os"
 	"os/exec"
 	"path/filepath"
@@ -39,7 +40,13 @@ type verdict struct {
 
 func main() {
 	flag.Parse()
-	files, _ := filepath.Glob(filepath.Join(*root, "test", "*.go"))
+	var files []string
+	filepath.WalkDir(filepath.Join(*root, "test"), func(path string, d fs.DirEntry, err error) error {
+		if err == nil && strings.HasSuffix(path, ".go") {
+			files = append(files, path)
+		}
+		return err
+	})
 	var list []string
 	for _, f := range files {
 		text, err := os.ReadFile(f)
