@@ -161,6 +161,7 @@ func (f *fctx) methodExpr(e *ast.SelectorExpr, s *selection) string {
 	fi := p.fnStruct(sig)
 	m := fi.member("expr "+typeKey(s.recv)+" "+s.obj.Name(), func() *fnMember {
 		sel := methodSelection(s)
+		p.callOn("x", s.recv, sel, nil) // what it needs is lowered now
 		return &fnMember{call: func(_ string, args []string) string { return p.callOn(args[0], s.recv, sel, args[1:]) }}
 	})
 	return fi.value(m, "")

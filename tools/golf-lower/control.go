@@ -517,6 +517,7 @@ type ranger struct {
 	s      *ast.RangeStmt
 	label  string
 	hasVal bool
+	second func(string) // assigns to the second variable of the header
 }
 
 // set gives the value of an iteration to a variable of the header.
@@ -527,6 +528,19 @@ func (r *ranger) set(e ast.Expr, x string, xt types.Type) {
 	}
 	if r.s.Tok == token.DEFINE {
 		f.declare(f.p.info.Defs[e.(*ast.Ident)].(*types.Var), x)
+		return
+	}
+	if e == r.s.Key && r.hasVal {
+		// both places are found before the first assignment
+		f.hard = true
+		key := f.place(e)
+		r.second = f.place(r.s.Value)
+		f.hard = false
+		key(f.convert(x, xt, f.typeOf(e)))
+		return
+	}
+	if e == r.s.Value && r.second != nil {
+		r.second(f.convert(x, xt, f.typeOf(e)))
 		return
 	}
 	f.place(e)(f.convert(x, xt, f.typeOf(e)))

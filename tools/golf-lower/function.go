@@ -288,11 +288,15 @@ func (f *fctx) outer(fn *function, header string, params, args []string) string 
 // declareResults makes variables of the named results.
 func (f *fctx) declareResults(body *ast.BlockStmt, entry *buffer) {
 	p := f.p
+	stored := hasBareReturn(body) // or a return assigns to all of them
+	for _, r := range f.named {
+		stored = stored || p.isBoxed(r)
+	}
 	for _, r := range f.named {
 		if r.Name() == "_" {
 			continue
 		}
-		if i := p.vars[r]; i != nil && hasBareReturn(body) {
+		if i := p.vars[r]; i != nil && stored {
 			i.used = true
 		}
 		old := f.out

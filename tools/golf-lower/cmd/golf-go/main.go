@@ -123,8 +123,8 @@ func execute(w words, low *lower.Output, tests bool, stdout, stderr io.Writer) i
 	}
 	cmd := exec.Command(golf, w.line()...)
 	cmd.Stdin = strings.NewReader(low.Text)
-	var errs bytes.Buffer
-	cmd.Stderr = &errs
+	errs := &lines{out: stderr}
+	cmd.Stderr = errs
 	pipe, err := cmd.StdoutPipe()
 	if err == nil {
 		err = cmd.Start()
@@ -149,10 +149,40 @@ func execute(w words, low *lower.Output, tests bool, stdout, stderr io.Writer) i
 		return noWrite
 	}
 	r := &reporter{low: low, decoder: d, tests: tests, all: w.chosen || w.threads, status: cmd.ProcessState.ExitCode(), out: stderr}
-	for _, l := range strings.SplitAfter(errs.String(), "\n") {
-		if l != "" {
-			r.line(strings.TrimSuffix(l, "\n"))
-		}
+	for _, l := range errs.kept() {
+		r.line(l)
 	}
 	return r.end()
+}
+
+// lines keeps the lines of golf, and hands on what ./golf tells while it builds the program.
+type lines struct {
+	out  io.Writer
+	text []byte
+	from int // where the last line begins that is not whole
+}
+
+func (l *lines) Write(b []byte) (int, error) {
+	l.text = append(l.text, b...)
+	for {
+		n := bytes.IndexByte(l.text[l.from:], '\n')
+		if n < 0 {
+			return len(b), nil
+		}
+		end := l.from + n + 1
+		if bytes.HasPrefix(l.text[l.from:], []byte("golf: ")) {
+			l.out.Write(l.text[l.from:end])
+			l.text = append(l.text[:l.from], l.text[end:]...)
+			continue
+		}
+		l.from = end
+	}
+}
+
+func (l *lines) kept() []string {
+	text := strings.TrimSuffix(string(l.text), "\n")
+	if text == "" {
+		return nil
+	}
+	return strings.Split(text, "\n")
 }

@@ -12,6 +12,8 @@ import (
 // countsRE are the counts of a collection beside the reports, which depend on how the file is lowered.
 var countsRE = regexp.MustCompile(`marked \d+, (reported \d+), kept \d+, reclaimed \d+, objects \d+`)
 
+var loweredRE = regexp.MustCompile(`line \d+ of the lowered`)
+
 // cases are command lines with what they write to standard error, and their status.
 var cases = []struct {
 	name   string
@@ -43,6 +45,9 @@ var cases = []struct {
 	{"no words", "", "", []string{"usage: golf-go FILE.go .. [--late] [words of golf run]"}, 5},
 	{"chosen collections", "../../testdata/reports/clean.go --every 10000000 --schedule seed:3", "fine\n",
 		[]string{"collection 1: reported 0", "golf-go: 1 collection, 0 goroutines reported"}, 0},
+	{"a goroutine that a timer starts", "../../testdata/reports/timer.go", "",
+		[]string{"collection 1: reported 1", "goroutine 3: chan receive at line 6 in wait, started at line 0 in time_fire [line N of the lowered file]",
+			"golf-go: 2 collections, 1 goroutine reported"}, 1},
 	{"few turns", "../../testdata/reports/clean.go --turns 3", "",
 		[]string{"stopped after 3 turns"}, 3},
 	{"tests", "../../testdata/several/store.go ../../testdata/several/leave.go ../../testdata/several/store_test.go",
@@ -62,7 +67,8 @@ func TestRun(t *testing.T) {
 			var out, errs bytes.Buffer
 			status := run(strings.Fields(c.words), &out, &errs)
 			want := strings.Join(c.errs, "\n") + "\n"
-			if got := countsRE.ReplaceAllString(errs.String(), "$1"); got != want {
+			got := loweredRE.ReplaceAllString(countsRE.ReplaceAllString(errs.String(), "$1"), "line N of the lowered")
+			if got != want {
 				t.Errorf("standard error\n%swant\n%s", got, want)
 			}
 			if out.String() != c.out {

@@ -41,7 +41,8 @@ type verdict struct {
 func main() {
 	flag.Parse()
 	var files []string
-	filepath.WalkDir(filepath.Join(*root, "test"), func(path string, d fs.DirEntry, err error) error {
+	dir, _ := filepath.EvalSymlinks(filepath.Join(*root, "test"))
+	filepath.WalkDir(dir, func(path string, d fs.DirEntry, err error) error {
 		if err == nil && strings.HasSuffix(path, ".go") {
 			files = append(files, path)
 		}
