@@ -241,7 +241,7 @@ func (n *textFinder) call(c *ast.CallExpr) bool {
 	case "fmt.Errorf":
 		return len(c.Args) > 1
 	case "fmt.Sprintf", "fmt.Sprint", "fmt.Sprintln", "fmt.Fprintf", "fmt.Fprint", "fmt.Fprintln",
-		"(time.Duration).String", "(context.Context).String":
+		"(time.Duration).String", "errors.Join":
 		return true
 	}
 	return false
