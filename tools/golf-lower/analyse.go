@@ -94,7 +94,7 @@ func (a *analyser) walk(n ast.Node) {
 				a.assign(l)
 			}
 		case *ast.GoStmt:
-			a.p.hasGo = true
+			a.p.hasGo = a.p.hasGo || a.p.orig(n.Pos()).IsValid()
 		case *ast.IncDecStmt:
 			a.assign(n.X)
 		case *ast.UnaryExpr:
@@ -272,6 +272,10 @@ func (a *analyser) address(e ast.Expr) {
 }
 
 func (a *analyser) call(n *ast.CallExpr) {
+	switch a.p.calleeName(n) {
+	case "(*sync.WaitGroup).Go", "time.AfterFunc", "context.AfterFunc":
+		a.p.hasGo = true
+	}
 	if tv := a.p.info.Types[n.Fun]; tv.IsType() && len(n.Args) == 1 {
 		if b, ok := under(tv.Type).(*types.Basic); ok && b.Kind() == types.UnsafePointer {
 			a.p.addressed[typeKey(deref(a.typ(n.Args[0])))] = true

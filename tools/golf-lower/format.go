@@ -155,6 +155,20 @@ func (f *fctx) printPieces(name string, args []ast.Expr) []piece {
 	return r
 }
 
+// runtimeFormat calls a function of _std/fmt with a format and a slice of operands that are known at run time alone.
+func (f *fctx) runtimeFormat(name string, c *ast.CallExpr, first int) string {
+	sig := under(f.typeOf(c.Fun)).(*types.Signature)
+	args := f.args(sig, c)[first:]
+	return fmt.Sprintf("%s(%s)", f.p.stdFunc("fmt", name), strings.Join(args, ", "))
+}
+
+// runtimePrint is the text of a slice of operands.
+func (f *fctx) runtimePrint(c *ast.CallExpr, line bool) piece {
+	sig := under(f.typeOf(c.Fun)).(*types.Signature)
+	args := f.args(sig, c)
+	return piece{text: fmt.Sprintf("%s(%s, %v)", f.p.stdFunc("fmt", "sprint"), args[len(args)-1], line)}
+}
+
 // printOperands are the operands of Println and Print with their types and, if they are constants, values.
 func (f *fctx) printOperands(args []ast.Expr) (xs []string, ts []types.Type, vs []constant.Value) {
 	if len(args) == 1 {
@@ -177,11 +191,8 @@ func (f *fctx) formatPieces(c *ast.CallExpr, first int) []piece {
 	p := f.p
 	name := p.callee(c).Name()
 	v := p.info.Types[c.Args[first]].Value
-	if v == nil {
-		p.refuse("fmt.%s with a format that is no constant", name)
-	}
-	if c.Ellipsis.IsValid() {
-		p.refuse("fmt.%s with a slice of operands", name)
+	if v == nil || c.Ellipsis.IsValid() {
+		return []piece{{text: f.runtimeFormat("sprintf", c, first)}}
 	}
 	parts, wrong := parseFormat(constant.StringVal(v))
 	if wrong != "" {

@@ -299,6 +299,12 @@ func (p *prog) formatCase(f *formatter, d *dyn) (stmt string) {
 		}
 	}()
 	defer p.guard(&err)
+	if f.verb.char == 'K' {
+		if isString(d.t) {
+			return "return " + p.textConst("s")
+		}
+		return "return nil"
+	}
 	if f.verb.char == 'T' {
 		return "return " + p.textConst(types.TypeString(d.t, (*types.Package).Name))
 	}
@@ -311,7 +317,9 @@ func (p *prog) formatTables() {
 	for _, f := range p.formList {
 		b.add(0, "func %s(x *golf_any) *%s {", f.name, p.structName(p.textType()))
 		b.add(0, "if x == nil {")
-		if f.verb.char == 'T' || f.verb.char == 'v' {
+		if f.verb.char == 'K' {
+			b.add(0, "return nil")
+		} else if f.verb.char == 'T' || f.verb.char == 'v' {
 			b.add(0, "return %s", p.textConst("<nil>"))
 		} else {
 			b.add(0, "return %s", p.textConst("%!"+string(f.verb.char)+"(<nil>)"))

@@ -7,17 +7,30 @@ import (
 	"go/types"
 )
 
+// valueVerbs are the functions of _std/fmt that make the text of an interface by one verb; K tells strings from others.
+var valueVerbs = map[string]*verb{
+	"fmt.formatV": {char: 'v'}, "fmt.formatPlusV": {char: 'v', plus: true}, "fmt.formatD": {char: 'd'},
+	"fmt.formatS": {char: 's'}, "fmt.formatT": {char: 't'}, "fmt.formatQ": {char: 'q'}, "fmt.formatX": {char: 'x'},
+	"fmt.formatC": {char: 'c'}, "fmt.formatType": {char: 'T'}, "fmt.kind": {char: 'K'},
+}
+
 // intrinsic are the functions of _std that are of the subset, or need a form of their own.
 func (f *fctx) intrinsic(fn *types.Func, c *ast.CallExpr) (string, bool) {
 	p := f.p
+	if v := valueVerbs[fn.FullName()]; v != nil {
+		return fmt.Sprintf("%s(%s)", p.formatterOf(v).name, f.expr(c.Args[0])), true
+	}
 	switch name := fn.FullName(); name {
 	case "fmt.Println", "fmt.Printf", "fmt.Print", "fmt.Fprintln", "fmt.Fprintf", "fmt.Fprint":
 		p.refuse("%s whose results are used", name)
 	case "fmt.Sprintf":
 		return p.textOfPieces(f.formatPieces(c, 0)), true
-	case "fmt.Sprint", "fmt.Sprintln":
-		f.noEllipsis(c)
-		return p.textOfPieces(f.printPieces(map[string]string{"fmt.Sprint": "Print", "fmt.Sprintln": "Println"}[name], c.Args)), true
+	case "fmt.Sprint":
+		return p.textOfPieces(f.printedPieces("Print", c, 0)), true
+	case "fmt.Sprintln":
+		return p.textOfPieces(f.printedPieces("Println", c, 0)), true
+	case "fmt.pad":
+		return p.golf("Pad", f.args(fn.Signature(), c)...), true
 	case "fmt.Errorf":
 		return f.errorf(c), true
 	case "sort.Slice", "sort.SliceStable":
@@ -54,18 +67,12 @@ func (f *fctx) intrinsic(fn *types.Func, c *ast.CallExpr) (string, bool) {
 	return "", false
 }
 
-func (f *fctx) noEllipsis(c *ast.CallExpr) {
-	if c.Ellipsis.IsValid() {
-		f.p.refuse("printing a slice of operands")
-	}
-}
-
 // errorf is fmt.Errorf; %w keeps the error inside.
 func (f *fctx) errorf(c *ast.CallExpr) string {
 	p := f.p
 	v := p.info.Types[c.Args[0]].Value
-	if v == nil {
-		p.refuse("fmt.Errorf with a format that is no constant")
+	if v == nil || c.Ellipsis.IsValid() {
+		return f.runtimeFormat("errorf", c, 0)
 	}
 	if len(c.Args) == 1 {
 		parts, wrong := parseFormat(constant.StringVal(v))

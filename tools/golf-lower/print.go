@@ -8,36 +8,51 @@ import (
 	"strings"
 )
 
-// printStmt is a call that prints, as a statement; false if the call prints nothing.
-func (f *fctx) printStmt(c *ast.CallExpr) bool {
+// printParts are the pieces that a call prints, and the function of _std/golf that writes them; false if the call prints
+// nothing.
+func (f *fctx) printParts(c *ast.CallExpr) (pieces []piece, to string, ok bool) {
 	p := f.p
-	to := "Write"
-	first := 0
-	name := p.calleeName(c)
 	switch b := p.isBuiltin(c); b {
 	case "print", "println":
-		f.hold(f.builtinPieces(b, c), "WriteErr")
-		return true
+		return f.builtinPieces(b, c), "WriteErr", true
+	}
+	name, isFmt := strings.CutPrefix(p.calleeName(c), "fmt.")
+	if !isFmt {
+		return nil, "", false
+	}
+	to, first := "Write", 0
+	if strings.HasPrefix(name, "Fprint") {
+		to, first = f.writer(c.Args[0]), 1
+		name = "Print" + strings.TrimPrefix(name, "Fprint")
 	}
 	switch name {
-	case "fmt.Fprintln", "fmt.Fprintf", "fmt.Fprint":
-		to = f.writer(c.Args[0])
-		first = 1
-	case "fmt.Println", "fmt.Printf", "fmt.Print":
-	default:
-		return false
+	case "Println", "Print":
+		return f.printedPieces(name, c, first), to, true
+	case "Printf":
+		return f.formatPieces(c, first), to, true
 	}
-	switch strings.TrimPrefix(strings.TrimPrefix(name, "fmt."), "F") {
-	case "Println", "println":
-		f.noEllipsis(c)
-		f.hold(f.printPieces("Println", c.Args[first:]), to)
-	case "Print", "print":
-		f.noEllipsis(c)
-		f.hold(f.printPieces("Print", c.Args[first:]), to)
-	default:
-		f.hold(f.formatPieces(c, first), to)
+	return nil, "", false
+}
+
+// printedPieces are the pieces of Println and Print, also of a slice of operands.
+func (f *fctx) printedPieces(name string, c *ast.CallExpr, first int) []piece {
+	if !c.Ellipsis.IsValid() {
+		return f.printPieces(name, c.Args[first:])
 	}
-	return true
+	pieces := []piece{f.runtimePrint(c, name == "Println")}
+	if name == "Println" {
+		pieces = append(pieces, piece{lit: "\n", isLit: true})
+	}
+	return pieces
+}
+
+// printStmt is a call that prints, as a statement; false if the call prints nothing.
+func (f *fctx) printStmt(c *ast.CallExpr) bool {
+	pieces, to, ok := f.printParts(c)
+	if ok {
+		f.hold(pieces, to)
+	}
+	return ok
 }
 
 // writer is the function of _std/golf that writes to a file.
@@ -107,22 +122,7 @@ func (f *fctx) hold(pieces []piece, to string) {
 func (f *fctx) printCall(c *ast.CallExpr) string {
 	p := f.p
 	p.imports["fmt"] = true
-	var pieces []piece
-	to := "Write"
-	switch name := p.calleeName(c); name {
-	case "fmt.Println", "fmt.Print":
-		f.noEllipsis(c)
-		pieces = f.printPieces(strings.TrimPrefix(name, "fmt."), c.Args)
-	case "fmt.Printf":
-		pieces = f.formatPieces(c, 0)
-	default:
-		b := p.isBuiltin(c)
-		if b != "print" && b != "println" {
-			return ""
-		}
-		pieces = f.builtinPieces(b, c)
-		to = "WriteErr"
-	}
+	pieces, to, _ := f.printParts(c)
 	ops, ts, ok := p.operands(pieces)
 	if !ok || p.texts {
 		return p.golf(to, p.textOfPieces(pieces))
@@ -163,13 +163,11 @@ func (f *fctx) goCall(c *ast.CallExpr) string {
 		}
 		p.refuse("%s after go or defer", b)
 	}
-	switch name := p.calleeName(c); name {
-	case "fmt.Println", "fmt.Print", "fmt.Printf":
+	switch p.calleeName(c) {
+	case "fmt.Println", "fmt.Print", "fmt.Printf", "fmt.Fprintln", "fmt.Fprint", "fmt.Fprintf":
 		return f.printCall(c)
 	case "runtime.GC":
 		return p.collector() + "()"
-	case "(*sync.Once).Do", "(*sync.WaitGroup).Go":
-		return f.call(c)
 	}
 	return f.call(c)
 }

@@ -82,8 +82,7 @@ func (f *fctx) testCall(c *ast.CallExpr, fn *types.Func) bool {
 	if strings.HasSuffix(name, "f") {
 		pieces = f.formatPieces(c, 0)
 	} else {
-		f.noEllipsis(c)
-		pieces = f.printPieces("Println", c.Args)
+		pieces = f.printedPieces("Println", c, 0)
 		pieces = pieces[:len(pieces)-1]
 	}
 	at := p.fset.Position(c.Pos())

@@ -41,6 +41,10 @@ func (p *prog) quote(s string) string {
 	if strings.Contains(s, tie) && !isStd(p.fset.Position(p.pos).Filename) {
 		p.refuse("the character %s in a string", tie)
 	}
+	return quoted(s)
+}
+
+func quoted(s string) string {
 	r := strings.NewReplacer("\\", "\\\\", "\"", "\\\"", "\n", "\\n", "\t", "\\t")
 	return `"` + r.Replace(s) + `"`
 }
@@ -76,7 +80,7 @@ func (p *prog) literalBytes() {
 		for i := 0; i < len(s); i++ {
 			xs = append(xs, fmt.Sprint(s[i]))
 		}
-		b.add(0, "if l == %s {", p.quote(s))
+		b.add(0, "if l == %s {", quoted(s))
 		b.add(0, "return %s", p.sliceOf(elem, "[]int{"+strings.Join(xs, ", ")+"}", len(xs)))
 		b.add(0, "}")
 	}
@@ -239,7 +243,7 @@ func (n *textFinder) call(c *ast.CallExpr) bool {
 	case "fmt.Printf":
 		return !p.directFormat(c)
 	case "fmt.Errorf":
-		return len(c.Args) > 1
+		return len(c.Args) > 1 || info.Types[c.Args[0]].Value == nil
 	case "fmt.Sprintf", "fmt.Sprint", "fmt.Sprintln", "fmt.Fprintf", "fmt.Fprint", "fmt.Fprintln",
 		"(time.Duration).String", "errors.Join":
 		return true

@@ -13,3 +13,6 @@ var Stderr = &File{2}
 
 // Exit is lowered where it is called as a statement.
 func Exit(code int) { golf.Exit(code) }
+
+// Args has the name of the program alone: golf gives no words to it.
+var Args = []string{"program"}
