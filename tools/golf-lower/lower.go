@@ -21,7 +21,8 @@ type Source struct {
 // Options say what is added to the program.
 type Options struct {
 	Collect bool // a collection before main returns
-	Late    bool // a goroutine that go starts takes some turns before its first statement
+	Late    bool // a goroutine that the files start waits before its first statement
+	Pause   bool // a goroutine waits, now and then, before a statement that can block
 	Tests   bool // main calls the tests of the files
 }
 

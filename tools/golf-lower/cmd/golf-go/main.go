@@ -1,7 +1,7 @@
 // Command golf-go runs Go files by golf: it lowers them, runs `golf run` on what comes out, and writes output, reports and
 // panics with the lines and functions of the files.
 //
-//	golf-go FILE.go .. [--late] [words of golf run]
+//	golf-go FILE.go .. [--late] [--pause] [words of golf run]
 //
 // The program golf is $GOLF, or golf on the path. $GOLF_LOWERED names a file for the lowered text.
 package main
@@ -38,6 +38,7 @@ func main() { os.Exit(run(os.Args[1:], os.Stdout, os.Stderr)) }
 type words struct {
 	paths   []string
 	late    bool
+	pause   bool
 	golf    []string // those of golf run
 	chosen  bool     // --every or --schedule is there
 	threads bool
@@ -55,6 +56,9 @@ func parseWords(args []string) words {
 		switch name {
 		case "--late":
 			w.late = true
+			continue
+		case "--pause":
+			w.pause = true
 			continue
 		case "--every", "--schedule":
 			w.chosen = true
@@ -93,7 +97,7 @@ func (w words) line() []string {
 func run(args []string, stdout, stderr io.Writer) int {
 	w := parseWords(args)
 	if len(w.paths) == 0 {
-		fmt.Fprintln(stderr, "usage: golf-go FILE.go .. [--late] [words of golf run]")
+		fmt.Fprintln(stderr, "usage: golf-go FILE.go .. [--late] [--pause] [words of golf run]")
 		return usage
 	}
 	sources, tests, err := lower.ReadSources(w.paths)
@@ -101,7 +105,7 @@ func run(args []string, stdout, stderr io.Writer) int {
 		fmt.Fprintln(stderr, err)
 		return noRead
 	}
-	low, err := lower.Lower(sources, lower.Options{Collect: true, Late: w.late, Tests: tests})
+	low, err := lower.Lower(sources, lower.Options{Collect: true, Late: w.late, Pause: w.pause, Tests: tests})
 	if err != nil {
 		fmt.Fprintf(stderr, "refused: %v\n", err)
 		return refused

@@ -5,7 +5,7 @@
 //
 // The programs are read from Go's source (package golang-src of Debian); four lines are put behind each. A run is one in
 // rotation, or by a seed. If a leak is not reported in the first four runs, more seeds are tried, up to N, and then seeds
-// with goroutines that start late.
+// with goroutines that start late and wait now and then.
 package main
 
 import (

@@ -52,12 +52,25 @@ func examine(p *program) *outcome {
 		}
 	}
 	o.search(low, "", *first, *seeds)
-	if *late && len(o.missing()) > 0 {
-		if low, err := lower.Lower([]lower.Source{{Name: p.file, Text: p.text}}, lower.Options{Late: true}); err == nil {
-			o.search(low, "--late ", 1, *seeds)
+	for _, way := range ways {
+		if !*late || len(o.missing()) == 0 {
+			break
+		}
+		if low, err := lower.Lower([]lower.Source{{Name: p.file, Text: p.text}}, way.options); err == nil {
+			o.search(low, way.words+" ", 1, *seeds)
 		}
 	}
 	return o
+}
+
+// ways are the ways to lower a program so that goroutines are slow.
+var ways = []struct {
+	words   string
+	options lower.Options
+}{
+	{"--late", lower.Options{Late: true}},
+	{"--pause", lower.Options{Pause: true}},
+	{"--late --pause", lower.Options{Late: true, Pause: true}},
 }
 
 // search tries seeds for the leaks that no run has reported.
