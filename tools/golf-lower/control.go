@@ -148,6 +148,43 @@ func (f *fctx) cases(n int, cond func(int) string, deflt int, body func(int)) {
 	}
 }
 
+// orElse is x || y; if y needs statements they run where x is false alone.
+func (f *fctx) orElse(x string, y func() string) string {
+	var cond string
+	b := f.capture(func() { cond = y() })
+	if x == "" {
+		f.splice(b)
+		return cond
+	}
+	if len(b.lines) == 0 {
+		return x + " || " + cond
+	}
+	t := f.temp(x)
+	f.emit("if !%s {", t)
+	f.splice(b)
+	f.emit("%s = %s", t, bare(cond))
+	f.emit("}")
+	return t
+}
+
+// caseCond is the condition of one expression of a case; tag is the value that is switched on, of type tt.
+func (f *fctx) caseCond(s *ast.SwitchStmt, e ast.Expr, tag string, tt types.Type) string {
+	p := f.p
+	if s.Tag == nil {
+		return f.expr(e)
+	}
+	if isNil(p, e) {
+		return fmt.Sprintf("(%s == nil)", tag)
+	}
+	et := f.typeOf(e)
+	t, x := tt, tag
+	if isIface(et) && !isIface(tt) {
+		t = et
+		x = f.convert(tag, tt, et)
+	}
+	return p.equal(t, x, f.convert(f.expr(e), et, t))
+}
+
 func (f *fctx) switchStmt(s *ast.SwitchStmt, label string) {
 	p := f.p
 	if s.Init != nil {
@@ -195,26 +232,11 @@ func (f *fctx) switchStmt(s *ast.SwitchStmt, label string) {
 	}
 	f.cases(len(clauses), func(i int) string {
 		f.at(clauses[i].Pos())
-		var cs []string
+		cond := ""
 		for _, e := range clauses[i].List {
-			if s.Tag == nil {
-				cs = append(cs, f.expr(e))
-				continue
-			}
-			et := f.typeOf(e)
-			t := tt
-			x := tag
-			if isNil(p, e) {
-				cs = append(cs, fmt.Sprintf("(%s == nil)", tag))
-				continue
-			}
-			if isIface(et) && !isIface(tt) {
-				t = et
-				x = f.convert(tag, tt, et)
-			}
-			cs = append(cs, p.equal(t, x, f.convert(f.expr(e), et, t)))
+			cond = f.orElse(cond, func() string { return f.caseCond(s, e, tag, tt) })
 		}
-		return strings.Join(cs, " || ")
+		return cond
 	}, deflt, body)
 	f.at(s.Body.Rbrace)
 	if loop {
