@@ -19,7 +19,6 @@ import (
 	"runtime"
 	"sort"
 	"strings"
-	"sync"
 	"time"
 )
 
@@ -65,7 +64,7 @@ func main() {
 			list = append(list, p)
 		}
 	}
-	write(runAll(list))
+	runAll(list)
 }
 
 var registerRE = regexp.MustCompile(`register\("(\w+)", (\w+)\)`)
@@ -123,23 +122,27 @@ func readWanted(test string) map[string][]*leak {
 	return r
 }
 
-// runAll runs the programs, some at the same time.
-func runAll(list []*program) []*outcome {
-	r := make([]*outcome, len(list))
-	var wg sync.WaitGroup
+// runAll runs the programs, some at the same time, and writes the row of each once those before it are written.
+func runAll(list []*program) {
+	results := make([]chan *outcome, len(list))
 	slots := make(chan struct{}, *jobs)
-	for i, p := range list {
-		wg.Add(1)
-		slots <- struct{}{}
-		go func() {
-			defer wg.Done()
-			r[i] = examine(p)
-			fmt.Fprintf(os.Stderr, "%s: %s\n", p.name, r[i].summary())
-			<-slots
-		}()
+	for i := range list {
+		results[i] = make(chan *outcome, 1)
 	}
-	wg.Wait()
-	return r
+	go func() {
+		for i, p := range list {
+			slots <- struct{}{}
+			go func() {
+				results[i] <- examine(p)
+				<-slots
+			}()
+		}
+	}()
+	t := newTable()
+	for i := range list {
+		t.row(<-results[i])
+	}
+	t.end()
 }
 
 // golfRun runs golf on a lowered text.
