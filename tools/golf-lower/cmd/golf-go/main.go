@@ -1,0 +1,192 @@
+// Command golf-go runs Go files by golf: it lowers them, runs `golf run` on what comes out, and writes output, reports and
+// panics with the lines and functions of the files.
+//
+//	golf-go FILE.go .. [--late] [--pause] [words of golf run]
+//
+// The program golf is $GOLF, or golf on the path. $GOLF_LOWERED names a file for the lowered text.
+package main
+
+import (
+	"bytes"
+	"errors"
+	"fmt"
+	"io"
+	"os"
+	"os/exec"
+	"strings"
+
+	lower "golflower"
+)
+
+// every is after how many turns a collection is added, if the words do not say it.
+const every = "10000"
+
+// turns are the most turns, if the words do not say it: a lowered file takes more of them than it looks.
+const turns = "10000000"
+
+// The statuses that are not those of golf run.
+const (
+	refused = 4
+	usage   = 5
+	noRead  = 6
+	noWrite = 7
+)
+
+func main() { os.Exit(run(os.Args[1:], os.Stdout, os.Stderr)) }
+
+// words are the words of the command line.
+type words struct {
+	paths   []string
+	late    bool
+	pause   bool
+	golf    []string // those of golf run
+	chosen  bool     // --every or --schedule is there
+	threads bool
+	turns   bool
+}
+
+func parseWords(args []string) words {
+	var w words
+	for len(args) > 0 && isPath(args[0]) {
+		w.paths = append(w.paths, args[0])
+		args = args[1:]
+	}
+	for _, a := range args {
+		name, _, _ := strings.Cut(a, "=")
+		switch name {
+		case "--late":
+			w.late = true
+			continue
+		case "--pause":
+			w.pause = true
+			continue
+		case "--every", "--schedule":
+			w.chosen = true
+		case "--threads":
+			w.threads = true
+		case "--turns":
+			w.turns = true
+		}
+		w.golf = append(w.golf, a)
+	}
+	return w
+}
+
+func isPath(s string) bool {
+	if strings.HasSuffix(s, ".go") {
+		return true
+	}
+	info, err := os.Stat(s)
+	return err == nil && info.IsDir()
+}
+
+// line is the command line of golf.
+func (w words) line() []string {
+	line := []string{"run"}
+	if !w.threads {
+		if !w.turns {
+			line = append(line, "--turns", turns)
+		}
+		if !w.chosen {
+			line = append(line, "--every", every)
+		}
+	}
+	return append(line, w.golf...)
+}
+
+func run(args []string, stdout, stderr io.Writer) int {
+	w := parseWords(args)
+	if len(w.paths) == 0 {
+		fmt.Fprintln(stderr, "usage: golf-go FILE.go .. [--late] [--pause] [words of golf run]")
+		return usage
+	}
+	sources, tests, err := lower.ReadSources(w.paths)
+	if err != nil {
+		fmt.Fprintln(stderr, err)
+		return noRead
+	}
+	low, err := lower.Lower(sources, lower.Options{Collect: true, Late: w.late, Pause: w.pause, Tests: tests})
+	if err != nil {
+		fmt.Fprintf(stderr, "refused: %v\n", err)
+		return refused
+	}
+	if f := os.Getenv("GOLF_LOWERED"); f != "" {
+		if err := os.WriteFile(f, []byte(low.Text), 0o666); err != nil {
+			fmt.Fprintln(stderr, err)
+			return noWrite
+		}
+	}
+	return execute(w, low, tests, stdout, stderr)
+}
+
+// execute runs golf on the lowered text.
+func execute(w words, low *lower.Output, tests bool, stdout, stderr io.Writer) int {
+	golf := os.Getenv("GOLF")
+	if golf == "" {
+		golf = "golf"
+	}
+	cmd := exec.Command(golf, w.line()...)
+	cmd.Stdin = strings.NewReader(low.Text)
+	errs := &lines{out: stderr}
+	cmd.Stderr = errs
+	pipe, err := cmd.StdoutPipe()
+	if err == nil {
+		err = cmd.Start()
+	}
+	if err != nil {
+		fmt.Fprintln(stderr, err)
+		return noRead
+	}
+	d := &lower.Decoder{Out: stdout, Err: stderr}
+	written := d.Copy(pipe)
+	if written != nil {
+		io.Copy(io.Discard, pipe)
+	}
+	err = cmd.Wait()
+	var ee *exec.ExitError
+	if err != nil && !errors.As(err, &ee) {
+		fmt.Fprintln(stderr, err)
+		return noRead
+	}
+	if written != nil {
+		fmt.Fprintln(stderr, written)
+		return noWrite
+	}
+	r := &reporter{low: low, decoder: d, tests: tests, all: w.chosen || w.threads, status: cmd.ProcessState.ExitCode(), out: stderr}
+	for _, l := range errs.kept() {
+		r.line(l)
+	}
+	return r.end()
+}
+
+// lines keeps the lines of golf, and hands on what ./golf tells while it builds the program.
+type lines struct {
+	out  io.Writer
+	text []byte
+	from int // where the last line begins that is not whole
+}
+
+func (l *lines) Write(b []byte) (int, error) {
+	l.text = append(l.text, b...)
+	for {
+		n := bytes.IndexByte(l.text[l.from:], '\n')
+		if n < 0 {
+			return len(b), nil
+		}
+		end := l.from + n + 1
+		if bytes.HasPrefix(l.text[l.from:], []byte("golf: ")) {
+			l.out.Write(l.text[l.from:end])
+			l.text = append(l.text[:l.from], l.text[end:]...)
+			continue
+		}
+		l.from = end
+	}
+}
+
+func (l *lines) kept() []string {
+	text := strings.TrimSuffix(string(l.text), "\n")
+	if text == "" {
+		return nil
+	}
+	return strings.Split(text, "\n")
+}
