@@ -6,7 +6,7 @@ it runs them at N, 2N and 4N for 5,000,000 and for 10,000,000 turns and takes th
 Other rows end by themselves: it takes the time of the whole run for each goroutine. Behind a row stands the time at 4N over that
 at N, which is to be at most 1.3, and the processor time of the largest run, which is to be under 5 s: 10,000,000 turns at 100,000
 goroutines (the full channel has 65,536 values, the select 20,000 goroutines), or the whole run of 400,000. Each time is the least
-of three runs. The status is 1 if a row is over."""
+of three runs, with huge pages and one arena, as `./golf` asks the C library for. The status is 1 if a row is over."""
 import os
 import resource
 import subprocess
@@ -148,6 +148,7 @@ def row(program, folder, name, make, most, goes_on):
 
 def main():
     program, wanted = os.path.abspath(sys.argv[1]), sys.argv[2:]
+    os.environ.setdefault('GLIBC_TUNABLES', 'glibc.malloc.hugetlb=1:glibc.malloc.arena_max=1')
     resource.setrlimit(resource.RLIMIT_CPU, (3600, 3600))
     with tempfile.TemporaryDirectory() as folder:
         over = [row(program, folder, *it) for it in ROWS if not wanted or it[0] in wanted]
