@@ -14,7 +14,7 @@ use Rattle.golf_command_words.specs.Words.{line_of, IsWithin}
 use Rattle.golf_command_words.proofs.Limits.{line-within}
 use Rattle.golf_run_texts.specs.declared.status.Status.{Status}
 use Rattle.golf_run_texts.specs.declared.status.Status.TheVariants as s
-use Rattle.golf_run_texts.specs.declared.status.TheConstants.{LIMIT, USAGE, READ_FAULT, TOO_LONG, NO_MEMORY}
+use Rattle.golf_run_texts.specs.Fixed.{most_bytes, usage_text, read_fault_text, too_long_text, no_memory_text}
 use Rattle.golf_run_texts.specs.Writes.{Write}
 use Rattle.golf_run.specs.HasRun.{Sinks, GotWrites, HasFailed, IsSteady}
 use Rattle.golf_command.specs.Ways.{out_for, err_for}
@@ -84,42 +84,42 @@ read-file (CommandLine.Threads n) left bytes reads told = told
 read-file CommandLine.Meaning left bytes reads told = told
 
 -- memory ran out before anything was run
-pub memory-fails : (line : CommandLine) (within : IsWithin line) (left left' : Option (List ℕ)) (rf rf' : ℕ) (r : Status) (a b : Sinks) → rf' ≡ rf → Says s.Memory NO_MEMORY.now r a b → LineTells line r (seen left rf a) (seen left' rf' b)
+pub memory-fails : (line : CommandLine) (within : IsWithin line) (left left' : Option (List ℕ)) (rf rf' : ℕ) (r : Status) (a b : Sinks) → rf' ≡ rf → Says s.Memory no_memory_text r a b → LineTells line r (seen left rf a) (seen left' rf' b)
 memory-fails line within left left' rf rf' r a b same h =
     let file = some-file line left in
     file-tells line file.0 file.1 same (λ reads ran. absurd (no-run r a b h ran)) (memory-tells line file.0 within a b r h)
   where
-    no-run : (r : Status) (a b : Sinks) → Says s.Memory NO_MEMORY.now r a b → IsWholeEnd r → ⊥
+    no-run : (r : Status) (a b : Sinks) → Says s.Memory no_memory_text r a b → IsWholeEnd r → ⊥
     no-run r a b (inl e) ran = subst IsWholeEnd e.0 ran
     no-run r a b (inr e) ran = subst IsWholeEnd e.0 ran
 
 -- the source failed
-pub unread : {left left' : Option (List ℕ)} {rf rf' : ℕ} {r : Status} {a b : Sinks} (line : CommandLine) → Reads line → Rose rf rf' → rf ≤ rf' → Says s.ReadFault READ_FAULT.now r a b → LineTells line r (seen left rf a) (seen left' rf' b)
+pub unread : {left left' : Option (List ℕ)} {rf rf' : ℕ} {r : Status} {a b : Sinks} (line : CommandLine) → Reads line → Rose rf rf' → rf ≤ rf' → Says s.ReadFault read_fault_text r a b → LineTells line r (seen left rf a) (seen left' rf' b)
 unread {left} {left'} {rf} {rf'} {r} {a} {b} line reads rose later h = record {
   means = inl (record { reads = reads; failed = rose; says = h });
   causes = caused h;
 }
   where
-    caused : Says s.ReadFault READ_FAULT.now r a b → Causes r (seen left rf a) (seen left' rf' b)
+    caused : Says s.ReadFault read_fault_text r a b → Causes r (seen left rf a) (seen left' rf' b)
     caused (inl e) = subst (λ t. Causes t (seen left rf a) (seen left' rf' b)) (sym e.0) (record { source = rose; sinks = e.2 })
-    caused (inr e) = subst (λ t. Causes t (seen left rf a) (seen left' rf' b)) (sym e.0) (record { source = later; sinks = some-rose (Write.ToErr READ_FAULT.now) a b e.1.failed })
+    caused (inr e) = subst (λ t. Causes t (seen left rf a) (seen left' rf' b)) (sym e.0) (record { source = later; sinks = some-rose (Write.ToErr read_fault_text) a b e.1.failed })
 
 -- more bytes came than a file may have
 longer : (n : ℕ) → (bytes : List ℕ) × (n < length bytes)
 longer n = (replicate (n + 1) 0, omega (arith, length-replicate {A = ℕ}))
 
-long-file : (left left' : Option (List ℕ)) → ReadsSome left left' LIMIT → (bytes : List ℕ) × IfSome left (λ told. told ≡ bytes) × (LIMIT < length bytes)
-long-file None left' h = let some = longer LIMIT in (some.0, tt, some.1)
+long-file : (left left' : Option (List ℕ)) → ReadsSome left left' most_bytes → (bytes : List ℕ) × IfSome left (λ told. told ≡ bytes) × (most_bytes < length bytes)
+long-file None left' h = let some = longer most_bytes in (some.0, tt, some.1)
 long-file (Some xs) None h = absurd h.1
 long-file (Some xs) (Some ys) h = (xs, refl, omega (arith, ap length h.1, length-append h.0 ys, h.2))
 
-pub too-long : {left left' : Option (List ℕ)} {rf rf' : ℕ} {r : Status} {a b : Sinks} (line : CommandLine) → Reads line → IsWithin line → ReadsSome left left' LIMIT → rf' ≡ rf → Says s.Refused TOO_LONG.now r a b
+pub too-long : {left left' : Option (List ℕ)} {rf rf' : ℕ} {r : Status} {a b : Sinks} (line : CommandLine) → Reads line → IsWithin line → ReadsSome left left' most_bytes → rf' ≡ rf → Says s.Refused too_long_text r a b
     → LineTells line r (seen left rf a) (seen left' rf' b)
 too-long {left} {left'} {r = r} {a = a} {b = b} line reads within more same h =
     let file = long-file left left' more in
-    file-tells line file.0 (read-file line left file.0 reads file.1) same (λ _ ran. absurd (no-run h ran)) (refused-tells line file.0 within a b reads TOO_LONG.now r (TooLong file.2) h)
+    file-tells line file.0 (read-file line left file.0 reads file.1) same (λ _ ran. absurd (no-run h ran)) (refused-tells line file.0 within a b reads too_long_text r (TooLong file.2) h)
   where
-    no-run : Says s.Refused TOO_LONG.now r a b → IsWholeEnd r → ⊥
+    no-run : Says s.Refused too_long_text r a b → IsWholeEnd r → ⊥
     no-run (inl e) ran = subst IsWholeEnd e.0 ran
     no-run (inr e) ran = subst IsWholeEnd e.0 ran
 
@@ -182,8 +182,8 @@ module _ (words : List (List ℕ)) (left left' : Option (List ℕ)) (rf rf' : �
     of-line line r is (inr h) = of-file line h.bytes r is h.is_file h.means
 
     of-none : (r : Status) → IsNoLine words → UsageMeans r before after → Whole r
-    of-none r none (inl h) = said s.Usage r USAGE.now h (inr (Misused none))
-    of-none r none (inr h) = said s.Memory r NO_MEMORY.now h (inl refl)
+    of-none r none (inl h) = said s.Usage r usage_text h (inr (Misused none))
+    of-none r none (inr h) = said s.Memory r no_memory_text h (inl refl)
 
     of-words : (o : Option CommandLine) (r : Status) → line_of words ≡ o → ((line : CommandLine) → IsLine words line → LineMeans line r before after) → (IsNoLine words → UsageMeans r before after) → Whole r
     of-words (Some line) r is m u = of-line line r is (m line is)
@@ -215,17 +215,17 @@ module _ (words : List (List ℕ)) (left left' : Option (List ℕ)) (rf rf' : �
   says-causes status r text quiet same (inr e) = subst (λ t. Causes t before after) (sym e.0) (record { source = omega (arith, same); sinks = some-rose (Write.ToErr text) a b e.1.failed })
 
   -- they are no line
-  pub tells-usage : (r : Status) → IsNoLine words → Says s.Usage USAGE.now r a b → left' ≡ left → rf' ≡ rf → Tells words r before after
+  pub tells-usage : (r : Status) → IsNoLine words → Says s.Usage usage_text r a b → left' ≡ left → rf' ≡ rf → Tells words r before after
   tells-usage r none h same counts = tells r
       (λ line is. absurd (not-none line (sym is ∙ none)))
       (λ _. inl h)
       (λ _. untouched same counts)
-      (says-causes s.Usage r USAGE.now (λ v w x y. record { source = x; sinks = y }) counts h)
+      (says-causes s.Usage r usage_text (λ v w x y. record { source = x; sinks = y }) counts h)
 
   -- memory ran out for the words
-  pub tells-memory : (r : Status) → Says s.Memory NO_MEMORY.now r a b → left' ≡ left → rf' ≡ rf → Tells words r before after
+  pub tells-memory : (r : Status) → Says s.Memory no_memory_text r a b → left' ≡ left → rf' ≡ rf → Tells words r before after
   tells-memory r h same counts =
-      let causes : Causes r before after = says-causes s.Memory r NO_MEMORY.now (λ v w x y. record { source = x; sinks = y }) counts h in
+      let causes : Causes r before after = says-causes s.Memory r no_memory_text (λ v w x y. record { source = x; sinks = y }) counts h in
       tells r (λ line is. (memory-fails line (line-is-within words line is) left left' rf rf' r a b counts h).means) (λ _. inr h) (λ _. untouched same counts) causes
 
 -- a line that asks for a generated file reads nothing

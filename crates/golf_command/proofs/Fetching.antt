@@ -10,7 +10,7 @@ use Rattle.golf_reader.specs.Refusals.{IsRefusedBy, HasTypedTree, IsOnly}
 use Rattle.golf_command_words.specs.declared.line.CommandLine.{CommandLine}
 use Rattle.golf_run_texts.specs.declared.status.Status.{Status}
 use Rattle.golf_run_texts.specs.declared.status.Status.TheVariants as s
-use Rattle.golf_run_texts.specs.declared.status.TheConstants.{LIMIT, TOO_LONG, READ_FAULT, NO_MEMORY}
+use Rattle.golf_run_texts.specs.Fixed.{most_bytes, too_long_text, read_fault_text, no_memory_text}
 use Rattle.golf_run.specs.HasRun.{Sinks, sinks}
 use Rattle.golf_command.specs.Ends.{EndsWith, Refuses}
 use Rattle.golf_command.specs.Promises.{Reads}
@@ -20,14 +20,14 @@ use Rattle.golf_command.proofs.Sinking.{says}
 use Rattle.golf_command.proofs.Filing.{refusal-tells}
 use Rattle.golf_command.proofs.Calling.{file-tells, read-file, unread, too-long, memory-fails}
 
-pub fails-to-read : {left left' : Option (List ℕ)} {rf rf' : ℕ} {err err' : Option (List ℕ)} {ef ef' : ℕ} {r : Status} → Rose rf rf' → rf ≤ rf' → EndsWith r s.ReadFault READ_FAULT.now err err' ef ef' → Ends r left left' rf rf' err err' ef ef'
-fails-to-read {err = err} {err' = err'} {ef = ef} {ef' = ef'} {r = r} rose later e line reads within out of = unread line reads rose later (says out of err err' ef ef' s.ReadFault r READ_FAULT.now e)
+pub fails-to-read : {left left' : Option (List ℕ)} {rf rf' : ℕ} {err err' : Option (List ℕ)} {ef ef' : ℕ} {r : Status} → Rose rf rf' → rf ≤ rf' → EndsWith r s.ReadFault read_fault_text err err' ef ef' → Ends r left left' rf rf' err err' ef ef'
+fails-to-read {err = err} {err' = err'} {ef = ef} {ef' = ef'} {r = r} rose later e line reads within out of = unread line reads rose later (says out of err err' ef ef' s.ReadFault r read_fault_text e)
 
-pub is-too-long : {left left' : Option (List ℕ)} {rf rf' : ℕ} {err err' : Option (List ℕ)} {ef ef' : ℕ} {r : Status} → ReadsSome left left' LIMIT → rf' ≡ rf → EndsWith r s.Refused TOO_LONG.now err err' ef ef' → Ends r left left' rf rf' err err' ef ef'
-is-too-long {err = err} {err' = err'} {ef = ef} {ef' = ef'} {r = r} more same e line reads within out of = too-long line reads within more same (says out of err err' ef ef' s.Refused r TOO_LONG.now e)
+pub is-too-long : {left left' : Option (List ℕ)} {rf rf' : ℕ} {err err' : Option (List ℕ)} {ef ef' : ℕ} {r : Status} → ReadsSome left left' most_bytes → rf' ≡ rf → EndsWith r s.Refused too_long_text err err' ef ef' → Ends r left left' rf rf' err err' ef ef'
+is-too-long {err = err} {err' = err'} {ef = ef} {ef' = ef'} {r = r} more same e line reads within out of = too-long line reads within more same (says out of err err' ef ef' s.Refused r too_long_text e)
 
-pub lacks-memory : {left left' : Option (List ℕ)} {rf rf' : ℕ} {err err' : Option (List ℕ)} {ef ef' : ℕ} {r : Status} → rf' ≡ rf → EndsWith r s.Memory NO_MEMORY.now err err' ef ef' → Ends r left left' rf rf' err err' ef ef'
-lacks-memory {left} {left'} {rf} {rf'} {err} {err'} {ef} {ef'} {r} same e line reads within out of = memory-fails line within left left' rf rf' r _ _ same (says out of err err' ef ef' s.Memory r NO_MEMORY.now e)
+pub lacks-memory : {left left' : Option (List ℕ)} {rf rf' : ℕ} {err err' : Option (List ℕ)} {ef ef' : ℕ} {r : Status} → rf' ≡ rf → EndsWith r s.Memory no_memory_text err err' ef ef' → Ends r left left' rf rf' err err' ef ef'
+lacks-memory {left} {left'} {rf} {rf'} {err} {err'} {ef} {ef'} {r} same e line reads within out of = memory-fails line within left left' rf rf' r _ _ same (says out of err err' ef ef' s.Memory r no_memory_text e)
 
 is-refused : {bytes : List ℕ} {left left' : Option (List ℕ)} {rf rf' : ℕ} {err err' : Option (List ℕ)} {ef ef' : ℕ} {r : Status} (refusal : Refusal) → HasFetched bytes left left' rf rf' → IsRefusedBy bytes refusal → Refuses r refusal err err' ef ef' → Ends r left left' rf rf' err err' ef ef'
 is-refused {bytes} {left} {err = err} {err' = err'} {ef = ef} {ef' = ef'} {r = r} refusal h why e line reads within out of =

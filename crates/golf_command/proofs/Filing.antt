@@ -14,7 +14,7 @@ use Rattle.golf_command_words.specs.declared.line.CommandLine.{CommandLine}
 use Rattle.golf_command_words.specs.Words.{IsWithin}
 use Rattle.golf_run_texts.specs.declared.status.Status.{Status}
 use Rattle.golf_run_texts.specs.declared.status.Status.TheVariants as s
-use Rattle.golf_run_texts.specs.declared.status.TheConstants.{LIMIT, NO_MEMORY}
+use Rattle.golf_run_texts.specs.Fixed.{most_bytes, no_memory_text}
 use Rattle.golf_run_texts.specs.Texts.{lexical_line, syntax_line, rule_line}
 use Rattle.golf_run_texts.specs.Output.{status_by, status_of, last_of, reports_of, anyone_reported, events_of}
 use Rattle.golf_run_texts.specs.Writes.{Write}
@@ -81,20 +81,20 @@ module _ (line : CommandLine) (bytes : List ℕ) (within : IsWithin line) where
         subst (λ t. FileTells line bytes t old new) (sym e.0) (record { means = record { reads = reads; text = text; why = why; got = e.1 }; causes = e.2 })
     refused-tells reads text r why (inr e) = broken [] (Write.ToErr text) r (Cause text none-first (Refusing text reads why)) e.0 e.1
 
-    pub memory-tells : (r : Status) → Says s.Memory NO_MEMORY.now r old new → FileTells line bytes r old new
+    pub memory-tells : (r : Status) → Says s.Memory no_memory_text r old new → FileTells line bytes r old new
     memory-tells r (inl e) = subst (λ t. FileTells line bytes t old new) (sym e.0) (record { means = ([], none-stands line, none-first, e.1); causes = e.2 })
-    memory-tells r (inr e) = broken [] (Write.ToErr NO_MEMORY.now) r (Cause NO_MEMORY.now none-first OutOfMemory) e.0 e.1
+    memory-tells r (inr e) = broken [] (Write.ToErr no_memory_text) r (Cause no_memory_text none-first OutOfMemory) e.0 e.1
 
   -- the file of a line that reads is refused
-  module _ (reads : Reads line) (short : length bytes ≤ LIMIT) (out : Option (List ℕ)) (of : ℕ) (err err' : Option (List ℕ)) (ef ef' : ℕ) where
+  module _ (reads : Reads line) (short : length bytes ≤ most_bytes) (out : Option (List ℕ)) (of : ℕ) (err err' : Option (List ℕ)) (ef ef' : ℕ) where
     abbrev Told : Status → Type 0
     Told r = FileTells line bytes r (sinks out of err ef) (sinks out of err' ef')
 
     by-text : (text : List ℕ) (r : Status) → RefusedBy bytes text → EndsWith r s.Refused text err err' ef ef' → Told r
     by-text text r why e = refused-tells (sinks out of err ef) (sinks out of err' ef') reads text r why (says out of err err' ef ef' s.Refused r text e)
 
-    by-want : (r : Status) → EndsWith r s.Memory NO_MEMORY.now err err' ef ef' → Told r
-    by-want r e = memory-tells (sinks out of err ef) (sinks out of err' ef') r (says out of err err' ef ef' s.Memory r NO_MEMORY.now e)
+    by-want : (r : Status) → EndsWith r s.Memory no_memory_text err err' ef ef' → Told r
+    by-want r e = memory-tells (sinks out of err ef) (sinks out of err' ef') r (says out of err err' ef ef' s.Memory r no_memory_text e)
 
     pub refusal-tells : (refusal : Refusal) (r : Status) → IsRefusedBy bytes refusal → Refuses r refusal err err' ef ef' → Told r
     refusal-tells (refusals.Lexical at byte) r why (inl e) = by-text (lexical_line at byte) r (Unlexed at byte short why) e
@@ -166,12 +166,12 @@ module _ (line : CommandLine) (bytes : List ℕ) (within : IsWithin line) where
       abbrev last : Sinks
       last = sinks out' of' err' ef'
 
-      stopped : (r : Status) → GotWrites done first mid_way → IsSteady first mid_way → Says s.Memory NO_MEMORY.now r mid_way last → FileTells line bytes r first last
+      stopped : (r : Status) → GotWrites done first mid_way → IsSteady first mid_way → Says s.Memory no_memory_text r mid_way last → FileTells line bytes r first last
       stopped r got steady (inl e) = subst (λ t. FileTells line bytes t first last) (sym e.0) (record {
-        means = (done, stands, first-of done more split, gets-more first mid_way last done (Write.ToErr NO_MEMORY.now ∷ []) got e.1);
+        means = (done, stands, first-of done more split, gets-more first mid_way last done (Write.ToErr no_memory_text ∷ []) got e.1);
         causes = record { out = e.2.out ∙ steady.out; err = e.2.err ∙ steady.err };
       })
-      stopped r got steady (inr e) = broken first last done (Write.ToErr NO_MEMORY.now) r (Cause NO_MEMORY.now (first-of done more split) OutOfMemory) e.0 (breaks-later first mid_way last done (Write.ToErr NO_MEMORY.now) got steady e.1)
+      stopped r got steady (inr e) = broken first last done (Write.ToErr no_memory_text) r (Cause no_memory_text (first-of done more split) OutOfMemory) e.0 (breaks-later first mid_way last done (Write.ToErr no_memory_text) got steady e.1)
 
-      pub stopped-tells : (r : Status) → GotWrites done first mid_way → IsSteady first mid_way → EndsWith r s.Memory NO_MEMORY.now mid err' mf ef' → FileTells line bytes r first last
-      stopped-tells r got steady ends = stopped r got steady (says out' of' mid err' mf ef' s.Memory r NO_MEMORY.now ends)
+      pub stopped-tells : (r : Status) → GotWrites done first mid_way → IsSteady first mid_way → EndsWith r s.Memory no_memory_text mid err' mf ef' → FileTells line bytes r first last
+      stopped-tells r got steady ends = stopped r got steady (says out' of' mid err' mf ef' s.Memory r no_memory_text ends)

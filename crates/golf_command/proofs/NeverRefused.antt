@@ -3,15 +3,15 @@
 -- By: cases of the refusal; no induction
 use Rattle.std.proofs.Common.{◌≡◌, ℕ, ◌≤◌, List, length, subst}
 use Rattle.golf_syntax_trees.specs.declared.declarations.File.{File}
-use Rattle.golf_command_sample.specs.File.{file as generated_file}
+use Rattle.golf_command_sample.specs.File.{file as generated_file, most_parts}
 use Rattle.golf_reader.specs.declared.refusal.Refusal.{Refusal}
 use Rattle.golf_reader.specs.declared.refusal.Refusal.TheVariants as refusals
 use Rattle.golf_reader.specs.Refusals.{HasTypedTree, IsRefusedBy}
-use Rattle.golf_run_texts.specs.declared.status.TheConstants.{LIMIT}
+use Rattle.golf_run_texts.specs.Fixed.{most_bytes}
 use Rattle.golf_command_sample_accepted.proofs.Accepting as generated
 
-module _ (n : ℕ) (some : 1 ≤ n) (most : n ≤ 5000) where
-  pub short : length (generated_file n) ≤ LIMIT
+module _ (n : ℕ) (some : 1 ≤ n) (most : n ≤ most_parts) where
+  pub short : length (generated_file n) ≤ most_bytes
   short = (generated.accepted n some most).1.short
 
   typed : (file : File) × HasTypedTree (generated_file n) file

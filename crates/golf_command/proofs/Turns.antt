@@ -14,7 +14,7 @@ use Rattle.golf_run_schedules.specs.Events.{turns_from, turns_among}
 use Rattle.golf_run_texts.specs.Output.{events_of}
 use Rattle.golf_model_futures.proofs.RealRuns.{real-runs}
 use Rattle.golf_world.specs.declared.history.HistoryEntry.{HistoryEntry}
-use Rattle.golf_world.specs.History.{turns, after, number_at, IsHistory}
+use Rattle.golf_world.specs.History.{most_entries, turns, after, number_at, IsHistory}
 use Rattle.golf_world.proofs.Executions.{after-is}
 use Rattle.golf_world.proofs.Freeing.{same_can_run}
 use Rattle.golf_command.specs.Ways.{turns_with, after_turns, IsTurnAt, history_options, AreTurns}
@@ -25,9 +25,9 @@ no-collections : (ns : List ℕ) (k : ℕ) → turns_from None k ns ≡ turns_wi
 no-collections [] k = refl
 no-collections (n ∷ ns) k = ap (λ es. Event.Turn n ∷ es) (no-collections ns (k + 1))
 
-pub their-events : (ns : List ℕ) → length ns ≤ 100000 → events_of (history_options ns) ≡ turns_with ns
+pub their-events : (ns : List ℕ) → length ns ≤ most_entries → events_of (history_options ns) ≡ turns_with ns
 unfolding events_of history_options
-their-events ns few = ap (λ xs. turns_from None 1 xs) (take_all 100000 ns few) ∙ no-collections ns 1
+their-events ns few = ap (λ xs. turns_from None 1 xs) (take_all most_entries ns few) ∙ no-collections ns 1
 
 pub turns-counted : (ns : List ℕ) → turns_among (turns_with ns) ≡ length ns
 turns-counted [] = refl
@@ -99,7 +99,7 @@ module _ (code : Code) (threads : ℕ) (some : 0 < threads) where
   grown (suc k) = let g = grown k in grow-by k g (ending (after_turns code g.ns)) refl
 
   pub some-turns : (ns : List ℕ) × AreTurns code threads ns
-  some-turns = let g = grown 100000 in (g.ns, record { each = g.each; few = g.few; whole = g.whole; events = their-events g.ns g.few })
+  some-turns = let g = grown most_entries in (g.ns, record { each = g.each; few = g.few; whole = g.whole; events = their-events g.ns g.few })
 
 -- ---- those of a history
 
@@ -139,10 +139,10 @@ module _ (code : Code) where
           goes = ap (λ xs. ending (after_turns code xs)) same ∙ same-ending (take t es) ∙ entry.goes;
         }
 
-    pub history-turns : length es ≤ 100000 → (ending (run code (start code) (turns es)) ≡ None → length es ≡ 100000) → AreTurns code threads (numbers_in es)
+    pub history-turns : length es ≤ most_entries → (ending (run code (start code) (turns es)) ≡ None → length es ≡ most_entries) → AreTurns code threads (numbers_in es)
     history-turns few whole =
         let count = numbers-counted es in
-        let short : length (numbers_in es) ≤ 100000 = omega (arith, count, few) in
+        let short : length (numbers_in es) ≤ most_entries = omega (arith, count, few) in
         record {
           each = λ t n here. numbered t n (slice_get es t) refl here;
           few = short;

@@ -17,7 +17,7 @@ use Rattle.golf_command_words.specs.declared.line.CommandLine.{CommandLine}
 use Rattle.golf_command_words.specs.Words.{IsWithin}
 use Rattle.golf_run_texts.specs.declared.status.Status.{Status}
 use Rattle.golf_run_texts.specs.declared.status.Status.TheVariants as s
-use Rattle.golf_run_texts.specs.declared.status.TheConstants.{NO_MEMORY}
+use Rattle.golf_run_texts.specs.Fixed.{no_memory_text}
 use Rattle.golf_run_texts.specs.Writes.{Write}
 use Rattle.golf_run.specs.HasRun.{Sinks, sinks, GotWrites}
 use Rattle.golf_command.specs.declared.texts.RunTexts.{RunTexts}
@@ -133,11 +133,11 @@ told-cut out out' err of of' ef text f rose = inr (refl, record { prefix = Write
 pub same-text : (made : Result (List ℕ) Memory) (text now : List ℕ) (r : Status) (old new : Sinks) → made ≡ Ok text → now ≡ text → HasTold (Ok now) r old new → HasTold made r old new
 same-text made text now r old new e n told = subst (λ (x : Result (List ℕ) Memory). HasTold x r old new) (sym e) (subst (λ (t : List ℕ). HasTold (Ok t) r old new) n told)
 
-pub none-told : (made : Result (List ℕ) Memory) (m : Memory) (r : Status) (old new : Sinks) → made ≡ Err m → Says s.Memory NO_MEMORY.now r old new → HasTold made r old new
+pub none-told : (made : Result (List ℕ) Memory) (m : Memory) (r : Status) (old new : Sinks) → made ≡ Err m → Says s.Memory no_memory_text r old new → HasTold made r old new
 none-told made m r old new e said = subst (λ (x : Result (List ℕ) Memory). HasTold x r old new) (sym e) said
 
 -- there are none
-pub none-written : (made : Result RunTexts Memory) (m : Memory) (r : Status) (old new : Sinks) → made ≡ Err m → Says s.Memory NO_MEMORY.now r old new → HasWritten made r old new
+pub none-written : (made : Result RunTexts Memory) (m : Memory) (r : Status) (old new : Sinks) → made ≡ Err m → Says s.Memory no_memory_text r old new → HasWritten made r old new
 none-written made m r old new e said = subst (λ (x : Result RunTexts Memory). HasWritten x r old new) (sym e) said
 
 -- the file in other words

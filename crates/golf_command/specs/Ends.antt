@@ -5,7 +5,7 @@ use Rattle.golf_base.specs.Causes.{Rose, WritesPrefix}
 use Rattle.golf_reader.specs.declared.refusal.Refusal.{Refusal}
 use Rattle.golf_reader.specs.declared.refusal.Refusal.TheVariants as refusals
 use Rattle.golf_run_texts.specs.Texts.{lexical_line, syntax_line, rule_line}
-use Rattle.golf_run_texts.specs.declared.status.TheConstants.{NO_MEMORY}
+use Rattle.golf_run_texts.specs.Fixed.{no_memory_text}
 use Rattle.golf_run_texts.specs.declared.status.Status.{Status}
 use Rattle.golf_run_texts.specs.declared.status.Status.TheVariants as s
 
@@ -18,7 +18,7 @@ abbrev pub refusal_line : Refusal → List ℕ
 refusal_line (refusals.Lexical line byte) = lexical_line line byte
 refusal_line (refusals.Syntax line) = syntax_line line
 refusal_line (refusals.Untyped line rule) = rule_line line rule
-refusal_line refusals.Memory = NO_MEMORY.now
+refusal_line refusals.Memory = no_memory_text
 
 -- how the program ends with it
 abbrev pub refusal_status : Refusal → Status
@@ -29,4 +29,4 @@ refusal_status refusals.Memory = s.Memory
 
 -- the refusal's line was written with its status, or memory ran out for the line
 abbrev pub Refuses : Status → Refusal → Option (List ℕ) → Option (List ℕ) → ℕ → ℕ → Type 0
-Refuses result refusal err err' before now = EndsWith result (refusal_status refusal) (refusal_line refusal) err err' before now ⊎ EndsWith result s.Memory NO_MEMORY.now err err' before now
+Refuses result refusal err err' before now = EndsWith result (refusal_status refusal) (refusal_line refusal) err err' before now ⊎ EndsWith result s.Memory no_memory_text err err' before now

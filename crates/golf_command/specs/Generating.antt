@@ -3,6 +3,7 @@ use Rattle.std.specs.Prelude.{ℕ, true, false, List, [], ◌∷◌, None}
 use Rattle.golf_data.specs.declared.code.Code.{Code}
 use Rattle.golf_run_schedules.specs.declared.schedule.Schedule.{Schedule}
 use Rattle.golf_run_schedules.specs.declared.options.RunOptions.{RunOptions}
+use Rattle.golf_run_schedules.specs.Options.{most_turns}
 use Rattle.golf_command_sample.specs.declared.summary.Summary.{Summary}
 use Rattle.golf_command_sample.specs.File.{file as generated_file, summary}
 use Rattle.golf_command_sample.specs.Lines.{newlines}
@@ -13,7 +14,7 @@ use Rattle.golf_run_texts.specs.Writes.{Write}
 
 -- in rotation, by four markers, with recovery
 unfoldable pub generated_options : RunOptions
-generated_options = record { schedule = Schedule.Rotate; turns = 10000000; every = None; markers = 4; recover = true; why = false }
+generated_options = record { schedule = Schedule.Rotate; turns = most_turns; every = None; markers = 4; recover = true; why = false }
 
 -- the numbers of the run of the generated file of n parts
 abbrev pub summary_of : ℕ → Totals → Summary

@@ -11,7 +11,7 @@ use Rattle.golf_reader.specs.Refusals.{IsOnly}
 use Rattle.golf_command_words.specs.declared.line.CommandLine.{CommandLine}
 use Rattle.golf_command_words.specs.Words.{IsWithin}
 use Rattle.golf_run_texts.specs.declared.status.Status.{Status}
-use Rattle.golf_run_texts.specs.declared.status.TheConstants.{LIMIT}
+use Rattle.golf_run_texts.specs.Fixed.{most_bytes}
 use Rattle.golf_run.specs.HasRun.{sinks}
 use Rattle.golf_command.specs.Promises.{Reads, Accepts}
 use Rattle.golf_command.specs.Means.{seen, LineTells}
@@ -27,7 +27,7 @@ pub record HasFetched (bytes : List ℕ) (left left' : Option (List ℕ)) (befor
   pub told : IfSome left (λ known. known ≡ bytes)
   pub at_end : IsAtEnd left'
   pub quiet : now ≡ before
-  pub within : length bytes ≤ LIMIT
+  pub within : length bytes ≤ most_bytes
 
 -- the source was read to its end, and this is the file that the program accepts
 pub record HasFile (file : File) (left left' : Option (List ℕ)) (before now : ℕ) : Type 0 where

@@ -12,7 +12,7 @@ use Rattle.golf_run_schedules.specs.declared.options.RunOptions.{RunOptions}
 use Rattle.golf_command_words.specs.declared.line.CommandLine.{CommandLine}
 use Rattle.golf_run_texts.specs.declared.status.Status.{Status}
 use Rattle.golf_run_texts.specs.declared.status.Status.TheVariants as s
-use Rattle.golf_run_texts.specs.declared.status.TheConstants.{USAGE, READ_FAULT, NO_MEMORY}
+use Rattle.golf_run_texts.specs.Fixed.{usage_text, read_fault_text, no_memory_text}
 use Rattle.golf_run_texts.specs.Writes.{Write}
 use Rattle.golf_run.specs.HasRun.{Sinks, GotWrites, IsPrefixOf, HasFailed, IsSteady}
 use Rattle.golf_command.specs.Ways.{Way, IsWayOf, options_of, status_for, out_for, err_for, writes_for}
@@ -71,7 +71,7 @@ pub record AreFirst (line : CommandLine) (bytes : List ℕ) (done : List Write) 
 -- the text of a cause, which may stand after them; only the file of a line that reads is refused
 pub data IsCause (line : CommandLine) (bytes : List ℕ) : List ℕ → Type 0 where
   Refusal : (text : List ℕ) → Reads line → RefusedBy bytes text → IsCause line bytes text
-  OutOfMemory : IsCause line bytes NO_MEMORY.now
+  OutOfMemory : IsCause line bytes no_memory_text
 
 -- what may be written after them: the next write of the way, or the text of a cause
 pub data MayFollow (line : CommandLine) (bytes : List ℕ) (done : List Write) : Write → Type 0 where
@@ -113,7 +113,7 @@ FileMeans line bytes s.Refused old new = IsRefused line bytes old new
 FileMeans line bytes s.Usage old new = ⊥
 FileMeans line bytes s.ReadFault old new = ⊥
 FileMeans line bytes s.WriteFault old new = (done : List Write) × ((cut : Write) × MayFollow line bytes done cut × Breaks old new done cut)
-FileMeans line bytes s.Memory old new = (done : List Write) × MayStand line done × AreFirst line bytes done × GotWrites (done ++ Write.ToErr NO_MEMORY.now ∷ []) old new
+FileMeans line bytes s.Memory old new = (done : List Write) × MayStand line done × AreFirst line bytes done × GotWrites (done ++ Write.ToErr no_memory_text ∷ []) old new
 
 -- ---- what it says of a call
 
@@ -127,7 +127,7 @@ Says status text answer old new =
 pub record IsUnread (line : CommandLine) (answer : Status) (old new : View) : Type 0 where
   pub reads : Reads line
   pub failed : Rose old.read_faults new.read_faults
-  pub says : Says s.ReadFault READ_FAULT.now answer old.sinks new.sinks
+  pub says : Says s.ReadFault read_fault_text answer old.sinks new.sinks
 
 -- the status is that of a line whose file was accepted
 abbrev pub IsWholeEnd : Status → Type 0
@@ -150,7 +150,7 @@ LineMeans line answer old new = IsUnread line answer old new ⊎ TellsOfFile lin
 
 -- what it says if they are none
 abbrev pub UsageMeans : Status → View → View → Type 0
-UsageMeans answer old new = Says s.Usage USAGE.now answer old.sinks new.sinks ⊎ Says s.Memory NO_MEMORY.now answer old.sinks new.sinks
+UsageMeans answer old new = Says s.Usage usage_text answer old.sinks new.sinks ⊎ Says s.Memory no_memory_text answer old.sinks new.sinks
 
 -- which counts of faults rose: those that a status names, and no other
 abbrev pub SinkCauses : Status → Sinks → Sinks → Type 0

@@ -17,7 +17,7 @@ use Rattle.golf_command_words.specs.declared.line.CommandLine.{CommandLine}
 use Rattle.golf_command_words.specs.Words.{line_of}
 use Rattle.golf_run_texts.specs.declared.status.Status.{Status}
 use Rattle.golf_run_texts.specs.declared.status.Status.TheVariants as s
-use Rattle.golf_run_texts.specs.declared.status.TheConstants.{LIMIT, USAGE, TOO_LONG}
+use Rattle.golf_run_texts.specs.Fixed.{most_bytes, usage_text, too_long_text}
 use Rattle.golf_run_texts.specs.Texts.{lexical_line, syntax_line, rule_line}
 use Rattle.golf_run_texts.specs.Output.{events_of, reports_of}
 use Rattle.golf_command.specs.Ways.{Way, IsWayOf, status_for, out_for, err_for}
@@ -50,7 +50,7 @@ IsFileOf CommandLine.Meaning left bytes = IfSome left (λ known. known ≡ bytes
 
 -- the program accepts the file: this tree reads it, and breaks no rule
 pub record Accepts (bytes : List ℕ) (file : File) : Type 0 where
-  pub within : length bytes ≤ LIMIT
+  pub within : length bytes ≤ most_bytes
   pub typed : HasTypedTree bytes file
 
 -- What the reports of a run are worth. Each names, once, exactly the goroutines that are dead right before its collection and that no earlier one named; these are the blocked ones outside the live set; and whoever is dead there takes no step in any continuation.
@@ -71,16 +71,16 @@ pub record MovesAlways (code : Code) (options : RunOptions) : Type 0 where
 
 -- the line with which a file is refused
 pub data RefusedBy (bytes : List ℕ) : List ℕ → Type 0 where
-  TooLong : LIMIT < length bytes → RefusedBy bytes TOO_LONG.now
-  Unlexed : (line byte : ℕ) → length bytes ≤ LIMIT → IsUnlexed bytes line byte → RefusedBy bytes (lexical_line line byte)
-  Unparsed : (line : ℕ) → length bytes ≤ LIMIT → IsUnparsed bytes line → RefusedBy bytes (syntax_line line)
-  Untyped : (line rule : ℕ) → length bytes ≤ LIMIT → IsUntyped bytes line rule → RefusedBy bytes (rule_line line rule)
+  TooLong : most_bytes < length bytes → RefusedBy bytes too_long_text
+  Unlexed : (line byte : ℕ) → length bytes ≤ most_bytes → IsUnlexed bytes line byte → RefusedBy bytes (lexical_line line byte)
+  Unparsed : (line : ℕ) → length bytes ≤ most_bytes → IsUnparsed bytes line → RefusedBy bytes (syntax_line line)
+  Untyped : (line rule : ℕ) → length bytes ≤ most_bytes → IsUntyped bytes line rule → RefusedBy bytes (rule_line line rule)
 
 -- ---- both
 
 -- the status, and what standard output and standard error get; only the file of a line that reads can be refused
 pub data WordsMean (words : List (List ℕ)) (left : Option (List ℕ)) : Status → List ℕ → List ℕ → Type 0 where
-  Misused : IsNoLine words → WordsMean words left s.Usage [] USAGE.now
+  Misused : IsNoLine words → WordsMean words left s.Usage [] usage_text
   Refused : (line : CommandLine) (bytes text : List ℕ) → IsLine words line → Reads line → IsFileOf line left bytes → RefusedBy bytes text → WordsMean words left s.Refused [] text
   Goes : (line : CommandLine) (bytes : List ℕ) (file : File) (way : Way) → IsLine words line → IsFileOf line left bytes → Accepts bytes file → IsWayOf line file way
       → WordsMean words left (status_for way (CodeOf file)) (out_for way (CodeOf file)) (err_for way (CodeOf file))

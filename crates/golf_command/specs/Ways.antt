@@ -14,7 +14,7 @@ use Rattle.golf_run_texts.specs.declared.status.Status.TheVariants as s
 use Rattle.golf_run_texts.specs.Texts.{history_line, meaning_line}
 use Rattle.golf_run_texts.specs.Output.{events_of, status_of, out_of, end_of, err_of}
 use Rattle.golf_run_texts.specs.Writes.{Write, writes_of}
-use Rattle.golf_world.specs.History.{number_at}
+use Rattle.golf_world.specs.History.{most_entries, number_at}
 use Rattle.golf_command.specs.Generating.{generated_options, generated_summary, generated_writes}
 
 -- ---- turns by threads
@@ -36,13 +36,13 @@ pub record IsTurnAt (code : Code) (threads : ℕ) (ns : List ℕ) (t n : ℕ) : 
 
 -- how a run whose turns had these numbers is run again: by them as written choices, without recovery
 unfoldable pub history_options : List ℕ → RunOptions
-history_options ns = record { schedule = Schedule.Choices ns; turns = 100000; every = None; markers = 1; recover = false; why = false }
+history_options ns = record { schedule = Schedule.Choices ns; turns = most_entries; every = None; markers = 1; recover = false; why = false }
 
--- these are the numbers of all turns of a run by so many threads: no proper prefix of them has an ending, and all together have one, or are 100,000
+-- these are the numbers of all turns of a run by so many threads: no proper prefix of them has an ending, and all together have one, or are as many as a history may have
 pub record AreTurns (code : Code) (threads : ℕ) (ns : List ℕ) : Type 0 where
   pub each : (t n : ℕ) → slice_get ns t ≡ Some n → IsTurnAt code threads ns t n
-  pub few : length ns ≤ 100000
-  pub whole : ending (after_turns code ns) ≡ None → length ns ≡ 100000
+  pub few : length ns ≤ most_entries
+  pub whole : ending (after_turns code ns) ≡ None → length ns ≡ most_entries
   pub events : events_of (history_options ns) ≡ turns_with ns
 
 -- ---- ways

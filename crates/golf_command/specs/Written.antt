@@ -4,7 +4,7 @@ use Rattle.golf_base.specs.declared.Memory.{Memory}
 use Rattle.golf_data.specs.declared.code.Code.{Code}
 use Rattle.golf_run_texts.specs.declared.status.Status.{Status}
 use Rattle.golf_run_texts.specs.declared.status.Status.TheVariants as s
-use Rattle.golf_run_texts.specs.declared.status.TheConstants.{NO_MEMORY}
+use Rattle.golf_run_texts.specs.Fixed.{no_memory_text}
 use Rattle.golf_run_texts.specs.Writes.{Write}
 use Rattle.golf_run.specs.HasRun.{Sinks, GotWrites, IsSteady, WasCut}
 use Rattle.golf_command.specs.declared.texts.RunTexts.{RunTexts}
@@ -33,10 +33,10 @@ WroteBoth false text line old new = WasCut (Write.ToOut text ∷ Write.ToErr lin
 abbrev pub HasWritten : Result RunTexts Memory → Status → Sinks → Sinks → Type 0
 HasWritten (Ok of) answer old new =
     ((answer ≡ of.status) × GotWrites (text_writes of) old new × IsSteady old new) ⊎ ((answer ≡ s.WriteFault) × WasCut (text_writes of) old new)
-HasWritten (Err m) answer old new = Says s.Memory NO_MEMORY.now answer old new
+HasWritten (Err m) answer old new = Says s.Memory no_memory_text answer old new
 
 -- the text was written to standard output, with status 0, or its write was cut; without a text the line that says so was written, and nothing else
 abbrev pub HasTold : Result (List ℕ) Memory → Status → Sinks → Sinks → Type 0
 HasTold (Ok text) answer old new =
     ((answer ≡ s.Clean) × GotWrites (Write.ToOut text ∷ []) old new × IsSteady old new) ⊎ ((answer ≡ s.WriteFault) × Breaks old new [] (Write.ToOut text))
-HasTold (Err m) answer old new = Says s.Memory NO_MEMORY.now answer old new
+HasTold (Err m) answer old new = Says s.Memory no_memory_text answer old new

@@ -3,7 +3,7 @@
 ghost use Rattle.std.specs.Prelude.{◌≡◌, ◌≤◌, IfOk};
 ghost use Rattle.golf_data.specs.Places.{HasPlaces};
 ghost use Rattle.golf_run_schedules.specs.Options.{IsWithinLimits};
-ghost use Rattle.golf_command_sample.specs.File.{file as file_of, summary as summary_bytes};
+ghost use Rattle.golf_command_sample.specs.File.{file as file_of, most_parts, summary as summary_bytes};
 ghost use Rattle.golf_run.specs.HasRun.{sinks};
 ghost use Rattle.golf_command.specs.Generating.{generated_options as options_of_generated, summary_of};
 ghost use Rattle.golf_command.specs.Ways.{Way};
@@ -18,7 +18,7 @@ use golf_command_sample::{Summary, file_lines, sample_file, summary_line};
 use golf_data::Code;
 use golf_reader::{Refusal, read};
 use golf_run::survey;
-use golf_run_schedules::{RunOptions, Schedule};
+use golf_run_schedules::{MOST_TURNS, RunOptions, Schedule};
 use golf_run_texts::{NO_MEMORY, Status, Totals};
 use std::alloc::Global;
 use std::thread::Threads;
@@ -30,7 +30,7 @@ fn generated_options() -> RunOptions
 {
     RunOptions {
         schedule: Schedule::Rotate,
-        turns: 10_000_000,
+        turns: MOST_TURNS,
         every: None,
         markers: 4,
         recover: true,
@@ -40,7 +40,7 @@ fn generated_options() -> RunOptions
 
 // The line that sums the run of a file of so many parts up.
 fn summary(alloc: Global, parts: u32, totals: Totals) -> Result<List<u8>, Memory>
-    requires { parts ≤ 5000 }
+    requires { parts ≤ most_parts }
     ensures { IfOk result (λ text. text ≡ summary_bytes (summary_of parts totals)) }
 {
     file_lines();
@@ -67,7 +67,7 @@ fn surveyed<R: Threads + Sync, G: Gate + Sync>(
     gate: &G,
 ) -> Result<RunTexts, Memory>
     requires places { HasPlaces code.now }
-    requires parts { parts ≤ 5000 }
+    requires parts { parts ≤ most_parts }
     ensures { IfOk result (λ of. AreTextsOf of (Way.Generated parts) code.now) }
 {
     let outcome = survey(rt, alloc, code, generated_options(), gate)?;
@@ -90,7 +90,7 @@ pub(crate) fn run_generated<R: Threads + Sync, O: Sink, E: Sink, G: Gate + Sync>
     gate: &G,
 ) -> Status
     requires some { 1 ≤ parts }
-    requires most { parts ≤ 5000 }
+    requires most { parts ≤ most_parts }
     ensures { FileTells (CommandLine.Generate parts) (file_of parts) result
         (sinks (O.written out.old) (O.faults out.old) (E.written err.old) (E.faults err.old))
         (sinks (O.written out.new) (O.faults out.new) (E.written err.new) (E.faults err.new)) }

@@ -7,6 +7,7 @@ ghost use Rattle.golf_run.specs.HasRun.{sinks};
 ghost use Rattle.golf_command.specs.Means.{seen, LineTells};
 ghost use Rattle.golf_command.specs.Written.{AreTextsByThreads};
 ghost use Rattle.golf_command_words.specs.declared.line.CommandLine.{CommandLine};
+ghost use Rattle.golf_world.specs.History.{most_entries};
 
 use crate::loading::load;
 use crate::texts::{RunTexts, write_texts};
@@ -48,7 +49,7 @@ fn errors(
     ending: Option<Ending>,
     history: &History,
 ) -> Result<List<u8>, Memory>
-    requires { length history.now.entries ≤ 100000 }
+    requires { length history.now.entries ≤ most_entries }
     ensures { IfOk result (λ text. text ≡
         (reports_bytes history.now.reports ++ last_bytes texts.now (length history.now.entries) ending) ++ history_bytes (map (λ e. e.number) history.now.entries)) }
 {

@@ -87,8 +87,11 @@ fn serve<R: AllocGlobal + Threads + Sync, S: Source, O: Sink, E: Sink, G: Gate +
 
 /// All that the program does: it looks at the words, reads the file from `source`, judges it and
 /// runs it, or compares its code with its source. What the file prints goes to `out`, everything
-/// else to `err`. A threads line may wait for the lock of its program; every other line is served
-/// by a call that returns.
+/// else to `err`.
+///
+/// A threads line may wait for the lock of its program. Every other line is served by a call that
+/// returns: the body of `golf` shows this, and no clause of it can, since its `rt` has the bound
+/// `Wait`.
 ///
 /// The clause is about what is seen of the source and the sinks before the call and after it: what
 /// the status tells if the words are a line, and if they are not; which counts of faults

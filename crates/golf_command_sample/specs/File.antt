@@ -2,6 +2,10 @@
 use Rattle.std.specs.Prelude.{ℕ, zero, suc, List, [], ◌++◌, codes, decimal}
 use Rattle.golf_command_sample.specs.declared.summary.Summary.{Summary}
 
+-- the most parts of a generated file
+abbrev pub most_parts : ℕ
+most_parts = 5000
+
 abbrev pub head : List ℕ
 head = codes "package main\n\nimport \"runtime\"\n\ntype Node struct {\n\tc chan int\n\tnext *Node\n}\n\nvar root *Node\n\nfunc wait(c chan int) {\n\t<-c\n}\n\n"
 

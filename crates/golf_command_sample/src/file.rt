@@ -7,6 +7,9 @@ ghost use Rattle.golf_command_sample.specs.Lines.{HasLines};
 use golf_base::{List, Memory};
 use std::alloc::Global;
 
+/// The most parts of a generated file.
+pub const MOST_PARTS: u32 = 5_000;
+
 const HEAD: &[u8; 126] =
     b"package main\n\nimport \"runtime\"\n\ntype Node struct {\n\tc chan int\n\tnext *Node\n}\n\nvar root *Node\n\nfunc wait(c chan int) {\n\t<-c\n}\n\n";
 
@@ -67,7 +70,7 @@ fn add_tail(alloc: Global, text: &mut List<u8>, count: u32) -> Result<(), Memory
     Ok(())
 }
 
-/// The generated file of so many parts. It has under 700,000 bytes for 5,000.
+/// The generated file of so many parts. It has under 700,000 bytes for `MOST_PARTS`.
 pub fn sample_file(alloc: Global, count: u32) -> Result<List<u8>, Memory>
     ensures { IfOk result (λ file. file ≡ file_of count) }
 {

@@ -4,5 +4,5 @@
 mod file;
 mod summary;
 
-pub use file::{file_lines, sample_file};
+pub use file::{MOST_PARTS, file_lines, sample_file};
 pub use summary::{Summary, summary_line};

@@ -3,7 +3,7 @@ use Rattle.std.specs.Prelude.{ℕ, ◌≤◌, length}
 use Rattle.golf_syntax_trees.specs.declared.declarations.File.{File}
 use Rattle.golf_syntax_trees.specs.Reads.{Reads}
 use Rattle.golf_check_types.specs.Files.{Typed}
-use Rattle.golf_command_sample.specs.File.{file}
+use Rattle.golf_command_sample.specs.File.{file, most_parts}
 
 -- this tree reads the file of n parts, and breaks no rule; and the file is short
 pub record IsAcceptedBy (n : ℕ) (tree : File) : Type 0 where
@@ -12,4 +12,4 @@ pub record IsAcceptedBy (n : ℕ) (tree : File) : Type 0 where
   pub typed : Typed tree
 
 abbrev pub AlwaysAccepted : Type 0
-AlwaysAccepted = (n : ℕ) → 1 ≤ n → n ≤ 5000 → (tree : File) × IsAcceptedBy n tree
+AlwaysAccepted = (n : ℕ) → 1 ≤ n → n ≤ most_parts → (tree : File) × IsAcceptedBy n tree

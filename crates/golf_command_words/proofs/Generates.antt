@@ -9,6 +9,7 @@ use Rattle.clap.specs.Simple.{Shape, built_leaf, inherited}
 use Rattle.clap.specs.Faults.{defaults_fault}
 use Rattle.clap.specs.declared.parser.matches.ValueSource.TheVariants as value_source
 use Rattle.clap.specs.declared.builder.value_parser.Reading.TheVariants.{AsWritten}
+use Rattle.golf_command_sample.specs.File.{most_parts}
 use Rattle.golf_command_words.specs.Values.{Text, if_within, number_within}
 use Rattle.golf_command_words.specs.Words.{begins_with_hyphen, generate_of}
 use Rattle.golf_command_words.specs.Splitting.{generate_app, generate_by, program_app}
@@ -30,7 +31,7 @@ abbrev read : Option (List Row) → Option CommandLine
 read rows = option_and_then generate_by rows
 
 abbrev number_line : Text → Option CommandLine
-number_line text = option_map (λ n. CommandLine.Generate n) (number_within 1 5000 text)
+number_line text = option_map (λ n. CommandLine.Generate n) (number_within 1 most_parts text)
 
 abbrev from_start : List Text → Option (List Row)
 from_start words = outcome generate_shape (standing generate_shape nothing_held idle 1) words
@@ -54,7 +55,7 @@ no_number [] e = absurd (true≢false (sym e))
 no_number (a ∷ []) e = absurd (true≢false (sym e))
 no_number (a ∷ b ∷ rest) e = ap (λ x. number_line (x ∷ b ∷ rest)) (eqb-true a 45 e) ∙ go (nat_le 1 (length (45 ∷ b ∷ rest)) && nat_le (length (45 ∷ b ∷ rest)) 20)
   where
-    go : (t : Bool) → option_map (λ n. CommandLine.Generate n) (option_and_then (if_within 1 5000) (cond t None None)) ≡ None
+    go : (t : Bool) → option_map (λ n. CommandLine.Generate n) (option_and_then (if_within 1 most_parts) (cond t None None)) ≡ None
     go true = refl
     go false = refl
 

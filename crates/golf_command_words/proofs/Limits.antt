@@ -4,9 +4,11 @@
 use Rattle.std.proofs.Common.{◌≡◌, ◌&&◌, ℕ, ◌≤◌, Bool, true, false, if◌then◌else◌, List, [], ◌∷◌, Option, Some, None, IfSome, Result, Ok, Err, IfOk, option_and_then, option_map, nat_le, bytes_eq, codes, refl, sym, subst, arith}
 use Rattle.std.proofs.lemmas.Bool.{and_parts}
 use Rattle.std.proofs.lemmas.Bool.Decides.{nat_tests}
+use Rattle.golf_command_sample.specs.File.{most_parts}
+use Rattle.golf_run_schedules.specs.Options.{most_turns}
 use Rattle.golf_run_schedules.specs.declared.schedule.Schedule.{Schedule}
 use Rattle.golf_command_words.specs.Values.{Text, if_within, number_of, number_within}
-use Rattle.golf_command_words.specs.Words.{Use, schedule_in, setting, value_in, is_used, every_in, markers_in, turns_in, has_others, run_by_options, run_by_threads, run_of, threads_by, uses_after, number_word, generate_of, meaning_of, line_of, IsWithin}
+use Rattle.golf_command_words.specs.Words.{Use, default_turns, schedule_in, setting, value_in, is_used, every_in, markers_in, turns_in, has_others, run_by_options, run_by_threads, run_of, threads_by, uses_after, number_word, generate_of, meaning_of, line_of, IsWithin}
 use Rattle.golf_command_words.specs.declared.line.CommandLine.{CommandLine}
 
 true-le : (a b : ℕ) → nat_le a b ≡ true → a ≤ b
@@ -29,7 +31,7 @@ module _ (least most : ℕ) where
   set-within default low high None = (low, high)
   set-within default low high (Some text) = within (number_of text)
 
-run-by : (recover why : Bool) (schedule : Option Schedule) (turns : Option ℕ) (every : Option (Option ℕ)) (markers : Option ℕ) → Between 1 10000000 turns → Between 1 16 markers
+run-by : (recover why : Bool) (schedule : Option Schedule) (turns : Option ℕ) (every : Option (Option ℕ)) (markers : Option ℕ) → Between 1 most_turns turns → Between 1 16 markers
     → IfSome (option_and_then (λ schedule. option_and_then (λ turns. option_and_then (λ every. option_map (λ markers. CommandLine.Run (record { schedule = schedule; turns = turns; every = every; markers = markers; recover = recover; why = why })) markers) every) turns) schedule) IsWithin
 run-by recover why None turns every markers t m = tt
 run-by recover why (Some s) None every markers t m = tt
@@ -39,7 +41,7 @@ run-by recover why (Some s) (Some n) (Some e) (Some k) t m = record { turns = t.
 
 options-within : (us : List Use) → IfSome (run_by_options us) IsWithin
 options-within us = run-by (is_used us (codes "recover")) (is_used us (codes "why")) (schedule_in us) (turns_in us) (every_in us) (markers_in us)
-    (set-within 1 10000000 1000000 (omega arith) (omega arith) (value_in us (codes "turns")))
+    (set-within 1 most_turns default_turns (omega arith) (omega arith) (value_in us (codes "turns")))
     (set-within 1 16 1 (omega arith) (omega arith) (value_in us (codes "markers")))
 
 threads-within : (others : Bool) (text : Text) → IfSome (threads_by others text) IsWithin
@@ -58,13 +60,13 @@ run-within : (o : Option (List Use)) → IfSome (option_and_then run_of o) IsWit
 run-within None = tt
 run-within (Some us) = run-by-threads (value_in us (codes "threads")) us
 
-number-within : (o : Option ℕ) → Between 1 5000 o → IfSome (option_map (λ number. CommandLine.Generate number) o) IsWithin
+number-within : (o : Option ℕ) → Between 1 most_parts o → IfSome (option_map (λ number. CommandLine.Generate number) o) IsWithin
 number-within None h = tt
 number-within (Some n) h = h
 
-generate-within : (o : Option Text) → IfSome (option_and_then (λ n. option_map (λ number. CommandLine.Generate number) (number_within 1 5000 n)) o) IsWithin
+generate-within : (o : Option Text) → IfSome (option_and_then (λ n. option_map (λ number. CommandLine.Generate number) (number_within 1 most_parts n)) o) IsWithin
 generate-within None = tt
-generate-within (Some text) = number-within (number_within 1 5000 text) (within 1 5000 (number_of text))
+generate-within (Some text) = number-within (number_within 1 most_parts text) (within 1 most_parts (number_of text))
 
 meaning-within : (words : List Text) → IfSome (meaning_of words) IsWithin
 meaning-within [] = tt

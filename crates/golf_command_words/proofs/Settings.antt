@@ -9,9 +9,10 @@ use Rattle.std.proofs.lemmas.List.Folds.{find-append}
 use Rattle.clap.specs.Walk.{Row, first_of, has_row, more_values, with_default, with_values}
 use Rattle.clap.specs.declared.parser.matches.ValueSource.TheVariants.{DefaultValue}
 use Rattle.clap.specs.declared.builder.value_parser.Reading.TheVariants.{AsWritten}
+use Rattle.golf_run_schedules.specs.Options.{most_turns}
 use Rattle.golf_run_schedules.specs.declared.schedule.Schedule.{Schedule}
 use Rattle.golf_command_words.specs.Values.{Text, number_within, schedule_of}
-use Rattle.golf_command_words.specs.Words.{Use, every_in, has_others, is_used, markers_in, run_by_options, run_by_threads, run_of, schedule_in, setting, takes_value, threads_by, turns_in, value_in}
+use Rattle.golf_command_words.specs.Words.{Use, default_turns, every_in, has_others, is_used, markers_in, run_by_options, run_by_threads, run_of, schedule_in, setting, takes_value, threads_by, turns_in, value_in}
 use Rattle.golf_command_words.specs.Splitting.{every_or_none, is_true, options_by, others_in, run_by, with_threads}
 use Rattle.golf_command_words.specs.declared.line.CommandLine.{CommandLine}
 use Rattle.golf_command_words.proofs.Runs.{at_no_row, has_row-used, row, rules, same_text, value_of}
@@ -128,7 +129,7 @@ by_values schedule turns every markers recover why =
     option_and_then (λ every_read.
     option_and_then (λ markers_read.
     option_map (λ schedule_read. CommandLine.Run (record { schedule = schedule_read; turns = turns_read; every = every_read; markers = markers_read; recover = recover; why = why }))
-    (setting schedule Schedule.Rotate schedule_of)) (setting markers 1 (number_within 1 16))) (every_or_none every)) (setting turns 1000000 (number_within 1 10000000))
+    (setting schedule Schedule.Rotate schedule_of)) (setting markers 1 (number_within 1 16))) (every_or_none every)) (setting turns default_turns (number_within 1 most_turns))
 
 in_any_order : (s : Option Schedule) (t : Option ℕ) (e : Option (Option ℕ)) (m : Option ℕ) (recover why : Bool)
     → option_and_then (λ turns. option_and_then (λ every. option_and_then (λ markers. option_map (λ schedule. CommandLine.Run (record { schedule = schedule; turns = turns; every = every; markers = markers; recover = recover; why = why })) s) m) e) t

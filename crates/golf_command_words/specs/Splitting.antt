@@ -6,8 +6,10 @@ use Rattle.clap.specs.Simple.{App, new_app, new_rule, on_top, subcommand_of, wit
 use Rattle.clap.specs.Faults.{fault_of}
 use Rattle.clap.specs.declared.builder.ArgAction.TheVariants.{Set, SetTrue}
 use Rattle.golf_command_words.specs.Values.{Text, number_within, schedule_of}
-use Rattle.golf_command_words.specs.Words.{setting, threads_by}
+use Rattle.golf_command_words.specs.Words.{default_turns, setting, threads_by}
 use Rattle.golf_command_words.specs.declared.line.CommandLine.{CommandLine}
+use Rattle.golf_command_sample.specs.File.{most_parts}
+use Rattle.golf_run_schedules.specs.Options.{most_turns}
 use Rattle.golf_run_schedules.specs.declared.schedule.Schedule.{Schedule}
 
 -- an option with a value, and one without
@@ -55,7 +57,7 @@ is_true None = false
 is_true (Some text) = bytes_eq text (codes "true")
 
 abbrev pub every_or_none : Option Text → Option (Option ℕ)
-every_or_none value = setting value None (λ text. option_map (λ n. Some n) (number_within 1 10000000 text))
+every_or_none value = setting value None (λ text. option_map (λ n. Some n) (number_within 1 most_turns text))
 
 abbrev pub options_by : List Row → Option CommandLine
 options_by rows =
@@ -66,7 +68,7 @@ options_by rows =
     (setting (first_of (codes "schedule") rows) Schedule.Rotate schedule_of))
     (setting (first_of (codes "markers") rows) 1 (number_within 1 16)))
     (every_or_none (first_of (codes "every") rows)))
-    (setting (first_of (codes "turns") rows) 1000000 (number_within 1 10000000))
+    (setting (first_of (codes "turns") rows) default_turns (number_within 1 most_turns))
 
 abbrev pub others_in : List Row → Bool
 others_in rows =
@@ -81,7 +83,7 @@ run_by rows = with_threads (first_of (codes "threads") rows) rows
 
 abbrev pub generate_by : List Row → Option CommandLine
 generate_by rows =
-    option_and_then (λ text. option_map (λ n. CommandLine.Generate n) (number_within 1 5000 text)) (first_of (codes "number") rows)
+    option_and_then (λ text. option_map (λ n. CommandLine.Generate n) (number_within 1 most_parts text)) (first_of (codes "number") rows)
 
 abbrev pub line_by : Option (Text × List Row) → Option CommandLine
 line_by None = None

@@ -36,6 +36,10 @@ number_within least most text = option_and_then (if_within least most) (number_o
 
 -- ---- schedules
 
+-- the most numbers of a schedule that is written out
+abbrev pub most_choices : ℕ
+most_choices = 4096
+
 -- what a list comes to whose first number was cut off at a comma, and whose rest is read by `next`
 abbrev pub after_comma : Option (Text × Text) → Text → (Text → Option (List ℕ)) → Option (List ℕ)
 after_comma None text next = option_map (λ n. n ∷ []) (number_of text)
@@ -50,7 +54,7 @@ abbrev pub schedule_with : Option (Text × Text) → Text → Option Schedule
 schedule_with None text = if bytes_eq (codes "rotate") text then Some Schedule.Rotate else None
 schedule_with (Some parts) text =
     if bytes_eq (codes "seed") parts.0 then option_map (λ n. Schedule.Seed n) (number_of parts.1)
-    else (if bytes_eq (codes "choices") parts.0 then option_map (λ ns. Schedule.Choices ns) (numbers_of 4096 parts.1)
+    else (if bytes_eq (codes "choices") parts.0 then option_map (λ ns. Schedule.Choices ns) (numbers_of most_choices parts.1)
     else None)
 
 -- `rotate`, `seed:N` or `choices:N,N,..`

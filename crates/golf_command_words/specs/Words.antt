@@ -2,8 +2,9 @@
 use Rattle.std.specs.Prelude.{ℕ, ◌≤◌, ◌++◌, ◌&&◌, ◌||◌, ◌==◌, Bool, true, false, if◌then◌else◌, List, [], ◌∷◌, find, Option, Some, None, is_some, option_and_then, option_map, codes, bytes_eq}
 use Rattle.std.specs.List.{list_any, before_first, after_first}
 use Rattle.golf_command_words.specs.Values.{Text, number_within, schedule_of}
+use Rattle.golf_command_sample.specs.File.{most_parts}
 use Rattle.golf_run_schedules.specs.declared.schedule.Schedule.{Schedule}
-use Rattle.golf_run_schedules.specs.Options.{IsWithinLimits}
+use Rattle.golf_run_schedules.specs.Options.{IsWithinLimits, most_turns}
 use Rattle.golf_command_words.specs.declared.line.CommandLine.{CommandLine}
 
 -- ---- options
@@ -83,11 +84,15 @@ setting (Some text) default read = read text
 abbrev pub schedule_in : List Use → Option Schedule
 schedule_in us = setting (value_in us (codes "schedule")) Schedule.Rotate schedule_of
 
+-- the turns of a run without `--turns`
+abbrev pub default_turns : ℕ
+default_turns = 1000000
+
 abbrev pub turns_in : List Use → Option ℕ
-turns_in us = setting (value_in us (codes "turns")) 1000000 (number_within 1 10000000)
+turns_in us = setting (value_in us (codes "turns")) default_turns (number_within 1 most_turns)
 
 abbrev pub every_in : List Use → Option (Option ℕ)
-every_in us = setting (value_in us (codes "every")) None (λ text. option_map Some (number_within 1 10000000 text))
+every_in us = setting (value_in us (codes "every")) None (λ text. option_map Some (number_within 1 most_turns text))
 
 abbrev pub markers_in : List Use → Option ℕ
 markers_in us = setting (value_in us (codes "markers")) 1 (number_within 1 16)
@@ -128,7 +133,7 @@ number_word (a ∷ b ∷ []) = if bytes_eq a (codes "--") then Some b else (if b
 number_word _ = None
 
 abbrev pub generate_of : List Text → Option CommandLine
-generate_of words = option_and_then (λ n. option_map (λ number. CommandLine.Generate number) (number_within 1 5000 n)) (number_word words)
+generate_of words = option_and_then (λ n. option_map (λ number. CommandLine.Generate number) (number_within 1 most_parts n)) (number_word words)
 
 -- nothing, or one `--`
 abbrev pub meaning_of : List Text → Option CommandLine
@@ -149,6 +154,6 @@ line_of (word ∷ rest) =
 -- the numbers of a line are within their limits
 abbrev pub IsWithin : CommandLine → Type 0
 IsWithin (CommandLine.Run options) = IsWithinLimits options
-IsWithin (CommandLine.Generate n) = (1 ≤ n) × (n ≤ 5000)
+IsWithin (CommandLine.Generate n) = (1 ≤ n) × (n ≤ most_parts)
 IsWithin (CommandLine.Threads n) = (1 ≤ n) × (n ≤ 16)
 IsWithin CommandLine.Meaning = Unit {0}

@@ -7,7 +7,7 @@ use golf_run_schedules::RunOptions;
 pub enum CommandLine {
     /// It runs the file on standard input.
     Run(RunOptions),
-    /// It makes a file of so many parts, from 1 to 5,000, and runs it.
+    /// It makes a file of so many parts, from 1 to `golf_command_sample::MOST_PARTS`, and runs it.
     Generate(u32),
     /// It runs the file on standard input by so many threads, from 1 to 16.
     Threads(u32),

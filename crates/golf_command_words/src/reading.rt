@@ -12,11 +12,12 @@ use crate::splitting::split;
 use crate::values::{number_within, schedule};
 use clap::ArgMatches;
 use golf_base::Memory;
-use golf_run_schedules::{RunOptions, Schedule};
+use golf_command_sample::MOST_PARTS;
+use golf_run_schedules::{MOST_TURNS, RunOptions, Schedule};
 use std::alloc::Global;
 
-/// How many turns a run has that is not told.
-const TURNS: u32 = 1_000_000;
+/// The turns of a run without `--turns`.
+const DEFAULT_TURNS: u32 = 1_000_000;
 
 // The value that was found for an argument.
 fn value<'a>(matches: &ArgMatches<'a>, name: &str) -> Option<&'a str>
@@ -49,7 +50,7 @@ fn every_of(value: Option<&str>) -> Option<Option<u32>>
     ensures { result ≡ every_or_none (option_map (λ text. text.now) value.entry) }
 {
     match value {
-        Some(text) => match number_within(1, 10_000_000, text) {
+        Some(text) => match number_within(1, MOST_TURNS, text) {
             Some(number) => Some(Some(number)),
             None => None,
         },
@@ -70,7 +71,7 @@ fn schedule_or_rotation(alloc: Global, value: Option<&str>) -> Result<Option<Sch
 fn options_line(alloc: Global, matches: &ArgMatches<'_>) -> Result<Option<CommandLine>, Memory>
     ensures { IfOk result (λ line. line ≡ options_by (rows_of (found_of matches.now))) }
 {
-    let Some(turns) = number_or(value(matches, "turns"), TURNS, 10_000_000) else {
+    let Some(turns) = number_or(value(matches, "turns"), DEFAULT_TURNS, MOST_TURNS) else {
         return Ok(None);
     };
     let Some(every) = every_of(value(matches, "every")) else {
@@ -131,7 +132,7 @@ fn generate_line(matches: &ArgMatches<'_>) -> Option<CommandLine>
     ensures { result ≡ generate_by (rows_of (found_of matches.now)) }
 {
     let text = value(matches, "number")?;
-    let number = number_within(1, 5_000, text)?;
+    let number = number_within(1, MOST_PARTS, text)?;
     Some(CommandLine::Generate(number))
 }
 

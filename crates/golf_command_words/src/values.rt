@@ -1,14 +1,14 @@
 //! The values of options.
 
 ghost use Rattle.std.specs.Prelude.{◌≡◌, ◌∷◌, [], option_map, IfOk};
-ghost use Rattle.golf_command_words.specs.Values.{cut, digits_after as digits_behind, Gains, number_of, number_within as number_between, numbers_of, schedule_of};
+ghost use Rattle.golf_command_words.specs.Values.{cut, digits_after as digits_behind, Gains, number_of, most_choices, number_within as number_between, numbers_of, schedule_of};
 
 use golf_base::{List, Memory};
 use golf_run_schedules::Schedule;
 use std::alloc::Global;
 
 /// The most numbers of a schedule that is written out.
-const CHOICES: u32 = 4_096;
+const MOST_CHOICES: u32 = 4_096;
 
 // The number that digits write after those of `number`.
 fn digits_after(number: u64, text: &[u8]) -> Option<u64>
@@ -94,10 +94,10 @@ fn add_numbers(list: &mut List<u64>, most: u32, text: &str) -> Result<bool, Memo
 }
 
 fn choices(alloc: Global, text: &str) -> Result<Option<Schedule>, Memory>
-    ensures { IfOk result (λ schedule. schedule ≡ option_map (λ ns. Schedule.Choices ns) (numbers_of CHOICES text.now)) }
+    ensures { IfOk result (λ schedule. schedule ≡ option_map (λ ns. Schedule.Choices ns) (numbers_of most_choices text.now)) }
 {
     let mut list = List::new(alloc);
-    if add_numbers(&mut list, CHOICES, text)? {
+    if add_numbers(&mut list, MOST_CHOICES, text)? {
         Ok(Some(Schedule::Choices(list)))
     } else {
         Ok(None)

@@ -4,3 +4,5 @@ pub mod Stages
 pub mod Taking
 pub mod Making
 pub mod Pair
+pub mod Telling
+pub mod Leaving

@@ -9,8 +9,9 @@ use Rattle.std.specs.Prelude.{sum_by}
 use Rattle.crossbeam_deque.specs.Handles.{view, IsPassOf, worker_deque, stealer_deque, worker_flavor, stealer_flavor, worker_view, worker_index, worker_capacity}
 use Rattle.crossbeam_deque.proofs.Lists.{at_set}
 use Rattle.golf_theory.specs.Membership.{Every}
-use Rattle.golf_grey.specs.Hands.{Thief, Owner, GreyPass, RowFits, row_weight, IsStage, IsFresh, AllFresh}
-use Rattle.std.proofs.lemmas.List.Sums.{sum_by_push}
+use Rattle.golf_grey.specs.declared.rule.GreyView.{GreyView}
+use Rattle.golf_grey.specs.Rule.{left_view}
+use Rattle.golf_grey.specs.Hands.{Thief, Owner, GreyPass, RowFits, RowIsNew, row_weight, sum_at, IsStage, IsFresh, AllFresh}
 
 pub push_cases : {A : Type 0} (l : List A) (a b : A) (j : ℕ) → get_elem? (l ++ a ∷ []) j ≡ some b → ((j < length l) × (get_elem? l j ≡ some b)) ⊎ ((j ≡ length l) × (a ≡ b))
 push_cases [] a b zero e = inr (refl, some-injective a b e)
@@ -52,8 +53,8 @@ stage_push thieves owners p k t w ol tl s one = record {
   high = λ j x d l. absurd (let h = at_low (owners ++ w ∷ []) j x d in omega (arith, length-append owners (w ∷ [])));
 }
 
-pub fresh_push : (c : ℕ) (owners : List Owner) (w : Owner) → AllFresh c owners → IsFresh c w → AllFresh c (owners ++ w ∷ [])
-fresh_push c owners w all one j x e = ⊎_elim (λ (b : (j < length owners) × (get_elem? owners j ≡ some x)). all j x b.1) (λ (b : (j ≡ length owners) × (w ≡ x)). subst (IsFresh c) b.1 one) (push_cases owners w x j e)
+pub fresh_push : (c b : ℕ) (owners : List Owner) (w : Owner) → AllFresh c b owners → IsFresh c b w → AllFresh c b (owners ++ w ∷ [])
+fresh_push c b owners w all one j x e = ⊎_elim (λ (a : (j < length owners) × (get_elem? owners j ≡ some x)). all j x a.1) (λ (a : (j ≡ length owners) × (w ≡ x)). subst (IsFresh c b) a.1 one) (push_cases owners w x j e)
 
 -- x takes the place of w at j₀, an owner of the same deque: then those below m have p parts, the others one more
 record TakesPlace (owners : List Owner) (p m j₀ : ℕ) (w x : Owner) : Type 0 where
@@ -126,12 +127,27 @@ exists_at (x ∷ xs) (suc j) h = exists_at xs j (omega arith)
 pub stage_fifo : (thieves : List Thief) (p k : ℕ) (owners : List Owner) → IsStage thieves p k owners → (j : ℕ) (t : Thief) → get_elem? thieves j ≡ some t → stealer_flavor t ≡ 0
 stage_fifo thieves p k owners s j t e = let w = exists_at owners j (let l = at_low thieves j t e in omega (arith, s.len)) in (s.each j t w.0 e w.1).2
 
-pub fresh_set : (c : ℕ) (owners : List Owner) (j : ℕ) (w x : Owner) → get_elem? owners j ≡ some w → (worker_view x).pushed ≡ (worker_view w).pushed → (worker_view x).taken ≡ (worker_view w).taken → worker_index x ≡ worker_index w → worker_capacity w ≤ worker_capacity x
-    → AllFresh c owners → AllFresh c (set owners j x)
-fresh_set c owners j w x at pushed taken index room all k u e = ⊎_elim
-    (λ (a : (k ≡ j) × (x ≡ u)). let f = all j w at in subst (IsFresh c) a.1 (record { pushed = pushed ∙ f.pushed; taken = taken ∙ f.taken; index = index ∙ f.index; room = omega (arith, f.room) }))
+-- a pass was cut off
+pub fresh_set : (c b : ℕ) (owners : List Owner) (j : ℕ) (w x : Owner) → get_elem? owners j ≡ some w → worker_view x ≡ left_view (worker_view w) → worker_index x ≡ worker_index w → worker_capacity w ≤ worker_capacity x
+    → AllFresh c b owners → AllFresh c b (set owners j x)
+fresh_set c b owners j w x at cut index room all k u e = ⊎_elim
+    (λ (a : (k ≡ j) × (x ≡ u)). let f = all j w at in
+    subst (IsFresh c b) a.1 (record {
+      pushers = ap (λ (v : GreyView). v.pushers) cut ∙ f.pushers;
+      knows = (ap (λ (v : GreyView). v.places) cut ∙ f.knows.0, ap (λ (v : GreyView). v.capacity) cut ∙ f.knows.1);
+      pushed = ap (λ (v : GreyView). v.pushed) cut ∙ f.pushed;
+      taken = ap (λ (v : GreyView). v.taken) cut ∙ f.taken;
+      index = omega (arith, index, f.index);
+      room = omega (arith, room, f.room);
+    }))
     (λ (a : (k ≢ j) × (get_elem? owners k ≡ some u)). all k u a.1)
     (at_set owners j k x u e)
+
+pub new_push : (c b : ℕ) (row : List GreyPass) (p : GreyPass) → RowIsNew c b row → ((view p).places ≡ b) × ((view p).capacity ≡ c) × ((view p).taken ≡ []) → RowIsNew c b (row ++ p ∷ [])
+new_push c b row p all one j q e = ⊎_elim
+    (λ (a : (j < length row) × (get_elem? row j ≡ some q)). all j q a.1)
+    (λ (a : (j ≡ length row) × (p ≡ q)). subst (λ (y : GreyPass). ((view y).places ≡ b) × ((view y).capacity ≡ c) × ((view y).taken ≡ [])) a.1 one)
+    (push_cases row p q j e)
 
 pub row_push : (thieves : List Thief) (row : List GreyPass) (j : ℕ) (p : GreyPass) → length row ≡ j → RowFits thieves row → ((t : Thief) → get_elem? thieves j ≡ some t → IsPassOf (stealer_deque t) p) → (view p).parts ≡ 1 → (view p).pushed ≡ [] → RowFits thieves (row ++ p ∷ [])
 row_push thieves row j p len fits one parts pushed k t q e d = ⊎_elim
@@ -141,8 +157,37 @@ row_push thieves row j p len fits one parts pushed k t q e d = ⊎_elim
     subst P a.1 (one t (ap (λ (n : ℕ). get_elem? thieves n) (sym len ∙ sym a.0) ∙ e), parts, pushed))
     (push_cases row p q k d)
 
-pub weight_push : (f : ℕ → ℕ) (row : List GreyPass) (p : GreyPass) → row_weight f (row ++ p ∷ []) ≡ row_weight f row + sum_by f (view p).taken
-weight_push f row p = sum_by_push (λ (q : GreyPass). sum_by f (view q).taken) row p
+plus_none : (j : ℕ) → j + 0 ≡ j
+plus_none j = omega arith
+
+none_plus : (j : ℕ) → 0 + j ≡ j
+none_plus j = omega arith
+
+-- a numbered sum, after one more at its end
+push_from : {X : Type 0} (f : ℕ → X → ℕ) (j : ℕ) (xs : List X) (x : X) → sum_at f j (xs ++ x ∷ []) ≡ sum_at f j xs + f (j + length xs) x
+push_from f j [] x = omega (arith, ap (λ (n : ℕ). f n x) (plus_none j))
+push_from f j (y ∷ ys) x = omega (arith, push_from f (j + 1) ys x, ap (λ (n : ℕ). f n x) (more j (length ys)))
+  where
+    more : (j n : ℕ) → (j + 1) + n ≡ j + suc n
+    more j n = omega arith
+
+pub push_at : {X : Type 0} (f : ℕ → X → ℕ) (xs : List X) (x : X) (n : ℕ) → n ≡ length xs → sum_at f 0 (xs ++ x ∷ []) ≡ sum_at f 0 xs + f n x
+push_at f xs x n e = omega (arith, push_from f 0 xs x, ap (λ (k : ℕ). f k x) (none_plus (length xs)), ap (λ (k : ℕ). f k x) e)
+
+-- and after one was changed
+set_from : {X : Type 0} (f : ℕ → X → ℕ) (j : ℕ) (xs : List X) (k : ℕ) (v w : X) → get_elem? xs k ≡ some v → sum_at f j (set xs k w) + f (j + k) v ≡ sum_at f j xs + f (j + k) w
+set_from f j [] k v w e = absurd (some-ne-none v (sym e))
+set_from f j (x ∷ xs) zero v w e = omega (arith, ap (f j) (some-injective x v e), ap (λ (n : ℕ). f n v) (plus_none j), ap (λ (n : ℕ). f n w) (plus_none j))
+set_from f j (x ∷ xs) (suc k) v w e = omega (arith, set_from f (j + 1) xs k v w e, ap (λ (n : ℕ). f n v) (more j k), ap (λ (n : ℕ). f n w) (more j k))
+  where
+    more : (j n : ℕ) → (j + 1) + n ≡ j + suc n
+    more j n = omega arith
+
+pub set_weighs : {X : Type 0} (f : ℕ → X → ℕ) (xs : List X) (k : ℕ) (v w : X) → get_elem? xs k ≡ some v → sum_at f 0 (set xs k w) + f k v ≡ sum_at f 0 xs + f k w
+set_weighs f xs k v w e = omega (arith, set_from f 0 xs k v w e, ap (λ (n : ℕ). f n v) (none_plus k), ap (λ (n : ℕ). f n w) (none_plus k))
+
+pub weight_push : (g : ℕ → ℕ → ℕ) (row : List GreyPass) (p : GreyPass) (n : ℕ) → n ≡ length row → row_weight g (row ++ p ∷ []) ≡ row_weight g row + sum_by (g n) (view p).taken
+weight_push g row p n e = push_at (λ j (q : GreyPass). sum_by (g j) (view q).taken) row p n e
 
 last_at : {A : Type 0} (l : List A) (a : A) (n : ℕ) → length l ≡ n → get_elem? (l ++ a ∷ []) n ≡ some a
 last_at [] a zero e = refl

@@ -1,13 +1,13 @@
 -- What clauses say of a hand.
-use Rattle.std.specs.Prelude.{Option, Some, None, ◌≡◌, ℕ, ◌+◌, ◌<◌, ◌≤◌, List, [], length, sum_by, vec_capacity}
+use Rattle.std.specs.Prelude.{Option, Some, None, ◌≡◌, ◌≢◌, ◌⊎◌, ℕ, ◌+◌, ◌<◌, ◌≤◌, List, [], ◌∷◌, ◌++◌, length, sum_by, vec_capacity}
 use Rattle.std.specs.Global.{Global, Vec}
 use mathlib.Core.Option.{some}
 use lib.ListN.{get_elem?}
-use Rattle.crossbeam_deque.specs.Handles.{Pass, view, IsPassOf, worker_deque, stealer_deque, worker_flavor, stealer_flavor, worker_view, worker_capacity, worker_index}
+use Rattle.crossbeam_deque.specs.Handles.{Pass, view, taken as gone_before, IsPassOf, worker_deque, stealer_deque, worker_flavor, stealer_flavor, worker_view, worker_capacity, worker_index}
 use Rattle.crossbeam_deque.specs.declared.handles.Stealer.{Stealer}
 use Rattle.crossbeam_deque.specs.declared.handles.Worker.{Worker}
 use Rattle.golf_theory.specs.Membership.{Every}
-use Rattle.golf_grey.specs.Rule.{all_parts}
+use Rattle.golf_grey.specs.Rule.{all_parts, WasEmpty}
 use Rattle.golf_grey.specs.declared.rule.GreyView.{GreyView}
 use Rattle.golf_grey.specs.declared.rule.Grey.{Grey}
 use Rattle.golf_grey.specs.declared.hand.GreyHand.{GreyHand}
@@ -26,13 +26,48 @@ abbrev pub option_weight : (ℕ → ℕ) → Option ℕ → ℕ
 option_weight f None = 0
 option_weight f (Some x) = f x
 
--- the weight of all that was taken with some passes
-abbrev pub row_weight : (ℕ → ℕ) → List GreyPass → ℕ
-row_weight f passes = sum_by (λ (p : GreyPass). sum_by f (view p).taken) passes
+-- the sum over a list whose items are numbered from j
+abbrev pub sum_at : {X : Type 0} → (ℕ → X → ℕ) → ℕ → List X → ℕ
+sum_at f j [] = 0
+sum_at f j (x ∷ xs) = f j x + sum_at f (j + 1) xs
 
--- the weight of all that a hand took
+-- the weight of all that was taken with a pass of each deque; each deque has weights of its own
+abbrev pub row_weight : (ℕ → ℕ → ℕ) → List GreyPass → ℕ
+row_weight g passes = sum_at (λ j (p : GreyPass). sum_by (g j) (view p).taken) 0 passes
+
+-- the weight of all that a hand took, by the weights of the deque that it came from
+abbrev pub took_weight : (ℕ → ℕ → ℕ) → GreyHand → ℕ
+took_weight g h = sum_by (g h.number) (worker_view h.own).taken + row_weight g h.passes.items
+
+-- by one weight of places
 abbrev pub took : (ℕ → ℕ) → GreyHand → ℕ
-took f h = sum_by f (worker_view h.own).taken + row_weight f h.passes.items
+took f h = took_weight (λ _. f) h
+
+-- all that was taken with some passes, one after another
+abbrev pub taken_with : List GreyPass → List ℕ
+taken_with [] = []
+taken_with (p ∷ ps) = (view p).taken ++ taken_with ps
+
+-- the list of what a hand took: from its own deque, and from each other one
+abbrev pub taken_list : GreyHand → List ℕ
+taken_list h = (worker_view h.own).taken ++ taken_with h.passes.items
+
+-- the passes know the two numbers of their deques, and with none was more taken than the second
+abbrev pub RowKnows : ℕ → ℕ → List GreyPass → Type 0
+RowKnows capacity places passes = (j : ℕ) (p : GreyPass) → get_elem? passes j ≡ some p → ((view p).places ≡ places) × ((view p).capacity ≡ capacity) × (length (view p).taken ≤ capacity)
+
+-- a steal that finds nothing: the deque was empty at a step of it, or another took a place between its steps
+abbrev pub FoundNone : GreyPass → GreyPass → Type 0
+FoundNone old new = WasEmpty (view old) ⊎ (gone_before old < gone_before new)
+
+-- so it went with the pass of each deque but one
+abbrev pub FoundNoneBut : ℕ → List GreyPass → List GreyPass → Type 0
+FoundNoneBut number old new = (j : ℕ) (p q : GreyPass) → j ≢ number → get_elem? old j ≡ some p → get_elem? new j ≡ some q → FoundNone p q
+
+-- a take that finds nothing: the hand's own deque was empty at a step of it, and each other was, or another hand's step came between
+pub record FindsNone (old new : GreyHand) : Type 0 where
+  pub own : WasEmpty (worker_view old.own)
+  pub others : FoundNoneBut old.number old.passes.items new.passes.items
 
 -- a pass of each of the first deques
 abbrev pub RowFits : List Thief → List GreyPass → Type 0
@@ -44,30 +79,38 @@ pub record IsRow (thieves : List Thief) (passes : List GreyPass) : Type 0 where
   pub each : RowFits thieves passes
   pub fifo : (j : ℕ) (t : Thief) → get_elem? thieves j ≡ some t → stealer_flavor t ≡ 0
 
--- a hand of these deques, that may push so often
-pub record IsHandIn (thieves : List Thief) (capacity : ℕ) (h : GreyHand) : Type 0 where
+-- a hand of these deques, that may push so often, and only places below a number
+pub record IsHandIn (thieves : List Thief) (capacity places : ℕ) (h : GreyHand) : Type 0 where
   pub row : IsRow thieves h.passes.items
   pub low : h.number < length thieves
   pub own : (t : Thief) → get_elem? thieves h.number ≡ some t → worker_deque h.own ≡ stealer_deque t
   pub parts : (worker_view h.own).parts + length thieves ≡ all_parts
-  pub index : worker_index h.own ≤ length (pushed h)
+  pub pushers : (worker_view h.own).pushers ≡ 1
+  pub knows : ((worker_view h.own).places ≡ places) × ((worker_view h.own).capacity ≡ capacity)
+  pub index : worker_index h.own ≤ length (pushed h) + 2
   pub count : length (pushed h) ≤ capacity
-  pub room : capacity ≤ worker_capacity h.own
+  pub room : capacity + 2 ≤ worker_capacity h.own
+  pub few : length (worker_view h.own).taken ≤ capacity
+  pub row_knows : RowKnows capacity places h.passes.items
+  pub unused : (p : GreyPass) → get_elem? h.passes.items h.number ≡ some p → (view p).taken ≡ []
   pub no_owner : h.owners.items ≡ []
   pub owner_room : length thieves ≤ vec_capacity h.owners
   pub no_row : h.rows.items ≡ []
   pub row_room : length thieves ≤ vec_capacity h.rows
 
--- how often each hand of a pool may push, and how many hands it has
+-- how often each hand of a pool may push, below which number its places are, and how many hands it has
 abbrev pub capacity_of : GreyPool → ℕ
 capacity_of pool = pool.capacity
+
+abbrev pub places_of : GreyPool → ℕ
+places_of pool = pool.places
 
 abbrev pub hand_count : GreyPool → ℕ
 hand_count pool = length pool.thieves.items
 
 -- it is a hand of this pool
 abbrev pub IsHandOf : GreyPool → GreyHand → Type 0
-IsHandOf pool h = IsHandIn pool.thieves.items (capacity_of pool) h
+IsHandOf pool h = IsHandIn pool.thieves.items (capacity_of pool) (places_of pool) h
 
 abbrev pub Owner : Type 0
 Owner = Worker ℕ Global GreyView Grey
@@ -80,32 +123,46 @@ pub record IsStage (thieves : List Thief) (p k : ℕ) (owners : List Owner) : Ty
   pub low : (j : ℕ) (w : Owner) → get_elem? owners j ≡ some w → j < k → (worker_view w).parts ≡ p
   pub high : (j : ℕ) (w : Owner) → get_elem? owners j ≡ some w → k ≤ j → (worker_view w).parts ≡ p + 1
 
--- nothing was pushed, and there is room for so many
-pub record IsFresh (capacity : ℕ) (w : Owner) : Type 0 where
+-- it knows its two numbers, no place was pushed, and there is room for so many
+pub record IsFresh (capacity places : ℕ) (w : Owner) : Type 0 where
+  pub pushers : (worker_view w).pushers ≡ 1
+  pub knows : ((worker_view w).places ≡ places) × ((worker_view w).capacity ≡ capacity)
   pub pushed : (worker_view w).pushed ≡ []
   pub taken : (worker_view w).taken ≡ []
-  pub index : worker_index w ≡ 0
-  pub room : capacity ≤ worker_capacity w
+  pub index : worker_index w ≤ 2
+  pub room : capacity + 2 ≤ worker_capacity w
 
-abbrev pub AllFresh : ℕ → List Owner → Type 0
-AllFresh capacity owners = (j : ℕ) (w : Owner) → get_elem? owners j ≡ some w → IsFresh capacity w
+abbrev pub AllFresh : ℕ → ℕ → List Owner → Type 0
+AllFresh capacity places owners = (j : ℕ) (w : Owner) → get_elem? owners j ≡ some w → IsFresh capacity places w
+
+-- the passes know the two numbers, and with none was a place taken
+abbrev pub RowIsNew : ℕ → ℕ → List GreyPass → Type 0
+RowIsNew capacity places passes = (j : ℕ) (p : GreyPass) → get_elem? passes j ≡ some p → ((view p).places ≡ places) × ((view p).capacity ≡ capacity) × ((view p).taken ≡ [])
 
 -- so many whole rows, with which nothing was taken
-abbrev pub AreNewRows : List Thief → List (Vec GreyPass) → Type 0
-AreNewRows thieves rows = (k : ℕ) (r : Vec GreyPass) → get_elem? rows k ≡ some r → IsRow thieves r.items × ((f : ℕ → ℕ) → row_weight f r.items ≡ 0)
+abbrev pub AreNewRows : List Thief → ℕ → ℕ → List (Vec GreyPass) → Type 0
+AreNewRows thieves capacity places rows = (k : ℕ) (r : Vec GreyPass) → get_elem? rows k ≡ some r → IsRow thieves r.items × ((g : ℕ → ℕ → ℕ) → row_weight g r.items ≡ 0) × RowIsNew capacity places r.items
 
--- the hands of these deques, by falling number
-abbrev pub AllHandsIn : List Thief → ℕ → List GreyHand → Type 0
-AllHandsIn thieves capacity hands = (length hands ≡ length thieves) × ((k : ℕ) (h : GreyHand) → get_elem? hands k ≡ some h → IsHandIn thieves capacity h × (h.number + k + 1 ≡ length thieves))
+-- each number from one on and below another has a hand
+abbrev pub HaveNumbers : ℕ → ℕ → List GreyHand → Type 0
+HaveNumbers from count hands = (j : ℕ) → from ≤ j → j < count → (k : ℕ) × (h : GreyHand) × (get_elem? hands k ≡ some h) × (h.number ≡ j)
 
--- the hands of a pool, by falling number
+-- the hands of these deques, in any order
+abbrev pub AllHandsIn : List Thief → ℕ → ℕ → List GreyHand → Type 0
+AllHandsIn thieves capacity places hands = (length hands ≡ length thieves) × ((k : ℕ) (h : GreyHand) → get_elem? hands k ≡ some h → IsHandIn thieves capacity places h) × HaveNumbers 0 (length thieves) hands
+
+-- the hands of a pool, in any order
 abbrev pub AreAllHands : GreyPool → List GreyHand → Type 0
-AreAllHands pool hands = AllHandsIn pool.thieves.items (capacity_of pool) hands
+AreAllHands pool hands = AllHandsIn pool.thieves.items (capacity_of pool) (places_of pool) hands
+
+-- so many hands by falling number, the last of which is 0
+abbrev pub FallTo0 : ℕ → List GreyHand → Type 0
+FallTo0 count hands = (k : ℕ) (h : GreyHand) → get_elem? hands k ≡ some h → h.number + k + 1 ≡ count
 
 -- a hand that has done nothing
 pub record IsNewHand (h : GreyHand) : Type 0 where
   pub none_pushed : pushed h ≡ []
-  pub none_taken : (f : ℕ → ℕ) → took f h ≡ 0
+  pub none_taken : (g : ℕ → ℕ → ℕ) → took_weight g h ≡ 0
 
 abbrev pub AreNewHands : List GreyHand → Type 0
 AreNewHands hands = Every IsNewHand hands
@@ -117,32 +174,60 @@ pushed_by f hands = sum_by (λ h. sum_by f (pushed h)) hands
 abbrev pub taken_by : (ℕ → ℕ) → List GreyHand → ℕ
 taken_by f hands = sum_by (λ h. took f h) hands
 
+-- the same by the weights of the deque that it was pushed to, and of the deque that it was taken from
+abbrev pub pushed_to : (ℕ → ℕ → ℕ) → List GreyHand → ℕ
+pushed_to g hands = sum_by (λ h. sum_by (g h.number) (pushed h)) hands
+
+abbrev pub taken_from : (ℕ → ℕ → ℕ) → List GreyHand → ℕ
+taken_from g hands = sum_by (λ h. took_weight g h) hands
+
+-- the weight of what is left, each place by the weights of the deque that it lay in
+abbrev pub left_in : (ℕ → ℕ → ℕ) → List ℕ → List ℕ → ℕ
+left_in g [] places = 0
+left_in g (s ∷ ss) [] = 0
+left_in g (s ∷ ss) (x ∷ xs) = g s x + left_in g ss xs
+
+-- each place that is left lay in one deque, and for each deque what was pushed to it was taken from it or is left in it, each place as often
+pub record IsSplit (hands : List GreyHand) (places sources : List ℕ) : Type 0 where
+  pub each : length sources ≡ length places
+  pub balance : (g : ℕ → ℕ → ℕ) → pushed_to g hands ≡ taken_from g hands + left_in g sources places
+
 -- the owner of the deque j
-pub record OwnerFits (thieves : List Thief) (capacity j : ℕ) (w : Owner) : Type 0 where
+pub record OwnerFits (thieves : List Thief) (capacity places j : ℕ) (w : Owner) : Type 0 where
   pub deque : (t : Thief) → get_elem? thieves j ≡ some t → worker_deque w ≡ stealer_deque t
   pub flavor : worker_flavor w ≡ 0
   pub parts : (worker_view w).parts + length thieves ≡ all_parts
-  pub fresh : IsFresh capacity w
+  pub fresh : IsFresh capacity places w
 
 -- what is pushed to some deques, and what their owners took
-abbrev pub pushed_in : (ℕ → ℕ) → List Owner → ℕ
-pushed_in f owners = sum_by (λ (w : Owner). sum_by f (worker_view w).pushed) owners
+abbrev pub pushed_in : (ℕ → ℕ → ℕ) → List Owner → ℕ
+pushed_in g owners = sum_at (λ j (w : Owner). sum_by (g j) (worker_view w).pushed) 0 owners
 
-abbrev pub taken_in : (ℕ → ℕ) → List Owner → ℕ
-taken_in f owners = sum_by (λ (w : Owner). sum_by f (worker_view w).taken) owners
+abbrev pub taken_in : (ℕ → ℕ → ℕ) → List Owner → ℕ
+taken_in g owners = sum_at (λ j (w : Owner). sum_by (g j) (worker_view w).taken) 0 owners
 
 abbrev pub AllRows : List Thief → List (Vec GreyPass) → Type 0
 AllRows thieves rows = (k : ℕ) (r : Vec GreyPass) → get_elem? rows k ≡ some r → IsRow thieves r.items
 
-abbrev pub rows_weight : (ℕ → ℕ) → List (Vec GreyPass) → ℕ
-rows_weight f rows = sum_by (λ (r : Vec GreyPass). row_weight f r.items) rows
+abbrev pub rows_weight : (ℕ → ℕ → ℕ) → List (Vec GreyPass) → ℕ
+rows_weight g rows = sum_by (λ (r : Vec GreyPass). row_weight g r.items) rows
 
--- the hands but for the rest are taken apart
-pub record IsTaking (thieves : List Thief) (hands rest : List GreyHand) (owners : List Owner) (rows : List (Vec GreyPass)) : Type 0 where
+-- the hands but for the rest are taken apart, by rising number
+pub record IsTaking (thieves : List Thief) (capacity places : ℕ) (hands rest : List GreyHand) (owners : List Owner) (rows : List (Vec GreyPass)) : Type 0 where
   pub count : length owners + length rest ≡ length thieves
   pub rows_count : length rows ≡ length owners
-  pub begins : (k : ℕ) (h : GreyHand) → get_elem? rest k ≡ some h → get_elem? hands k ≡ some h
+  pub fits : (k : ℕ) (h : GreyHand) → get_elem? rest k ≡ some h → IsHandIn thieves capacity places h
+  pub numbers : HaveNumbers (length owners) (length thieves) rest
   pub owned : (j : ℕ) (w : Owner) → get_elem? owners j ≡ some w → ((t : Thief) → get_elem? thieves j ≡ some t → (worker_deque w ≡ stealer_deque t) × (stealer_flavor t ≡ 0)) × (worker_flavor w ≡ 0) × ((worker_view w).parts + length thieves ≡ all_parts)
   pub rowed : AllRows thieves rows
-  pub sums_pushed : (f : ℕ → ℕ) → pushed_in f owners + sum_by (λ (h : GreyHand). sum_by f (pushed h)) rest ≡ sum_by (λ (h : GreyHand). sum_by f (pushed h)) hands
-  pub sums_taken : (f : ℕ → ℕ) → (taken_in f owners + rows_weight f rows) + sum_by (λ (h : GreyHand). took f h) rest ≡ sum_by (λ (h : GreyHand). took f h) hands
+  pub sums_pushed : (g : ℕ → ℕ → ℕ) → pushed_in g owners + pushed_to g rest ≡ pushed_to g hands
+  pub sums_taken : (g : ℕ → ℕ → ℕ) → (taken_in g owners + rows_weight g rows) + taken_from g rest ≡ taken_from g hands
+
+-- the deques but one below j were tried, and nothing came
+pub record IsStealing (thieves : List Thief) (number j : ℕ) (first now : List GreyPass) : Type 0 where
+  pub row : IsRow thieves now
+  pub took : (g : ℕ → ℕ → ℕ) → row_weight g now ≡ row_weight g first
+  pub knows : (capacity places : ℕ) → RowKnows capacity places first → RowKnows capacity places now
+  pub unused : get_elem? now number ≡ get_elem? first number
+  pub later : (k : ℕ) → j ≤ k → get_elem? now k ≡ get_elem? first k
+  pub none : (k : ℕ) (p q : GreyPass) → k < j → k ≢ number → get_elem? first k ≡ some p → get_elem? now k ≡ some q → FoundNone p q

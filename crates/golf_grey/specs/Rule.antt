@@ -1,30 +1,73 @@
--- The rule of one deque: what was pushed to it was taken or is in it, each place as often.
-use Rattle.std.specs.Prelude.{◌≡◌, ℕ, ◌+◌, ◌-◌, ◌≤◌, List, [], ◌++◌, length, sum_by}
+-- The rule of one deque: what was pushed to it was taken or is in it, each place as often; all are below a number, and they are no more than another.
+use Rattle.std.specs.Prelude.{◌≡◌, ℕ, ◌+◌, ◌-◌, ◌<◌, ◌≤◌, List, [], ◌∷◌, ◌++◌, length, sum_by}
 use mathlib.Core.Option.{some}
 use lib.ListN.{get_elem?}
+use Rattle.golf_theory.specs.Membership.{Every}
 use Rattle.golf_grey.specs.declared.rule.GreyView.{GreyView}
 
-abbrev pub grey : ℕ → List ℕ → List ℕ → GreyView
-grey parts pushed taken = record { parts = parts; pushed = pushed; taken = taken }
+abbrev pub grey : ℕ → ℕ → ℕ → ℕ → List ℕ → List ℕ → GreyView
+grey parts pushers places capacity pushed taken = record { parts = parts; pushers = pushers; places = places; capacity = capacity; pushed = pushed; taken = taken }
 
 -- as many parts as there may be hands, and more
 abbrev pub all_parts : ℕ
 all_parts = 4294967296
 
--- the parts add up; for every weight of places, what was pushed weighs as much as what was taken and what is in the deque; and a view without a part has done nothing
-pub record Balanced (items : List ℕ) (views : List GreyView) : Type 0 where
+-- before a deque has its numbers: above every u32
+abbrev pub unbound : ℕ
+unbound = 4294967296
+
+abbrev pub first_view : GreyView
+first_view = grey all_parts 1 unbound unbound [] []
+
+-- all are below this number of places
+abbrev pub AllBelow : ℕ → List ℕ → Type 0
+AllBelow places xs = Every (λ x. x < places) xs
+
+-- how many they are
+abbrev pub count : List ℕ → ℕ
+count xs = sum_by (λ _. 1) xs
+
+-- the parts add up, and one view alone may have pushed; for every weight of places, what was pushed weighs as much as what was taken and what is in the deque;
+-- a view without a part has done nothing; each other knows the two numbers, and what is in the deque is below the first, and what was pushed is no more than the second
+pub record BalancedAt (places capacity : ℕ) (items : List ℕ) (views : List GreyView) : Type 0 where
   pub parts : sum_by (λ v. v.parts) views ≡ all_parts
+  pub pushers : sum_by (λ v. v.pushers) views ≡ 1
   pub balance : (h : ℕ → ℕ) → sum_by (λ v. sum_by h v.pushed) views ≡ sum_by (λ v. sum_by h v.taken) views + sum_by h items
   pub idle : (k : ℕ) (v : GreyView) → get_elem? views k ≡ some v → v.parts ≡ 0 → (v.pushed ≡ []) × (v.taken ≡ [])
+  pub silent : (k : ℕ) (v : GreyView) → get_elem? views k ≡ some v → v.pushers ≡ 0 → v.pushed ≡ []
+  pub same : (k : ℕ) (v : GreyView) → get_elem? views k ≡ some v → 0 < v.parts → (v.places ≡ places) × (v.capacity ≡ capacity)
+  pub low : AllBelow places items
+  pub few : sum_by (λ v. count v.pushed) views ≤ capacity
+
+abbrev pub Balanced : List ℕ → List GreyView → Type 0
+Balanced items views = (places : ℕ) × (capacity : ℕ) × BalancedAt places capacity items views
 
 -- a push adds to what was pushed
 pub record Pushed (v : GreyView) (xs : List ℕ) (w : GreyView) : Type 0 where
-  pub view : w ≡ grey v.parts (v.pushed ++ xs) v.taken
+  pub view : w ≡ grey v.parts v.pushers v.places v.capacity (v.pushed ++ xs) v.taken
 
--- a take adds to what was taken, and who has every part has not taken more than was pushed
+-- a take adds to what was taken, which is below the number of places and no more than may be pushed; who has every part has not taken more than was pushed
 pub record Taken (v : GreyView) (xs : List ℕ) (w : GreyView) : Type 0 where
-  pub view : w ≡ grey v.parts v.pushed (v.taken ++ xs)
+  pub view : w ≡ grey v.parts v.pushers v.places v.capacity v.pushed (v.taken ++ xs)
+  pub low : AllBelow v.places xs
+  pub few : length (v.taken ++ xs) ≤ v.capacity
   pub bound : v.parts ≡ all_parts → length (v.taken ++ xs) ≤ length v.pushed
+
+abbrev pub head_of : List ℕ → ℕ
+head_of [] = 0
+head_of (x ∷ xs) = x
+
+abbrev pub second_of : List ℕ → ℕ
+second_of [] = 0
+second_of (x ∷ xs) = head_of xs
+
+-- the two numbers that were pushed are how often may be pushed and the number of places; they count as no places
+pub record Named (v : GreyView) (w : GreyView) : Type 0 where
+  pub view : w ≡ grey v.parts v.pushers (second_of v.pushed) (head_of v.pushed) [] []
+
+-- the deque was empty at a step at which this was a view of it
+abbrev pub WasEmpty : GreyView → Type 0
+WasEmpty v = (port : ℕ) × (views : List GreyView) × Balanced [] views × (get_elem? views port ≡ some v)
 
 -- who has every part and found the deque empty has taken what was pushed
 abbrev pub IsEven : GreyView → Type 0
@@ -32,14 +75,14 @@ IsEven v = v.parts ≡ all_parts → (h : ℕ → ℕ) → sum_by h v.pushed ≡
 
 -- a pass is cut off with one part
 abbrev pub left_view : GreyView → GreyView
-left_view v = grey (v.parts - 1) v.pushed v.taken
+left_view v = grey (v.parts - 1) v.pushers v.places v.capacity v.pushed v.taken
 
 abbrev pub right_view : GreyView → GreyView
-right_view v = grey 1 [] []
+right_view v = grey 1 0 v.places v.capacity [] []
 
 -- a pass is taken back with all that it did
 abbrev pub both_views : GreyView → GreyView → GreyView
-both_views v w = grey (v.parts + w.parts) (v.pushed ++ w.pushed) (v.taken ++ w.taken)
+both_views v w = grey (v.parts + w.parts) (v.pushers + w.pushers) v.places v.capacity (v.pushed ++ w.pushed) (v.taken ++ w.taken)
 
 abbrev pub spent_view : GreyView
-spent_view = grey 0 [] []
+spent_view = grey 0 0 0 0 [] []

@@ -1,11 +1,12 @@
 //! The end of a pool: each deque gets back its passes, and is emptied.
 
-ghost use Rattle.std.specs.Prelude.{◌≡◌, ◌+◌, ◌-◌, ◌<◌, ◌≤◌, ℕ, sum_by, length, vec_capacity, vec_len, [], ◌∷◌, ◌++◌};
+ghost use Rattle.std.specs.Prelude.{◌≡◌, ◌+◌, ◌-◌, ◌<◌, ◌≤◌, ℕ, sum_by, length, remove, vec_capacity, vec_len, List as SpecList, [], ◌∷◌, ◌++◌};
 ghost use mathlib.Core.Option.{some};
 ghost use lib.ListN.{get_elem?};
 ghost use Rattle.crossbeam_deque.specs.Handles.{view, IsPassOf, stealer_deque, worker_flavor, worker_view};
 ghost use Rattle.golf_grey.specs.Rule.{all_parts};
-ghost use Rattle.golf_grey.specs.Hands.{AllHandsIn, IsStage, IsRow, AllRows, row_weight, rows_weight, pushed_by, taken_by, pushed_in, taken_in, Thief as SpecThief, Owner as SpecOwner};
+ghost use Rattle.golf_grey.specs.declared.hand.GreyHand.{GreyHand as SpecHand};
+ghost use Rattle.golf_grey.specs.Hands.{AllHandsIn, IsStage, IsRow, AllRows, left_in, row_weight, rows_weight, pushed_to, taken_from, pushed_in, taken_in, Thief as SpecThief, Owner as SpecOwner};
 
 use crate::hand::GreyHand;
 use crate::rule::{Deal, GreyView, Owner, Take, Thief};
@@ -25,23 +26,36 @@ fn put<T: Drop>(list: &mut Vec<T>, item: T)
     }
 }
 
+// Takes the hand of this number out of a list.
+fn take_hand(rest: &mut List<GreyHand>, number: usize) -> GreyHand
+    requires { (k : ℕ) × (h : SpecHand) × (get_elem? rest.old k ≡ some h) × (h.number ≡ number) }
+    ensures from { (k : ℕ) × (get_elem? rest.old k ≡ some result) × (rest.new ≡ remove rest.old k) }
+    ensures number { result.number ≡ number }
+{
+    for at in 0..rest.len() {
+        if rest.as_slice()[at].number == number {
+            return rest.remove(at);
+        }
+    }
+    unreachable!()
+}
+
 // The owners by rising number, and all rows of passes.
 pub(crate) fn take_apart(
     thieves: &Vec<Thief>,
     capacity: u32,
+    places: u32,
     hands: List<GreyHand>,
 ) -> (Vec<Owner>, Vec<Vec<Pass<u32, GreyView>>>)
-    requires hands { AllHandsIn thieves.now.items capacity hands }
+    requires hands { AllHandsIn thieves.now.items capacity places hands }
     requires some { 0 < length thieves.now.items }
     ensures stage { IsStage thieves.now.items (all_parts - length thieves.now.items) (length thieves.now.items) result.0.items }
     ensures rows { AllRows thieves.now.items result.1.items × (length result.1.items ≡ length thieves.now.items) }
-    ensures pushed { (f : ℕ → ℕ) → pushed_in f result.0.items ≡ pushed_by f hands }
-    ensures taken { (f : ℕ → ℕ) → taken_in f result.0.items + rows_weight f result.1.items ≡ taken_by f hands }
+    ensures pushed { (g : ℕ → ℕ → ℕ) → pushed_in g result.0.items ≡ pushed_to g hands }
+    ensures taken { (g : ℕ → ℕ → ℕ) → taken_in g result.0.items + rows_weight g result.1.items ≡ taken_from g hands }
 {
     let mut rest = hands;
-    let Some(first) = rest.pop() else {
-        unreachable!()
-    };
+    let first = take_hand(&mut rest, 0);
     let GreyHand {
         own,
         passes,
@@ -51,7 +65,8 @@ pub(crate) fn take_apart(
     } = first;
     put(&mut owners, own);
     put(&mut rows, passes);
-    while let Some(hand) = rest.pop() {
+    for number in 1..thieves.len() {
+        let hand = take_hand(&mut rest, number);
         let GreyHand {
             own,
             passes,
@@ -79,8 +94,8 @@ fn absorb_one(
     requires pass { (t : SpecThief) → get_elem? thieves.now.items j ≡ some t → IsPassOf (stealer_deque t) pass }
     requires one { ((view pass).parts ≡ 1) × ((view pass).pushed ≡ []) }
     ensures stage { IsStage thieves.now.items (all_parts - 1 - more) j owners.new.items }
-    ensures pushed { (f : ℕ → ℕ) → pushed_in f owners.new.items ≡ pushed_in f owners.old.items }
-    ensures taken { (f : ℕ → ℕ) → taken_in f owners.new.items ≡ taken_in f owners.old.items + sum_by f (view pass).taken }
+    ensures pushed { (g : ℕ → ℕ → ℕ) → pushed_in g owners.new.items ≡ pushed_in g owners.old.items }
+    ensures taken { (g : ℕ → ℕ → ℕ) → taken_in g owners.new.items ≡ taken_in g owners.old.items + sum_by (g j) (view pass).taken }
 {
     let owner = &mut owners[j];
     owner.absorb::<Deal>(pass);
@@ -97,8 +112,8 @@ pub(crate) fn absorb_row(
     requires stage { IsStage thieves.now.items (all_parts - 1 - more) (length thieves.now.items) owners.old.items }
     requires row { IsRow thieves.now.items row.items }
     ensures stage { IsStage thieves.now.items (all_parts - more) (length thieves.now.items) owners.new.items }
-    ensures pushed { (f : ℕ → ℕ) → pushed_in f owners.new.items ≡ pushed_in f owners.old.items }
-    ensures taken { (f : ℕ → ℕ) → taken_in f owners.new.items ≡ taken_in f owners.old.items + row_weight f row.items }
+    ensures pushed { (g : ℕ → ℕ → ℕ) → pushed_in g owners.new.items ≡ pushed_in g owners.old.items }
+    ensures taken { (g : ℕ → ℕ → ℕ) → taken_in g owners.new.items ≡ taken_in g owners.old.items + row_weight g row.items }
 {
     let mut rest = row;
     while let Some(pass) = rest.pop() {
@@ -112,7 +127,7 @@ fn drain(owner: Owner, left: &mut Room<u32>)
     requires flavor { worker_flavor owner ≡ 0 }
     requires all { (worker_view owner).parts ≡ all_parts }
     requires room { length (worker_view owner).pushed ≤ left.old.spare }
-    ensures left { (f : ℕ → ℕ) → sum_by f left.new.items + sum_by f (worker_view owner).taken ≡ sum_by f left.old.items + sum_by f (worker_view owner).pushed }
+    ensures left { (more : SpecList ℕ) × (left.new.items ≡ left.old.items ++ more) × ((f : ℕ → ℕ) → sum_by f more + sum_by f (worker_view owner).taken ≡ sum_by f (worker_view owner).pushed) }
     ensures room { left.old.spare ≤ left.new.spare + length (worker_view owner).pushed }
 {
     let mut owner = owner;
@@ -125,8 +140,8 @@ fn drain(owner: Owner, left: &mut Room<u32>)
 pub(crate) fn drain_all(owners: Vec<Owner>, left: Room<u32>) -> List<u32>
     requires owners { (j : ℕ) (w : SpecOwner) → get_elem? owners.items j ≡ some w → (worker_flavor w ≡ 0) × ((worker_view w).parts ≡ all_parts) }
     requires empty { left.items ≡ [] }
-    requires room { pushed_in (λ _. 1) owners.items ≤ left.spare }
-    ensures { (f : ℕ → ℕ) → sum_by f result + taken_in f owners.items ≡ pushed_in f owners.items }
+    requires room { pushed_in (λ _ _. 1) owners.items ≤ left.spare }
+    ensures { (sources : SpecList ℕ) × (length sources ≡ length result) × ((g : ℕ → ℕ → ℕ) → left_in g sources result + taken_in g owners.items ≡ pushed_in g owners.items) }
 {
     let mut left = left;
     let mut rest = owners;

@@ -12,23 +12,27 @@ use golf_base::{List, Memory, Room};
 use std::alloc::Global;
 
 impl GreyPool {
-    ghost use Rattle.golf_grey.specs.Hands.{AreAllHands, AreNewHands, capacity_of, hand_count};
+    ghost use Rattle.golf_grey.specs.Hands.{AreAllHands, AreNewHands, FallTo0, capacity_of, hand_count, places_of};
 
-    /// A pool, and its hands by falling number. Each hand may push `capacity` times.
+    /// A pool, and its hands by falling number. Each hand may push `capacity` times, and only what is
+    /// below `places`.
     pub fn new(
         alloc: Global,
         hands: u32,
         capacity: u32,
+        places: u32,
     ) -> Result<(GreyPool, List<GreyHand>), Memory>
         requires { 0 < hands }
         ensures count { IfOk result (λ r. length r.1 ≡ hands) }
         ensures hand_count { IfOk result (λ r. hand_count r.0 ≡ hands) }
         ensures capacity { IfOk result (λ r. capacity_of r.0 ≡ capacity) }
+        ensures places { IfOk result (λ r. places_of r.0 ≡ places) }
         ensures all { IfOk result (λ r. AreAllHands r.0 r.1) }
+        ensures falling { IfOk result (λ r. FallTo0 (hand_count r.0) r.1) }
         ensures new { IfOk result (λ r. AreNewHands r.1) }
     {
-        let (mut owners, thieves) = make_owners(alloc, hands, capacity)?;
-        let mut rows = make_rows(alloc, &thieves, &mut owners, capacity, hands)?;
+        let (mut owners, thieves) = make_owners(alloc, hands, capacity, places)?;
+        let mut rows = make_rows(alloc, &thieves, &mut owners, capacity, places, hands)?;
         let mut list = Vec::with_capacity(alloc, hands as usize)?;
         while let Some(own) = owners.pop() {
             let Some(passes) = rows.pop() else {
@@ -47,6 +51,7 @@ impl GreyPool {
         let pool = GreyPool {
             thieves,
             capacity,
+            places,
             left,
         };
         Ok((pool, List::from_vec(list)))

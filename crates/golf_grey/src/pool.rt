@@ -1,6 +1,6 @@
 //! The deques of all hands, as thieves see them.
 
-ghost use Rattle.std.specs.Prelude.{◌≡◌, ◌+◌, ◌*◌, ℕ, ◌<◌, ◌≤◌, ◌∷◌, [], ◌++◌, length, sum_by};
+ghost use Rattle.std.specs.Prelude.{◌≡◌, ◌+◌, ◌*◌, ℕ, ◌<◌, ◌≤◌, ◌∷◌, [], ◌++◌, length, sum_by, IfSome, IfNone, List as SpecList};
 
 use crate::drain::{absorb_row, drain_all, take_apart};
 use crate::hand::GreyHand;
@@ -13,6 +13,7 @@ use golf_base::{List, Room};
 pub struct GreyPool {
     pub(crate) thieves: Vec<Thief>,
     pub(crate) capacity: u32,
+    pub(crate) places: u32,
     pub(crate) left: Room<u32>,
     ghost some_hand: { 0 < length thieves.items },
     ghost none_left: { left.items ≡ [] },
@@ -26,16 +27,17 @@ pub struct Left {
 }
 
 impl GreyPool {
-    ghost use Rattle.golf_grey.specs.Hands.{AreAllHands, IsHandOf, capacity_of, option_weight, pushed, took, pushed_by, taken_by};
+    ghost use Rattle.golf_grey.specs.Hands.{AreAllHands, FindsNone, IsHandOf, IsSplit, capacity_of, hand_count, option_weight, places_of, pushed, taken_list, took, took_weight, pushed_by, taken_by};
 
     /// Adds a place to the hand's own deque. It cannot fail while the hand pushed less often than
     /// the pool's capacity.
     pub fn push(&self, hand: &mut GreyHand, place: u32)
         requires hand { IsHandOf self.now hand.old }
         requires room { length (pushed hand.old) < capacity_of self.now }
+        requires place { place < places_of self.now }
         ensures hand { IsHandOf self.now hand.new }
         ensures pushed { pushed hand.new ≡ pushed hand.old ++ place ∷ [] }
-        ensures took { (f : ℕ → ℕ) → took f hand.new ≡ took f hand.old }
+        ensures took { (g : ℕ → ℕ → ℕ) → took_weight g hand.new ≡ took_weight g hand.old }
         ensures number { hand.new.number ≡ hand.old.number }
     {
         match hand.own.push_as::<Push>(place) {
@@ -45,13 +47,21 @@ impl GreyPool {
     }
 
     /// The first place of the hand's own deque, or else one that is stolen: each other deque is
-    /// tried once.
+    /// tried once. A hand takes no more places than all hands together may push.
+    ///
+    /// `None` comes only if its own deque was empty at a step of this call, and each other was empty at
+    /// a step of this call or another took a place between the steps of its steal.
     pub fn take(&self, hand: &mut GreyHand) -> Option<u32>
         requires { IsHandOf self.now hand.old }
         ensures hand { IsHandOf self.now hand.new }
         ensures pushed { pushed hand.new ≡ pushed hand.old }
         ensures took { (f : ℕ → ℕ) → took f hand.new ≡ took f hand.old + option_weight f result }
+        ensures from { (from : ℕ) × IfSome result (λ _. from < hand_count self.now) × ((g : ℕ → ℕ → ℕ) → took_weight g hand.new ≡ took_weight g hand.old + option_weight (g from) result) }
         ensures number { hand.new.number ≡ hand.old.number }
+        ensures place { IfSome result (λ place. place < places_of self.now) }
+        ensures list { (f : ℕ → ℕ) → sum_by f (taken_list hand.new) ≡ sum_by f (taken_list hand.old) + option_weight f result }
+        ensures few { length (taken_list hand.new) ≤ hand_count self.now * capacity_of self.now }
+        ensures none { IfNone result (FindsNone hand.old hand.new) }
     {
         if let Some(place) = hand.own.pop_as::<Take>() {
             return Some(place);
@@ -65,24 +75,27 @@ impl GreyPool {
         requires { IsHandOf self.now hand.old }
         ensures hand { IsHandOf self.now hand.new }
         ensures pushed { pushed hand.new ≡ pushed hand.old }
-        ensures took { (f : ℕ → ℕ) → took f hand.new ≡ took f hand.old }
+        ensures took { (g : ℕ → ℕ → ℕ) → took_weight g hand.new ≡ took_weight g hand.old }
         ensures number { hand.new.number ≡ hand.old.number }
     {
         hand.own.len_as::<Count>()
     }
 
-    /// What is left in the deques, from all hands: with what they took it is what they pushed, each
-    /// place as often.
+    /// What is left in the deques, from all hands in any order. With what they took it is what they
+    /// pushed, each place as often. The same holds for each deque: as often as its owner pushed a place,
+    /// hands took it from that deque or it is left there. It takes no memory.
     pub fn close(self, hands: List<GreyHand>) -> Left
         requires { AreAllHands self hands }
-        ensures { (f : ℕ → ℕ) → pushed_by f hands ≡ taken_by f hands + sum_by f result.places }
+        ensures all { (f : ℕ → ℕ) → pushed_by f hands ≡ taken_by f hands + sum_by f result.places }
+        ensures each { (sources : SpecList ℕ) × IsSplit hands result.places sources }
     {
         let GreyPool {
             thieves,
             capacity,
+            places,
             left,
         } = self;
-        let (mut owners, mut rows) = take_apart(&thieves, capacity, hands);
+        let (mut owners, mut rows) = take_apart(&thieves, capacity, places, hands);
         while let Some(row) = rows.pop() {
             let more = rows.len();
             absorb_row(&thieves, &mut owners, row, more);

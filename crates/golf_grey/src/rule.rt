@@ -9,6 +9,12 @@ use std::collections::LinkedList;
 pub struct GreyView {
     /// How many parts of the deque it stands for: a pass is cut off with one, and taken back.
     pub parts: u64,
+    /// 1 for its owner's, and 0 for each other.
+    pub pushers: u64,
+    /// All places in it are below this number.
+    pub places: u64,
+    /// No more places are pushed to it.
+    pub capacity: u64,
     pub pushed: LinkedList<u32>,
     pub taken: LinkedList<u32>,
 }
@@ -16,12 +22,11 @@ pub struct GreyView {
 pub struct Grey;
 
 impl Protocol<u32, GreyView> for Grey {
-    ghost use Rattle.std.specs.Prelude.{[]};
-    ghost use Rattle.golf_grey.specs.Rule.{grey, all_parts, Balanced, spent_view};
+    ghost use Rattle.golf_grey.specs.Rule.{Balanced, first_view, spent_view};
 
     ghost holds = { λ items views. Balanced items views };
 
-    ghost first = { grey all_parts [] [] };
+    ghost first = { first_view };
 
     ghost guest = { spent_view };
 }
@@ -37,11 +42,22 @@ impl Outcome<u32, GreyView> for Push {
 pub struct Take;
 
 impl Outcome<u32, GreyView> for Take {
-    ghost use Rattle.golf_grey.specs.Rule.{Taken, IsEven};
+    ghost use Rattle.golf_grey.specs.Rule.{Taken, WasEmpty};
 
     ghost then = { λ v xs w. Taken v xs w };
 
-    ghost empty = { IsEven };
+    ghost empty = { WasEmpty };
+}
+
+/// The last of two numbers comes out of the deque: its owner's view has both.
+pub struct Name;
+
+impl Outcome<u32, GreyView> for Name {
+    ghost use Rattle.golf_grey.specs.Rule.{Named, WasEmpty};
+
+    ghost then = { λ v xs w. Named v w };
+
+    ghost empty = { WasEmpty };
 }
 
 /// A count of what lies in a deque. It tells nothing that lasts.

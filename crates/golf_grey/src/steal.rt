@@ -1,8 +1,10 @@
 //! Steals from the deques of other hands.
 
-ghost use Rattle.std.specs.Prelude.{◌≡◌, ◌+◌, ℕ, ◌<◌, length, sum_by};
+ghost use Rattle.std.specs.Prelude.{◌≡◌, ◌≢◌, ◌+◌, ℕ, ◌<◌, ◌≤◌, length, sum_by, IfSome, IfNone};
+ghost use mathlib.Core.Option.{some};
+ghost use lib.ListN.{get_elem?};
 ghost use Rattle.crossbeam_deque.specs.Handles.{view, IsPassOf, stealer_deque, stealer_flavor};
-ghost use Rattle.golf_grey.specs.Hands.{IsRow, option_weight, row_weight};
+ghost use Rattle.golf_grey.specs.Hands.{FoundNone, FoundNoneBut, GreyPass, IsRow, RowKnows, option_weight, row_weight};
 
 use crate::rule::{GreyView, Take, Thief};
 use crossbeam_deque::{Pass, Steal};
@@ -16,6 +18,10 @@ fn steal_one(thief: &Thief, pass: &mut Pass<u32, GreyView>) -> Option<u32>
     ensures live { (view pass.new).parts ≡ (view pass.old).parts }
     ensures pushed { (view pass.new).pushed ≡ (view pass.old).pushed }
     ensures took { (f : ℕ → ℕ) → sum_by f (view pass.new).taken ≡ sum_by f (view pass.old).taken + option_weight f result }
+    ensures knows { ((view pass.new).places ≡ (view pass.old).places) × ((view pass.new).capacity ≡ (view pass.old).capacity) }
+    ensures few { length (view pass.old).taken ≤ (view pass.old).capacity → length (view pass.new).taken ≤ (view pass.old).capacity }
+    ensures place { IfSome result (λ place. place < (view pass.old).places) }
+    ensures none { IfNone result (FoundNone pass.old pass.new) }
 {
     thief.steal_as::<Take>(pass).success()
 }
@@ -25,7 +31,11 @@ fn steal_at(thieves: &Vec<Thief>, passes: &mut Vec<Pass<u32, GreyView>>, j: usiz
     requires low { j < length thieves.now.items }
     requires row { IsRow thieves.now.items passes.old.items }
     ensures row { IsRow thieves.now.items passes.new.items }
-    ensures took { (f : ℕ → ℕ) → row_weight f passes.new.items ≡ row_weight f passes.old.items + option_weight f result }
+    ensures took { (g : ℕ → ℕ → ℕ) → row_weight g passes.new.items ≡ row_weight g passes.old.items + option_weight (g j) result }
+    ensures knows { (capacity places : ℕ) → RowKnows capacity places passes.old.items → RowKnows capacity places passes.new.items }
+    ensures others { (k : ℕ) → k ≢ j → get_elem? passes.new.items k ≡ get_elem? passes.old.items k }
+    ensures place { (capacity places : ℕ) → RowKnows capacity places passes.old.items → IfSome result (λ place. place < places) }
+    ensures none { IfNone result ((p q : GreyPass) → get_elem? passes.old.items j ≡ some p → get_elem? passes.new.items j ≡ some q → FoundNone p q) }
 {
     steal_one(&thieves[j], &mut passes[j])
 }
@@ -38,7 +48,11 @@ pub(crate) fn steal_all(
 ) -> Option<u32>
     requires { IsRow thieves.now.items passes.old.items }
     ensures row { IsRow thieves.now.items passes.new.items }
-    ensures took { (f : ℕ → ℕ) → row_weight f passes.new.items ≡ row_weight f passes.old.items + option_weight f result }
+    ensures took { (from : ℕ) × IfSome result (λ _. from < length thieves.now.items) × ((g : ℕ → ℕ → ℕ) → row_weight g passes.new.items ≡ row_weight g passes.old.items + option_weight (g from) result) }
+    ensures knows { (capacity places : ℕ) → RowKnows capacity places passes.old.items → RowKnows capacity places passes.new.items }
+    ensures unused { get_elem? passes.new.items number ≡ get_elem? passes.old.items number }
+    ensures place { (capacity places : ℕ) → RowKnows capacity places passes.old.items → IfSome result (λ place. place < places) }
+    ensures none { IfNone result (FoundNoneBut number passes.old.items passes.new.items) }
 {
     for j in 0..thieves.len() {
         if j != number {

@@ -34,17 +34,19 @@ fn keep_on<N: Numbers>(
     Ok(None)
 }
 
-// The one goroutine that can run, unless there are several, or something printed is still there.
+// The one goroutine that can run, unless there are several, or something printed is still there. Of three
+// that run two can, whatever goroutine 0 has to call.
 #[inline(always)]
 fn lone_goroutine(state: &State) -> Option<GoroutineId>
     ensures lone { IfSome result (λ g. IsLone g.0 state.now) }
     ensures rises { IfSome result (λ g. IsRising state.now.goroutines) }
 {
-    if !state.output().is_empty() {
+    if !state.output().is_empty() || state.running_count() > 2 {
         return None;
     }
-    if state.runnable_count() == 1 {
-        Some(state.runnable_at(0))
+    let runnable = state.runnable();
+    if runnable.count() == 1 {
+        Some(runnable.at(0))
     } else {
         None
     }

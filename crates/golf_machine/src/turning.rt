@@ -118,8 +118,9 @@ pub fn turn(alloc: Global, code: &Code, state: &mut State, number: u64) -> Resul
     ensures turned { IfOk result (λ turned. turned ≡ turned_of (ending state.new) (wants_collection code.now state.old number)) }
     ensures err { OnErr result (state.new ≡ state.old) }
 {
-    let count = state.runnable_count() as u64;
+    let runnable = state.runnable();
+    let count = runnable.count() as u64;
     let (place, choice) = shared_out(number, count);
-    let g = state.runnable_at(place as usize);
+    let g = runnable.at(place as usize);
     take(alloc, code, state, g, choice)
 }

@@ -26,6 +26,7 @@ IsMarkerOf-wins marks pool a s fits w = record {
   covered = covered_wins (λ p. In p (pushed a.hand)) marks a.scanner s w fits.covered;
   budget = fits.budget;
   deferred = fits.deferred;
+  places = fits.places;
 }
 
 pub Attends-scanned : (marks : Marks) (pool : GreyPool) (place : ℕ) (a : Marker) (seat : MarkSeat) (s : Scanner) → IsMarkerOf marks pool a → IsSameSeat a.scanner.seat seat → HasLooked a.scanner.seat seat
@@ -40,6 +41,7 @@ Attends-scanned marks pool place a seat s fits same look wins scanned =
         covered = covered_wins (λ p. In p (pushed a.hand)) marks looked s wins (covered_same (λ p. In p (pushed a.hand)) marks a.scanner looked look.claimed look.known refl fits.covered);
         budget = fits.budget;
         deferred = fits.deferred;
+        places = fits.places;
       };
       keeps = record { known = λ p h. wins.known p (look.known p h); parts = wins.parts ∙ same.parts; number = refl };
       took = λ f. refl;
@@ -67,6 +69,7 @@ Attends-deferred marks pool place a seat notes fits same look more =
         covered = with_look.covered;
         budget = with_look.budget;
         deferred = more.length ∙ fits.deferred;
+        places = with_look.places;
       };
       keeps = record { known = looked.known; parts = looked.parts; number = refl };
       took = λ f. refl;

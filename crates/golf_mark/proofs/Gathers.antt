@@ -17,7 +17,8 @@ use Rattle.golf_marks.specs.declared.marks.Marks.{Marks}
 use Rattle.golf_marks.specs.Flags.{IsSet}
 use Rattle.golf_marks.specs.Places.{place_count}
 use Rattle.golf_marks.specs.Seats.{graph_in, claimed, known, parts, IsSeatOf}
-use Rattle.golf_grey.specs.Hands.{took, pushed, hand_count, IsHandOf, AreAllHands}
+use Rattle.golf_grey.specs.Hands.{took, pushed, capacity_of, places_of, hand_count, IsHandOf, AreAllHands}
+use Rattle.golf_grey.proofs.Taking.{all_of}
 use Rattle.golf_grey.specs.declared.hand.GreyHand.{GreyHand}
 use Rattle.golf_grey.specs.declared.pool.GreyPool.{GreyPool}
 use Rattle.golf_grey.proofs.Stages.{push_cases, at_end}
@@ -171,11 +172,10 @@ handed_more ms rest more m hands is at o = record {
     len = ap (λ (l : List Marker). length l) is ∙ length-append more (m ∷ [])
 
 pub hands_of : (marks : Marks) (pool : GreyPool) (ms rest : List Marker) (hands : List GreyHand) → length rest ≡ 0 → length ms ≡ hand_count pool → AllRun marks pool ms → IsHandedOver ms rest hands → AreAllHands pool hands
-hands_of marks pool ms rest hands none count all o = (
-  omega (arith, o.count),
-  λ k h e. let r = o.from k h e in let c = all r.0 r.1 r.2 in
-      (subst (IsHandOf pool) r.3 c.fits.hand, omega (arith, r.4, c.number, ap (λ (x : GreyHand). x.number) r.3)),
-)
+hands_of marks pool ms rest hands none count all o =
+    all_of pool.thieves.items (capacity_of pool) (places_of pool) hands (omega (arith, o.count))
+    (λ k h e. let r = o.from k h e in subst (IsHandOf pool) r.3 (all r.0 r.1 r.2).fits.hand)
+    (λ k h e. let r = o.from k h e in omega (arith, r.4, (all r.0 r.1 r.2).number, ap (λ (x : GreyHand). x.number) r.3))
 
 pub even_of : (ms rest : List Marker) (hands : List GreyHand) (left : List ℕ) → length rest ≡ 0 → IsHandedOver ms rest hands
     → ((f : ℕ → ℕ) → sum_by (λ (h : GreyHand). sum_by f (pushed h)) hands ≡ sum_by (λ (h : GreyHand). took f h) hands + sum_by f left) → IsEvenWith ms left

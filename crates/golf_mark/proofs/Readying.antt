@@ -17,7 +17,7 @@ use Rattle.golf_marks.specs.declared.marks.Marks.{Marks}
 use Rattle.golf_marks.specs.Places.{place_count}
 use Rattle.golf_marks.specs.Seats.{graph_in, known, parts, IsNewSeatOf}
 use Rattle.golf_grey.specs.declared.pool.GreyPool.{GreyPool}
-use Rattle.golf_grey.specs.Hands.{capacity_of, hand_count, IsHandOf, IsNewHand}
+use Rattle.golf_grey.specs.Hands.{capacity_of, places_of, hand_count, IsHandOf, IsNewHand}
 use Rattle.golf_grey.proofs.Stages.{exists_at, push_cases, at_end, longer}
 use Rattle.golf_mark.specs.declared.marker.Marker.{Marker}
 use Rattle.golf_mark.specs.Gathering.{AllRun, IsRooted, marker_parts}
@@ -128,6 +128,7 @@ pub record HasRoom (marks : Marks) (pool : GreyPool) (m : Marker) : Type 0 where
   pub idle : m.scanner.won.items ≡ []
   pub room : place_count (graph_in marks) ≤ m.scanner.won.spare
   pub budget : m.budget ≤ capacity_of pool
+  pub places : places_of pool ≡ place_count (graph_in marks)
 
 pub equipped : {total : ℕ} {seats : List MarkSeat} {hands : List GreyHand} (marks : Marks) (pool : GreyPool) (some_seats : List MarkSeat) (some_hands : List GreyHand) (ms : List Marker) (m : Marker)
     → IsEquipping marks pool total seats hands ms → seats ≡ some_seats ++ m.scanner.seat ∷ [] → hands ≡ some_hands ++ m.hand ∷ [] → HasRoom marks pool m → IsEquipping marks pool total some_seats some_hands (ms ++ m ∷ [])
@@ -161,8 +162,9 @@ equipped {total} {seats} {hands} marks pool some_seats some_hands ms m q seat_is
               covered = λ p low h. absurd (subst (λ (l : List ℕ). In p l) seat.claimed h);
               budget = omega (arith, has.budget, ap length hand.none_pushed);
               deferred = has.deferred;
+              places = has.places;
             };
-            none = hand.none_taken;
+            none = λ f. hand.none_taken (λ _. f);
             number = omega (arith, mine.1, q.count, hands_long, t.0);
           }))
           (push_cases ms m x k at);

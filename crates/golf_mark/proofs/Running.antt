@@ -66,6 +66,7 @@ IsMarkerOf-hand marks pool a hand fits its_hand pushes = record {
   covered = subst (λ (l : List ℕ). IsCovered marks (λ p. In p l) a.scanner) (sym pushes) fits.covered;
   budget = omega (arith, fits.budget, ap (λ (l : List ℕ). length l) pushes);
   deferred = fits.deferred;
+  places = fits.places;
 }
 
 -- the hand has pushed these places, and has taken what the old one took
@@ -88,6 +89,7 @@ Runs-idle marks pool a won hand fits items spare same =
       covered = subst (λ (l : List ℕ). IsCovered marks (λ p. In p l) s) (sym same.pushed) (covered_same (λ p. In p (pushed a.hand)) marks a.scanner s refl (λ p h. h) items fits.covered);
       budget = omega (arith, fits.budget, ap (λ (l : List ℕ). length l) same.pushed);
       deferred = fits.deferred;
+      places = fits.places;
     })
     (record { known = λ p h. h; parts = refl; number = same.number })
     same.took refl
@@ -105,6 +107,7 @@ Runs-own marks pool place a won s fits items wins scanned =
       covered = covered_scan (λ p. In p (pushed a.hand)) marks place a.scanner s won (last_or place a.scanner.won.items won.items items) wins scanned fits.covered;
       budget = fits.budget;
       deferred = fits.deferred;
+      places = fits.places;
     })
     (record { known = wins.known; parts = wins.parts; number = refl })
     (λ f. refl) refl
@@ -123,6 +126,7 @@ Runs-shared {place} marks pool budget a won hand fits items spare more less =
       covered = covered_share marks place a.scanner s (pushed a.hand) (pushed hand) refl items more.pushed fits.covered;
       budget = omega (arith, fits.budget, less, ap (λ (l : List ℕ). length l) more.pushed, length_push (pushed a.hand) place);
       deferred = fits.deferred;
+      places = fits.places;
     })
     (record { known = λ p h. h; parts = refl; number = more.number })
     more.took refl

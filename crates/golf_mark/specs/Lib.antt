@@ -6,6 +6,5 @@ pub mod Turning
 pub mod Finishing
 pub mod Gathering
 pub mod Ready
+pub mod Team
 pub mod Sheets
-pub mod Alone
-pub mod Ways

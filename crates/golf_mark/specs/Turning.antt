@@ -7,7 +7,7 @@ use Rattle.golf_marks.specs.Flags.{IsSet}
 use Rattle.golf_marks.specs.Places.{place_count}
 use Rattle.golf_marks.specs.Seats.{graph_in, known, parts}
 use Rattle.golf_grey.specs.declared.pool.GreyPool.{GreyPool}
-use Rattle.golf_grey.specs.Hands.{pushed, took, capacity_of, IsHandOf}
+use Rattle.golf_grey.specs.Hands.{pushed, took, capacity_of, places_of, IsHandOf}
 use Rattle.golf_mark.specs.declared.marker.Marker.{Marker}
 use Rattle.golf_mark.specs.Scanning.{IsScannerOf, IsCovered, KnowsWon}
 use Rattle.golf_mark.specs.Working.{IsScanned}
@@ -20,6 +20,7 @@ pub record IsMarkerOf (marks : Marks) (pool : GreyPool) (m : Marker) : Type 0 wh
   pub covered : IsCovered marks (λ p. In p (pushed m.hand)) m.scanner
   pub budget : length (pushed m.hand) + m.budget ≤ capacity_of pool
   pub deferred : length m.deferred ≡ place_count (graph_in marks)
+  pub places : places_of pool ≡ place_count (graph_in marks)
 
 -- the weight by which a place counts itself
 abbrev pub is_one : ℕ → ℕ → ℕ

@@ -5,7 +5,7 @@ ghost use Rattle.golf_theory.specs.Membership.{In, Every};
 ghost use Rattle.golf_model.specs.Graph.{IsInRange};
 ghost use Rattle.golf_marks.specs.Places.{place_count};
 ghost use Rattle.golf_marks.specs.Seats.{graph_in, IsNewSeatOf};
-ghost use Rattle.golf_grey.specs.Hands.{AreAllHands, AreNewHands, capacity_of, hand_count};
+ghost use Rattle.golf_grey.specs.Hands.{AreAllHands, AreNewHands, FallTo0, capacity_of, hand_count, places_of};
 ghost use Rattle.golf_mark.specs.Gathering.{IsRooted, marker_parts};
 ghost use Rattle.golf_mark.specs.Ready.{AllFresh, Seeds};
 ghost use Rattle.golf_mark.specs.Turning.{IsMarkerOf};
@@ -32,9 +32,11 @@ pub(crate) fn equip(
 ) -> Result<Vec<Marker>, Memory>
     requires places { place_count (graph_in marks.now) ≡ places }
     requires capacity { budget ≤ capacity_of pool.now }
+    requires pool_places { places_of pool.now ≡ places }
     requires same { length seats ≡ length hands }
     requires seats { Every (IsNewSeatOf marks.now) seats }
     requires hands { AreAllHands pool.now hands }
+    requires falling { FallTo0 (hand_count pool.now) hands }
     requires new { AreNewHands hands }
     ensures count { IfOk result (λ markers. length markers.items ≡ hand_count pool.now) }
     ensures parts { IfOk result (λ markers. marker_parts markers.items ≡ length seats) }

@@ -1,9 +1,10 @@
 //! A marker, and how it runs.
 
-ghost use Rattle.std.specs.Prelude.{◌≡◌, ◌+◌, ◌<◌, ℕ, length, All};
+ghost use Rattle.std.specs.Prelude.{◌≡◌, ◌+◌, ◌<◌, ℕ, length, All, IfSome};
 ghost use Rattle.std.specs.Thread.{IsSync};
+ghost use Rattle.golf_marks.specs.Places.{place_count};
 ghost use Rattle.golf_marks.specs.Seats.{graph_in};
-ghost use Rattle.golf_grey.specs.Hands.{option_weight, pushed, took, IsHandOf};
+ghost use Rattle.golf_grey.specs.Hands.{option_weight, places_of, pushed, took, IsHandOf};
 ghost use Rattle.golf_mark.specs.Turning.{IsMarkerOf, Attends, Runs, EachRuns};
 ghost use Rattle.golf_mark.specs.Waiters.{IsWaiters};
 
@@ -32,14 +33,14 @@ const LOOKS: u32 = 16_384;
 const AT_ONCE: u32 = 64;
 
 /// What all markers of a run share: the mark words, the deques, the graph, who waits on its nodes,
-/// and how many markers there are and how many of them find nothing.
+/// and how many markers have begun and how many of them find nothing.
 #[derive(Clone, Copy)]
 pub(crate) struct Shared<'a> {
     pub(crate) marks: &'a Marks,
     pub(crate) pool: &'a GreyPool,
     pub(crate) graph: &'a Graph,
     pub(crate) waiters: &'a Waiters,
-    pub(crate) count: u64,
+    pub(crate) begun: &'a AtomicU64,
     pub(crate) idle: &'a AtomicU64,
 }
 
@@ -81,11 +82,9 @@ fn scan_or_defer(shared: &Shared, marker: &mut Marker, place: u32)
     requires fits { IsMarkerOf shared.now.marks.now shared.now.pool.now marker.old }
     requires graph { graph_in shared.now.marks.now ≡ shared.now.graph.now }
     requires waiters { IsWaiters shared.now.graph.now shared.now.waiters.now }
+    requires place { place < place_count (graph_in shared.now.marks.now) }
     ensures { Attends shared.now.marks.now shared.now.pool.now place marker.old marker.new }
 {
-    if place >= shared.graph.nodes() + shared.graph.sleepers() {
-        return;
-    }
     if shared.marks.is_marked(&mut marker.scanner.seat, place) {
         scan(
             shared.marks,
@@ -127,16 +126,18 @@ fn pause(look: u32) {
     }
 }
 
-// Looks again for a place in the deques, until all markers do.
+// Looks again for a place in the deques, until all markers that have begun do. No marker waits for
+// one that has not begun: its thread may be one that cannot be made.
 fn look_again(shared: &Shared, hand: &mut GreyHand) -> Option<u32>
     requires { IsHandOf shared.now.pool.now hand.old }
     ensures hand { IsHandOf shared.now.pool.now hand.new }
     ensures pushed { pushed hand.new ≡ pushed hand.old }
     ensures took { (f : ℕ → ℕ) → took f hand.new ≡ took f hand.old + option_weight f result }
     ensures number { hand.new.number ≡ hand.old.number }
+    ensures place { IfSome result (λ place. place < places_of shared.now.pool.now) }
 {
     for look in 0..LOOKS {
-        if shared.idle.load(Ordering::SeqCst) >= shared.count {
+        if shared.idle.load(Ordering::SeqCst) >= shared.begun.load(Ordering::SeqCst) {
             return None;
         }
         if let Some(place) = shared.pool.take(hand) {
@@ -154,6 +155,7 @@ fn seek(shared: &Shared, hand: &mut GreyHand) -> Option<u32>
     ensures pushed { pushed hand.new ≡ pushed hand.old }
     ensures took { (f : ℕ → ℕ) → took f hand.new ≡ took f hand.old + option_weight f result }
     ensures number { hand.new.number ≡ hand.old.number }
+    ensures place { IfSome result (λ place. place < places_of shared.now.pool.now) }
 {
     if let Some(place) = shared.pool.take(hand) {
         return Some(place);
@@ -190,6 +192,7 @@ fn run<G: Gate>(gate: &G, number: u32, shared: &Shared, marker: &mut Marker)
     requires waiters { IsWaiters shared.now.graph.now shared.now.waiters.now }
     ensures { Runs shared.now.marks.now shared.now.pool.now marker.old marker.new }
 {
+    let _ = shared.begun.fetch_add(1, Ordering::SeqCst);
     for turn in 0..u64::MAX {
         gate.pass(number, turn);
         if !step(shared, marker, turn) {
@@ -198,7 +201,8 @@ fn run<G: Gate>(gate: &G, number: u32, shared: &Shared, marker: &mut Marker)
     }
 }
 
-/// Runs the markers, each in a thread of its own; the first one has the number `first`.
+/// Runs the markers, each in a thread of its own; the first one has the number `first`, and runs in
+/// the thread of the caller. So it begins before the others.
 pub(crate) fn run_all<G: Gate + Sync, R: Threads + Sync>(
     rt: &R,
     gate: &G,
@@ -225,12 +229,12 @@ pub(crate) fn run_all<G: Gate + Sync, R: Threads + Sync>(
     join_mut(
         rt,
         &mut ||
-            requires { IsSync R.row × All (IsMarkerOf shared.now.marks.now shared.now.pool.now) front.now × (graph_in shared.now.marks.now ≡ shared.now.graph.now) × IsWaiters shared.now.graph.now shared.now.waiters.now × (first + length front.now < 4294967296) }
-            ensures { EachRuns shared.entry.now.marks.now shared.entry.now.pool.now front.entry.now front.exit.now }
-        { run_all(rt, gate, first, shared, front) },
-        &mut ||
             requires { IsSync R.row × All (IsMarkerOf shared.now.marks.now shared.now.pool.now) back.now × (graph_in shared.now.marks.now ≡ shared.now.graph.now) × IsWaiters shared.now.graph.now shared.now.waiters.now × (second + length back.now < 4294967296) }
             ensures { EachRuns shared.entry.now.marks.now shared.entry.now.pool.now back.entry.now back.exit.now }
         { run_all(rt, gate, second, shared, back) },
+        &mut ||
+            requires { IsSync R.row × All (IsMarkerOf shared.now.marks.now shared.now.pool.now) front.now × (graph_in shared.now.marks.now ≡ shared.now.graph.now) × IsWaiters shared.now.graph.now shared.now.waiters.now × (first + length front.now < 4294967296) }
+            ensures { EachRuns shared.entry.now.marks.now shared.entry.now.pool.now front.entry.now front.exit.now }
+        { run_all(rt, gate, first, shared, front) },
     );
 }

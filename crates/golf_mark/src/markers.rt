@@ -7,7 +7,6 @@ ghost use Rattle.golf_mark.specs.Ready.{AllFresh, IsReady};
 ghost use Rattle.golf_mark.specs.Turning.{EachRuns};
 ghost use Rattle.golf_mark.specs.Waiters.{IsWaiters};
 
-use crate::alone::Alone;
 use crate::conclude::conclude;
 use crate::deal::{deal, equip};
 use crate::marker::{Marker, Shared, run_all};
@@ -22,8 +21,9 @@ use std::snapshot::Snapshot;
 use std::sync::atomic::AtomicU64;
 use std::thread::Threads;
 
-/// How often a marker shares a place at most. Then it keeps what it finds to itself.
-const SHARES: u32 = 16_384;
+/// How often one of several markers shares a place at most. Then it keeps what it finds to itself. With
+/// the two slots that its numbers take a deque has 16,384.
+const SHARES: u32 = 16_382;
 
 // Runs the markers.
 fn run_markers<G: Gate + Sync, R: Threads + Sync>(
@@ -43,7 +43,7 @@ fn run_markers<G: Gate + Sync, R: Threads + Sync>(
     markers
 }
 
-/// Several markers before their run: the words and the pool that they share, and what each has of its own.
+/// Markers before their run: the words and the pool that they share, and what each has of its own.
 #[derive(Drop)]
 pub(crate) struct Team {
     pub(crate) marks: Marks,
@@ -54,7 +54,7 @@ pub(crate) struct Team {
 }
 
 impl Team {
-    /// So many markers for a graph, with all memory that they need.
+    /// So many markers for a graph, with all memory that they need. One marker shares nothing.
     fn new(alloc: Global, graph: &Graph, count: u32) -> Result<Team, Memory>
         requires some { 0 < count }
         requires few { count ≤ 16 }
@@ -62,9 +62,9 @@ impl Team {
         ensures ready { IfOk result (λ team. IsReady team.marks team.pool team.markers.items team.hands team.seats) }
     {
         let places = graph.nodes() + graph.sleepers();
-        let budget = places.min(SHARES);
+        let budget = if count == 1 { 0 } else { places.min(SHARES) };
         let (marks, seats) = Marks::new(alloc, graph, count)?;
-        let (pool, hands) = GreyPool::new(alloc, count, budget)?;
+        let (pool, hands) = GreyPool::new(alloc, count, budget, places)?;
         let markers = equip(alloc, &marks, &pool, places, budget, seats, hands)?;
         let mut hand_room = Room::new(alloc);
         hand_room.reserve(count as usize)?;
@@ -100,13 +100,14 @@ impl Team {
             seats,
         } = self;
         let dealt = deal(&marks, &pool, graph, markers);
+        let begun = AtomicU64::new(0);
         let idle = AtomicU64::new(0);
         let shared = Shared {
             marks: &marks,
             pool: &pool,
             graph,
             waiters,
-            count: dealt.len() as u64,
+            begun: &begun,
             idle: &idle,
         };
         let done = run_markers(rt, gate, &shared, dealt);
@@ -114,29 +115,22 @@ impl Team {
     }
 }
 
-/// How a graph is marked: by one marker, which needs no words and no deque, or by several.
-#[derive(Drop)]
-pub(crate) enum Way {
-    Alone(Alone),
-    Together(Team),
-}
-
 /// All that some markers need to mark one graph, which is what contracts see.
 pub struct Markers {
     graph: Snapshot<Graph>,
     waiters: Waiters,
-    way: Way,
+    team: Team,
 }
 
 impl Model for Markers {
     ghost use Rattle.golf_model.specs.declared.graph.GraphParts.{GraphParts};
-    ghost use Rattle.golf_mark.specs.Ways.{IsReadyFor};
+    ghost use Rattle.golf_mark.specs.Team.{IsReadyFor};
 
     ghost Value = { GraphParts };
 
     ghost view = { λ m. m.graph.value };
 
-    ghost invariant = { λ m. IsReadyFor m.graph.value m.waiters m.way };
+    ghost invariant = { λ m. IsReadyFor m.graph.value m.waiters m.team };
 }
 
 // Written out once here, so that no other crate goes through the fields where it lets markers go.
@@ -145,7 +139,7 @@ impl Drop for Markers {
         let Markers {
             graph: _,
             waiters: _,
-            way: _,
+            team: _,
         } = self;
     }
 }
@@ -158,26 +152,21 @@ impl Markers {
         ensures { IfOk result (λ markers. markers ≡ graph.now) }
     {
         let waiters = Waiters::new(alloc, graph)?;
-        let way = if count == 1 {
-            Way::Alone(Alone::new(alloc, graph)?)
-        } else {
-            Way::Together(Team::new(alloc, graph, count)?)
-        };
+        let team = Team::new(alloc, graph, count)?;
         Ok(Markers {
             graph: Snapshot::of(graph),
             waiters,
-            way,
+            team,
         })
     }
 
     /// Marks the least closed set of the graph that `new` saw. It takes no memory.
     ///
-    /// One marker marks as `mark_alone` does, in the thread of the caller. Each of several runs in a
-    /// thread of its own; if one cannot be started, its caller does that work itself. In each turn a
-    /// marker takes a place and marks all that it justifies; it ends if none comes. The gate is passed
-    /// before each turn, the last one included; markers and turns count from 0. What one of several
-    /// markers took and could not yet know as marked, and what is left, is scanned at the end, without
-    /// the gate.
+    /// Marker 0 runs in the thread of the caller, and each other marker in a thread of its own. If a
+    /// thread cannot be started, its caller does that work itself. In each turn a marker takes a place
+    /// and marks all that it justifies; it ends if none comes. The gate is passed before each turn, the
+    /// last one included; markers and turns count from 0. What a marker took and could not yet know as
+    /// marked, and what is left, is scanned at the end, without the gate.
     pub fn mark<R: Threads + Sync, G: Gate + Sync>(self, rt: &R, graph: &Graph, gate: &G) -> Marked
         requires { self ≡ graph.now }
         ensures { MarksLeast graph.now result }
@@ -185,11 +174,8 @@ impl Markers {
         let Markers {
             graph: _,
             waiters,
-            way,
+            team,
         } = self;
-        match way {
-            Way::Alone(alone) => alone.mark(graph, &waiters, gate),
-            Way::Together(team) => team.mark(rt, graph, &waiters, gate),
-        }
+        team.mark(rt, graph, &waiters, gate)
     }
 }

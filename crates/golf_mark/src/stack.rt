@@ -2,7 +2,7 @@
 
 ghost use Rattle.std.specs.Prelude.{◌≡◌, ◌+◌, ◌<◌, ◌≤◌, ◌∷◌, ◌++◌, [], IfOk, MatchOption, length};
 
-use golf_base::{Memory, Room};
+use golf_base::Memory;
 use std::alloc::Global;
 use std::marker::Model;
 
@@ -11,12 +11,12 @@ use std::marker::Model;
 /// What was at the front is skipped: its room comes back when the list is cleared.
 #[derive(Drop)]
 pub(crate) struct Stack {
-    places: Room<u32>,
+    places: Vec<u32>,
     skipped: usize,
 }
 
 impl Model for Stack {
-    ghost use Rattle.std.specs.Prelude.{ℕ, ◌≤◌, drop, length};
+    ghost use Rattle.std.specs.Prelude.{ℕ, ◌-◌, ◌≤◌, drop, length, vec_capacity, vec_len};
     ghost use Rattle.std.specs.Coded.{coded_ℕ};
     ghost use Rattle.golf_base.specs.Roomy.{Roomy, roomy_code};
 
@@ -24,7 +24,7 @@ impl Model for Stack {
 
     ghost coded = { roomy_code coded_ℕ };
 
-    ghost view = { λ s. record { items = drop s.skipped s.places.items; spare = s.places.spare } };
+    ghost view = { λ s. record { items = drop s.skipped s.places.items; spare = vec_capacity s.places - vec_len s.places } };
 
     ghost invariant = { λ s. s.skipped ≤ length s.places.items };
 }
@@ -35,9 +35,10 @@ impl Stack {
         ensures items { IfOk result (λ s. s.items ≡ []) }
         ensures room { IfOk result (λ s. room ≤ s.spare) }
     {
-        let mut places = Room::new(alloc);
-        places.reserve(room)?;
-        Ok(Stack { places, skipped: 0 })
+        Ok(Stack {
+            places: Vec::with_capacity(alloc, room)?,
+            skipped: 0,
+        })
     }
 
     pub(crate) fn len(&self) -> usize
@@ -58,7 +59,7 @@ impl Stack {
         ensures items { self.new.items ≡ self.old.items ++ place ∷ [] }
         ensures spare { self.new.spare + 1 ≡ self.old.spare }
     {
-        self.places.push_ready(place);
+        self.places.push_reserved(place);
     }
 
     /// Takes the last place.

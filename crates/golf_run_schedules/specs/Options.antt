@@ -1,9 +1,13 @@
 -- The limits of the options of a run (profile).
-use Rattle.std.specs.Prelude.{◌<◌, ◌≤◌}
+use Rattle.std.specs.Prelude.{ℕ, ◌<◌, ◌≤◌}
 use Rattle.golf_run_schedules.specs.declared.options.RunOptions.{RunOptions}
+
+-- the most turns of a run, and the most turns between two collections that are added
+abbrev pub most_turns : ℕ
+most_turns = 10000000
 
 -- as many turns and markers as a run may have
 pub record IsWithinLimits (options : RunOptions) : Type 0 where
-  pub turns : options.turns ≤ 10000000
+  pub turns : options.turns ≤ most_turns
   pub some : 0 < options.markers
   pub few : options.markers ≤ 16

@@ -10,5 +10,5 @@ mod options;
 mod schedule;
 
 pub use events::{Event, Events};
-pub use options::RunOptions;
+pub use options::{MOST_TURNS, RunOptions};
 pub use schedule::Schedule;

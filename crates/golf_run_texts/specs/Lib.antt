@@ -1,4 +1,5 @@
 pub mod Codes
+pub mod Fixed
 pub mod Texts
 pub mod Output
 pub mod Writes

@@ -2,18 +2,28 @@
 
 ghost use Rattle.std.specs.Prelude.{◌≡◌};
 ghost use Rattle.golf_run_texts.specs.Codes.{code_of};
+ghost use Rattle.golf_run_texts.specs.Fixed.{AreFixed};
 
 /// The most bytes of a file.
 pub const LIMIT: u32 = 1_048_576;
 
+/// The usage, for words that are no line.
 pub const USAGE: &[u8; 160] =
     b"usage: golf run [--schedule S] [--turns N] [--every N] [--markers N] [--recover] [--why]\n       golf run --threads N\n       golf generate N\n       golf meaning\n";
 
+/// The line for a source that fails.
 pub const READ_FAULT: &[u8; 11] = b"read fault\n";
 
+/// The line for a file of more than `LIMIT` bytes.
 pub const TOO_LONG: &[u8; 33] = b"refused: more than 1048576 bytes\n";
 
+/// The line for a program that is out of memory.
 pub const NO_MEMORY: &[u8; 14] = b"out of memory\n";
+
+/// The limit of a file and the texts above are those of the definitions.
+pub fn constants_law()
+    ensures { AreFixed }
+{}
 
 /// How the program ends.
 #[derive(Clone, Copy, Debug, PartialEq, Eq)]

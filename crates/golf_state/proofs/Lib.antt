@@ -15,3 +15,4 @@ mod ReaderLaws
 pub mod FirstLaws
 mod Leaving
 mod ClearingLaws
+mod Comparisons

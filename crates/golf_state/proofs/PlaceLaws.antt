@@ -281,3 +281,17 @@ runs-busy queue (e ∷ es) r i =
     busy true true true q i = refl
     busy true true false true i = refl
     busy true true false false i = cc
+
+some-left : (xs : List ℕ) → 1 ≤ length xs → not_empty xs ≡ true
+some-left [] l = absurd (omega (arith, l))
+some-left (x ∷ xs) l = refl
+
+-- of two that run one can
+pub one-awake : (queue : List Queued) (es : List (ℕ × GoroutineView)) → Rises 0 es → 2 ≤ length (running_of es) → not_empty (keys_where (can_run queue) es) ≡ true
+one-awake queue es r l = elim (not (not_empty queue) && starts_idle es) as (λ b. (not (not_empty queue) && starts_idle es) ≡ b → not_empty (keys_where (can_run queue) es) ≡ true) [
+  | true ↦ λ i.
+      let e = runs-idle queue es r i in
+      let n = ap (λ (xs : List ℕ). length xs) e in
+      some-left (keys_where (can_run queue) es) (omega (arith, l, n, one-fewer (running_of es)))
+  | false ↦ λ i. let n = ap (λ (xs : List ℕ). length xs) (runs-busy queue es r i) in some-left (keys_where (can_run queue) es) (omega (arith, l, n))
+] refl

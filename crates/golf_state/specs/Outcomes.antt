@@ -1,13 +1,17 @@
 -- What the outcomes of operations say.
-use Rattle.std.specs.Prelude.{◌≡◌, ℕ, true, List}
+use Rattle.std.specs.Prelude.{◌≡◌, ℕ, Bool, true, false, cond, List, [], ◌∷◌}
+use Rattle.golf_theory.specs.Maps.{find}
+use Rattle.golf_data.specs.declared.goroutine.Ending.{Ending}
+use Rattle.golf_data.specs.declared.goroutine.Leaving.{Leaving}
 use Rattle.golf_data.specs.declared.goroutine.PanicKind.{PanicKind}
 use Rattle.golf_data.specs.Fatal.{is_fatal}
+use Rattle.golf_model.specs.Views.{FrameView}
 use Rattle.golf_model.specs.State.{State}
 use Rattle.golf_model.specs.Changes.{Change}
 use Rattle.golf_model.specs.Acting.{Actor, panics, dies, choose}
 use Rattle.golf_state.specs.declared.outcome.Outcome.{Outcome}
-use Rattle.golf_state.specs.Looked.{runs, is_blocked}
-use Rattle.golf_state.specs.Doing.{does, Stands}
+use Rattle.golf_state.specs.Looked.{runs, is_blocked, frames_of}
+use Rattle.golf_state.specs.Doing.{does, does_by, Stands}
 
 -- a fatal error ends the program at once; a panic unwinds
 abbrev pub faults : Actor → PanicKind → List Change
@@ -27,9 +31,52 @@ carries Outcome.Blocked g line s = s
 carries (Outcome.Panic kind) g line s = does (λ a. faults a kind) g line s
 carries Outcome.Stuck g line s = s
 
--- an operation that makes these changes has come to this outcome: it is done, and the goroutine runs; or the goroutine is blocked; or it panics, and the state is as it was; or no rule fits
+-- a frame that unwinds panics, any other one goes on
+abbrev pub frame_outcome : Leaving → Outcome
+frame_outcome Leaving.No = Outcome.Done
+frame_outcome (Leaving.Returning v) = Outcome.Done
+frame_outcome (Leaving.Unwinding x) = Outcome.Panic x.kind
+
+abbrev pub frames_outcome : List FrameView → Outcome
+frames_outcome [] = Outcome.Done
+frames_outcome (f ∷ fs) = frame_outcome f.leaving
+
+-- a fatal error ends the program
+abbrev pub ending_outcome : Ending → Outcome
+ending_outcome Ending.Returned = Outcome.Done
+ending_outcome (Ending.Panicked kind g line) = Outcome.Panic kind
+ending_outcome Ending.Asleep = Outcome.Done
+
+-- whether a goroutine blocks: none but that in its turn does
+abbrev pub has_block : List Change → Bool
+has_block [] = false
+has_block (Change.Block g kind line waits r ∷ cs) = true
+has_block (_ ∷ cs) = has_block cs
+
+-- by the first change that ends the program, or that makes a goroutine go on: it is the one in its turn
+abbrev pub goes_as : List Change → Outcome
+goes_as [] = Outcome.Done
+goes_as (Change.Finish e ∷ cs) = ending_outcome e
+goes_as (Change.Become g r ∷ cs) = frames_outcome r.frames
+goes_as (_ ∷ cs) = goes_as cs
+
+-- what the changes of an operation come to; if there are none, no rule fits
+abbrev pub outcome_of : List Change → Outcome
+outcome_of [] = Outcome.Stuck
+outcome_of (c ∷ cs) = cond (has_block (c ∷ cs)) Outcome.Blocked (goes_as (c ∷ cs))
+
+-- the state after this outcome: it is done, and the goroutine runs; or the goroutine is blocked; or it panics, and the state is as it was; or no rule fits
+abbrev pub Leaves : Outcome → (Actor → List Change) → ℕ → ℕ → State → State → Type 0
+Leaves Outcome.Done act g line old new = (new ≡ does act g line old) × (runs g new ≡ true)
+Leaves Outcome.Blocked act g line old new = (new ≡ does act g line old) × (is_blocked g new ≡ true)
+Leaves (Outcome.Panic kind) act g line old new = (new ≡ old) × (does act g line old ≡ does (λ a. faults a kind) g line old)
+Leaves Outcome.Stuck act g line old new = (new ≡ old) × (does act g line old ≡ old)
+
+-- the innermost frame of these is not leaving
+abbrev pub StaysIn : List FrameView → Type 0
+StaysIn [] = Unit {0}
+StaysIn (f ∷ fs) = f.leaving ≡ Leaving.No
+
+-- an operation that makes these changes has come to this outcome; if the goroutine's innermost frame was not leaving, it is exactly what they come to
 abbrev pub Comes : Outcome → (Actor → List Change) → ℕ → ℕ → State → State → Type 0
-Comes Outcome.Done act g line old new = (new ≡ does act g line old) × (runs g new ≡ true)
-Comes Outcome.Blocked act g line old new = (new ≡ does act g line old) × (is_blocked g new ≡ true)
-Comes (Outcome.Panic kind) act g line old new = (new ≡ old) × (does act g line old ≡ does (λ a. faults a kind) g line old)
-Comes Outcome.Stuck act g line old new = (new ≡ old) × (does act g line old ≡ old)
+Comes outcome act g line old new = Leaves outcome act g line old new × (StaysIn (frames_of g old) → outcome_of (does_by act g line (find g old.goroutines)) ≡ outcome)

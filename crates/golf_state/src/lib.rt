@@ -2,6 +2,7 @@
 //!
 //! - `State`: globals, objects, goroutines, the finaliser queue, what was printed, how the program
 //!   has ended. What it caches is the list of the goroutines that run.
+//! - `Runnable`: the goroutines that can run.
 //! - `Waiting`, `Given`: a goroutine that waits on an object, and what it is given when it goes on.
 //! - `Acting`: a goroutine in its turn.
 //! - `advance_with`, `enter`, `return_frame` and their kin: what becomes of a goroutine's frames.
@@ -10,11 +11,13 @@
 mod acting;
 mod calls;
 mod clearing;
+mod comparing;
 mod finaliser_queue;
 mod frames;
 mod operands;
 mod outcome;
 mod places;
+mod runnable;
 mod state;
 mod waiters;
 mod wake_all;
@@ -30,6 +33,7 @@ pub use outcome::{
     Outcome, block_at, block_on, carry_out, fault, make_onto, make_over, one_wait, proceed,
     proceed_with,
 };
+pub use runnable::Runnable;
 pub use state::State;
 pub use waiters::Waiting;
 pub use waking::{Waking, received};

@@ -1,6 +1,6 @@
 //! The state: what it tells, and the changes that a turn is made of.
 
-ghost use Rattle.std.specs.Prelude.{◌≡◌, ◌<◌, ◌≤◌, ◌^◌, ◌+◌, ◌-◌, ◌↔◌, IsTrue, [], length, map, true, false, Some, None, IfOk, OnOk, OnErr, IsSome, IfSome, is_some, option_map, slice_get};
+ghost use Rattle.std.specs.Prelude.{◌≡◌, ◌<◌, ◌≤◌, ◌^◌, ◌+◌, ◌-◌, ◌↔◌, IsTrue, [], not, length, map, true, false, Some, None, IfOk, OnOk, OnErr, IsSome, IfSome, is_some, option_map, slice_get};
 ghost use Rattle.std.specs.Borrow.{sem};
 ghost use Rattle.golf_theory.specs.Maps.{find, keys, Rises, IsRising};
 ghost use Rattle.golf_data.specs.declared.goroutine.Mode.{Mode};
@@ -13,6 +13,7 @@ ghost use Rattle.golf_model.specs.ReadersWriters.{readers_next};
 ghost use Rattle.golf_model.specs.Clearing.{clears};
 ghost use Rattle.golf_model.specs.Changes.{apply_all, make, replace, set_global, become, block, spawn, leave, finish, set_finaliser, clear_finaliser, take_queued, output as printed, wake_all, pass_on, move_wait};
 ghost use Rattle.golf_heap.specs.Objects.{kept};
+ghost use Rattle.golf_state_goroutines.specs.Places.{running_of};
 ghost use Rattle.golf_state.specs.Collecting.{queue_unflagged};
 ghost use Rattle.golf_state.specs.Looked.{looked_up, runs, is_blocked, frames_of, reframed, advanced, opening};
 ghost use Rattle.golf_state.specs.Wakening.{wakened};
@@ -26,7 +27,8 @@ ghost use Rattle.golf_state.specs.Lending.{LendsFrames, LendsObject};
 use crate::clearing::clear_goroutine;
 use crate::finaliser_queue::FinaliserQueue;
 use crate::frames::{Wakening, settle, waken};
-use crate::places::{has_no_call, running_at};
+use crate::places::has_no_call;
+use crate::runnable::Runnable;
 use crate::waiters::{
     Waiting, enter_for_mutex, first_in_queue, first_waiter, forget, has_queue, leave_queues,
     move_mode, narrow_queues, waiter_by,
@@ -125,17 +127,33 @@ impl State {
 
     // ---- what it tells, without memory
 
+    /// How many goroutines run; goroutine 0 among them, also if it has nothing to call.
+    #[inline(always)]
+    pub fn running_count(&self) -> usize
+        ensures { result ≡ length (running_of self.now.goroutines) }
+    {
+        self.roster.running_count()
+    }
+
+    /// The goroutines that can run, in rising order of number.
+    #[inline(always)]
+    pub fn runnable(&self) -> Runnable<'_>
+        ensures all { result ≡ runnable self.now }
+        ensures rises { IsRising self.now.goroutines }
+    {
+        if has_no_call(self.queue.as_slice(), &self.roster) {
+            Runnable::new(&self.roster, 1)
+        } else {
+            Runnable::new(&self.roster, 0)
+        }
+    }
+
     /// How many goroutines can run.
     #[inline(always)]
     pub fn runnable_count(&self) -> usize
         ensures { result ≡ length (runnable self.now) }
     {
-        let count = self.roster.running_count();
-        if has_no_call(self.queue.as_slice(), &self.roster) {
-            count.saturating_sub(1)
-        } else {
-            count
-        }
+        self.runnable().count()
     }
 
     /// The goroutine at this place among those that can run, in rising order of number.
@@ -145,11 +163,15 @@ impl State {
         ensures at { slice_get (runnable self.now) place ≡ Some result.0 }
         ensures rises { IsRising self.now.goroutines }
     {
-        if has_no_call(self.queue.as_slice(), &self.roster) {
-            running_at(&self.roster, place + 1)
-        } else {
-            running_at(&self.roster, place)
-        }
+        self.runnable().at(place)
+    }
+
+    // Whether no goroutine can run. Of two that run one can, whatever goroutine 0 has to call.
+    #[inline(always)]
+    fn is_asleep(&self) -> bool
+        ensures { result ≡ not (not_empty (runnable self.now)) }
+    {
+        self.roster.running_count() < 2 && self.runnable_count() == 0
     }
 
     /// How the program has ended: as recorded, else asleep if no goroutine can run.
@@ -157,7 +179,7 @@ impl State {
     pub fn ending(&self) -> Option<Ending>
         ensures { result ≡ ending self.now }
     {
-        if self.recorded.is_none() && self.runnable_count() == 0 {
+        if self.recorded.is_none() && self.is_asleep() {
             return Some(Ending::Asleep);
         }
         self.recorded
@@ -256,6 +278,27 @@ impl State {
         ensures { result.now ≡ self.now.output }
     {
         self.output.as_slice()
+    }
+
+    /// Returns the number that the next goroutine gets.
+    pub(crate) fn next_goroutine(&self) -> u32
+        ensures { result ≡ self.now.next_goroutine }
+    {
+        self.next_goroutine
+    }
+
+    /// Returns the ticket that the next goroutine to block gets.
+    pub(crate) fn next_ticket(&self) -> u64
+        ensures { result ≡ self.now.next_ticket }
+    {
+        self.next_ticket
+    }
+
+    /// Returns how the program has ended, or `None` if that is not recorded.
+    pub(crate) fn recorded(&self) -> Option<Ending>
+        ensures { result ≡ self.now.recorded }
+    {
+        self.recorded
     }
 
     // ---- objects

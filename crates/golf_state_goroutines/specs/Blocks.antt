@@ -1,7 +1,8 @@
 -- Blocks of goroutines: a block with the key k has those with numbers from 256 k on, below 256 (k + 1).
-use Rattle.std.specs.Prelude.{◌≡◌, ◌<◌, ◌≤◌, ◌^◌, ◌*◌, ◌+◌, ℕ, suc, Bool, true, false, ◌||◌, ◌==◌, List, [], ◌∷◌, ◌++◌, map, length, take, Option, Some, None, vec_capacity}
+use Rattle.std.specs.Prelude.{◌≡◌, ◌<◌, ◌≤◌, ◌^◌, ◌*◌, ◌/◌, ◌+◌, ℕ, suc, Bool, true, false, ◌||◌, ◌==◌, List, [], ◌∷◌, ◌++◌, map, length, take, Option, Some, None, vec_capacity, slice_get}
 use Rattle.golf_base.specs.declared.ids.GoroutineId.{GoroutineId}
 use Rattle.golf_theory.specs.Maps.{keys}
+use Rattle.golf_heap.specs.Objects.{rank}
 use Rattle.golf_model.specs.State.{not_empty}
 use Rattle.golf_state_goroutines.specs.Places.{plain_entries}
 use Rattle.golf_state_goroutines.specs.declared.places.Place.{Place}
@@ -44,6 +45,11 @@ AreBlocks k (b ∷ bs) = (k ≤ b.key) × IsBlock b × AreBlocks (suc b.key) bs
 -- the blocks by their keys
 abbrev pub keyed_blocks : List Block → List (ℕ × Block)
 keyed_blocks bs = map (λ b. (b.key, b)) bs
+
+-- the place of a number: the index of its block, and its index there
+pub record IsPlace (g : ℕ) (bs : List Block) (i j : ℕ) : Type 0 where
+  pub block : i ≡ rank (g / 256) (keyed_blocks bs)
+  pub place : (b : Block) → slice_get bs i ≡ Some b → j ≡ rank g (plain_entries b.places.items)
 
 -- how many run in the first n blocks
 abbrev pub runs_before : List Block → ℕ → ℕ

@@ -15,5 +15,5 @@ mod roster;
 mod walking;
 
 pub use blocks::Block;
-pub use places::{Place, goroutine_at, is_running, place_of};
+pub use places::{Place, is_running, place_of};
 pub use roster::Roster;

@@ -1,7 +1,7 @@
 //! The goroutines of one block by number.
 
-ghost use Rattle.std.specs.Prelude.{◌≡◌, ◌≤◌, ◌*◌, ◌/◌, ◌++◌, ◌==◌, not, filter, map, length, vec_capacity, IfOk, IfSome, option_map};
-ghost use Rattle.golf_theory.specs.Maps.{find, keys, Rises};
+ghost use Rattle.std.specs.Prelude.{◌≡◌, ◌≤◌, ◌*◌, ◌/◌, ◌++◌, ◌==◌, not, filter, map, length, vec_capacity, IfOk, IfSome};
+ghost use Rattle.golf_theory.specs.Maps.{keys, Rises};
 ghost use Rattle.golf_heap.specs.Objects.{rank};
 ghost use Rattle.golf_data.specs.declared.goroutine.Mode.{Mode};
 ghost use Rattle.golf_model.specs.Views.{frame_views, goroutine_view};
@@ -40,10 +40,10 @@ pub fn place_of(
     })
 }
 
-// The index at which the goroutine of this number stands if none before it in its block has ended,
-// and if it does.
+/// The index at which the goroutine of this number stands if none before it in its block has ended,
+/// and if it does.
 #[inline(always)]
-fn index_of(places: &[Place], number: u32) -> Option<usize>
+pub fn index_in(places: &[Place], number: u32) -> Option<usize>
     requires { Rises (number / 256 * 256) (plain_entries places.now) }
     ensures { IfSome result (λ at. at ≡ rank number (plain_entries places.now)) }
 {
@@ -62,23 +62,9 @@ pub fn rank_of(places: &[Place], number: u32) -> usize
     requires { Rises (number / 256 * 256) (plain_entries places.now) }
     ensures { result ≡ rank number (plain_entries places.now) }
 {
-    match index_of(places, number) {
+    match index_in(places, number) {
         Some(at) => at,
         None => places.partition_point(|place| place.number < number),
-    }
-}
-
-/// The goroutine of this number, if it is there.
-#[inline(always)]
-pub fn goroutine_at(places: &[Place], number: u32) -> Option<&Goroutine>
-    requires { Rises (number / 256 * 256) (plain_entries places.now) }
-    ensures { option_map (λ r. goroutine_view r.now) result ≡ find number (plain_entries places.now) }
-{
-    let place = places.get(rank_of(places, number))?;
-    if place.number == number {
-        Some(place.goroutine.get())
-    } else {
-        None
     }
 }
 

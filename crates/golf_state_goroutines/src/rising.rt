@@ -1,6 +1,6 @@
 //! Goroutines in rising order of number.
 
-ghost use Rattle.std.specs.Prelude.{◌≡◌, ◌<◌, ◌≤◌, ◌+◌, ◌∷◌, ◌++◌, [], map, vec_len, vec_capacity, length};
+ghost use Rattle.std.specs.Prelude.{◌≡◌, ◌<◌, ◌≤◌, ◌+◌, ◌∷◌, ◌++◌, [], map, vec_len, vec_capacity, length, remove};
 ghost use Rattle.golf_theory.specs.Stored.{placed, without};
 ghost use Rattle.golf_state_goroutines.specs.Rising.{RisesFrom, leading};
 
@@ -16,6 +16,20 @@ fn leading(goroutines: &[GoroutineId], bound: u64) -> usize
     goroutines.partition_point(|other| u64::from(other.0) < bound)
 }
 
+// Takes out the one at a place. Nothing is moved if it is the last.
+#[inline(always)]
+fn take_out(goroutines: &mut Vec<GoroutineId>, at: usize)
+    requires { at < length goroutines.old.items }
+    ensures items { goroutines.new.items ≡ remove goroutines.old.items at }
+    ensures room { vec_capacity goroutines.new ≡ vec_capacity goroutines.old }
+{
+    if at + 1 == goroutines.len() {
+        goroutines.truncate(at);
+    } else {
+        goroutines.remove(at);
+    }
+}
+
 /// Takes a goroutine out, if it is one of them.
 #[inline(always)]
 pub fn leave_out(goroutines: &mut Vec<GoroutineId>, g: GoroutineId)
@@ -25,7 +39,7 @@ pub fn leave_out(goroutines: &mut Vec<GoroutineId>, g: GoroutineId)
 {
     let at = leading(goroutines.as_slice(), u64::from(g.0));
     if at < goroutines.len() && goroutines[at].0 == g.0 {
-        goroutines.remove(at);
+        take_out(goroutines, at);
     }
 }
 

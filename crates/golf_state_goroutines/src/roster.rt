@@ -10,10 +10,10 @@ ghost use Rattle.golf_state_goroutines.specs.Goroutines.{added, parted, stopped,
 ghost use Rattle.golf_state_goroutines.specs.Blocks.{places_in};
 ghost use Rattle.golf_state_goroutines.specs.Lending.{LendsGoroutine};
 
-use crate::blocks::{Block, block_of, join, part, start, stop};
+use crate::blocks::{Block, block_of, join, part, place_in, start, stop};
 use crate::counting::{count_places, count_running};
 use crate::opening::{close_blocks, open};
-use crate::places::{Place, goroutine_at, rank_of};
+use crate::places::Place;
 use crate::retaining::retain_places;
 use crate::walking::{numbers, running_at};
 use golf_base::{GoroutineId, List, Memory};
@@ -91,8 +91,14 @@ impl Roster {
         ensures { option_map (λ r. goroutine_view r.now) result ≡ find number (plain_entries self.now.places) }
     {
         let blocks = self.blocks.as_slice();
-        let block = blocks.get(block_of(blocks, number / 256))?;
-        goroutine_at(block.places.as_slice(), number)
+        let (at, index) = place_in(blocks, number);
+        let block = blocks.get(at)?;
+        let place = block.places.as_slice().get(index)?;
+        if place.number == number {
+            Some(place.goroutine.get())
+        } else {
+            None
+        }
     }
 
     /// Whether the goroutine of this number is there.
@@ -110,8 +116,7 @@ impl Roster {
         ensures* writes_back { sem 𝓛 (LendsGoroutine self.entry number result) }
         ensures here { slice_get self.old.places (rank number (plain_entries self.old.places)) ≡ Some (record { number = number; goroutine = result.now }) }
     {
-        let at = block_of(self.blocks.as_slice(), number / 256);
-        let index = rank_of(self.blocks[at].places.as_slice(), number);
+        let (at, index) = place_in(self.blocks.as_slice(), number);
         let block = &mut self.blocks[at];
         let place = &mut block.places[index];
         place.goroutine.get_mut()

@@ -1,2 +1,3 @@
 pub mod Serves
 pub mod Notices
+pub mod Outcomes

@@ -8,9 +8,9 @@ ghost use Rattle.golf_state.specs.Doing.{Stands};
 ghost use Rattle.golf_state.specs.Outcomes.{Comes};
 ghost use Rattle.golf_state.specs.Handing.{is_blocked_where, handed_over};
 
-use crate::objects::mutex_at;
+use crate::objects::{mutex_at, put_mutex};
 use golf_base::{Memory, ObjectId};
-use golf_data::{Object, PanicKind, Side, Value, WaitKind};
+use golf_data::{PanicKind, Side, Value, WaitKind};
 use golf_state::{Acting, Outcome, State, Waiting, Wakening, block_on, last_operand, proceed};
 use std::alloc::Global;
 
@@ -33,7 +33,7 @@ fn lock_at(
         block_on(alloc, state, acting, 1, WaitKind::Lock, mutex, Side::Lock)?;
         return Ok(Outcome::Blocked);
     }
-    state.replace(mutex, Object::Mutex(true));
+    put_mutex(state, mutex, true);
     proceed(state, acting, acting.after, 1);
     Ok(Outcome::Done)
 }
@@ -68,7 +68,7 @@ pub fn hand_over(state: &mut State, mutex: ObjectId, waiting: Option<Waiting>)
 {
     match waiting {
         Some(waiting) => state.wake(waiting.goroutine, Wakening::Released),
-        None => state.replace(mutex, Object::Mutex(false)),
+        None => put_mutex(state, mutex, false),
     }
 }
 

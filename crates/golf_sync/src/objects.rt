@@ -1,7 +1,9 @@
 //! Objects of package sync, by number.
 
-ghost use Rattle.std.specs.Prelude.{◌≡◌};
+ghost use Rattle.std.specs.Prelude.{◌≡◌, IsSome, Some};
 ghost use Rattle.golf_theory.specs.Maps.{find};
+ghost use Rattle.golf_data.specs.declared.value.Object.{Object};
+ghost use Rattle.golf_model.specs.Changes.{replace};
 ghost use Rattle.golf_sync.specs.Objects.{mutex_of, group_of, rw_of, condition_of};
 
 use golf_base::ObjectId;
@@ -21,6 +23,36 @@ pub fn mutex_at(state: &State, object: ObjectId) -> Option<bool>
         Object::Group(_) => None,
         Object::Rw(_) => None,
         Object::Cond(_) => None,
+    }
+}
+
+// A mutex becomes locked or unlocked.
+#[inline(always)]
+fn set_locked(object: &mut Object, is_locked: bool)
+    requires { IsSome (mutex_of (Some object.old)) }
+    ensures { object.new ≡ Object.Mutex is_locked }
+{
+    match object {
+        Object::Mutex(locked) => *locked = is_locked,
+        Object::Struct(_) => {}
+        Object::Slice(_) => {}
+        Object::Chan(_) => {}
+        Object::Group(_) => {}
+        Object::Rw(_) => {}
+        Object::Cond(_) => {}
+    }
+}
+
+/// The object of this number, if it is there, becomes a mutex, locked or unlocked. One that is a mutex
+/// changes in its place.
+#[inline(always)]
+pub fn put_mutex(state: &mut State, object: ObjectId, is_locked: bool)
+    ensures { state.new ≡ replace object.0 (Object.Mutex is_locked) state.old }
+{
+    if mutex_at(state, object).is_some() {
+        set_locked(state.object_mut(object), is_locked);
+    } else {
+        state.replace(object, Object::Mutex(is_locked));
     }
 }
 

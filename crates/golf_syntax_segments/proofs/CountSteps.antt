@@ -16,6 +16,7 @@ use Rattle.golf_lex_tokens.specs.declared.token.Punctuation.TheVariants as punct
 use Rattle.golf_lex_tokens.specs.Cost.{one_more, closed, cleared, counted}
 use Rattle.golf_syntax_segments.specs.declared.cost.Role.{Role}
 use Rattle.golf_syntax_segments.specs.declared.cost.Role.TheVariants.{Opens, Closes, Separates, Ordinary}
+use Rattle.golf_syntax_segments.specs.declared.cost.TheConstants.{MOST_COST}
 use Rattle.golf_syntax_segments.specs.Counts.{role_of_punctuation, role_of}
 
 -- the counts after a token of a role
@@ -52,22 +53,22 @@ too_complex-on counts ts i t h e =
     at_drop_more (first_too_complex counts) ts i t h
     ∙ ap (λ (q : Token). cond (nat_lt most (sum (counted q.kind counts))) (Some q.line) (first_too_complex (counted q.kind counts) (drop (i + 1) ts))) (sym e)
 
-more-than : (n : ℕ) → 1000 < n → nat_lt most n ≡ true
+more-than : (n : ℕ) → MOST_COST < n → nat_lt most n ≡ true
 unfolding most
 more-than n h = grind (arith, nat_tests)
 
-no-more : (n : ℕ) → n ≤ 1000 → nat_lt most n ≡ false
+no-more : (n : ℕ) → n ≤ MOST_COST → nat_lt most n ≡ false
 unfolding most
 no-more n h = grind (arith, nat_tests)
 
 -- a token that costs more
-pub costs-more : (counts : List ℕ) (ts : List Token) (i : ℕ) (t : Token) (inner : ℕ) (outer : List ℕ) → i < length ts → t ≡ get_or ts i t → inner ∷ reverse outer ≡ counted t.kind counts → 1000 < inner + sum outer → first_too_complex counts (drop i ts) ≡ Some t.line
+pub costs-more : (counts : List ℕ) (ts : List Token) (i : ℕ) (t : Token) (inner : ℕ) (outer : List ℕ) → i < length ts → t ≡ get_or ts i t → inner ∷ reverse outer ≡ counted t.kind counts → MOST_COST < inner + sum outer → first_too_complex counts (drop i ts) ≡ Some t.line
 costs-more counts ts i t inner outer h e c big =
     too_complex-on counts ts i t h e
     ∙ ap (λ b. cond b (Some t.line) (first_too_complex (counted t.kind counts) (drop (i + 1) ts))) (ap (λ n. nat_lt most n) (ap sum (sym c) ∙ sum-turned inner outer) ∙ more-than (inner + sum outer) big)
 
 -- a token that does not
-pub costs-little : (counts : List ℕ) (ts : List Token) (i : ℕ) (t : Token) (inner : ℕ) (outer : List ℕ) → i < length ts → t ≡ get_or ts i t → inner ∷ reverse outer ≡ counted t.kind counts → inner + sum outer ≤ 1000 → first_too_complex counts (drop i ts) ≡ first_too_complex (inner ∷ reverse outer) (drop (i + 1) ts)
+pub costs-little : (counts : List ℕ) (ts : List Token) (i : ℕ) (t : Token) (inner : ℕ) (outer : List ℕ) → i < length ts → t ≡ get_or ts i t → inner ∷ reverse outer ≡ counted t.kind counts → inner + sum outer ≤ MOST_COST → first_too_complex counts (drop i ts) ≡ first_too_complex (inner ∷ reverse outer) (drop (i + 1) ts)
 costs-little counts ts i t inner outer h e c small =
     too_complex-on counts ts i t h e
     ∙ ap (λ b. cond b (Some t.line) (first_too_complex (counted t.kind counts) (drop (i + 1) ts))) (ap (λ n. nat_lt most n) (ap sum (sym c) ∙ sum-turned inner outer) ∙ no-more (inner + sum outer) small)

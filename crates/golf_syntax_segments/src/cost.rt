@@ -10,6 +10,9 @@ use golf_base::{List, Memory};
 use golf_lex_tokens::{Punctuation, Token, TokenKind};
 use std::alloc::Global;
 
+/// The most that a token may cost.
+pub const MOST_COST: u32 = 1_000;
+
 /// What a token is to the brackets round it.
 #[derive(Clone, Copy)]
 pub enum Role {
@@ -51,7 +54,7 @@ fn kind_role(kind: &TokenKind) -> Role
 // The counts after one more token.
 #[tactic(auto, using(crate::proofs::CountSteps::count_steps))]
 fn count(counts: Counts, kind: &TokenKind) -> Result<Counts, Memory>
-    requires small { counts.total ≤ 1000 }
+    requires small { counts.total ≤ MOST_COST }
     requires adds_up { counts.total ≡ counts.inner + sum counts.outer }
     ensures adds_up { IfOk result (λ c. c.total ≡ c.inner + sum c.outer) }
     ensures value { IfOk result (λ c. c.inner ∷ reverse c.outer ≡ counted kind.now (counts.inner ∷ reverse counts.outer)) }
@@ -95,7 +98,7 @@ fn count(counts: Counts, kind: &TokenKind) -> Result<Counts, Memory>
     }
 }
 
-/// The line of the first token that costs more than 1,000.
+/// The line of the first token that costs more than `MOST_COST`.
 pub fn first_too_complex(alloc: Global, tokens: &[Token]) -> Result<Option<u32>, Memory>
     ensures { IfOk result (λ o. o ≡ reads_spec.first_too_complex no_counts tokens.now) }
 {
@@ -106,7 +109,7 @@ pub fn first_too_complex(alloc: Global, tokens: &[Token]) -> Result<Option<u32>,
     };
     for token in tokens {
         counts = count(counts, &token.kind)?;
-        if counts.total > 1000 {
+        if counts.total > MOST_COST {
             return Ok(Some(token.line));
         }
     }

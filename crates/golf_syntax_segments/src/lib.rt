@@ -8,6 +8,6 @@ mod cost;
 mod laws;
 mod segments;
 
-pub use cost::first_too_complex;
+pub use cost::{MOST_COST, first_too_complex};
 pub use laws::{declarations_are_segments, files_are_segments, imports_are_segments};
 pub use segments::front_segment;

@@ -54,6 +54,18 @@ fn cleared(alloc: Global) -> Result<(usize, usize), Memory> {
     Ok((printed, state.output().len()))
 }
 
+// Whether a state is told to be another one: one that is equal, the same with something printed, and
+// with a goroutine more.
+fn compared(alloc: Global) -> Result<(bool, bool, bool), Memory> {
+    let state = State::new(alloc, List::new(alloc), List::new(alloc), 1)?;
+    let mut other = State::new(alloc, List::new(alloc), List::new(alloc), 1)?;
+    let equal = state.is(&other, alloc)?;
+    other.add_output(b"7\n")?;
+    let printed = state.is(&other, alloc)?;
+    other.spawn(List::new(alloc), 3)?;
+    Ok((equal, printed, state.is(&other, alloc)?))
+}
+
 #[test]
 fn a_deferred_call_runs_before_its_frame_is_gone(rt: HostRuntime) -> Result<(), Fail> {
     let frames = deferred_call(rt.alloc())?;
@@ -65,6 +77,13 @@ fn a_deferred_call_runs_before_its_frame_is_gone(rt: HostRuntime) -> Result<(), 
 fn no_goroutine_gets_a_number_again(rt: HostRuntime) -> Result<(), Fail> {
     let started = started_anew(rt.alloc())?;
     assert_eq!(rt; started, (GoroutineId(3), 3));
+    Ok(())
+}
+
+#[test]
+fn states_are_compared_but_for_their_output(rt: HostRuntime) -> Result<(), Fail> {
+    let told = compared(rt.alloc())?;
+    assert_eq!(rt; told, (true, true, false));
     Ok(())
 }
 

@@ -1,18 +1,19 @@
 //! What hands push, take and steal.
 
-ghost use Rattle.std.specs.Prelude.{◌≡◌, ◌<◌, ◌∷◌, [], length, IfOk};
-ghost use Rattle.golf_grey.specs.Hands.{IsHandOf, capacity_of, hand_count, pushed};
+ghost use Rattle.std.specs.Prelude.{◌≡◌, ◌≢◌, ◌<◌, ◌∷◌, [], length, IfOk};
+ghost use Rattle.golf_grey.specs.Hands.{IsHandOf, capacity_of, hand_count, places_of, pushed};
 
 use golf_base::{List, Memory};
-use golf_grey::{GreyHand, GreyPool};
+use golf_grey::{GreyHand, GreyPool, Left};
 use std::alloc::Global;
 use std::process::Abort;
 use std::test::Fail;
 
-// A pool of two hands that may push 8 times each, with hand 1 and hand 0.
+// A pool of two hands that may push 8 times each, places below 8, with hand 1 and hand 0.
 fn two_hands(alloc: Global) -> Result<(GreyPool, GreyHand, GreyHand), Memory>
     ensures count { IfOk result (λ r. hand_count r.0 ≡ 2) }
     ensures capacity { IfOk result (λ r. capacity_of r.0 ≡ 8) }
+    ensures places { IfOk result (λ r. places_of r.0 ≡ 8) }
     ensures second { IfOk result (λ r. IsHandOf r.0 r.1) }
     ensures first { IfOk result (λ r. IsHandOf r.0 r.2) }
     ensures one { IfOk result (λ r. r.1.number ≡ 1) }
@@ -20,7 +21,7 @@ fn two_hands(alloc: Global) -> Result<(GreyPool, GreyHand, GreyHand), Memory>
     ensures none { IfOk result (λ r. pushed r.2 ≡ []) }
     ensures idle { IfOk result (λ r. pushed r.1 ≡ []) }
 {
-    let (pool, mut hands) = GreyPool::new(alloc, 2, 8)?;
+    let (pool, mut hands) = GreyPool::new(alloc, 2, 8, 8)?;
     let first = hands.remove(1);
     let second = hands.remove(0);
     Ok((pool, second, first))
@@ -29,6 +30,7 @@ fn two_hands(alloc: Global) -> Result<(GreyPool, GreyHand, GreyHand), Memory>
 fn push_three(pool: &GreyPool, hand: &mut GreyHand)
     requires hand { IsHandOf pool.now hand.old }
     requires capacity { capacity_of pool.now ≡ 8 }
+    requires places { places_of pool.now ≡ 8 }
     requires none { pushed hand.old ≡ [] }
     ensures hand { IsHandOf pool.now hand.new }
     ensures number { hand.new.number ≡ hand.old.number }
@@ -42,6 +44,7 @@ fn push_three(pool: &GreyPool, hand: &mut GreyHand)
 fn push_four(pool: &GreyPool, hand: &mut GreyHand)
     requires hand { IsHandOf pool.now hand.old }
     requires capacity { capacity_of pool.now ≡ 8 }
+    requires places { places_of pool.now ≡ 8 }
     requires none { pushed hand.old ≡ [] }
     ensures hand { IsHandOf pool.now hand.new }
     ensures number { hand.new.number ≡ hand.old.number }
@@ -61,13 +64,24 @@ fn take_three(pool: &GreyPool, hand: &mut GreyHand) -> [Option<u32>; 3]
     [first, second, third]
 }
 
-fn both(alloc: Global, second: GreyHand, first: GreyHand) -> Result<List<GreyHand>, Memory>
-    ensures { IfOk result (λ hands. hands ≡ second ∷ first ∷ []) }
+fn both(alloc: Global, one: GreyHand, other: GreyHand) -> Result<List<GreyHand>, Memory>
+    ensures { IfOk result (λ hands. hands ≡ one ∷ other ∷ []) }
 {
     let mut hands = List::new(alloc);
-    hands.push(second)?;
-    hands.push(first)?;
+    hands.push(one)?;
+    hands.push(other)?;
     Ok(hands)
+}
+
+// What is left at the end of a pool whose hands come in this order.
+fn end(alloc: Global, pool: GreyPool, one: GreyHand, other: GreyHand) -> Result<Left, Memory>
+    requires count { hand_count pool ≡ 2 }
+    requires one { IsHandOf pool one }
+    requires other { IsHandOf pool other }
+    requires differ { one.number ≢ other.number }
+{
+    let hands = both(alloc, one, other)?;
+    Ok(pool.close(hands))
 }
 
 // These were taken.
@@ -104,7 +118,19 @@ fn a_hand_steals_in_order_and_what_is_left_comes_at_the_end(rt: HostRuntime) -> 
     let (pool, mut second, mut first) = two_hands(alloc)?;
     push_four(&pool, &mut first);
     let stolen = take_three(&pool, &mut second);
-    let left = pool.close(both(alloc, second, first)?);
+    let left = end(alloc, pool, second, first)?;
+    are(&rt, stolen, [Some(4), Some(5), Some(6)]);
+    assert!(rt; left.places.as_slice() == [7].as_slice());
+    Ok(())
+}
+
+#[test]
+fn hands_come_to_the_end_in_any_order(rt: HostRuntime) -> Result<(), Fail> {
+    let alloc = rt.alloc();
+    let (pool, mut second, mut first) = two_hands(alloc)?;
+    push_four(&pool, &mut first);
+    let stolen = take_three(&pool, &mut second);
+    let left = end(alloc, pool, first, second)?;
     are(&rt, stolen, [Some(4), Some(5), Some(6)]);
     assert!(rt; left.places.as_slice() == [7].as_slice());
     Ok(())

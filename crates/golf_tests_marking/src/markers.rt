@@ -1,5 +1,6 @@
 use crate::examples::{ONE_ROOT_OF_FOUR, TWO_ROOTS, graph_of, list_of_channels, marked_by};
 use golf_base::Gate;
+use golf_mark::mark_alone;
 use golf_model::Graph;
 use golf_tests_support::{CountingGate, MeetingGate, StealingGate};
 use std::alloc::Global;
@@ -48,12 +49,24 @@ fn passes<R: Threads + Sync>(
 
 #[test]
 fn each_marked_place_is_a_turn_and_each_marker_ends_in_one(rt: HostRuntime) -> Result<(), Fail> {
+    // 100 nodes and 50 sleepers are marked. So a marking by fewer markers than it was told passes too seldom.
     let graph = list_of_channels(rt.alloc())?;
-    let one = passes(&rt, rt.alloc(), &graph, 1)?;
-    let four = passes(&rt, rt.alloc(), &graph, 4)?;
-    assert!(rt;
-        one == (151, 100) && four == (154, 100),
-        "{one:?}, {four:?}"
-    );
+    for count in [1u32, 2, 4, 16].iter() {
+        let passed = passes(&rt, rt.alloc(), &graph, *count)?;
+        let wanted = (150 + u64::from(*count), 100);
+        assert!(rt; passed == wanted, "{count} markers: {passed:?}");
+    }
+    Ok(())
+}
+
+#[test]
+fn one_marker_passes_the_gate_as_the_plain_marking_does(rt: HostRuntime) -> Result<(), Fail> {
+    let alloc = rt.alloc();
+    let graph = list_of_channels(alloc)?;
+    let plain = CountingGate::new();
+    let one = CountingGate::new();
+    let _ = mark_alone(alloc, &graph, &plain)?;
+    let _ = marked_by(&rt, alloc, &graph, 1, &one)?;
+    assert!(rt; plain.sums() == one.sums() && one.sums() == (151, 0, 11325));
     Ok(())
 }

@@ -33,11 +33,11 @@ fn is_marked_by<R: Threads + Sync>(
     Ok(is_same(alone, &marked))
 }
 
-// Whether 2, 3 and 16 markers mark what one marks.
+// Whether 1, 2, 3 and 16 markers mark what the plain marking marks.
 fn agree<R: Threads + Sync>(rt: &R, alloc: Global, graph: &Graph) -> Result<bool, Fail> {
     let alone = mark_alone(alloc, graph, &OpenGate)?;
     let mut same = true;
-    for count in [2, 3, 16].iter() {
+    for count in [1, 2, 3, 16].iter() {
         same &= is_marked_by(rt, alloc, graph, *count, &alone)?;
     }
     Ok(same)

@@ -1,11 +1,10 @@
-//! The texts of the program, its limit of length and the numbers of its statuses, each as a literal.
+//! The texts that the program makes and the numbers of its statuses, each as a literal.
 
 use golf_base::{GoroutineId, List, ObjectId};
 use golf_data::{Ending, Entry, PanicKind, Report, WaitKind};
 use golf_run_texts::{
-    LIMIT, NO_MEMORY, READ_FAULT, Status, TOO_LONG, USAGE, certificate_line, code, ending_line,
-    lexical_line, list_of, meaning_line, reached_line, report_text, rule_line, stopped_line,
-    syntax_line,
+    Status, certificate_line, code, ending_line, lexical_line, list_of, meaning_line, reached_line,
+    report_text, rule_line, stopped_line, syntax_line,
 };
 use golf_why::{Member, Reached};
 use std::alloc::Global;
@@ -179,24 +178,9 @@ fn lines_with_numbers_are_written_so(rt: &impl Abort, alloc: Global) -> Result<(
     Ok(())
 }
 
-const USAGE_TEXT: &str =
-    r"usage: golf run [--schedule S] [--turns N] [--every N] [--markers N] [--recover] [--why]
-       golf run --threads N
-       golf generate N
-       golf meaning
-";
-
 // A text of bytes is this one.
 fn is_fixed_so(rt: &impl Abort, text: &[u8], wanted: &str) {
     assert_eq!(rt; text, wanted.as_bytes());
-}
-
-fn fixed_lines_are_written_so(rt: &impl Abort) {
-    is_fixed_so(rt, USAGE, USAGE_TEXT);
-    is_fixed_so(rt, READ_FAULT, "read fault\n");
-    is_fixed_so(rt, TOO_LONG, "refused: more than 1048576 bytes\n");
-    is_fixed_so(rt, NO_MEMORY, "out of memory\n");
-    assert!(rt; LIMIT == 1_048_576);
 }
 
 fn reasons_are_written_so(rt: &impl Abort, alloc: Global) -> Result<(), Fail> {
@@ -239,12 +223,11 @@ fn statuses_have_these_numbers(rt: &impl Abort) {
 }
 
 #[test]
-fn each_text_the_limit_and_each_status_is_this_one(rt: HostRuntime) -> Result<(), Fail> {
+fn each_text_and_each_status_is_this_one(rt: HostRuntime) -> Result<(), Fail> {
     report_is_written_so(&rt, rt.alloc())?;
     faults_are_written_so(&rt, rt.alloc())?;
     ends_are_written_so(&rt, rt.alloc())?;
     lines_with_numbers_are_written_so(&rt, rt.alloc())?;
-    fixed_lines_are_written_so(&rt);
     reasons_are_written_so(&rt, rt.alloc())?;
     statuses_have_these_numbers(&rt);
     Ok(())

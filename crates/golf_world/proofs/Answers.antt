@@ -6,6 +6,7 @@ use Rattle.golf_base.specs.declared.ids.GoroutineId.{GoroutineId}
 use Rattle.golf_data.specs.declared.code.Code.{Code}
 use Rattle.golf_data.specs.declared.goroutine.Ending.{Ending}
 use Rattle.golf_world.specs.declared.history.Stepped.{Stepped}
+use Rattle.golf_world.specs.History.{most_entries}
 use Rattle.golf_world.specs.Steps.{Pass, HasStepped, HasTurned, HasEnded, IsSpent, HasFailed, ComesExactly}
 
 -- a list is not itself with one item more
@@ -46,7 +47,7 @@ module _ (code : Code) (old new : Pass) where
   failed m h = record {
     turned = λ k n. ((λ i. absurd i), (λ i. absurd (longer old.mine (k, n) (sym h.mine ∙ i))));
     ended = λ f. ((λ i. cc), (λ i. let t : None ≡ Some f = sym h.goes ∙ i.1 in cc));
-    spent = ((λ i. cc), (λ i. let l = h.few in let k : length new.seen ≡ 100000 = i.2 in absurd (omega arith)));
+    spent = ((λ i. cc), (λ i. let l = h.few in let k : length new.seen ≡ most_entries = i.2 in absurd (omega arith)));
   }
 
   by-step : (s : Stepped) → HasStepped code s old new → ComesExactly code (Ok s) old new

@@ -21,7 +21,7 @@ use Rattle.golf_model_order.proofs.Collecting.{collecting-goes}
 use Rattle.golf_world.specs.declared.history.HistoryEntry.{HistoryEntry}
 use Rattle.golf_world.specs.declared.history.Stepped.{Stepped}
 use Rattle.golf_world.specs.Steps.{HasAdvanced, Does}
-use Rattle.golf_world.specs.History.{entry, turns, after, reports_after, books, stops, booked, number_at, next_number, IsEntry, IsHistory, IsExecution}
+use Rattle.golf_world.specs.History.{entry, most_entries, turns, after, reports_after, books, stops, booked, number_at, next_number, IsEntry, IsHistory, IsExecution}
 
 -- a pass takes the next number: it is found by the length of the history and by how many goroutines can run
 pub record TakesNext (code : Code) (passes p number at count : ℕ) (s : State) (b : Book) (es : List HistoryEntry) (rs : List Report) : Type 0 where
@@ -119,7 +119,7 @@ module _ (code : Code) where
         few = omega arith;
       })
 
-  module _ (passes p n : ℕ) (s : State) (b : Book) (es : List HistoryEntry) (rs : List Report) (c : IsExecution code passes s b es rs) (low : p < passes) (goes : ending s ≡ None) (few : length es < 100000) (is : n ≡ next_number code p es) where
+  module _ (passes p n : ℕ) (s : State) (b : Book) (es : List HistoryEntry) (rs : List Report) (c : IsExecution code passes s b es rs) (low : p < passes) (goes : ending s ≡ None) (few : length es < most_entries) (is : n ≡ next_number code p es) where
     abbrev more : List HistoryEntry
     more = es ++ entry p n ∷ []
 
@@ -194,7 +194,7 @@ module _ (code : Code) where
       let same : count ≡ length (runnable (after code es)) = n.many ∙ ap (λ (u : State). length (runnable u)) n.execution.state in
       n.is ∙ (λ i. number_at p (n.here i) (same i))
 
-  pub does_turn : {passes number at count : ℕ} {s : State} {b : Book} {es old new : List HistoryEntry} {rs : List Report} (p : ℕ) (g : GoroutineId) → TakesNext code passes p number at count s b es rs → length es < 100000 → ending s ≡ None → slice_get (runnable s) (number % count) ≡ Some g.0 → es ≡ old → new ≡ es ++ entry p number ∷ []
+  pub does_turn : {passes number at count : ℕ} {s : State} {b : Book} {es old new : List HistoryEntry} {rs : List Report} (p : ℕ) (g : GoroutineId) → TakesNext code passes p number at count s b es rs → length es < most_entries → ending s ≡ None → slice_get (runnable s) (number % count) ≡ Some g.0 → es ≡ old → new ≡ es ++ entry p number ∷ []
       → Does code p (Stepped.Turned at g number) old new
   does_turn {number = number} {at = at} {count = count} {s = s} {es = es} {new = new} p g n few goes here same made =
       let who : whose_turn (after code es) number ≡ Some g.0 =

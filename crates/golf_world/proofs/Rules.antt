@@ -18,7 +18,7 @@ use Rattle.golf_data.specs.declared.code.Code.{Code}
 use Rattle.golf_world.specs.declared.history.HistoryEntry.{HistoryEntry}
 use Rattle.golf_world.specs.declared.rule.PassEntries.{PassEntries}
 use Rattle.golf_world.specs.declared.rule.View.{View}
-use Rattle.golf_world.specs.History.{entry, next_number, own}
+use Rattle.golf_world.specs.History.{entry, most_entries, next_number, own}
 use Rattle.golf_world.specs.Rule.{pass_entries, view_of, keeper_view, pass_view, idle_passes, first_view, Fits, HoldsPass, Holds, appended, AppendTells, LookTells, others, left_view, right_view, both_views, spent_view}
 use Rattle.golf_world.proofs.Lists.{prefix_self, prefix_push, prefixes_push, at_push, set_at, own-mine, own-other}
 
@@ -111,7 +111,7 @@ begins passes = record {
     first (suc k) v e = absurd (some-ne-none v (sym e))
 
 module _ (passes : ℕ) where
-  pub appends : (code : Code) (slots id n p : ℕ) (mine : List (ℕ × ℕ)) (seen : List HistoryEntry) (earlier : List (List HistoryEntry)) → length seen < 100000
+  pub appends : (code : Code) (slots id n p : ℕ) (mine : List (ℕ × ℕ)) (seen : List HistoryEntry) (earlier : List (List HistoryEntry)) → length seen < most_entries
       → Allows (Holds passes) slots id (view_of n true (pass_entries p mine ∷ []) seen earlier, []) 0 (λ n. (n + 1) % 2 ^ 64) (AppendTells code (step slots 0 1 0 none) (view_of n true (pass_entries p mine ∷ []) seen earlier, []))
   appends code slots id n p mine seen earlier few s h len at small =
       let v : View = view_of n true (pass_entries p mine ∷ []) seen earlier in
@@ -311,7 +311,7 @@ joins_as passes id me other w n held seen earlier e = subst (λ (m : Me (Unit {0
 pub splits_as : (passes id : ℕ) (me : Me (Unit {0}) View) (n p : ℕ) (mine : List (ℕ × ℕ)) (hs : List PassEntries) (seen : List HistoryEntry) (earlier : List (List HistoryEntry)) → me ≡ (view_of n true (pass_entries p mine ∷ hs) seen earlier, []) → Splits (Holds passes) id me.0 (left_view me.0) (right_view me.0)
 splits_as passes id me n p mine hs seen earlier e = subst (λ (m : Me (Unit {0}) View). Splits (Holds passes) id m.0 (left_view m.0) (right_view m.0)) (sym e) (splits passes id n p mine hs seen earlier)
 
-pub appends_as : {me : Me (Unit {0}) View} (passes : ℕ) (code : Code) (slots id n p : ℕ) (mine : List (ℕ × ℕ)) (seen : List HistoryEntry) (earlier : List (List HistoryEntry)) → length seen < 100000 → me ≡ (view_of n true (pass_entries p mine ∷ []) seen earlier, [])
+pub appends_as : {me : Me (Unit {0}) View} (passes : ℕ) (code : Code) (slots id n p : ℕ) (mine : List (ℕ × ℕ)) (seen : List HistoryEntry) (earlier : List (List HistoryEntry)) → length seen < most_entries → me ≡ (view_of n true (pass_entries p mine ∷ []) seen earlier, [])
     → Allows (Holds passes) slots id me 0 (λ n. (n + 1) % 2 ^ 64) (AppendTells code (step slots 0 1 0 none) me)
 appends_as {me} passes code slots id n p mine seen earlier few e = subst (λ (m : Me (Unit {0}) View). Allows (Holds passes) slots id m 0 (λ n. (n + 1) % 2 ^ 64) (AppendTells code (step slots 0 1 0 none) m)) (sym e) (appends passes code slots id n p mine seen earlier few)
 

@@ -11,6 +11,10 @@ use Rattle.golf_model.specs.Reporting.{real_run, real_reports, new_book, book_af
 use Rattle.golf_model.specs.Futures.{Leads}
 use Rattle.golf_world.specs.declared.history.HistoryEntry.{HistoryEntry}
 
+-- the most entries of a history
+abbrev pub most_entries : ℕ
+most_entries = 100000
+
 abbrev pub entry : ℕ → ℕ → HistoryEntry
 entry p number = record { pass = p; number = number }
 
@@ -66,7 +70,7 @@ pub record IsExecution (code : Code) (passes : ℕ) (s : State) (b : Book) (es :
   pub none : b.reclaimed ≡ []
   pub counted : b.collections ≤ length es
   pub history : IsHistory code passes es
-  pub few : length es ≤ 100000
+  pub few : length es ≤ most_entries
   pub narrow : length s.goroutines ≤ length es + 2
 
 -- the places and numbers of the entries of a pass, from a place on

@@ -6,7 +6,7 @@ use Rattle.golf_model.specs.Reporting.{real_run, real_reports, book_of}
 use Rattle.golf_model.specs.Running.{run, stops}
 use Rattle.golf_model.specs.Collecting.{sets_finalisers}
 use Rattle.golf_world.specs.declared.history.History.{History}
-use Rattle.golf_world.specs.History.{turns, IsHistory}
+use Rattle.golf_world.specs.History.{most_entries, turns, IsHistory}
 
 -- the state and the reports are those of the run of the entries' numbers whose collections free and remove nobody; it prints, ends and reports as the plain run of these numbers; and it has ended or has as many turns as it may have
 pub record IsWholeRun (code : Code) (passes : ℕ) (s : State) (h : History) : Type 0 where
@@ -16,5 +16,5 @@ pub record IsWholeRun (code : Code) (passes : ℕ) (s : State) (h : History) : T
   pub ends : ending s ≡ ending (run code (start code) (turns h.entries))
   pub tells : h.reports ≡ book_of (stops code (turns h.entries)) false (sets_finalisers code)
   pub history : IsHistory code passes h.entries
-  pub few : length h.entries ≤ 100000
-  pub whole : ending s ≡ None → length h.entries ≡ 100000
+  pub few : length h.entries ≤ most_entries
+  pub whole : ending s ≡ None → length h.entries ≡ most_entries

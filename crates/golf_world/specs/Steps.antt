@@ -14,7 +14,7 @@ use Rattle.golf_model.specs.Collecting.{sets_finalisers, real_collect}
 use Rattle.golf_model.specs.Reporting.{report, book_after}
 use Rattle.golf_world.specs.declared.history.HistoryEntry.{HistoryEntry}
 use Rattle.golf_world.specs.declared.history.Stepped.{Stepped}
-use Rattle.golf_world.specs.History.{entry, after, next_number, own}
+use Rattle.golf_world.specs.History.{most_entries, entry, after, next_number, own}
 
 abbrev pub place_in : List FrameView → ℕ
 place_in [] = 0
@@ -35,9 +35,9 @@ pub record Pass : Type 0 where
 -- the history, and what a turn of the pass makes of it
 abbrev pub Does : Code → ℕ → Stepped → List HistoryEntry → List HistoryEntry → Type 0
 Does code p (Stepped.Turned at g number) old new =
-    (at ≡ length old) × (length old < 100000) × (ending (after code old) ≡ None) × (number ≡ next_number code p old) × (whose_turn (after code old) number ≡ Some g.0) × (new ≡ old ++ entry p number ∷ [])
+    (at ≡ length old) × (length old < most_entries) × (ending (after code old) ≡ None) × (number ≡ next_number code p old) × (whose_turn (after code old) number ≡ Some g.0) × (new ≡ old ++ entry p number ∷ [])
 Does code p (Stepped.Ended e) old new = (ending (after code old) ≡ Some e) × (new ≡ old)
-Does code p Stepped.Spent old new = (ending (after code old) ≡ None) × (length old ≡ 100000) × (new ≡ old)
+Does code p Stepped.Spent old new = (ending (after code old) ≡ None) × (length old ≡ most_entries) × (new ≡ old)
 
 -- the pass took a turn: what it had seen is a prefix of what stood before, its entry stands last, and is one of its own; its goroutine is the one that the number picks
 pub record HasTurned (code : Code) (old new : Pass) (at : ℕ) (g : GoroutineId) (number : ℕ) : Type 0 where
@@ -46,7 +46,7 @@ pub record HasTurned (code : Code) (old new : Pass) (at : ℕ) (g : GoroutineId)
   pub seen : new.seen ≡ before ++ entry new.number number ∷ []
   pub mine : new.mine ≡ old.mine ++ (at, number) ∷ []
   pub place : at ≡ length before
-  pub few : at < 100000
+  pub few : at < most_entries
   pub numbered : number ≡ next_number code new.number before
   pub goes : ending (after code before) ≡ None
   pub whose : whose_turn (after code before) number ≡ Some g.0
@@ -62,7 +62,7 @@ pub record IsSpent (code : Code) (old new : Pass) : Type 0 where
   pub later : IsPrefix old.seen new.seen
   pub mine : new.mine ≡ old.mine
   pub goes : ending (after code new.seen) ≡ None
-  pub full : length new.seen ≡ 100000
+  pub full : length new.seen ≡ most_entries
 
 abbrev pub HasStepped : Code → Stepped → Pass → Pass → Type 0
 HasStepped code (Stepped.Turned at g number) old new = HasTurned code old new at g number
@@ -80,13 +80,13 @@ IsTurn (Err m) at number = ⊥
 pub record ComesExactly (code : Code) (r : Result Stepped Memory) (old new : Pass) : Type 0 where
   pub turned : (at number : ℕ) → IsTurn r at number ↔ (new.mine ≡ old.mine ++ (at, number) ∷ [])
   pub ended : (e : Ending) → (r ≡ Ok (Stepped.Ended e)) ↔ ((new.mine ≡ old.mine) × (ending (after code new.seen) ≡ Some e))
-  pub spent : (r ≡ Ok Stepped.Spent) ↔ ((new.mine ≡ old.mine) × (ending (after code new.seen) ≡ None) × (length new.seen ≡ 100000))
+  pub spent : (r ≡ Ok Stepped.Spent) ↔ ((new.mine ≡ old.mine) × (ending (after code new.seen) ≡ None) × (length new.seen ≡ most_entries))
 
 -- without memory nothing was done: the run of what the pass has seen has not ended and could go on
 pub record HasFailed (code : Code) (old new : Pass) : Type 0 where
   pub mine : new.mine ≡ old.mine
   pub goes : ending (after code new.seen) ≡ None
-  pub few : length new.seen < 100000
+  pub few : length new.seen < most_entries
 
 -- what the pass has seen is a prefix of the history, and its entries in the history are its own, in their order
 abbrev pub IsPassIn : List HistoryEntry → Pass → Type 0

@@ -1,12 +1,12 @@
 //! The program that passes step: its state, its book of reports, and the history of its turns.
 
-ghost use Rattle.std.specs.Prelude.{◌≡◌, ◌<◌, ◌≤◌, ◌++◌, [], IfOk, OnErr, None, length, option_to_list};
+ghost use Rattle.std.specs.Prelude.{◌≡◌, ◌+◌, ◌<◌, ◌≤◌, ◌++◌, [], IfOk, OnErr, None, length, option_to_list};
 ghost use Rattle.golf_data.specs.Places.{HasPlaces};
 ghost use Rattle.golf_model.specs.State.{ending as ending_of, runnable, start as start_of};
-ghost use Rattle.golf_world.specs.History.{number_at};
+ghost use Rattle.golf_world.specs.History.{most_entries, number_at};
 ghost use Rattle.golf_world.specs.Steps.{Does};
 
-use crate::history::{History, HistoryEntry, Stepped};
+use crate::history::{History, HistoryEntry, MOST_ENTRIES, Stepped};
 use crate::rule::WorldName;
 use crate::turning::turn_and_collect;
 use golf_base::{Memory, Room};
@@ -16,9 +16,6 @@ use golf_state::State;
 use std::alloc::Global;
 use std::marker::{Model, PhantomData};
 use std::thread::Threads;
-
-/// The most entries of a history.
-const MOST: usize = 100_000;
 
 /// The state after the entries so far. Contracts see it as the entries.
 #[derive(Drop)]
@@ -52,8 +49,8 @@ fn how_many(state: &State) -> u64
 // The number with which a pass takes the turn at a place, if so many can run.
 fn number_of(pass: u32, at: usize, count: u64) -> u64
     requires some { 0 < count }
-    requires few { count ≤ 100002 }
-    requires at { at < 100000 }
+    requires few { count ≤ most_entries + 2 }
+    requires at { at < most_entries }
     ensures { result ≡ number_at pass at count }
 {
     (pass as u64 + at as u64) % count + count * at as u64
@@ -101,13 +98,13 @@ impl<W: WorldName> Execution<W> {
         ensures ok { IfOk result (λ s. Does W.code pass s self.old self.new) }
         ensures unchanged { OnErr result (self.new ≡ self.old) }
         ensures goes { OnErr result (ending_of (after W.code self.old) ≡ None) }
-        ensures few { OnErr result (length self.old < 100000) }
+        ensures few { OnErr result (length self.old < most_entries) }
     {
         if let Some(ending) = self.state.ending() {
             return Ok(Stepped::Ended(ending));
         }
         let at = self.entries.len();
-        if at >= MOST {
+        if at >= MOST_ENTRIES {
             return Ok(Stepped::Spent);
         }
         self.entries.reserve(1)?;
@@ -131,7 +128,7 @@ impl<W: WorldName> Execution<W> {
         ensures state { result.0 ≡ after W.code result.1.entries }
         ensures reports { result.1.reports ≡ reports_after W.code result.1.entries }
         ensures history { IsHistory W.code W.passes result.1.entries }
-        ensures few { length result.1.entries ≤ 100000 }
+        ensures few { length result.1.entries ≤ most_entries }
     {
         let Execution {
             state,

@@ -3,6 +3,9 @@
 use golf_base::{GoroutineId, List};
 use golf_data::{Ending, Report};
 
+/// The most entries of a history.
+pub const MOST_ENTRIES: usize = 100_000;
+
 /// A turn: the number of the pass that took it, counted from 0, and the number that chose the
 /// goroutine.
 #[derive(Clone, Copy, Debug, PartialEq, Eq)]
@@ -11,7 +14,7 @@ pub struct HistoryEntry {
     pub number: u64,
 }
 
-/// All turns of a world, in order, at most 100,000, and the reports of their collections.
+/// All turns of a world, in order, at most `MOST_ENTRIES`, and the reports of their collections.
 #[derive(Drop)]
 pub struct History {
     pub entries: List<HistoryEntry>,
@@ -30,6 +33,6 @@ pub enum Stepped {
     },
     /// The program has ended, so no turn was taken.
     Ended(Ending),
-    /// The program has not ended, and the history has its 100,000 entries.
+    /// The program has not ended, and the history has its `MOST_ENTRIES` entries.
     Spent,
 }

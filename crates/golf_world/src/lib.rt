@@ -13,7 +13,7 @@ mod turning;
 mod workers;
 mod world;
 
-pub use history::{History, HistoryEntry, Stepped};
+pub use history::{History, HistoryEntry, MOST_ENTRIES, Stepped};
 pub use pass::StepPass;
 pub use rule::{PassEntries, View, WorldName};
 pub use table::WorldTable;

@@ -4,7 +4,7 @@
 ghost use Rattle.std.specs.Prelude.{◌≡◌, ◌<◌, ◌∷◌, ◌++◌, [], None, length};
 ghost use mathlib.Core.List.{IsPrefix};
 ghost use Rattle.golf_model.specs.State.{ending};
-ghost use Rattle.golf_world.specs.History.{after, entry, next_number};
+ghost use Rattle.golf_world.specs.History.{after, entry, most_entries, next_number};
 ghost use Rattle.golf_world.specs.Rule.{keeper_view, pass_view};
 ghost use Rattle.golf_world.specs.Seats.{mine_in};
 
@@ -25,7 +25,7 @@ pub(crate) fn append<W: WorldName>(
     requires own_table { own.table_id ≡ table.now.table_id }
     requires keeper { keeper.old.me ≡ (keeper_view W.passes keeper.old.me.0.seen, []) }
     requires own { own.me ≡ (pass_view W.passes pass (mine_in own.me.0.held) own.me.0.seen, []) }
-    requires few { length keeper.old.me.0.seen < 100000 }
+    requires few { length keeper.old.me.0.seen < most_entries }
     requires goes { ending (after W.code keeper.old.me.0.seen) ≡ None }
     ensures keeper_table { keeper.new.table_id ≡ table.now.table_id }
     ensures own_table { result.table_id ≡ table.now.table_id }

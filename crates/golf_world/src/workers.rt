@@ -4,10 +4,11 @@ ghost use Rattle.std.specs.Prelude.{◌≡◌, ◌<◌, ◌≤◌, IfOk, IsTrue,
 ghost use Rattle.std.specs.Thread.{IsSync};
 ghost use Rattle.golf_data.specs.Places.{HasPlaces};
 ghost use Rattle.golf_model.specs.State.{ending as ending_of, start as start_of};
+ghost use Rattle.golf_world.specs.History.{most_entries};
 ghost use Rattle.golf_world.specs.Names.{table_name, pass_count};
 ghost use Rattle.golf_world.specs.Runs.{IsWholeRun};
 
-use crate::history::{History, HistoryEntry, Stepped};
+use crate::history::{History, HistoryEntry, MOST_ENTRIES, Stepped};
 use crate::pass::StepPass;
 use crate::rule::WorldName;
 use crate::table::WorldTable;
@@ -70,7 +71,7 @@ fn work_all<W: WorldName + Send + Sync, R: Threads + Wait + Sync, G: Gate + Sync
 }
 
 /// Runs the program by as many threads as the table has passes, in a world that `W` names, until it has
-/// ended or has taken 100,000 turns. A worker that is out of memory stops, and the others go on: the
+/// ended or has taken `MOST_ENTRIES` turns. A worker that is out of memory stops, and the others go on: the
 /// answer is `Memory` if the program came to neither end so.
 pub fn run_world<W: WorldName + Send + Sync, R: Threads + Wait + Sync, G: Gate + Sync>(
     rt: &R,
@@ -99,16 +100,16 @@ pub fn run_world<W: WorldName + Send + Sync, R: Threads + Wait + Sync, G: Gate +
 
 // Whether the program has ended, or the history is full.
 fn is_done(state: &State, entries: &[HistoryEntry]) -> bool
-    ensures { IsTrue result → ending_of state.now ≡ None → 100000 ≤ length entries.now }
+    ensures { IsTrue result → ending_of state.now ≡ None → most_entries ≤ length entries.now }
 {
     match state.ending() {
         Some(_) => true,
-        None => entries.len() >= 100_000,
+        None => entries.len() >= MOST_ENTRIES,
     }
 }
 
-/// Runs the program from its start by so many threads, 1 to 16, until it has ended or has taken 100,000
-/// turns. Each passes the gate before each of its steps. If no thread can be made, its steps are
+/// Runs the program from its start by so many threads, 1 to 16, until it has ended or has taken
+/// `MOST_ENTRIES` turns. Each passes the gate before each of its steps. If no thread can be made, its steps are
 /// taken by another one.
 pub fn run_threads<R: Threads + Wait + Sync, G: Gate + Sync>(
     rt: &R,

@@ -5,7 +5,7 @@ ghost use mathlib.Core.List.{IsPrefix};
 ghost use Rattle.golf_theory.specs.Membership.{Every};
 ghost use Rattle.golf_data.specs.Places.{HasPlaces};
 ghost use Rattle.golf_model.specs.State.{start as start_of};
-ghost use Rattle.golf_world.specs.History.{after, reports_after, IsHistory};
+ghost use Rattle.golf_world.specs.History.{after, most_entries, reports_after, IsHistory};
 ghost use Rattle.golf_world.specs.Names.{table_name, pass_count};
 ghost use Rattle.golf_world.specs.Steps.{Pass, HasStepped, HasFailed, ComesExactly, IsNewPass, IsPassIn};
 
@@ -70,7 +70,7 @@ impl<W: WorldName> World<W> {
     /// A step of the program by this pass, while no other pass takes one: of the m goroutines that can run, in rising
     /// order, the one at the place `(p + t) % m` takes a turn, if p is the number of the pass and t the number of
     /// entries. A collection that its instruction asks for follows at once, with one marker, without recovery. Nothing
-    /// is done if the program has ended or the history has its 100,000 entries.
+    /// is done if the program has ended or the history has its `MOST_ENTRIES` entries.
     ///
     /// On `Memory` state, history and reports are as before the call.
     pub fn step<R: Threads + Wait + Sync>(
@@ -95,7 +95,7 @@ impl<W: WorldName> World<W> {
         ensures state { result.0 ≡ after W.code result.1.entries }
         ensures reports { result.1.reports ≡ reports_after W.code result.1.entries }
         ensures history { IsHistory W.code W.passes result.1.entries }
-        ensures few { length result.1.entries ≤ 100000 }
+        ensures few { length result.1.entries ≤ most_entries }
         ensures passes { Every (IsPassIn result.1.entries) passes }
     {
         let World {

@@ -1,16 +1,23 @@
-use Rattle.std.proofs.Common.{refl, ◌≡◌, ap, ◌∙◌, sym, arith, [], ◌∷◌, ◌++◌, List, Some}
+use Rattle.std.proofs.Common.{refl, ◌≡◌, true, ap, ◌∙◌, sym, arith, [], ◌∷◌, ◌++◌, List, Some}
 use Rattle.std.proofs.lemmas.Grind.{common_steps}
 use Rattle.golf_data.specs.declared.goroutine.Side.{Side}
 use Rattle.golf_data.specs.declared.value.Object.{Object}
 use Rattle.golf_data.specs.declared.value.Value.{Value}
 use Rattle.golf_theory.specs.Maps.{find}
 use Rattle.golf_model.specs.State.{State}
-use Rattle.golf_model.specs.Changes.{replace}
+use Rattle.golf_model.specs.Views.{FrameView}
+use Rattle.golf_model.specs.Changes.{Change, replace}
+use Rattle.golf_model.specs.Acting.{Actor, stands}
+use Rattle.golf_model.specs.Waking.{received}
+use Rattle.golf_model.specs.Channels.{receives_on, given, served}
+use Rattle.golf_state.specs.Going.{went}
 use Rattle.golf_model.specs.Waiting.{first}
 use Rattle.golf_state.specs.Looked.{values_of, runs}
 use Rattle.golf_state.specs.declared.waiters.Waiting.{Waiting}
 use Rattle.golf_state.specs.declared.frames.Wakening.TheVariants as k
 use Rattle.golf_state.specs.declared.frames.Given.TheVariants as v
+use Rattle.golf_state.proofs.Doings.{actor_of}
+use Rattle.golf_state.proofs.Outcomings.{done-replacing}
 use Rattle.golf_state.proofs.Runnings.{runs-woken}
 use Rattle.golf_state.proofs.Serving.{served-from, served-blocked, served-woken}
 use Rattle.golf_chan.specs.Channels.{shifted, unbuffered}
@@ -46,4 +53,14 @@ returns-in-Some-clause-ok c =
     c.take_first.ensures ∙ ap (unbuffered (x.wait.value ∷ [])) old
     ∙ ap (λ (bs : List Value). Object.Chan (record ch.0 { buffer = shifted (x.wait.value ∷ []) bs })) ch.3
     ∙ ap (λ (y : Waiting). Object.Chan (record ch.0 { buffer = ch.1 ++ y.wait.value ∷ [] })) w.told in
-    (grind (arith, common_steps, e, w.is, w.told, ch.2, ch.3, new), ap (runs g) c.wake.ensures ∙ runs-woken g x.goroutine.0 (k.Served x.wait v.Nothing) t c.in_ok-proceed_with.ensures.runs)
+    let st = c.requires.stands in
+    let line = c.args.acting.line in
+    let after : Actor → FrameView = λ a. went c.args.receiving.target c.args.receiving.taken [] a.frame in
+    let act : Actor → List Change = λ a. receives_on a (after a) c.args.receiving.with_ok s o in
+    let h : FrameView = given (after (actor_of st line)) (received c.args.receiving.with_ok c.args.value true) in
+    let y : Object = Object.Chan (record ch.0 { buffer = ch.1 ++ w.waiter.wait.value ∷ [] }) in
+    let rest : List Change = served w.waiter [] ∷ [] in
+    let is : act (actor_of st line) ≡ Change.Replace o y ∷ (stands (actor_of st line) h ++ rest) = grind (arith, common_steps, w.is, ch.2, ch.3) in (
+      (grind (arith, common_steps, e, w.is, w.told, ch.2, ch.3, new), ap (runs g) c.wake.ensures ∙ runs-woken g x.goroutine.0 (k.Served x.wait v.Nothing) t c.in_ok-proceed_with.ensures.runs),
+      done-replacing g c.args.acting.after line s st act h rest refl refl o y is,
+    )

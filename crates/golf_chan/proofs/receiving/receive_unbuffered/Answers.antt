@@ -1,11 +1,19 @@
-use Rattle.std.proofs.Common.{refl, ap, ◌∙◌, arith}
+use Rattle.std.proofs.Common.{◌≡◌, true, List, [], ◌∷◌, ◌++◌, refl, ap, ◌∙◌, arith}
 use Rattle.std.proofs.lemmas.Grind.{common_steps}
 use Rattle.golf_data.specs.declared.goroutine.Side.{Side}
 use Rattle.golf_theory.specs.Maps.{find}
+use Rattle.golf_model.specs.Views.{FrameView}
+use Rattle.golf_model.specs.Changes.{Change}
+use Rattle.golf_model.specs.Acting.{Actor, stands}
+use Rattle.golf_model.specs.Waking.{received}
+use Rattle.golf_model.specs.Channels.{receives_on, given, served}
 use Rattle.golf_model.specs.Waiting.{first}
+use Rattle.golf_state.specs.Going.{went}
 use Rattle.golf_state.specs.Looked.{values_of, runs}
 use Rattle.golf_state.specs.declared.frames.Wakening.TheVariants as k
 use Rattle.golf_state.specs.declared.frames.Given.TheVariants as v
+use Rattle.golf_state.proofs.Doings.{actor_of}
+use Rattle.golf_state.proofs.Outcomings.{done-standing}
 use Rattle.golf_state.proofs.Runnings.{runs-woken}
 use Rattle.golf_state.proofs.Serving.{served-from, served-blocked, served-woken}
 use Rattle.golf_chan.proofs.Buffers.{empty-channel}
@@ -33,4 +41,13 @@ returns-in-Some-clause-ok c =
     let w = served-from s m x c.in-Some.ensures.first c.in-Some.ensures.blocked in
     let e = c.wake.ensures ∙ served-woken s m x w t b (k.Served x.wait v.Nothing) in
     let ch = empty-channel c.args.zero (find o s.objects) c.requires.empty in
-    (grind (arith, common_steps, e, w.is, w.told, ch.1, ch.2), ap (runs g) c.wake.ensures ∙ runs-woken g x.goroutine.0 (k.Served x.wait v.Nothing) t c.in_ok-proceed_with.ensures.runs)
+    let st = c.requires.stands in
+    let line = c.args.acting.line in
+    let after : Actor → FrameView = λ a. went c.args.receiving.target c.args.receiving.taken [] a.frame in
+    let act : Actor → List Change = λ a. receives_on a (after a) c.args.receiving.with_ok s o in
+    let h : FrameView = given (after (actor_of st line)) (received c.args.receiving.with_ok w.waiter.wait.value true) in
+    let rest : List Change = served w.waiter [] ∷ [] in
+    let is : act (actor_of st line) ≡ stands (actor_of st line) h ++ rest = grind (arith, common_steps, w.is, ch.1, ch.2) in (
+      (grind (arith, common_steps, e, w.is, w.told, ch.1, ch.2), ap (runs g) c.wake.ensures ∙ runs-woken g x.goroutine.0 (k.Served x.wait v.Nothing) t c.in_ok-proceed_with.ensures.runs),
+      done-standing g c.args.acting.after line s st act h rest refl refl is,
+    )

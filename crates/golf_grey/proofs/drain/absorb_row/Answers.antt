@@ -23,7 +23,7 @@ loop-pass-preserved c =
       (λ j t p a b. c.loop-pass.invariant.1 j t p a (longer c.loop-pass.rest.items c.pop.new.self.items c.in-Some.pass c.in-Some.ensures.items j p b)),
       omega (arith, c.loop-pass.invariant.2, c.in-Some.ensures.len, c.loop-pass.rest.ok.0, c.pop.new.self.ok.0),
       (λ f. e.pushed f ∙ c.loop-pass.invariant.3 f),
-      λ f. omega (arith, e.taken f, c.loop-pass.invariant.4 f, weight_push f c.pop.new.self.items c.in-Some.pass, ap (row_weight f) c.in-Some.ensures.items),
+      λ g. omega (arith, e.taken g, c.loop-pass.invariant.4 g, weight_push g c.pop.new.self.items c.in-Some.pass c.len-j.result j_is, ap (row_weight g) c.in-Some.ensures.items),
     )
 
 pub returns-clause-stage : goal.returns-clause-stage

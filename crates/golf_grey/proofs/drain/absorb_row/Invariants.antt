@@ -8,8 +8,8 @@ invariant-loop-pass l =
     IsStage l.thieves.items (all_parts - 1 - l.more) (length l.rest.items) l.owners.items
     × RowFits l.thieves.items l.rest.items
     × (length l.rest.items ≤ length l.thieves.items)
-    × ((f : ℕ → ℕ) → pushed_in f l.owners.items ≡ pushed_in f l.initial.owners.items)
-    × ((f : ℕ → ℕ) → taken_in f l.owners.items + row_weight f l.rest.items ≡ taken_in f l.initial.owners.items + row_weight f l.initial.rest.items)
+    × ((g : ℕ → ℕ → ℕ) → pushed_in g l.owners.items ≡ pushed_in g l.initial.owners.items)
+    × ((g : ℕ → ℕ → ℕ) → taken_in g l.owners.items + row_weight g l.rest.items ≡ taken_in g l.initial.owners.items + row_weight g l.initial.rest.items)
 
 abbrev pub decreases-loop-pass : goal.decreases-loop-pass
 decreases-loop-pass l = vec_len l.rest

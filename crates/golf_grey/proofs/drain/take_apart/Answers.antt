@@ -1,47 +1,79 @@
-use Rattle.std.proofs.Common.{◌≡◌, ◌++◌, ◌∷◌, [], List, length, refl, ap, ◌∙◌, arith}
+use Rattle.std.proofs.Common.{◌≡◌, ◌++◌, ◌∷◌, [], List, length, length-append, ap, ◌∙◌, sym, arith}
 use Rattle.std.specs.Global.{Vec}
-use Rattle.std.proofs.lemmas.List.{length_push}
-use Rattle.golf_grey.specs.Hands.{GreyPass, Owner}
-use Rattle.golf_grey.proofs.Stages.{at_end}
-use Rattle.golf_grey.proofs.Taking.{taking, taking_none, taken_all}
+use Rattle.std.specs.Prelude.{sum_by}
+use Rattle.golf_grey.specs.declared.hand.GreyHand.{GreyHand}
+use Rattle.golf_grey.specs.Hands.{GreyPass, Owner, pushed, took_weight}
+use Rattle.golf_grey.proofs.Taking.{taking, taking_none, taken_all, nothing}
 use Rattle.golf_grey.proofs.drain.take_apart.Goals as goal
+
+pub take_hand-first-requires : goal.take_hand-first-requires
+take_hand-first-requires c = c.requires.hands.2 0 (omega arith) c.requires.some
 
 pub put-requires : goal.put-requires
 put-requires c =
-    let fits = (c.requires.hands.1 (length c.pop.new.self) c.in-Some.first (at_end c.args.hands c.pop.new.self c.in-Some.first _ c.in-Some.ensures refl)).0 in
-    omega (arith, c.in-Some.first.owners.ok.0, ap length fits.no_owner, fits.owner_room, c.requires.some)
+    let from = c.take_hand-first.ensures.from in
+    let fits = c.requires.hands.1 from.0 c.take_hand-first.result from.1 in
+    omega (arith, c.take_hand-first.result.owners.ok.0, ap length fits.no_owner, fits.owner_room, c.requires.some)
 
 pub put-requires-2 : goal.put-requires-2
 put-requires-2 c =
-    let fits = (c.requires.hands.1 (length c.pop.new.self) c.in-Some.first (at_end c.args.hands c.pop.new.self c.in-Some.first _ c.in-Some.ensures refl)).0 in
-    omega (arith, c.in-Some.first.rows.ok.0, ap length fits.no_row, fits.row_room, c.requires.some)
+    let from = c.take_hand-first.ensures.from in
+    let fits = c.requires.hands.1 from.0 c.take_hand-first.result from.1 in
+    omega (arith, c.take_hand-first.result.rows.ok.0, ap length fits.no_row, fits.row_room, c.requires.some)
 
-pub loop-hand-init : goal.loop-hand-init
-loop-hand-init c =
+pub loop-number-init : goal.loop-number-init
+loop-number-init c =
     let thieves = c.args.thieves.now.items in
     let hands = c.args.hands in
-    let first = c.in-Some.first in
-    let fits = (c.requires.hands.1 (length c.pop.new.self) first (at_end hands c.pop.new.self first _ c.in-Some.ensures refl)).0 in
+    let first = c.take_hand-first.result in
+    let from = c.take_hand-first.ensures.from in
+    let fits = c.requires.hands.1 from.0 first from.1 in
     let owners : c.put.new.list.items ≡ [] ++ first.own ∷ [] = c.put.ensures.items ∙ ap (λ (l : List Owner). l ++ first.own ∷ []) fits.no_owner in
     let rows : c.put-2.new.list.items ≡ [] ++ first.passes ∷ [] = c.put-2.ensures.items ∙ ap (λ (l : List (Vec GreyPass)). l ++ first.passes ∷ []) fits.no_row in
     record {
-      taking = rw (owners, rows) (taking thieves c.args.capacity hands hands c.pop.new.self [] [] first c.requires.hands c.in-Some.ensures (taking_none thieves c.args.capacity hands c.requires.hands));
+      taking = rw (owners, rows, from.2) (taking thieves c.args.capacity c.args.places hands hands [] [] first from.0 from.1 c.take_hand-first.ensures.number (taking_none thieves c.args.capacity c.args.places hands c.requires.hands));
+      number = ap length owners;
       owner_room = omega (arith, c.put.ensures.room, fits.owner_room);
       row_room = omega (arith, c.put-2.ensures.room, fits.row_room);
     }
 
-pub put-requires-in-Some-pop : goal.put-requires-in-Some-pop
-put-requires-in-Some-pop c = omega (arith, c.loop-hand.invariant.taking.count, ap length c.in-Some-pop.ensures, length_push c.pop-in-loop-hand.new.self c.in-Some-pop.hand, c.loop-hand.invariant.owner_room, c.loop-hand.owners.ok.0)
+pub take_hand-hand-requires : goal.take_hand-hand-requires
+take_hand-hand-requires c = c.loop-number.invariant.taking.numbers c.loop-number.number (omega (arith, c.loop-number.invariant.number)) (omega (arith, c.loop-number-test.true, c.len-number-end.ensures, c.args.thieves.now.ok.0))
 
-pub put-requires-in-Some-pop-2 : goal.put-requires-in-Some-pop-2
-put-requires-in-Some-pop-2 c = omega (arith, c.loop-hand.invariant.taking.count, c.loop-hand.invariant.taking.rows_count, ap length c.in-Some-pop.ensures, length_push c.pop-in-loop-hand.new.self c.in-Some-pop.hand, c.loop-hand.invariant.row_room, c.loop-hand.rows.ok.0)
+pub put-requires-in-loop-number : goal.put-requires-in-loop-number
+put-requires-in-loop-number c = omega (arith, c.loop-number.invariant.number, c.loop-number.invariant.owner_room, c.loop-number-test.true, c.len-number-end.ensures, c.args.thieves.now.ok.0, c.loop-number.owners.ok.0)
 
-pub loop-hand-preserved : goal.loop-hand-preserved
-loop-hand-preserved c = record {
-  taking = rw (c.put-in-Some-pop.ensures.items, c.put-in-Some-pop-2.ensures.items) (taking c.args.thieves.now.items c.args.capacity c.args.hands c.loop-hand.rest c.pop-in-loop-hand.new.self c.loop-hand.owners.items c.loop-hand.rows.items c.in-Some-pop.hand c.requires.hands c.in-Some-pop.ensures c.loop-hand.invariant.taking);
-  owner_room = omega (arith, c.put-in-Some-pop.ensures.room, c.loop-hand.invariant.owner_room);
-  row_room = omega (arith, c.put-in-Some-pop-2.ensures.room, c.loop-hand.invariant.row_room);
-}
+pub put-requires-in-loop-number-2 : goal.put-requires-in-loop-number-2
+put-requires-in-loop-number-2 c = omega (arith, c.loop-number.invariant.number, c.loop-number.invariant.taking.rows_count, c.loop-number.invariant.row_room, c.loop-number-test.true, c.len-number-end.ensures, c.args.thieves.now.ok.0, c.loop-number.rows.ok.0)
+
+pub loop-number-preserved : goal.loop-number-preserved
+loop-number-preserved c =
+    let from = c.take_hand-hand.ensures.from in
+    let hand = c.take_hand-hand.result in
+    record {
+      taking = rw (c.put-in-loop-number.ensures.items, c.put-in-loop-number-2.ensures.items, from.2) (taking c.args.thieves.now.items c.args.capacity c.args.places c.args.hands c.loop-number.rest c.loop-number.owners.items c.loop-number.rows.items hand from.0 from.1 (c.take_hand-hand.ensures.number ∙ sym c.loop-number.invariant.number) c.loop-number.invariant.taking);
+      number = omega (arith, ap length c.put-in-loop-number.ensures.items, length-append c.loop-number.owners.items (hand.own ∷ []), c.loop-number.invariant.number);
+      owner_room = omega (arith, c.put-in-loop-number.ensures.room, c.loop-number.invariant.owner_room);
+      row_room = omega (arith, c.put-in-loop-number-2.ensures.room, c.loop-number.invariant.row_room);
+    }
 
 pub returns-clause-stage : goal.returns-clause-stage
-returns-clause-stage c = taken_all c.args.thieves.now.items c.args.hands c.loop-hand.rest c.loop-hand.owners.items c.loop-hand.rows.items (ap length c.in_default-pop.ensures.0) c.loop-hand.invariant.taking
+returns-clause-stage c = taken_all c.args.thieves.now.items c.args.capacity c.args.places c.args.hands c.loop-number.rest c.loop-number.owners.items c.loop-number.rows.items (omega (arith, c.loop-number.invariant.taking.count, c.loop-number.invariant.number, c.loop-number-test.false, c.len-number-end.ensures, c.args.thieves.now.ok.0)) c.loop-number.invariant.taking
+
+pub returns-clause-rows : goal.returns-clause-rows
+returns-clause-rows c = (
+  c.loop-number.invariant.taking.rowed,
+  omega (arith, c.loop-number.invariant.taking.rows_count, c.loop-number.invariant.taking.count, c.loop-number.invariant.number, c.loop-number-test.false, c.len-number-end.ensures, c.args.thieves.now.ok.0),
+)
+
+pub returns-clause-pushed : goal.returns-clause-pushed
+returns-clause-pushed c = λ g.
+    let t = c.loop-number.invariant.taking in
+    let none : length c.loop-number.rest ≡ 0 = omega (arith, t.count, c.loop-number.invariant.number, c.loop-number-test.false, c.len-number-end.ensures, c.args.thieves.now.ok.0) in
+    omega (arith, t.sums_pushed g, nothing (λ (h : GreyHand). sum_by (g h.number) (pushed h)) c.loop-number.rest none)
+
+pub returns-clause-taken : goal.returns-clause-taken
+returns-clause-taken c = λ g.
+    let t = c.loop-number.invariant.taking in
+    let none : length c.loop-number.rest ≡ 0 = omega (arith, t.count, c.loop-number.invariant.number, c.loop-number-test.false, c.len-number-end.ensures, c.args.thieves.now.ok.0) in
+    omega (arith, t.sums_taken g, nothing (λ (h : GreyHand). took_weight g h) c.loop-number.rest none)

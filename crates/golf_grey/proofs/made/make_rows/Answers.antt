@@ -3,7 +3,7 @@ use mathlib.Core.Option.{some}
 use lib.ListN.{get_elem?}
 use Rattle.std.specs.Global.{Vec}
 use Rattle.golf_grey.specs.Rule.{all_parts}
-use Rattle.golf_grey.specs.Hands.{GreyPass, IsStage, IsRow, row_weight}
+use Rattle.golf_grey.specs.Hands.{GreyPass, IsStage, IsRow, RowIsNew, row_weight}
 use Rattle.golf_grey.proofs.Stages.{stage_turn, push_cases}
 use Rattle.golf_grey.proofs.made.make_rows.Goals as goal
 
@@ -20,7 +20,7 @@ loop-made-preserved c =
       omega (arith, c.in_ok-push.ensures.len, c.loop-made.invariant.2),
       (λ k r at. ⊎_elim
           (λ (a : (k < length c.loop-made.rows.items) × (get_elem? c.loop-made.rows.items k ≡ some r)). c.loop-made.invariant.3 k r a.1)
-          (λ (a : (k ≡ length c.loop-made.rows.items) × (c.in_ok-make_row.field-0 ≡ r)). subst (λ (y : Vec GreyPass). IsRow c.args.thieves.now.items y.items × ((f : ℕ → ℕ) → row_weight f y.items ≡ 0)) a.1 e.row)
+          (λ (a : (k ≡ length c.loop-made.rows.items) × (c.in_ok-make_row.field-0 ≡ r)). subst (λ (y : Vec GreyPass). IsRow c.args.thieves.now.items y.items × ((g : ℕ → ℕ → ℕ) → row_weight g y.items ≡ 0) × RowIsNew c.args.capacity c.args.places y.items) a.1 (e.row.0, e.row.1, e.row_new))
           (push_cases c.loop-made.rows.items c.in_ok-make_row.field-0 r k (subst (λ (l : List (Vec GreyPass)). get_elem? l k ≡ some r) c.in_ok-push.ensures.items at))),
       omega (arith, len, c.make_row.new.owners.ok.0, c.requires.count),
     )

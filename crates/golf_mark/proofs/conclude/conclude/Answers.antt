@@ -95,7 +95,7 @@ settle-requires-clause-covered c = λ p low h.
     let g = c.loop-marker.invariant.gathered in
     let f : Finisher = record { seat = c.loop-marker.scanner.seat; todo = c.loop-marker.todo } in
     let left = c.close-left.result.places in
-    let closed = c.close-left.ensures in
+    let closed = c.close-left.ensures.all in
     let even = even_of c.args.markers.items rest c.loop-marker.hands.items left none c.loop-marker.invariant.handed
     (subst (λ (l : List GreyHand). (w : ℕ → ℕ) → pushed_by w l ≡ taken_by w l + sum_by w left) c.into_list.ensures closed) in
     let all : AllTakenIn c.args.marks c.args.pool c.args.markers.items rest left f c.add_all-2.new.self = record {

@@ -1,4 +1,4 @@
-use Rattle.std.proofs.Common.{◌≡◌, [], List, length, sym, subst, ap, arith}
+use Rattle.std.proofs.Common.{◌≡◌, [], List, length, sym, subst, ap, ◌∙◌, arith}
 use mathlib.Core.Option.{some-ne-none}
 use Rattle.golf_mark.specs.declared.marker.Marker.{Marker}
 use Rattle.golf_mark.specs.Gathering.{marker_parts}
@@ -12,7 +12,7 @@ loop-hand-init c =
     record {
       same = c.requires.same;
       all_seats = c.requires.seats;
-      all_hands = c.requires.hands.1;
+      all_hands = λ k h at. (c.requires.hands.1 k h at, c.requires.falling k h at);
       new_hands = c.requires.new;
       count = omega (arith, ap length none, c.requires.hands.0);
       parts = omega (arith, ap marker_parts none, c.requires.same);
@@ -27,6 +27,7 @@ loop-hand-preserved c =
       idle = c.in_ok-won.ensures.items;
       room = omega (arith, c.in_ok-won.ensures.room, c.requires.places);
       budget = c.requires.capacity;
+      places = c.requires.pool_places ∙ sym c.requires.places;
     }))
 
 pub returns-clause-count : goal.returns-clause-count

@@ -26,3 +26,6 @@ returns c =
     let d = c.scan_or_defer.new.marker in
     let taken = Runs-turn marks pool c.in-Some.place b (record b { hand = c.seek.new.hand }) d refl refl c.in-Some.ensures.number c.in-Some.ensures.took c.scan_or_defer.ensures in
     Runs-trans marks pool c.args.marker.now b c.share-2.new.marker c.scan_own.ensures (Runs-trans marks pool b d c.share-2.new.marker taken c.share-2.ensures)
+
+pub scan_or_defer-requires-clause-place : goal.scan_or_defer-requires-clause-place
+scan_or_defer-requires-clause-place c = omega (arith, c.in-Some.ensures.place, c.scan_own.ensures.fits.places)

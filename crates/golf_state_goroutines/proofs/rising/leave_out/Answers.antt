@@ -18,7 +18,7 @@ returns-then-index-g-clause-others c =
     let at : c.leading-at.result ≡ leading g ns = c.leading-at.ensures.place ∙ ap (λ (k : ℕ). leading k (numbers c.as_slice.result.now)) c.from.ensures ∙ ap (λ (ys : List GoroutineId). leading g (numbers ys)) c.as_slice.ensures.value in
     let within : c.leading-at.result < length xs = omega (arith, c.if-at-len.true, c.len.ensures, c.args.goroutines.now.ok.0) in
     let here : slice_get ns (leading g ns) ≡ Some g = ap (slice_get ns) (sym at) ∙ at-number xs c.leading-at.result c.index.result.now within c.index.ensures ∙ ap Some c.if-index-g.true in
-    ap numbers c.remove.ensures.items ∙ numbers-remove xs c.leading-at.result ∙ ap (remove ns) at ∙ sym (without-there 0 g ns c.requires here)
+    ap numbers c.take_out.ensures.items ∙ numbers-remove xs c.leading-at.result ∙ ap (remove ns) at ∙ sym (without-there 0 g ns c.requires here)
 
 pub returns-else-at-len-clause-others : goal.returns-else-at-len-clause-others
 returns-else-at-len-clause-others c =

@@ -1,17 +1,24 @@
-use Rattle.std.proofs.Common.{ap, ◌∙◌, arith, [], ◌∷◌, drop, List}
+use Rattle.std.proofs.Common.{◌≡◌, ap, ◌∙◌, arith, [], ◌∷◌, ◌++◌, drop, List, Option}
 use Rattle.std.proofs.lemmas.Grind.{common_steps}
 use Rattle.golf_data.specs.declared.goroutine.Side.{Side}
 use Rattle.golf_data.specs.declared.goroutine.WaitKind.{WaitKind}
+use Rattle.golf_theory.specs.Maps.{find}
+use Rattle.golf_model.specs.Views.{FrameView, GoroutineView}
 use Rattle.golf_model.specs.State.{State}
 use Rattle.golf_model.specs.Changes.{Change, apply_all}
-use Rattle.golf_model.specs.Acting.{Actor, standing, blocks, next}
+use Rattle.golf_model.specs.Acting.{Actor, standing, blocks, next, at_mutex}
 use Rattle.golf_model.specs.Waiting.{bare_wait, first}
 use Rattle.golf_model.specs.Mutexes.{hands_over}
+use Rattle.golf_model.specs.Conditions.{awaits_by}
+use Rattle.golf_state.specs.Doing.{does_by}
 use Rattle.golf_state.specs.Going.{went}
+use Rattle.golf_state.specs.Outcomes.{outcome_of}
+use Rattle.golf_state.specs.declared.outcome.Outcome.{Outcome}
 use Rattle.golf_state.specs.Looked.{is_blocked}
 use Rattle.golf_state.proofs.Runnings.{blocked-handed}
 use Rattle.golf_state.proofs.Doings.{does-is, apply_all-append, actor_of}
 use Rattle.golf_state.proofs.Serving.{beside-put, handed-ready, handed-is, handed-swap, apart-some}
+use Rattle.golf_sync.proofs.Outcomes.{blocks-behind}
 use Rattle.golf_sync.proofs.conditions.await_with.Goals as goal
 
 pub hand_over-requires : goal.hand_over-requires
@@ -42,4 +49,9 @@ returns-clause-ok c =
     let stays =
     ap (is_blocked g) (c.hand_over.ensures ∙ handed-is s m c.first_waiter-waiting.result c.first_waiter-waiting.ensures.first c.first_waiter-waiting.ensures.blocked c.block_on.new.state b c.args.mutex.0)
     ∙ blocked-handed g c.args.mutex.0 m c.block_on.new.state (apart-some g after s c.requires m c.first_waiter-waiting.ensures.blocked) c.in_ok-block_on.ensures.blocked in
-    (grind (arith, common_steps, e, append), stays)
+    let by : Actor → List Change = λ a. at_mutex (awaits_by a (drop 1 a.frame.operands) s c.args.condition.0 c.args.mutex.0) (find c.args.mutex.0 s.objects) in
+    let f : FrameView = next c.requires.frame (drop 1 c.requires.frame.operands) in
+    let is : by A ≡ hands_over c.args.mutex.0 m ++ blocks A f WaitKind.Condition waits = grind (arith, common_steps) in
+    let comes : outcome_of (does_by by g c.args.acting.line (find g s.goroutines)) ≡ Outcome.Blocked =
+    ap (λ (o : Option GoroutineView). outcome_of (does_by by g c.args.acting.line o)) c.requires.found ∙ ap outcome_of is ∙ blocks-behind c.args.mutex.0 m A f WaitKind.Condition waits in
+    ((grind (arith, common_steps, e, append), stays), λ stay. comes)

@@ -7,8 +7,8 @@ use Rattle.golf_model.specs.Changes.{Change}
 use Rattle.golf_model.specs.Acting.{Actor, goes, at_mutex}
 use Rattle.golf_model.specs.Waiting.{Waiter, first}
 use Rattle.golf_model.specs.Conditions.{passes_on, notifies}
-use Rattle.golf_state.proofs.Doings.{does-same, actor_of}
-use Rattle.golf_state.proofs.Outcomings.{comes-same}
+use Rattle.golf_state.proofs.Doings.{actor_of}
+use Rattle.golf_state.proofs.Outcomings.{comes-same, acts-same}
 use Rattle.golf_sync.specs.Notified.{notified}
 use Rattle.golf_sync.proofs.Notices.{none-of, notified-none, notified-from}
 use Rattle.golf_sync.proofs.conditions.notify_by.Goals as goal
@@ -27,7 +27,7 @@ returns-in-Ref c =
     let g : List Waiter → Actor → List Change = λ ws a. at_mutex (λ locked. goes a (drop 1 a.frame.operands) ++ passes_on c.in-Ref.mutex.0 ws) (find c.in-Ref.mutex.0 s.objects) in
     let A = actor_of c.requires.stands c.args.acting.line in
     comes-same c.notify_with.result (g (notified c.args.all c.args.condition.0 s.goroutines)) (f c.args.mutex (notified c.args.all c.args.condition.0 s.goroutines)) c.args.acting.goroutine.0 c.args.acting.line s c.notify_with.new.state
-    (does-same c.args.acting.goroutine.0 c.args.acting.after s c.requires.stands (g (notified c.args.all c.args.condition.0 s.goroutines)) (f c.args.mutex (notified c.args.all c.args.condition.0 s.goroutines)) c.args.acting.line (ap (λ (ws : List Waiter). g ws A) n.2 ∙ sym (ap (λ (v : Value). f v (n.0 ∷ n.1) A) c.in-Ref.is) ∙ sym (ap (λ (ws : List Waiter). f c.args.mutex ws A) n.2)))
+    (acts-same c.args.acting.goroutine.0 c.args.acting.after c.args.acting.line s c.requires.stands (g (notified c.args.all c.args.condition.0 s.goroutines)) (f c.args.mutex (notified c.args.all c.args.condition.0 s.goroutines)) (ap (λ (ws : List Waiter). g ws A) n.2 ∙ sym (ap (λ (v : Value). f v (n.0 ∷ n.1) A) c.in-Ref.is) ∙ sym (ap (λ (ws : List Waiter). f c.args.mutex ws A) n.2)))
     c.notify_with.ensures
 
 pub returns-in-Nil : goal.returns-in-Nil

@@ -1,6 +1,14 @@
-use Rattle.std.proofs.Common.{ap, ◌∙◌, arith}
+use Rattle.std.proofs.Common.{◌≡◌, List, ◌++◌, drop, refl, ap, ◌∙◌, arith}
 use Rattle.std.proofs.lemmas.Grind.{common_steps}
+use Rattle.golf_theory.specs.Maps.{find}
+use Rattle.golf_model.specs.Views.{FrameView}
+use Rattle.golf_model.specs.Changes.{Change}
+use Rattle.golf_model.specs.Acting.{Actor, stands, next, at_rw}
+use Rattle.golf_model.specs.ReadersWriters.{read_unlocks_by, serves}
 use Rattle.golf_state.specs.Looked.{runs}
+use Rattle.golf_state.proofs.Doings.{actor_of}
+use Rattle.golf_state.proofs.Outcomings.{done-standing}
+use Rattle.golf_sync.proofs.Outcomes.{serves-free}
 use Rattle.golf_sync.proofs.Serves.{next-is, next-ready, served-runs}
 use Rattle.golf_sync.proofs.readers_writers.read_unlock_at.Goals as goal
 
@@ -14,4 +22,11 @@ returns-then-left-eq0 c =
     let o = c.args.rw.0 in
     let t = c.proceed.new.state in
     let e = c.serve.ensures ∙ next-is g c.args.acting.after o c.args.acting.line c.args.state.now t c.next_served-served.result c.requires c.proceed.ensures.state c.next_served-served.ensures.next c.next_served-served.ensures.blocked in
-    (grind (arith, common_steps, e), ap (runs g) c.serve.ensures ∙ served-runs g o c.next_served-served.result t c.proceed.ensures.runs)
+    let s = c.args.state.now in
+    let st = c.requires in
+    let act : Actor → List Change = λ a. at_rw (read_unlocks_by a (drop 1 a.frame.operands) s o) (find o s.objects) in
+    let h : FrameView = next st.frame (drop 1 st.frame.operands) in
+    let is : act (actor_of st c.args.acting.line) ≡ stands (actor_of st c.args.acting.line) h ++ serves o s.goroutines = grind (arith, common_steps) in (
+      (grind (arith, common_steps, e), ap (runs g) c.serve.ensures ∙ served-runs g o c.next_served-served.result t c.proceed.ensures.runs),
+      done-standing g c.args.acting.after c.args.acting.line s st act h (serves o s.goroutines) refl (serves-free o s.goroutines) is,
+    )

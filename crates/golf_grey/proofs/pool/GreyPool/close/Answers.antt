@@ -3,7 +3,8 @@ use Rattle.std.specs.Global.{Vec}
 use Rattle.std.proofs.lemmas.List.Sums.{sum_by_push}
 use Rattle.golf_grey.specs.Rule.{all_parts}
 use Rattle.golf_grey.specs.Hands.{GreyPass, IsStage, row_weight, rows_weight}
-use Rattle.golf_grey.proofs.Making.{pushed_within}
+use Rattle.golf_grey.proofs.Leaving.{left_all}
+use Rattle.golf_grey.proofs.Making.{no_rows, pushed_within}
 use Rattle.golf_grey.proofs.Stages.{exists_at, at_end, longer, at_low}
 use Rattle.golf_grey.proofs.pool.GreyPool.close.Goals as goal
 
@@ -11,7 +12,7 @@ pub absorb_row-requires-clause-more : goal.absorb_row-requires-clause-more
 absorb_row-requires-clause-more c =
     let some_hand : 0 < length c.args.hands = omega (arith, c.loop-row.invariant.2, c.in-Some.ensures.len, c.loop-row.rows.ok.0, c.requires.0) in
     let h = exists_at c.args.hands 0 some_hand in
-    let fits = (c.requires.1 0 h.0 h.1).0 in
+    let fits = c.requires.1 0 h.0 h.1 in
     omega (arith, fits.parts, h.0.live, c.loop-row.invariant.2, c.in-Some.ensures.len, c.loop-row.rows.ok.0, c.len-more.ensures)
 
 pub absorb_row-requires-clause-row : goal.absorb_row-requires-clause-row
@@ -41,5 +42,11 @@ pub drain_all-places-requires-clause-room : goal.drain_all-places-requires-claus
 drain_all-places-requires-clause-room c =
     let pool = c.args.self in
     let hands = c.args.hands in
-    let all = pushed_within pool.thieves.items pool.capacity hands c.requires in
-    omega (arith, c.loop-row.invariant.3 (λ _. 1), c.take_apart-owners.ensures.pushed (λ _. 1), all, pool.left_room)
+    let all = pushed_within pool.thieves.items pool.capacity pool.places hands c.requires in
+    omega (arith, c.loop-row.invariant.3 (λ _ _. 1), c.take_apart-owners.ensures.pushed (λ _ _. 1), all, pool.left_room)
+
+pub returns-clause-all : goal.returns-clause-all
+returns-clause-all c = λ f.
+    let left = c.drain_all-places.ensures in
+    let none : length c.loop-row.rows.items ≡ 0 = omega (arith, c.in_default.ensures.cases.0, c.loop-row.rows.ok.0) in
+    omega (arith, left.2 (λ _. f), left_all f left.0 c.drain_all-places.result left.1, c.loop-row.invariant.3 (λ _. f), c.loop-row.invariant.4 (λ _. f), c.take_apart-owners.ensures.pushed (λ _. f), c.take_apart-owners.ensures.taken (λ _. f), no_rows (λ _. f) c.loop-row.rows.items none)

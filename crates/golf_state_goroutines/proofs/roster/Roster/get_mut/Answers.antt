@@ -8,7 +8,7 @@ use Rattle.golf_heap.specs.Objects.{rank}
 use Rattle.golf_model.specs.Views.{GoroutineView, goroutine_view}
 use Rattle.golf_state_goroutines.specs.Places.{plain_entries}
 use Rattle.golf_state_goroutines.specs.Goroutines.{Goroutines}
-use Rattle.golf_state_goroutines.specs.Blocks.{numbers, IsBlock, places_in, running_in, keyed_blocks, RisesIn}
+use Rattle.golf_state_goroutines.specs.Blocks.{numbers, IsBlock, IsPlace, places_in, running_in, keyed_blocks, RisesIn}
 use Rattle.golf_state_goroutines.specs.declared.blocks.Block.{Block}
 use Rattle.golf_state_goroutines.specs.declared.places.Place.{Place}
 use Rattle.golf_state_goroutines.proofs.Ranges.{in-rises}
@@ -28,41 +28,15 @@ some-found j g ps r h = elim (find g (plain_entries ps)) as (λ o. find g (plain
   | Some v ↦ λ e i. let k = found-keyed (λ (p : Place). p.number) (λ (p : Place). goroutine_view p.goroutine) g j ps v r e in (k.0, k.1, k.2)
 ] refl h
 
-pub index-requires : goal.index-requires
-index-requires c =
-    let r = c.self.inside in
-    let bs = r.blocks.items in
-    let ns = r.sums.items in
-    let g = c.args.number in
-    let i = c.block_of-at.result in
-    let at : i ≡ rank (g / 256) (keyed_blocks bs) = c.block_of-at.ensures ∙ ap (λ (cs : List Block). rank (g / 256) (keyed_blocks cs)) c.as_slice.ensures.value in
-    let some : is_some (find g (plain_entries (places_in bs))) ≡ true = ap (λ (w : Goroutines). is_some (find g (plain_entries w.places))) c.self.view_is ∙ c.requires in
-    let within : i < length bs = inside-blocks bs i g c.self.invariant.blocks at some in
-    omega (arith, within, r.blocks.ok.0)
-
-pub rank_of-index-requires : goal.rank_of-index-requires
-rank_of-index-requires c =
-    let r = c.self.inside in
-    let bs = r.blocks.items in
-    let ns = r.sums.items in
-    let g = c.args.number in
-    let i = c.block_of-at.result in
-    let at : i ≡ rank (g / 256) (keyed_blocks bs) = c.block_of-at.ensures ∙ ap (λ (cs : List Block). rank (g / 256) (keyed_blocks cs)) c.as_slice.ensures.value in
-    let some : is_some (find g (plain_entries (places_in bs))) ≡ true = ap (λ (w : Goroutines). is_some (find g (plain_entries w.places))) c.self.view_is ∙ c.requires in
-    let within : i < length bs = inside-blocks bs i g c.self.invariant.blocks at some in
-    let b = c.index.result.now in
-    let here : slice_get bs i ≡ Some b = slice_get_read bs (length bs) i b refl within c.index.ensures in
-    let s : Sides bs i g b = sides bs i g b c.self.invariant.blocks at here in
-    subst (λ (ps : List Place). Rises (g / 256 * 256) (plain_entries ps)) (sym c.as_slice-2.ensures.value) (in-rises (g / 256 * 256) (b.key * 256) (b.key * 256 + 256) (plain_entries b.places.items) (omega (arith, s.key)) s.block.places)
-
 pub index_mut-block-requires : goal.index_mut-block-requires
 index_mut-block-requires c =
     let r = c.self.inside in
     let bs = r.blocks.items in
     let ns = r.sums.items in
     let g = c.args.number in
-    let i = c.block_of-at.result in
-    let at : i ≡ rank (g / 256) (keyed_blocks bs) = c.block_of-at.ensures ∙ ap (λ (cs : List Block). rank (g / 256) (keyed_blocks cs)) c.as_slice.ensures.value in
+    let i = c.place_in-at.result.0 in
+    let place : IsPlace g bs i c.place_in-at.result.1 = subst (λ (cs : List Block). IsPlace g cs i c.place_in-at.result.1) c.as_slice.ensures.value c.place_in-at.ensures in
+    let at : i ≡ rank (g / 256) (keyed_blocks bs) = place.block in
     let some : is_some (find g (plain_entries (places_in bs))) ≡ true = ap (λ (w : Goroutines). is_some (find g (plain_entries w.places))) c.self.view_is ∙ c.requires in
     let within : i < length bs = inside-blocks bs i g c.self.invariant.blocks at some in
     omega (arith, within, r.blocks.ok.0)
@@ -73,19 +47,16 @@ index_mut-place-requires c =
     let bs = r.blocks.items in
     let ns = r.sums.items in
     let g = c.args.number in
-    let i = c.block_of-at.result in
-    let at : i ≡ rank (g / 256) (keyed_blocks bs) = c.block_of-at.ensures ∙ ap (λ (cs : List Block). rank (g / 256) (keyed_blocks cs)) c.as_slice.ensures.value in
+    let i = c.place_in-at.result.0 in
+    let place : IsPlace g bs i c.place_in-at.result.1 = subst (λ (cs : List Block). IsPlace g cs i c.place_in-at.result.1) c.as_slice.ensures.value c.place_in-at.ensures in
+    let at : i ≡ rank (g / 256) (keyed_blocks bs) = place.block in
     let some : is_some (find g (plain_entries (places_in bs))) ≡ true = ap (λ (w : Goroutines). is_some (find g (plain_entries w.places))) c.self.view_is ∙ c.requires in
     let within : i < length bs = inside-blocks bs i g c.self.invariant.blocks at some in
-    let b = c.index.result.now in
-    let here : slice_get bs i ≡ Some b = slice_get_read bs (length bs) i b refl within c.index.ensures in
-    let s : Sides bs i g b = sides bs i g b c.self.invariant.blocks at here in
     let d = c.index_mut-block.result.now in
     let there : slice_get bs i ≡ Some d = slice_get_read bs (length bs) i d refl within c.index_mut-block.ensures.value in
-    let same : b ≡ d = cc in
-    let rises : Rises (g / 256 * 256) (plain_entries d.places.items) = subst (λ (w : Block). Rises (g / 256 * 256) (plain_entries w.places.items)) same (in-rises (g / 256 * 256) (b.key * 256) (b.key * 256 + 256) (plain_entries b.places.items) (omega (arith, s.key)) s.block.places) in
     let t : Sides bs i g d = sides bs i g d c.self.invariant.blocks at there in
-    let k : c.rank_of-index.result ≡ rank g (plain_entries d.places.items) = c.rank_of-index.ensures ∙ ap (λ (ps : List Place). rank g (plain_entries ps)) c.as_slice-2.ensures.value ∙ ap (λ (w : Block). rank g (plain_entries w.places.items)) same in
+    let rises : Rises (g / 256 * 256) (plain_entries d.places.items) = in-rises (g / 256 * 256) (d.key * 256) (d.key * 256 + 256) (plain_entries d.places.items) (omega (arith, t.key)) t.block.places in
+    let k : c.place_in-at.result.1 ≡ rank g (plain_entries d.places.items) = place.place d there in
     let f = some-found (g / 256 * 256) g d.places.items rises (ap (λ (o : Option GoroutineView). is_some o) (sym (find-in bs i g d t)) ∙ some) in
     let low : rank g (plain_entries d.places.items) < length d.places.items = slice_get_within d.places.items (rank g (plain_entries d.places.items)) f.0 f.1 in
     omega (arith, low, k, d.places.ok.0)
@@ -96,27 +67,24 @@ invariant_of-self-lent c = λ w.
     let bs = r.blocks.items in
     let ns = r.sums.items in
     let g = c.args.number in
-    let i = c.block_of-at.result in
-    let at : i ≡ rank (g / 256) (keyed_blocks bs) = c.block_of-at.ensures ∙ ap (λ (cs : List Block). rank (g / 256) (keyed_blocks cs)) c.as_slice.ensures.value in
+    let i = c.place_in-at.result.0 in
+    let place : IsPlace g bs i c.place_in-at.result.1 = subst (λ (cs : List Block). IsPlace g cs i c.place_in-at.result.1) c.as_slice.ensures.value c.place_in-at.ensures in
+    let at : i ≡ rank (g / 256) (keyed_blocks bs) = place.block in
     let some : is_some (find g (plain_entries (places_in bs))) ≡ true = ap (λ (w : Goroutines). is_some (find g (plain_entries w.places))) c.self.view_is ∙ c.requires in
     let within : i < length bs = inside-blocks bs i g c.self.invariant.blocks at some in
-    let b = c.index.result.now in
-    let here : slice_get bs i ≡ Some b = slice_get_read bs (length bs) i b refl within c.index.ensures in
-    let s : Sides bs i g b = sides bs i g b c.self.invariant.blocks at here in
     let d = c.index_mut-block.result.now in
     let there : slice_get bs i ≡ Some d = slice_get_read bs (length bs) i d refl within c.index_mut-block.ensures.value in
-    let same : b ≡ d = cc in
-    let rises : Rises (g / 256 * 256) (plain_entries d.places.items) = subst (λ (w : Block). Rises (g / 256 * 256) (plain_entries w.places.items)) same (in-rises (g / 256 * 256) (b.key * 256) (b.key * 256 + 256) (plain_entries b.places.items) (omega (arith, s.key)) s.block.places) in
     let t : Sides bs i g d = sides bs i g d c.self.invariant.blocks at there in
-    let k : c.rank_of-index.result ≡ rank g (plain_entries d.places.items) = c.rank_of-index.ensures ∙ ap (λ (ps : List Place). rank g (plain_entries ps)) c.as_slice-2.ensures.value ∙ ap (λ (w : Block). rank g (plain_entries w.places.items)) same in
+    let rises : Rises (g / 256 * 256) (plain_entries d.places.items) = in-rises (g / 256 * 256) (d.key * 256) (d.key * 256 + 256) (plain_entries d.places.items) (omega (arith, t.key)) t.block.places in
+    let k : c.place_in-at.result.1 ≡ rank g (plain_entries d.places.items) = place.place d there in
     let f = some-found (g / 256 * 256) g d.places.items rises (ap (λ (o : Option GoroutineView). is_some o) (sym (find-in bs i g d t)) ∙ some) in
     let low : rank g (plain_entries d.places.items) < length d.places.items = slice_get_within d.places.items (rank g (plain_entries d.places.items)) f.0 f.1 in
     let p = c.index_mut-place.result.now in
-    let read : slice_get d.places.items (rank g (plain_entries d.places.items)) ≡ Some p = ap (slice_get d.places.items) (sym k) ∙ slice_get_read d.places.items (length d.places.items) c.rank_of-index.result p refl (omega (arith, low, k)) c.index_mut-place.ensures.value in
+    let read : slice_get d.places.items (rank g (plain_entries d.places.items)) ≡ Some p = ap (slice_get d.places.items) (sym k) ∙ slice_get_read d.places.items (length d.places.items) c.place_in-at.result.1 p refl (omega (arith, low, k)) c.index_mut-place.ensures.value in
     let one : f.0 ≡ p = same-item (slice_get d.places.items (rank g (plain_entries d.places.items))) f.0 p f.1 read in
     let n : p.number ≡ g = ap (λ (q : Place). q.number) (sym one) ∙ f.2 in
     let q : Place = record { number = p.number; goroutine = w } in
-    let new : Block = record { key = d.key; places = with_item d.places c.rank_of-index.result q; running = d.running } in
+    let new : Block = record { key = d.key; places = with_item d.places c.place_in-at.result.1 q; running = d.running } in
     let items : new.places.items ≡ slice_set d.places.items (rank g (plain_entries d.places.items)) q = ap (λ (x : ℕ). slice_set d.places.items x q) k in
     let is : IsBlock new = record {
       places = subst (RisesIn (d.key * 256) (d.key * 256 + 256)) (sym (ap (λ (ps : List Place). keys (plain_entries ps)) items ∙ keys-set (rank g (plain_entries d.places.items)) d.places.items p q read refl)) t.block.places;
@@ -137,30 +105,27 @@ returns c =
     let bs = r.blocks.items in
     let ns = r.sums.items in
     let g = c.args.number in
-    let i = c.block_of-at.result in
-    let at : i ≡ rank (g / 256) (keyed_blocks bs) = c.block_of-at.ensures ∙ ap (λ (cs : List Block). rank (g / 256) (keyed_blocks cs)) c.as_slice.ensures.value in
+    let i = c.place_in-at.result.0 in
+    let place : IsPlace g bs i c.place_in-at.result.1 = subst (λ (cs : List Block). IsPlace g cs i c.place_in-at.result.1) c.as_slice.ensures.value c.place_in-at.ensures in
+    let at : i ≡ rank (g / 256) (keyed_blocks bs) = place.block in
     let some : is_some (find g (plain_entries (places_in bs))) ≡ true = ap (λ (w : Goroutines). is_some (find g (plain_entries w.places))) c.self.view_is ∙ c.requires in
     let within : i < length bs = inside-blocks bs i g c.self.invariant.blocks at some in
-    let b = c.index.result.now in
-    let here : slice_get bs i ≡ Some b = slice_get_read bs (length bs) i b refl within c.index.ensures in
-    let s : Sides bs i g b = sides bs i g b c.self.invariant.blocks at here in
     let d = c.index_mut-block.result.now in
     let there : slice_get bs i ≡ Some d = slice_get_read bs (length bs) i d refl within c.index_mut-block.ensures.value in
-    let same : b ≡ d = cc in
-    let rises : Rises (g / 256 * 256) (plain_entries d.places.items) = subst (λ (w : Block). Rises (g / 256 * 256) (plain_entries w.places.items)) same (in-rises (g / 256 * 256) (b.key * 256) (b.key * 256 + 256) (plain_entries b.places.items) (omega (arith, s.key)) s.block.places) in
     let t : Sides bs i g d = sides bs i g d c.self.invariant.blocks at there in
-    let k : c.rank_of-index.result ≡ rank g (plain_entries d.places.items) = c.rank_of-index.ensures ∙ ap (λ (ps : List Place). rank g (plain_entries ps)) c.as_slice-2.ensures.value ∙ ap (λ (w : Block). rank g (plain_entries w.places.items)) same in
+    let rises : Rises (g / 256 * 256) (plain_entries d.places.items) = in-rises (g / 256 * 256) (d.key * 256) (d.key * 256 + 256) (plain_entries d.places.items) (omega (arith, t.key)) t.block.places in
+    let k : c.place_in-at.result.1 ≡ rank g (plain_entries d.places.items) = place.place d there in
     let f = some-found (g / 256 * 256) g d.places.items rises (ap (λ (o : Option GoroutineView). is_some o) (sym (find-in bs i g d t)) ∙ some) in
     let low : rank g (plain_entries d.places.items) < length d.places.items = slice_get_within d.places.items (rank g (plain_entries d.places.items)) f.0 f.1 in
     let p = c.index_mut-place.result.now in
-    let read : slice_get d.places.items (rank g (plain_entries d.places.items)) ≡ Some p = ap (slice_get d.places.items) (sym k) ∙ slice_get_read d.places.items (length d.places.items) c.rank_of-index.result p refl (omega (arith, low, k)) c.index_mut-place.ensures.value in
+    let read : slice_get d.places.items (rank g (plain_entries d.places.items)) ≡ Some p = ap (slice_get d.places.items) (sym k) ∙ slice_get_read d.places.items (length d.places.items) c.place_in-at.result.1 p refl (omega (arith, low, k)) c.index_mut-place.ensures.value in
     let one : f.0 ≡ p = same-item (slice_get d.places.items (rank g (plain_entries d.places.items))) f.0 p f.1 read in
     let n : p.number ≡ g = ap (λ (q : Place). q.number) (sym one) ∙ f.2 in (
       (
         refl,
         λ w.
             let q : Place = record { number = p.number; goroutine = w } in
-            let new : Block = record { key = d.key; places = with_item d.places c.rank_of-index.result q; running = d.running } in
+            let new : Block = record { key = d.key; places = with_item d.places c.place_in-at.result.1 q; running = d.running } in
             let items : new.places.items ≡ slice_set d.places.items (rank g (plain_entries d.places.items)) q = ap (λ (x : ℕ). slice_set d.places.items x q) k in
             rw (← c.self.view_is)
             (both (places_in (slice_set bs i new)) (slice_set (places_in bs) (rank g (plain_entries (places_in bs))) (record { number = g; goroutine = w })) (running_in (slice_set bs i new)) (running_in bs)

@@ -5,7 +5,7 @@ use Rattle.golf_data.specs.declared.report.Report.{Report}
 use Rattle.golf_model.specs.State.{ending}
 use Rattle.golf_world.specs.declared.history.HistoryEntry.{HistoryEntry}
 use Rattle.golf_world.specs.Steps.{HasAdvanced}
-use Rattle.golf_world.specs.History.{entry, IsExecution}
+use Rattle.golf_world.specs.History.{entry, most_entries, IsExecution}
 use Rattle.golf_world.proofs.Spawning.{runnable-size}
 use Rattle.golf_world.proofs.Executions.{execution_next, next_is, does_turn}
 use Rattle.golf_world.proofs.execution.Execution.take_turn.Goals as goal
@@ -13,7 +13,7 @@ use Rattle.golf_world.proofs.execution.Execution.take_turn.Goals as goal
 pub number_of-number-requires-clause-few : goal.number_of-number-requires-clause-few
 number_of-number-requires-clause-few g c =
     let inside = c.self.inside in
-    let few : length inside.entries.items < 100000 = omega (arith, c.len-at.ensures, c.if-at-ge-MOST.false) in
+    let few : length inside.entries.items < most_entries = omega (arith, c.len-at.ensures, c.if-at-ge-MOST_ENTRIES.false) in
     omega (arith, c.how_many-count.ensures, runnable-size inside.state, c.self.invariant.narrow, few)
 
 pub invariant_of-self-2 : goal.invariant_of-self-2
@@ -26,7 +26,7 @@ invariant_of-self-2 g c =
     let n : ℕ = c.number_of-number.result in
     let report : Option Report = c.in_ok-report.report in
     let goes : ending inside.state ≡ None = sym c.ending.ensures ∙ c.in_default.is in
-    let few : length es < 100000 = omega (arith, c.len-at.ensures, c.if-at-ge-MOST.false) in
+    let few : length es < most_entries = omega (arith, c.len-at.ensures, c.if-at-ge-MOST_ENTRIES.false) in
     let is = next_is code c.args.pass (record { execution = c.self.invariant; here = c.len-at.ensures; many = c.how_many-count.ensures; is = c.number_of-number.ensures }) in
     let made : c.push_ready.new.self.items ≡ es ++ entry c.args.pass n ∷ [] = c.push_ready.ensures.items ∙ ap (λ (l : List HistoryEntry). l ++ entry c.args.pass n ∷ []) c.reserve.ensures.items in
     let told : c.add_report.new.reports.items ≡ rs ++ option_to_list report = c.add_report.ensures ∙ ap (λ (l : List Report). l ++ option_to_list report) c.reserve-2.ensures.items in
@@ -41,7 +41,7 @@ returns-clause-ok g c =
     let es : List HistoryEntry = inside.entries.items in
     let n : ℕ = c.number_of-number.result in
     let goes : ending inside.state ≡ None = sym c.ending.ensures ∙ c.in_default.is in
-    let few : length es < 100000 = omega (arith, c.len-at.ensures, c.if-at-ge-MOST.false) in
+    let few : length es < most_entries = omega (arith, c.len-at.ensures, c.if-at-ge-MOST_ENTRIES.false) in
     let made : c.push_ready.new.self.items ≡ es ++ entry c.args.pass n ∷ [] = c.push_ready.ensures.items ∙ ap (λ (l : List HistoryEntry). l ++ entry c.args.pass n ∷ []) c.reserve.ensures.items in
     does_turn code c.args.pass c.runnable_at-goroutine.result (record { execution = c.self.invariant; here = c.len-at.ensures; many = c.how_many-count.ensures; is = c.number_of-number.ensures })
     few goes c.runnable_at-goroutine.ensures.at c.self.view_is made

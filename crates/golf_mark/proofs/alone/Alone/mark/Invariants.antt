@@ -1,9 +1,0 @@
-use Rattle.std.proofs.Common.{◌-◌}
-use Rattle.golf_mark.specs.Working.{IsUnderWay}
-use Rattle.golf_mark.proofs.alone.Alone.mark.Given as goal
-
-abbrev pub invariant-loop-place : goal.invariant-loop-place
-invariant-loop-place g l = IsUnderWay l.graph l.work l.turn
-
-abbrev pub decreases-loop-place : goal.decreases-loop-place
-decreases-loop-place g l = l.work.places - l.turn
