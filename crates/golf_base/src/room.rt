@@ -138,13 +138,13 @@ impl<T: Drop> Room<T> {
     }
 
     /// Adds an item at the end, for which there is room.
+    #[inline(always)]
     pub fn push_ready(&mut self, value: T)
         requires { 0 < self.old.spare }
         ensures items { self.new.items ≡ self.old.items ++ value ∷ [] }
         ensures spare { self.new.spare + 1 ≡ self.old.spare }
     {
-        let end = self.inner.len();
-        let _ = self.inner.insert(end, value);
+        self.inner.push_reserved(value);
     }
 
     /// Adds an item at the end.

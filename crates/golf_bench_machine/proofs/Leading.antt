@@ -1,7 +1,7 @@
--- What a collection needs: if nobody was removed, the removed are gone; there are as many flags as goroutines; and goroutine 0 stays.
--- For: `free`, `time_whole`, src/collections.rt
+-- What freeing needs: there are as many flags as goroutines, and goroutine 0 stays.
+-- For: `free`, src/collections.rt
 -- By: induction over the entries of the map of goroutines; otherwise equations of lists and their lengths
-use Rattle.std.proofs.Common.{◌≡◌, ◌<◌, ◌==◌, ℕ, suc, cond, Bool, true, false, List, [], ◌∷◌, length, map, Some, None, refl, sym, ap, subst, ◌∙◌, arith, slice_get}
+use Rattle.std.proofs.Common.{◌≡◌, ◌<◌, ◌==◌, ℕ, suc, cond, Bool, true, false, List, [], ◌∷◌, length, map, Some, None, refl, sym, ap, ◌∙◌, arith, slice_get}
 use Rattle.std.specs.Prelude.{is_some}
 use Rattle.std.proofs.lemmas.Bool.{ne_eqb}
 use Rattle.std.proofs.lemmas.List.{length-map}
@@ -9,15 +9,6 @@ use Rattle.golf_heap.specs.Objects.{kept}
 use Rattle.golf_theory.specs.Maps.{find, keys, Rises}
 use Rattle.golf_base.specs.declared.ids.GoroutineId.{GoroutineId}
 use Rattle.golf_model.specs.Views.{GoroutineView}
-use Rattle.golf_data.specs.declared.report.Book.{Book}
-use Rattle.golf_model.specs.State.{State}
-use Rattle.golf_model.specs.Reporting.{numbers}
-use Rattle.golf_theory.specs.Membership.{In}
-use Rattle.golf_reclaim.specs.Noting.{AreGone}
-
--- if nobody was removed, those who were are gone
-pub none-removed : (book : Book) (s : State) → book.reclaimed ≡ [] → AreGone book s
-none-removed book s none = λ g there gone. subst (λ gs. In g (numbers gs)) none gone
 
 find-above : (k g : ℕ) (es : List (ℕ × GoroutineView)) → Rises k es → g < k → find g es ≡ None
 find-above k g [] r l = refl

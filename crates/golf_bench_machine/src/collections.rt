@@ -1,6 +1,7 @@
 //! A collection, and the time that its parts take.
 
 ghost use Rattle.std.specs.Prelude.{◌≡◌, ◌<◌, ◌≤◌, true, IfOk, IsTrue, Some, slice_get};
+ghost use Rattle.std.specs.List.Sorted.{IsNonDecreasingBy};
 ghost use Rattle.golf_model.specs.Presence.{IsWhole};
 ghost use Rattle.golf_mark.specs.Marking.{MarksLeast};
 
@@ -53,13 +54,17 @@ fn is_first_set(flags: &[bool]) -> bool
     }
 }
 
+// Whether the numbers of these goroutines rise.
+fn are_rising(goroutines: &[GoroutineId]) -> bool
+    ensures { IsTrue result → IsNonDecreasingBy (λ g. g.0) goroutines.now }
+{
+    goroutines.is_sorted()
+}
+
 // Frees what is not flagged, unless goroutine 0 were gone with it.
-fn free(
-    alloc: Global,
-    state: &mut State,
-    gone: &[GoroutineId],
-    keep: &[bool],
-) -> Result<(), Memory> {
+fn free(alloc: Global, state: &mut State, gone: &[GoroutineId], keep: &[bool]) -> Result<(), Memory>
+    requires { IsNonDecreasingBy (λ g. g.0) gone.now }
+{
     let goroutines = state.goroutines(alloc)?;
     let stays = outside(alloc, goroutines.as_slice(), gone)?;
     let flags = stays.as_slice();
@@ -88,12 +93,16 @@ pub(crate) fn time_parts<R: Clock + Threads + Sync>(
     let graph = begin.elapsed(rt)?.as_micros();
     let found = mark(rt, alloc, &live, options.markers)?;
     let marked = begin.elapsed(rt)?.as_micros();
-    let gone = find_gone(alloc, &live, &found, options)?;
+    let found = find_gone(alloc, &live, &found, options)?;
+    let gone = found.as_slice();
+    if !are_rising(gone) {
+        return Err(BenchFault::Memory);
+    }
     let kept = begin.elapsed(rt)?.as_micros();
-    let all = retained_graph(alloc, state, live, gone.as_slice())?;
+    let all = retained_graph(alloc, state, live, gone)?;
     let left = mark(rt, alloc, &all, options.markers)?;
     let marked_again = begin.elapsed(rt)?.as_micros();
-    free(alloc, state, gone.as_slice(), left.flags.as_slice())?;
+    free(alloc, state, gone, left.flags.as_slice())?;
     let freed = begin.elapsed(rt)?.as_micros();
     Ok(Parts {
         graph,

@@ -27,7 +27,7 @@ use Rattle.golf_code_never_stuck.proofs.Reaching.{files-have-shapes}
 
 module _ (code : Code) (types : Typing) (shapes : HasShapes code types) where
   -- what keeps a state from being stuck
-  record Sound (s : State) : Type 0 where
+  pub record Sound (s : State) : Type 0 where
     pub known : List (ℕ × ValueType)
     pub typed : WellTyped types known s
     pub sane : Sane s
@@ -51,6 +51,10 @@ module _ (code : Code) (types : Typing) (shapes : HasShapes code types) where
         sane = record { numbered = numbered-collect s h.sane.numbered; whole = whole-collect s h.sane.numbered h.sane.whole };
         orderly = record { goroutines = h.orderly.goroutines; conditions = h.orderly.conditions };
       }
+
+  -- so is each state of a run
+  pub sound-run : (events : List Event) → Sound (run code (start code) events)
+  sound-run events = run-kept code Sound sound-step sound-collect events (start code) sound-start
 
   sound-goes-on : (s : State) → Sound s → PlainGoesOn code s
   sound-goes-on s h events c e =

@@ -21,6 +21,8 @@ use Rattle.golf_run_texts.specs.Writes.{Write}
 use Rattle.golf_model.proofs.Agreeing.{dead-sound, dead-complete}
 use Rattle.golf_model_futures.proofs.MainLaws as Law
 use Rattle.golf_meaning.proofs.Laws.{file-agrees}
+use Rattle.golf_meaning_typed_files.proofs.Files.{files-sound}
+use Rattle.golf_meaning_runs.proofs.Runs.{runs-mean-sources}
 use Rattle.golf_code_never_stuck.specs.Reached.{IsProgram}
 use Rattle.golf_code_never_stuck.proofs.Reaching.{reached-moves-on}
 use Rattle.golf_code_never_stuck.proofs.Plain.{plain-runs-go-on}
@@ -30,7 +32,7 @@ use Rattle.golf_reader.specs.Refusals.{IsRefusedBy, IsOnly}
 use Rattle.golf_run.specs.HasRun.{Sinks, sinks, GotWrites, IsSteady}
 use Rattle.golf_command.specs.Ends.{EndsWith, Refuses}
 use Rattle.golf_command.specs.Ways.{Way, IsWayOf, options_of, status_by_options, status_for, out_for, err_for, writes_for}
-use Rattle.golf_command.specs.Promises.{Reads, Accepts, AreTrue, MovesAlways, RefusedBy}
+use Rattle.golf_command.specs.Promises.{Reads, Accepts, AreTrue, MovesAlways, MeansItsSource, RefusedBy}
 use Rattle.golf_command.specs.Promises.RefusedBy.{Unlexed, Unparsed, Untyped}
 use Rattle.golf_command.specs.Means.{Breaks, IsSoundBy, IsSound, Begins, AreFirst, MayFollow, MayStand, GoesWhole, Says, FileTells}
 use Rattle.golf_command.specs.Means.IsCause.{Refusal as Refusing, OutOfMemory}
@@ -57,12 +59,20 @@ moves-always bytes file options a =
       moves = λ s c leads going. reached-moves-on (CodeOf file) s c (record { file = file; program = program; coded = refl; leads = leads }) going;
     }
 
-sound-by : (options : Option RunOptions) (bytes : List ℕ) (file : File) → Accepts bytes file → IsSoundBy options file
+-- each function of such a file does what its source says
+means-its-source : (bytes : List ℕ) (file : File) → Accepts bytes file → MeansItsSource file
+means-its-source bytes file a = record {
+  agrees = file-agrees file;
+  unfit_by_answers = files-sound file a.typed.keeps a.typed.tree.reads.form.good;
+  runs = runs-mean-sources file (record { good = a.typed.tree.reads.form.good; typed = a.typed.keeps });
+}
+
+sound-by : (options : Option RunOptions) (bytes : List ℕ) (file : File) → Accepts bytes file → IsSoundBy options (CodeOf file)
 sound-by (Some options) bytes file a = record { reports = are-true (CodeOf file) options; moves = moves-always bytes file options a }
-sound-by None bytes file a = file-agrees file
+sound-by None bytes file a = tt
 
 sound-way : (way : Way) (bytes : List ℕ) (file : File) → Accepts bytes file → IsSound way file
-sound-way way bytes file a = sound-by (options_of way) bytes file a
+sound-way way bytes file a = record { source = means-its-source bytes file a; run = sound-by (options_of way) bytes file a }
 
 begins : (line : CommandLine) (bytes : List ℕ) (file : File) → Accepts bytes file → (w : (way : Way) × IsWayOf line file way) → Begins line file []
 begins line bytes file a w = record { way = w.0; is_way = w.1; later = writes_for w.0 (CodeOf file); order = refl; sound = sound-way w.0 bytes file a }

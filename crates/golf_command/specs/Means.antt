@@ -7,7 +7,6 @@ use Rattle.golf_base.specs.Causes.{Rose}
 use Rattle.golf_data.specs.declared.code.Code.{Code}
 use Rattle.golf_syntax_trees.specs.declared.declarations.File.{File}
 use Rattle.golf_code_of.specs.Files.{CodeOf}
-use Rattle.golf_meaning.specs.Judged.{FileAgrees}
 use Rattle.golf_run_schedules.specs.declared.options.RunOptions.{RunOptions}
 use Rattle.golf_command_words.specs.declared.line.CommandLine.{CommandLine}
 use Rattle.golf_run_texts.specs.declared.status.Status.{Status}
@@ -16,7 +15,7 @@ use Rattle.golf_run_texts.specs.Fixed.{usage_text, read_fault_text, no_memory_te
 use Rattle.golf_run_texts.specs.Writes.{Write}
 use Rattle.golf_run.specs.HasRun.{Sinks, GotWrites, IsPrefixOf, HasFailed, IsSteady}
 use Rattle.golf_command.specs.Ways.{Way, IsWayOf, options_of, status_for, out_for, err_for, writes_for}
-use Rattle.golf_command.specs.Promises.{IsLine, IsNoLine, Reads, IsFileOf, Accepts, AreTrue, MovesAlways, RefusedBy, WordsMean}
+use Rattle.golf_command.specs.Promises.{IsLine, IsNoLine, Reads, IsFileOf, Accepts, AreTrue, MovesAlways, MeansItsSource, RefusedBy, WordsMean}
 
 -- the bytes of the words
 abbrev pub words_of : List (String Global) → List (List ℕ)
@@ -47,13 +46,15 @@ pub record IsSoundRun (code : Code) (options : RunOptions) : Type 0 where
   pub reports : AreTrue code options
   pub moves : MovesAlways code options
 
--- what is said by what is written: of a run, its reports; else that the code of each function of the file agrees with its source, both ways
-abbrev pub IsSoundBy : Option RunOptions → File → Type 0
-IsSoundBy (Some options) file = IsSoundRun (CodeOf file) options
-IsSoundBy None file = FileAgrees file
+-- of a run, that it is sound; nothing more if nothing is run
+abbrev pub IsSoundBy : Option RunOptions → Code → Type 0
+IsSoundBy (Some options) code = IsSoundRun code options
+IsSoundBy None code = Unit {0}
 
-abbrev pub IsSound : Way → File → Type 0
-IsSound way file = IsSoundBy (options_of way) file
+-- what is said of an accepted file, in whichever way the line goes: the code of each function and method does what its source says; and what is said of the run
+pub record IsSound (way : Way) (file : File) : Type 0 where
+  pub source : MeansItsSource file
+  pub run : IsSoundBy (options_of way) (CodeOf file)
 
 -- the first writes of a sound way of the line over the file
 pub record Begins (line : CommandLine) (file : File) (done : List Write) : Type 0 where

@@ -10,6 +10,9 @@ use Rattle.golf_model_futures.specs.Telling.{TellsOfEach}
 use Rattle.golf_model.specs.Turn.{MovesOn}
 use Rattle.golf_syntax_trees.specs.declared.declarations.File.{File}
 use Rattle.golf_code_of.specs.Files.{CodeOf}
+use Rattle.golf_meaning.specs.Judged.{FileAgrees}
+use Rattle.golf_meaning_typing.specs.FileLaws.{MeaningsSound}
+use Rattle.golf_meaning_runs.specs.Laws.{RunMeansSource}
 use Rattle.golf_reader.specs.Refusals.{HasTypedTree, IsUnlexed, IsUnparsed, IsUntyped}
 use Rattle.golf_run_schedules.specs.declared.options.RunOptions.{RunOptions}
 use Rattle.golf_command_sample.specs.File.{file as generated_file}
@@ -68,6 +71,13 @@ pub record MovesAlways (code : Code) (options : RunOptions) : Type 0 where
   pub run : GoesOnFrom code (start code)
   pub continuations : (p : State) → In p (stops code (events_of options)) → GoesOnFrom code p
   pub moves : (s : State) (c : ℕ) → Leads code s → ending s ≡ None → MovesOn code s c
+
+-- The code of each function and method of the file does what its source says: for all arguments of the types of its receiver and parameters, and all answers that fit, the same visible operations, in the same order, with the same end. For each bound of one there is a bound of the other; and the source is unfit only if an answer does not fit its operation.
+-- And so it is in each run of the plain machine, after each turn: each call of a goroutine has shown operations that its source means, with the answers that it got, if these fit.
+pub record MeansItsSource (file : File) : Type 0 where
+  pub agrees : FileAgrees file
+  pub unfit_by_answers : MeaningsSound file
+  pub runs : (events : List Event) → RunMeansSource file events
 
 -- the line with which a file is refused
 pub data RefusedBy (bytes : List ℕ) : List ℕ → Type 0 where

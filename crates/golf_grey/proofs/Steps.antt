@@ -75,6 +75,23 @@ pushed_by_one : (places capacity : ℕ) (h : ℕ → ℕ) (items : List ℕ) (vi
 pushed_by_one places capacity h items views port v b at one =
     total_alone (λ (u : GreyView). u.pushers) (λ (u : GreyView). sum_by h u.pushed) views port v at (λ k u there none. ap (sum_by h) (b.silent k u there none)) (b.pushers ∙ sym one)
 
+-- a view that has a part now says that more was pushed or taken, and what lies in the deque is another list
+module _ (places capacity : ℕ) (items more : List ℕ) (views : List GreyView) (port : ℕ) (v : GreyView) (s : BalancedAt places capacity items views) (at : get_elem? views port ≡ some v) (live : 0 < v.parts) (pushed taken : List ℕ) where
+  abbrev w : GreyView
+  w = grey v.parts v.pushers v.places v.capacity pushed taken
+
+  moved : IsSilent w → ((h : ℕ → ℕ) → sum_by h pushed + sum_by h v.taken + sum_by h items ≡ sum_by h v.pushed + sum_by h taken + sum_by h more) → AllBelow places more → sum_by (λ (u : GreyView). count u.pushed) (set views port w) ≤ capacity → BalancedAt places capacity more (set views port w)
+  moved silent balance low few = record {
+    parts = omega (arith, total_set (λ (u : GreyView). u.parts) views port v w at, s.parts);
+    pushers = omega (arith, total_set (λ (u : GreyView). u.pushers) views port v w at, s.pushers);
+    balance = λ h. omega (arith, total_set (λ (u : GreyView). sum_by h u.pushed) views port v w at, total_set (λ (u : GreyView). sum_by h u.taken) views port v w at, s.balance h, balance h);
+    idle = each_set IsIdle views port w (λ none. absurd (omega arith)) s.idle;
+    silent = each_set IsSilent views port w silent s.silent;
+    same = each_set (Knows places capacity) views port w (λ _. s.same port v at live) s.same;
+    low = low;
+    few = few;
+  }
+
 pub pushes : (port : ℕ) (v : GreyView) (xs : List ℕ) → 0 < v.parts → v.pushers ≡ 1 → AllBelow v.places xs → length v.pushed + length xs ≤ v.capacity → Pushes Balanced port v xs (Pushed v xs)
 pushes port v xs live one below fits items views b at =
     let w : GreyView = grey v.parts v.pushers v.places v.capacity (v.pushed ++ xs) v.taken in
@@ -84,16 +101,11 @@ pushes port v xs live one below fits items views b at =
       (
         b.0,
         b.1,
-        record {
-          parts = omega (arith, total_set (λ (u : GreyView). u.parts) views port v w at, s.parts);
-          pushers = omega (arith, total_set (λ (u : GreyView). u.pushers) views port v w at, s.pushers);
-          balance = λ h. omega (arith, total_set (λ (u : GreyView). sum_by h u.pushed) views port v w at, total_set (λ (u : GreyView). sum_by h u.taken) views port v w at, s.balance h, sum_by-append h v.pushed xs, sum_by-append h items xs);
-          idle = each_set IsIdle views port w (λ none. absurd (omega arith)) s.idle;
-          silent = each_set IsSilent views port w (λ none. absurd (omega arith)) s.silent;
-          same = each_set (Knows b.0 b.1) views port w (λ _. mine) s.same;
-          low = below_both b.0 items xs s.low (subst (λ (n : ℕ). AllBelow n xs) mine.0 below);
-          few = omega (arith, total_set (λ (u : GreyView). count u.pushed) views port v w at, pushed_by_one b.0 b.1 (λ _. 1) items views port v s at one, sum_by-append (λ (x : ℕ). 1) v.pushed xs, total_length v.pushed, total_length xs, fits, mine.1);
-        },
+        moved b.0 b.1 items (items ++ xs) views port v s at live (v.pushed ++ xs) v.taken
+            (λ none. absurd (omega arith))
+            (λ h. omega (arith, sum_by-append h v.pushed xs, sum_by-append h items xs))
+            (below_both b.0 items xs s.low (subst (λ (n : ℕ). AllBelow n xs) mine.0 below))
+            (omega (arith, total_set (λ (u : GreyView). count u.pushed) views port v w at, pushed_by_one b.0 b.1 (λ _. 1) items views port v s at one, sum_by-append (λ (x : ℕ). 1) v.pushed xs, total_length v.pushed, total_length xs, fits, mine.1)),
       ),
       record { view = refl },
     )
@@ -119,16 +131,11 @@ takes port v live xs items views _ _ b at =
       (
         b.0,
         b.1,
-        record {
-          parts = omega (arith, total_set (λ (u : GreyView). u.parts) views port v w at, s.parts);
-          pushers = omega (arith, total_set (λ (u : GreyView). u.pushers) views port v w at, s.pushers);
-          balance = λ h. omega (arith, total_set (λ (u : GreyView). sum_by h u.pushed) views port v w at, total_set (λ (u : GreyView). sum_by h u.taken) views port v w at, s.balance h, sum_by-append h v.taken xs, sum_by-append h xs items);
-          idle = each_set IsIdle views port w (λ none. absurd (omega arith)) s.idle;
-          silent = each_set IsSilent views port w (s.silent port v at) s.silent;
-          same = each_set (Knows b.0 b.1) views port w (λ _. mine) s.same;
-          low = below_right b.0 xs items s.low;
-          few = omega (arith, total_set (λ (u : GreyView). count u.pushed) views port v w at, s.few);
-        },
+        moved b.0 b.1 (xs ++ items) items views port v s at live v.pushed (v.taken ++ xs)
+            (s.silent port v at)
+            (λ h. omega (arith, sum_by-append h v.taken xs, sum_by-append h xs items))
+            (below_right b.0 xs items s.low)
+            (omega (arith, total_set (λ (u : GreyView). count u.pushed) views port v w at, s.few)),
       ),
       record {
         view = refl;

@@ -1,6 +1,6 @@
 //! The end of a pool: each deque gets back its passes, and is emptied.
 
-ghost use Rattle.std.specs.Prelude.{◌≡◌, ◌+◌, ◌-◌, ◌<◌, ◌≤◌, ℕ, sum_by, length, remove, vec_capacity, vec_len, List as SpecList, [], ◌∷◌, ◌++◌};
+ghost use Rattle.std.specs.Prelude.{◌≡◌, ◌+◌, ◌-◌, ◌<◌, ◌≤◌, ℕ, sum_by, length, remove, List as SpecList, [], ◌∷◌, ◌++◌};
 ghost use mathlib.Core.Option.{some};
 ghost use lib.ListN.{get_elem?};
 ghost use Rattle.crossbeam_deque.specs.Handles.{view, IsPassOf, stealer_deque, worker_flavor, worker_view};
@@ -12,19 +12,6 @@ use crate::hand::GreyHand;
 use crate::rule::{Deal, GreyView, Owner, Take, Thief};
 use crossbeam_deque::Pass;
 use golf_base::{List, Room};
-
-// Adds an item for which there is room.
-fn put<T: Drop>(list: &mut Vec<T>, item: T)
-    requires { vec_len list.old < vec_capacity list.old }
-    ensures items { list.new.items ≡ list.old.items ++ item ∷ [] }
-    ensures len { vec_len list.new ≡ vec_len list.old + 1 }
-    ensures room { vec_capacity list.old ≤ vec_capacity list.new }
-{
-    match list.push(item) {
-        Ok(()) => {}
-        Err(_) => unreachable!(),
-    }
-}
 
 // Takes the hand of this number out of a list.
 fn take_hand(rest: &mut List<GreyHand>, number: usize) -> GreyHand
@@ -63,8 +50,8 @@ pub(crate) fn take_apart(
         mut owners,
         mut rows,
     } = first;
-    put(&mut owners, own);
-    put(&mut rows, passes);
+    owners.push_reserved(own);
+    rows.push_reserved(passes);
     for number in 1..thieves.len() {
         let hand = take_hand(&mut rest, number);
         let GreyHand {
@@ -74,8 +61,8 @@ pub(crate) fn take_apart(
             owners: _,
             rows: _,
         } = hand;
-        put(&mut owners, own);
-        put(&mut rows, passes);
+        owners.push_reserved(own);
+        rows.push_reserved(passes);
     }
     (owners, rows)
 }

@@ -12,12 +12,15 @@ use Rattle.golf_model.specs.Calculating.{pushes, loads, loads_global, stores, dr
 use Rattle.golf_model.specs.Turn.{acting}
 use Rattle.golf_state.specs.Going.{went}
 use Rattle.golf_state.specs.Operands.{two_of}
-use Rattle.golf_machine.specs.Within.{Becomes, IsDone}
+use Rattle.golf_machine.specs.Within.{Becomes, ActsAs, HasGone}
+use Rattle.golf_machine.specs.declared.within.Within.{Within}
 
 -- an act that gives the same changes is done alike
-pub done-same : (b : Bool) (act other : Actor → List Change) (f h : FrameView) → ((g : ℕ) (r : GoroutineView) (callers : List FrameView) (line : ℕ) → other (acting g r f callers line) ≡ act (acting g r f callers line)) → IsDone b act f h → IsDone b other f h
-done-same true act other f h same d = record { stands = λ g r callers line. same g r callers line ∙ d.stands g r callers line; function = d.function; leaving = d.leaving }
-done-same false act other f h same d = d
+pub done-same : (b : Bool) (came : Within) (act other : Actor → List Change) (f h : FrameView) → ActsAs other act f → HasGone b came act f h → HasGone b came other f h
+done-same b Within.Done act other f h same d = record { stands = λ g r callers line. same g r callers line ∙ d.stands g r callers line; function = d.function; leaving = d.leaving }
+done-same b Within.ZeroDivisor act other f h same d = (d.0, λ g r callers line. same g r callers line ∙ d.1 g r callers line)
+done-same b Within.Stuck act other f h same d = (d.0, λ g r callers line. same g r callers line ∙ d.1 g r callers line)
+done-same b Within.Beyond act other f h same d = d
 
 -- ---- operands
 

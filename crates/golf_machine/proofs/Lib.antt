@@ -2,8 +2,10 @@ pub mod Lone
 pub mod Inner
 pub mod Sequence
 pub mod Takings
+pub mod Fits
 pub mod Frames
 pub mod Lines
-pub mod Passing
+pub mod OnFrame
+pub mod Passes
 pub mod Prints
 pub mod Turns

@@ -1,7 +1,7 @@
 -- Turns of the one goroutine that can run.
 -- For: `HasKeptOn` (golf_machine/specs/Taking.antt) and `keep_on`, `go_on_alone` (src/alone.rt)
 -- By: induction over the list of choices, one for each turn
-use Rattle.std.proofs.Common.{◌≡◌, ℕ, ◌+◌, ◌%◌, ◌/◌, Bool, true, false, List, [], ◌∷◌, ◌++◌, length, Option, Some, None, refl, sym, ap, ◌∙◌, arith, subst}
+use Rattle.std.proofs.Common.{◌≡◌, ℕ, ◌+◌, ◌%◌, ◌/◌, true, false, List, [], ◌∷◌, ◌++◌, length, Option, Some, None, refl, sym, ap, ◌∙◌, arith, subst}
 use Rattle.std.specs.Prelude.{slice_get}
 use Rattle.std.proofs.Math.Nat.{mod-one}
 use Rattle.std.proofs.lemmas.List.{length-append}
@@ -15,16 +15,17 @@ use Rattle.golf_data.specs.declared.goroutine.Mode.{Mode}
 use Rattle.golf_model.specs.Views.{FrameView, GoroutineView}
 use Rattle.golf_model.specs.State.{State, runnable, ending, not_empty}
 use Rattle.golf_model.specs.Changes.{become}
-use Rattle.golf_model.specs.Turn.{step, whose_turn, wants_collection, goroutine_collects}
+use Rattle.golf_model.specs.Turn.{step, whose_turn, wants_collection}
 use Rattle.golf_model.specs.Running.{Event}
 use Rattle.golf_state.specs.Looked.{reframed, frames_of, frames_in, on_goroutine, runs, is_running_in}
 use Rattle.golf_state.specs.Doing.{Runs}
 use Rattle.golf_machine.specs.Turns.{turned_of}
-use Rattle.golf_machine.specs.Within.{PassesOnTop, PassEach, HasPassedOnTop, acted}
+use Rattle.golf_machine.specs.Passing.{PassesOnTop, PassEach, HasPassedOnTop}
+use Rattle.golf_machine.specs.declared.passing.Passed.{Passed}
 use Rattle.golf_machine.specs.Taking.{turn_events, stops_after, steps, needs_outside, GoOn, HasGoneOn, HasKeptOn, HasAsked, IsLone}
-use Rattle.golf_machine.proofs.Passing.{found, runnable-same, ending-same, reframed-is, turn-taken, collects-not}
+use Rattle.golf_machine.proofs.Passes.{found, runnable-same, ending-same, reframed-is, turn-taken, collects-not}
 use Rattle.golf_machine.proofs.Sequence.{events-more}
-use Rattle.golf_machine.proofs.Turns.{step-is, wants-is, frames-are, turn-runs}
+use Rattle.golf_machine.proofs.Turns.{step-taken as taken-is, wants-is, frames-are, turn-runs}
 
 -- ---- the frames
 
@@ -32,17 +33,16 @@ passes-more : (code : Code) (globals : List Value) (cs : List ℕ) (c : ℕ) (fs
 passes-more code globals [] c fs ks hs e p = (hs, subst (λ (xs : List FrameView). PassesOnTop code globals xs hs) e p, refl)
 passes-more code globals (d ∷ cs) c fs ks hs e p = (e.0, e.1, passes-more code globals cs c e.0 ks hs e.2 p)
 
-pub one-kept : {b : Bool} {code : Code} {globals : List Value} {fs ks hs : List FrameView} {es later rest : List Event} {n k m c : ℕ} → b ≡ true → HasKeptOn code globals fs ks es later n k → later ≡ Event.Turn c ∷ rest → m ≡ k + 1 → HasPassedOnTop b code globals ks hs
+pub one-kept : {passed : Passed} {code : Code} {globals : List Value} {fs ks hs : List FrameView} {es later rest : List Event} {n k m c : ℕ} → passed ≡ Passed.Over → HasKeptOn code globals fs ks es later n k → later ≡ Event.Turn c ∷ rest → m ≡ k + 1 → HasPassedOnTop passed code globals ks hs
     → HasKeptOn code globals fs hs es rest n m
-one-kept {b = false} t w next more p = cc
-one-kept {b = true} {code} {globals} {fs} {ks} {hs} {rest = rest} {c = c} t w next more p =
+one-kept {code = code} {globals} {fs} {ks} {hs} {rest = rest} {c = c} t w next more p =
     let size = length-append w.taken (c ∷ []) in
     let count = w.count in
     record {
       taken = w.taken ++ c ∷ [];
       order = w.order ∙ ap (λ (xs : List Event). turn_events w.taken ++ xs) next ∙ events-more w.taken c rest;
       count = omega (arith, size, count, more);
-      passes = passes-more code globals w.taken c fs ks hs w.passes p;
+      passes = passes-more code globals w.taken c fs ks hs w.passes (subst (λ (x : Passed). HasPassedOnTop x code globals ks hs) t p);
     }
 
 -- the number after these is still to be taken
@@ -78,7 +78,7 @@ module _ (code : Code) (g : ℕ) (s : State) (a : IsAlone g s) (ks : List FrameV
 
   step-taken : (c : ℕ) → reframed g ks s ≡ step code s c
   step-taken c =
-      step-is code s c g (turn-is c) (acted code g (c / length (runnable s)) s) (reframed g ks s) (goroutine_collects code (find g s.goroutines)) (length (runnable s)) refl refl refl
+      taken-is code s c g (turn-is c) (length (runnable s)) (c / length (runnable s)) (reframed g ks s) refl refl
       (ap (λ (xs : List FrameView). reframed g xs s) p.are ∙ turn-taken code g s a.runs p.first p.next p.callers are p.passes (c / length (runnable s)))
 
   ending-is : ending (reframed g ks s) ≡ None

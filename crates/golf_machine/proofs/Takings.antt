@@ -1,15 +1,23 @@
 -- Operands that are taken from the top.
 -- For: `last_of` (golf_machine/specs/Acts.antt) and `taking` (golf_model/specs/Acting.antt)
 -- By: cases of whether there are operands enough; no induction
-use Rattle.std.proofs.Common.{◌≡◌, ℕ, ◌<◌, ◌≤◌, cond, List, ◌++◌, length, take, drop, Some, None, sym, ap, ◌∙◌, inl, inr}
+use Rattle.std.proofs.Common.{◌≡◌, ℕ, ◌<◌, ◌≤◌, cond, List, ◌++◌, length, take, drop, Option, Some, None, sym, ap, ◌∙◌, inl, inr}
 use Rattle.std.specs.Prelude.{reverse}
 use Rattle.std.proofs.lemmas.Bool.{lt-ltb, le-ltb, cases_lt}
 use Rattle.std.proofs.lemmas.List.{reverse-append, reverse-reverse, length-reverse, take-append-drop, length-take-le}
 use Rattle.golf_data.specs.declared.value.Value.{Value}
 use Rattle.golf_model.specs.Changes.{Change}
-use Rattle.golf_model.specs.Acting.{on_some, taking}
+use Rattle.golf_model.specs.Acting.{Actor, on_some, taking}
 use Rattle.golf_model.proofs.ViewForms.{taking-last, taking-short}
+use Rattle.golf_model.specs.State.{State}
+use Rattle.golf_theory.specs.Maps.{find}
+use Rattle.golf_state.specs.declared.outcome.Outcome.{Outcome}
+use Rattle.golf_state.specs.Operands.{operands_of}
+use Rattle.golf_state.specs.Doing.{does_by, Stands}
+use Rattle.golf_state.proofs.Doings.{actor_of, operands-is}
 use Rattle.golf_machine.specs.Acts.{last_of}
+use Rattle.golf_machine.specs.Fits.{Fits}
+use Rattle.golf_machine.proofs.Fits.{by-is, fits-stuck}
 
 last_of-short : (n : ℕ) (os : List Value) → length os < n → last_of n os ≡ None
 last_of-short n os l = ap (λ b. cond b None (Some (reverse (take n os)))) (lt-ltb (length os) n l)
@@ -32,3 +40,14 @@ taking-is n os act = elim (cases_lt (length os) n) [
       ∙ ap (act args) (reverse-reverse (drop n os))
       ∙ sym (ap (on_some (λ vs. act vs (drop n os))) (last_of-long n os l))
 ]
+
+-- an instruction that takes so many operands, of a goroutine that stands at it
+module _ (g after : ℕ) (s : State) (st : Stands g after s) (line n : ℕ) (act : Actor → List Value → List Value → List Change) where
+  pub taken-by : (o : Option (List Value)) → o ≡ last_of n (operands_of g s) → does_by (λ a. taking n (act a) a.frame.operands) g line (find g s.goroutines) ≡ on_some (λ vs. act (actor_of st line) vs (drop n st.frame.operands)) o
+  taken-by o e =
+      by-is (λ a. taking n (act a) a.frame.operands) g after line s st
+      ∙ taking-is n st.frame.operands (act (actor_of st line))
+      ∙ ap (on_some (λ vs. act (actor_of st line) vs (drop n st.frame.operands))) (ap (last_of n) (sym (operands-is g after s st)) ∙ sym e)
+
+  pub taken-none : None ≡ last_of n (operands_of g s) → Fits Outcome.Stuck (λ a. taking n (act a) a.frame.operands) g line s s
+  taken-none e = fits-stuck (λ a. taking n (act a) a.frame.operands) g line s (taken-by None e)

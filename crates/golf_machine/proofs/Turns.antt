@@ -1,30 +1,29 @@
 -- Whose turn it is, and what the turn is.
 -- For: `whose_turn`, `step` (golf_model/specs/Turn.antt) and `turn` (src/turning.rt), `act` (src/stepping.rt)
 -- By: cases of the goroutine's mode and of its first frame; no induction
-use Rattle.std.proofs.Common.{◌≡◌, ℕ, ◌+◌, ◌<◌, ◌%◌, ◌/◌, ◌^◌, Bool, true, not, ◌||◌, ◌==◌, List, [], ◌∷◌, length, Option, Some, None, refl, sym, ap, ◌∙◌, arith}
+use Rattle.std.proofs.Common.{◌≡◌, ℕ, ◌+◌, ◌<◌, ◌%◌, ◌/◌, Bool, true, not, ◌||◌, ◌==◌, List, [], ◌∷◌, length, Option, Some, None, refl, sym, ap, ◌∙◌, arith, subst, ◌^◌}
 use Rattle.std.specs.Prelude.{slice_get, option_and_then}
 use Rattle.std.proofs.lemmas.Bool.{and_parts}
-use Rattle.std.proofs.lemmas.Option.{slice_get_within}
 use Rattle.golf_data.specs.declared.code.Code.{Code}
-use Rattle.golf_data.specs.declared.code.Function.{Function}
 use Rattle.golf_data.specs.declared.code.CodeLine.{CodeLine}
 use Rattle.golf_data.specs.declared.goroutine.Ending.{Ending}
-use Rattle.golf_data.specs.declared.goroutine.Leaving.{Leaving}
 use Rattle.golf_data.specs.declared.goroutine.Mode.{Mode}
-use Rattle.golf_data.specs.Places.{IsShort, HasPlaces}
 use Rattle.golf_theory.specs.Maps.{find, IsRising}
 use Rattle.golf_theory.proofs.Lists.{In-slice_get}
 use Rattle.golf_theory.proofs.MapEntries.{Entry-keys_where}
 use Rattle.golf_theory.proofs.MapFinds.{find-Entry}
+use Rattle.std.proofs.lemmas.Option.{slice_get_within}
+use Rattle.golf_data.specs.declared.code.Function.{Function}
+use Rattle.golf_data.specs.Places.{IsShort, HasPlaces}
 use Rattle.golf_model.specs.Views.{FrameView, GoroutineView}
 use Rattle.golf_model.specs.State.{State, is_running, not_empty, can_run, runnable, ending, ending_of}
 use Rattle.golf_model.specs.Changes.{apply_all, behind_first}
 use Rattle.golf_model.specs.Clearing.{clearing}
-use Rattle.golf_model.specs.Turn.{turned, changes, line_at, turn_of, turn_changes, whose_turn, step, frame_changes, performs, wants_collection, goroutine_collects}
+use Rattle.golf_model.specs.Turn.{turned, turn_changes, whose_turn, step, wants_collection, goroutine_collects, moves_on, clears_nothing, line_at}
 use Rattle.golf_state.specs.Looked.{frames_of, frames_in}
-use Rattle.golf_state.specs.Doing.{does, Stands, Runs}
-use Rattle.golf_machine.specs.Within.{acted, taken}
-use Rattle.golf_state.proofs.Doings.{does-is}
+use Rattle.golf_state.specs.Doing.{Stands, Runs}
+use Rattle.golf_state.specs.Outcomes.{StaysIn}
+use Rattle.golf_machine.specs.Passing.{IsAtTop, acted, keeps_all, taken}
 
 -- ---- whose turn it is
 
@@ -59,34 +58,31 @@ turn-runs s n g r h =
 -- ---- the step
 
 module _ (code : Code) (s : State) (n g : ℕ) (turn : whose_turn s n ≡ Some g) where
-  turned-is : (s1 : State) (count : ℕ) → count ≡ length (runnable s) → s1 ≡ apply_all (turn_of code g (n / count) s (find g s.goroutines)) s → s1 ≡ turned code s n
-  turned-is s1 count e h = h ∙ ap (λ k. apply_all (turn_of code g (n / k) s (find g s.goroutines)) s) e ∙ sym (ap (λ (o : Option ℕ). apply_all (turn_changes code (n / length (runnable s)) s o) s) turn)
+  turned-is : acted code g (n / length (runnable s)) s ≡ turned code s n
+  turned-is = sym (ap (λ (o : Option ℕ). apply_all (turn_changes code (n / length (runnable s)) s o) s) turn)
 
   pub wants-is : wants_collection code s n ≡ goroutine_collects code (find g s.goroutines)
   wants-is = ap (λ (o : Option ℕ). goroutine_collects code (option_and_then (λ k. find k s.goroutines) o)) turn
 
-  -- the turn, and what is cleared after it
-  pub step-is : (s1 s2 : State) (b : Bool) (count : ℕ) → count ≡ length (runnable s) → s1 ≡ apply_all (turn_of code g (n / count) s (find g s.goroutines)) s → b ≡ goroutine_collects code (find g s.goroutines) → s2 ≡ apply_all (clearing code b (Some g) s1) s1 → s2 ≡ step code s n
-  step-is s1 s2 b count e h w is =
-      is
-      ∙ ap (λ c. apply_all (clearing code c (Some g) s1) s1) (w ∙ sym wants-is)
-      ∙ ap (λ (m : Option ℕ). apply_all (clearing code (wants_collection code s n) m s1) s1) (sym turn)
-      ∙ ap (λ (t : State). apply_all (clearing code (wants_collection code s n) (whose_turn s n) t) t) (turned-is s1 count e h)
+  clears-is : clears_nothing code s n ≡ keeps_all code g (n / length (runnable s)) s
+  clears-is =
+      ap (λ (b : Bool). b || not (moves_on code s n)) wants-is
+      ∙ ap (λ (o : Option ℕ). goroutine_collects code (find g s.goroutines) || not (not_empty (turn_changes code (n / length (runnable s)) s o))) turn
 
--- the same by the choice that the number was divided into
-module _ (code : Code) (s : State) (n g : ℕ) (turn : whose_turn s n ≡ Some g) where
+  taken-is : taken code g (n / length (runnable s)) s ≡ step code s n
+  taken-is =
+      ap (λ c. apply_all (clearing code c (Some g) (acted code g (n / length (runnable s)) s)) (acted code g (n / length (runnable s)) s)) (sym clears-is)
+      ∙ ap (λ (m : Option ℕ). apply_all (clearing code (clears_nothing code s n) m (acted code g (n / length (runnable s)) s)) (acted code g (n / length (runnable s)) s)) (sym turn)
+      ∙ ap (λ (t : State). apply_all (clearing code (clears_nothing code s n) (whose_turn s n) t) t) turned-is
+
+  -- the turn, and what is cleared after it, by the choice that the number was divided into
   pub step-taken : (count choice : ℕ) (t : State) → count ≡ length (runnable s) → choice ≡ n / count → t ≡ taken code g choice s → t ≡ step code s n
-  step-taken count choice t told e is =
-      step-is code s n g turn (acted code g (n / count) s) t (goroutine_collects code (find g s.goroutines)) count told refl refl (is ∙ ap (λ k. taken code g k s) e)
+  step-taken count choice t told e is = is ∙ ap (λ k. taken code g k s) (e ∙ ap (λ k. n / k) told) ∙ taken-is
 
   pub wants-taken : (b : Bool) → b ≡ goroutine_collects code (find g s.goroutines) → wants_collection code s n ≡ b
-  wants-taken b h = wants-is code s n g turn ∙ sym h
+  wants-taken b h = wants-is ∙ sym h
 
 -- ---- the goroutine's frames
-
-pub no_first : {X : Type 0} (xs : List X) → None ≡ slice_get xs 0 → xs ≡ []
-no_first [] h = refl
-no_first (x ∷ xs) h = cc
 
 pub first-is : (fs : List FrameView) (f : FrameView) → Some f ≡ slice_get fs 0 → fs ≡ f ∷ behind_first fs
 first-is [] f h = cc
@@ -105,16 +101,19 @@ module _ (g : ℕ) (s : State) (r : Runs g s) where
     next = refl;
   }
 
-  -- the turn of a goroutine at an instruction
-  pub turn-is : (code : Code) (f : FrameView) (at : Some f ≡ slice_get (frames_of g s) 0) (l : CodeLine) (choice : ℕ) → f.leaving ≡ Leaving.No → Some l ≡ line_at code f.function f.at
-      → does (λ a. changes code l.instr a choice s) g l.line s ≡ apply_all (turn_of code g choice s (find g s.goroutines)) s
-  turn-is code f at l choice stays is =
-      let st = stands-at f at in
-      let x : GoroutineView = record { frames = f ∷ st.callers; mode = Mode.Running; started = st.started } in
-      does-is g (f.at + 1) s st (λ a. changes code l.instr a choice s) l.line
-      ∙ ap (λ (o : Option CodeLine). apply_all (performs code g x f st.callers choice s o) s) is
-      ∙ ap (λ (m : Leaving). apply_all (frame_changes code g x f st.callers choice s m) s) (sym stays)
-      ∙ sym (ap (λ (o : Option GoroutineView). apply_all (turn_of code g choice s o) s) st.found)
+-- the turn of a goroutine at an instruction
+module _ (code : Code) (g after : ℕ) (s : State) (r : Runs g s) (line : CodeLine) (top : IsAtTop code (frames_of g s) line after) where
+  abbrev pub view : GoroutineView
+  view = record { frames = top.frame ∷ top.callers; mode = Mode.Running; started = r.started }
+
+  pub view-found : find g s.goroutines ≡ Some view
+  view-found = r.found ∙ ap (λ (fs : List FrameView). let x : GoroutineView = record { frames = fs; mode = Mode.Running; started = r.started } in Some x) (sym (frames-are g s r) ∙ top.are)
+
+  abbrev pub stands-there : Stands g after s
+  stands-there = record { frame = top.frame; callers = top.callers; started = r.started; found = view-found; next = top.at.2 }
+
+  pub stays-there : StaysIn (frames_of g s)
+  stays-there = subst StaysIn (sym top.are) top.at.0
 
 -- ---- places
 

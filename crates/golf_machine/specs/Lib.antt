@@ -1,7 +1,9 @@
 pub mod Acts
-pub mod Families
+pub mod Fits
 pub mod Objects
 pub mod Operations
+pub mod Passing
+pub mod Stepping
 pub mod Taking
 pub mod Turns
 pub mod Within

@@ -7,7 +7,7 @@ use Rattle.golf_model.specs.State.{State, runnable, ending, not_empty}
 use Rattle.golf_model.specs.Turn.{step, wants_collection}
 use Rattle.golf_model.specs.Running.{Event}
 use Rattle.golf_machine.specs.Turns.{turned_of}
-use Rattle.golf_machine.specs.Within.{PassEach}
+use Rattle.golf_machine.specs.Passing.{PassEach}
 use Rattle.golf_machine.specs.declared.turning.Turned.{Turned}
 
 -- whether the next event is a turn

@@ -8,7 +8,7 @@ ghost use Rattle.golf_model.specs.Views.{frame_views};
 ghost use Rattle.golf_machine.specs.Taking.{HasGoneOn, HasKeptOn, HasAsked, IsLone};
 
 use crate::numbers::Numbers;
-use crate::within::pass_on_top;
+use crate::passing::{Passed, pass_on_top};
 use golf_base::{GoroutineId, List, Memory};
 use golf_data::{Code, Frame, Value};
 use golf_state::State;
@@ -27,8 +27,10 @@ fn keep_on<N: Numbers>(
     ensures err { OnErr result ((c : ℕ) × HasAsked (Some c) (λ es n. HasKeptOn code.now globals.now (frame_views frames.old) (frame_views frames.new) (N.left numbers.old) es (N.given numbers.old) n) (N.left numbers.new) (N.given numbers.new)) }
 {
     while let Some(number) = numbers.next() {
-        if !pass_on_top(code, globals, frames)? {
-            return Ok(Some(number));
+        match pass_on_top(code, globals, frames)? {
+            Passed::Over => {}
+            Passed::At(_, _) => return Ok(Some(number)),
+            Passed::Nowhere => return Ok(Some(number)),
         }
     }
     Ok(None)

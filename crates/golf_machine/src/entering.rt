@@ -2,7 +2,7 @@
 
 ghost use Rattle.std.specs.Prelude.{◌≡◌, ◌<◌, ◌∷◌, [], ℕ, Some, None, IfOk, OnOk, OnErr, option_map, reverse, slice_get, option_to_list, true};
 ghost use Rattle.golf_model.specs.Views.{frame_view, frame_views};
-ghost use Rattle.golf_model.specs.State.{slots_of, call_frame};
+ghost use Rattle.golf_model.specs.State.{slots_of, call_frame, not_empty};
 ghost use Rattle.golf_model.specs.Changes.{apply_all, finish};
 ghost use Rattle.golf_data.specs.declared.goroutine.Ending.{Ending};
 ghost use Rattle.golf_data.specs.declared.goroutine.PanicKind.{PanicKind};
@@ -10,12 +10,13 @@ ghost use Rattle.golf_model.specs.Calls.{calls, spawns, defers};
 ghost use Rattle.golf_model.specs.Turn.{turn_of};
 ghost use Rattle.golf_theory.specs.Maps.{find};
 ghost use Rattle.golf_state.specs.Operands.{operands_of};
-ghost use Rattle.golf_state.specs.Doing.{does, Stands};
+ghost use Rattle.golf_state.specs.Doing.{does, does_by, Stands};
 ghost use Rattle.golf_machine.specs.Acts.{Acts, HasNoFrame, last_of, deferred_of, begins_latest};
+ghost use Rattle.golf_machine.specs.Fits.{Fits};
 
 use golf_base::{GoroutineId, List, Memory, Room};
 use golf_data::{Code, Deferred, Ending, Frame, Function, Leaving, PanicKind, Slots, Value};
-use golf_state::{Acting, State, defer, enter, enter_deferred, proceed};
+use golf_state::{Acting, Outcome, State, defer, enter, enter_deferred, proceed};
 use std::alloc::Global;
 
 /// The most frames of a goroutine.
@@ -104,23 +105,23 @@ pub fn call(
     acting: Acting,
     number: u32,
     count: u32,
-) -> Result<(), Memory>
+) -> Result<Outcome, Memory>
     requires { Stands acting.goroutine.0 acting.after state.old }
-    ensures ok { OnOk result (state.new ≡ does (λ a. calls code.now a number count) acting.goroutine.0 acting.line state.old) }
+    ensures ok { IfOk result (λ outcome. Fits outcome (λ a. calls code.now a number count) acting.goroutine.0 acting.line state.old state.new) }
     ensures err { OnErr result (state.new ≡ state.old) }
 {
     let g = acting.goroutine;
     let Some(arguments) = last_values(state, g, count) else {
-        return Ok(());
+        return Ok(Outcome::Stuck);
     };
     let Some(frame) = open_frame(alloc, code, number, arguments, false)? else {
-        return Ok(());
+        return Ok(Outcome::Stuck);
     };
     if state.depth(g) >= MOST_FRAMES {
-        overflow(state, g, acting.line);
-        return Ok(());
+        return Ok(Outcome::Panic(PanicKind::StackOverflow));
     }
-    enter(state.frames_mut(g), frame, acting.after, count as usize)
+    enter(state.frames_mut(g), frame, acting.after, count as usize)?;
+    Ok(Outcome::Done)
 }
 
 // A list of one frame, with room for no more.
@@ -138,21 +139,21 @@ pub fn go(
     acting: Acting,
     number: u32,
     count: u32,
-) -> Result<(), Memory>
+) -> Result<Outcome, Memory>
     requires { Stands acting.goroutine.0 acting.after state.old }
-    ensures ok { OnOk result (state.new ≡ does (λ a. spawns code.now a number count) acting.goroutine.0 acting.line state.old) }
+    ensures ok { IfOk result (λ outcome. Fits outcome (λ a. spawns code.now a number count) acting.goroutine.0 acting.line state.old state.new) }
     ensures err { OnErr result (state.new ≡ state.old) }
 {
     let g = acting.goroutine;
     let Some(arguments) = last_values(state, g, count) else {
-        return Ok(());
+        return Ok(Outcome::Stuck);
     };
     let Some(frame) = open_frame(alloc, code, number, arguments, true)? else {
-        return Ok(());
+        return Ok(Outcome::Stuck);
     };
     state.spawn(frames_of(alloc, frame)?, acting.line)?;
     proceed(state, acting, acting.after, count as usize);
-    Ok(())
+    Ok(Outcome::Done)
 }
 
 // A deferred call of a function with these arguments.
@@ -174,17 +175,18 @@ pub fn defer_call(
     acting: Acting,
     number: u32,
     count: u32,
-) -> Result<(), Memory>
+) -> Result<Outcome, Memory>
     requires { Stands acting.goroutine.0 acting.after state.old }
-    ensures ok { OnOk result (state.new ≡ does (λ a. defers a number count) acting.goroutine.0 acting.line state.old) }
+    ensures ok { IfOk result (λ outcome. Fits outcome (λ a. defers a number count) acting.goroutine.0 acting.line state.old state.new) }
     ensures err { OnErr result (state.new ≡ state.old) }
 {
     let g = acting.goroutine;
     let Some(values) = last_values(state, g, count) else {
-        return Ok(());
+        return Ok(Outcome::Stuck);
     };
     let deferred = deferred_of(alloc, number, values)?;
-    defer(state.frames_mut(g), acting.after, count as usize, deferred)
+    defer(state.frames_mut(g), acting.after, count as usize, deferred)?;
+    Ok(Outcome::Done)
 }
 
 // The last item.
@@ -202,57 +204,62 @@ pub fn latest_deferred(state: &State, g: GoroutineId) -> Option<&Deferred>
     last(frame.deferred.as_slice())
 }
 
-/// Begins the latest deferred call of a goroutine's innermost frame, if it has one.
+/// Begins the latest deferred call of a goroutine's innermost frame, if it has one. It answers whether
+/// a rule fits.
 pub fn begin_deferred(
     alloc: Global,
     code: &Code,
     state: &mut State,
     g: GoroutineId,
     line: u32,
-) -> Result<(), Memory>
+) -> Result<bool, Memory>
     requires { Acts g.0 state.old }
     ensures ok { OnOk result (state.new ≡ does (λ a. begins_latest code.now a a.frame.deferred) g.0 line state.old) }
+    ensures fits { IfOk result (λ fits. fits ≡ not_empty (does_by (λ a. begins_latest code.now a a.frame.deferred) g.0 line (find g.0 state.old.goroutines))) }
     ensures err { OnErr result (state.new ≡ state.old) }
 {
     let Some(deferred) = latest_deferred(state, g) else {
-        return Ok(());
+        return Ok(false);
     };
     let arguments = deferred.arguments.as_slice();
     let Some(frame) = open_frame(alloc, code, deferred.function, arguments, true)? else {
-        return Ok(());
+        return Ok(false);
     };
     if state.depth(g) >= MOST_FRAMES {
         overflow(state, g, line);
-        return Ok(());
+        return Ok(true);
     }
-    enter_deferred(state.frames_mut(g), frame)
+    enter_deferred(state.frames_mut(g), frame)?;
+    Ok(true)
 }
 
 /// The goroutine without a frame takes the first entry of the finaliser queue, if it is
-/// goroutine 0 and there is one, and begins its function on its object.
+/// goroutine 0 and there is one, and begins its function on its object. It answers whether a rule
+/// fits.
 pub fn begin_queued(
     alloc: Global,
     code: &Code,
     state: &mut State,
     g: GoroutineId,
-) -> Result<(), Memory>
+) -> Result<bool, Memory>
     requires { HasNoFrame g.0 state.old }
     ensures ok { OnOk result ((choice : ℕ) → state.new ≡ apply_all (turn_of code.now g.0 choice state.old (find g.0 state.old.goroutines)) state.old) }
+    ensures fits { IfOk result (λ fits. (choice : ℕ) → fits ≡ not_empty (turn_of code.now g.0 choice state.old (find g.0 state.old.goroutines))) }
     ensures err { OnErr result (state.new ≡ state.old) }
 {
     if g.0 != 0 {
-        return Ok(());
+        return Ok(false);
     }
     let Some(queued) = state.queue().first().copied() else {
-        return Ok(());
+        return Ok(false);
     };
     let argument = [Value::Ref(queued.object)];
     let Some(frame) = open_frame(alloc, code, queued.function, &argument, true)? else {
-        return Ok(());
+        return Ok(false);
     };
     enter(state.frames_mut(g), frame, 0, 0)?;
     state.take_queued();
-    Ok(())
+    Ok(true)
 }
 
 /// The frames of goroutine 1 before the first turn: that of function 0, if the code has one.

@@ -1,15 +1,17 @@
 //! Frames that return or unwind, and goroutines that end.
 
-ghost use Rattle.std.specs.Prelude.{◌≡◌, ℕ, OnOk, OnErr};
+ghost use Rattle.std.specs.Prelude.{◌≡◌, ℕ, IfOk, OnOk, OnErr};
 ghost use Rattle.golf_model.specs.Calls.{ends, returns, returns_value, returns_to, unwinds_to, leaves_returning, leaves_unwinding};
-ghost use Rattle.golf_state.specs.Doing.{does, Stands};
+ghost use Rattle.golf_state.specs.Doing.{does, does_by, Stands};
+ghost use Rattle.golf_theory.specs.Maps.{find};
 ghost use Rattle.golf_model.specs.State.{not_empty};
 ghost use Rattle.golf_machine.specs.Acts.{Acts, deferred_of};
+ghost use Rattle.golf_machine.specs.Fits.{Fits};
 
 use crate::entering::{begin_deferred, latest_deferred};
 use golf_base::{GoroutineId, Memory};
 use golf_data::{Code, Ending, Fault, Value};
-use golf_state::{Acting, State, begin_return, last_operand, return_frame, unwind_caller};
+use golf_state::{Acting, Outcome, State, begin_return, last_operand, return_frame, unwind_caller};
 use std::alloc::Global;
 
 // The goroutine's last frame is gone: it has ended, but goroutine 0 waits for its queue.
@@ -70,37 +72,40 @@ fn has_deferred(state: &State, g: GoroutineId) -> bool
 
 /// The goroutine returns without a value: with deferred calls its innermost frame is returning,
 /// else the frame is gone.
-pub fn return_without_value(state: &mut State, acting: Acting) -> Result<(), Memory>
+pub fn return_without_value(state: &mut State, acting: Acting) -> Result<Outcome, Memory>
     requires { Stands acting.goroutine.0 acting.after state.old }
-    ensures ok { OnOk result (state.new ≡ does returns acting.goroutine.0 acting.line state.old) }
+    ensures ok { IfOk result (λ outcome. Fits outcome returns acting.goroutine.0 acting.line state.old state.new) }
     ensures err { OnErr result (state.new ≡ state.old) }
 {
     if has_deferred(state, acting.goroutine) {
         begin_return(state.frames_mut(acting.goroutine), acting.after, 0, None);
-        return Ok(());
+        return Ok(Outcome::Done);
     }
-    return_to(state, acting.goroutine, None)
+    return_to(state, acting.goroutine, None)?;
+    Ok(Outcome::Done)
 }
 
 /// The goroutine returns with its last operand: with deferred calls its innermost frame is returning,
 /// else the frame is gone.
-pub fn return_with_value(state: &mut State, acting: Acting) -> Result<(), Memory>
+pub fn return_with_value(state: &mut State, acting: Acting) -> Result<Outcome, Memory>
     requires { Stands acting.goroutine.0 acting.after state.old }
-    ensures ok { OnOk result (state.new ≡ does returns_value acting.goroutine.0 acting.line state.old) }
+    ensures ok { IfOk result (λ outcome. Fits outcome returns_value acting.goroutine.0 acting.line state.old state.new) }
     ensures err { OnErr result (state.new ≡ state.old) }
 {
     let g = acting.goroutine;
     let Some(value) = last_operand(state, g) else {
-        return Ok(());
+        return Ok(Outcome::Stuck);
     };
     if has_deferred(state, g) {
         begin_return(state.frames_mut(g), acting.after, 1, Some(value));
-        return Ok(());
+        return Ok(Outcome::Done);
     }
-    return_to(state, g, Some(value))
+    return_to(state, g, Some(value))?;
+    Ok(Outcome::Done)
 }
 
-/// The turn of a goroutine whose innermost frame is returning, from a return of this line.
+/// The turn of a goroutine whose innermost frame is returning, from a return of this line. It answers
+/// whether a rule fits.
 pub fn leave_returning(
     alloc: Global,
     code: &Code,
@@ -108,32 +113,35 @@ pub fn leave_returning(
     g: GoroutineId,
     line: u32,
     value: Option<Value>,
-) -> Result<(), Memory>
+) -> Result<bool, Memory>
     requires { Acts g.0 state.old }
     ensures ok { OnOk result (state.new ≡ does (λ a. leaves_returning code.now a value a.frame.deferred) g.0 line state.old) }
+    ensures fits { IfOk result (λ fits. fits ≡ not_empty (does_by (λ a. leaves_returning code.now a value a.frame.deferred) g.0 line (find g.0 state.old.goroutines))) }
     ensures err { OnErr result (state.new ≡ state.old) }
 {
     if has_deferred(state, g) {
         return begin_deferred(alloc, code, state, g, line);
     }
-    return_to(state, g, value)
+    return_to(state, g, value)?;
+    Ok(true)
 }
 
-/// The turn of a goroutine whose innermost frame is unwinding.
+/// The turn of a goroutine whose innermost frame is unwinding. It answers whether a rule fits.
 pub fn leave_unwinding(
     alloc: Global,
     code: &Code,
     state: &mut State,
     g: GoroutineId,
     fault: Fault,
-) -> Result<(), Memory>
+) -> Result<bool, Memory>
     requires { Acts g.0 state.old }
     ensures ok { OnOk result (state.new ≡ does (λ a. leaves_unwinding code.now a fault a.frame.deferred) g.0 fault.line state.old) }
+    ensures fits { IfOk result (λ fits. fits ≡ not_empty (does_by (λ a. leaves_unwinding code.now a fault a.frame.deferred) g.0 fault.line (find g.0 state.old.goroutines))) }
     ensures err { OnErr result (state.new ≡ state.old) }
 {
     if has_deferred(state, g) {
         return begin_deferred(alloc, code, state, g, fault.line);
     }
     unwind_to(state, g, fault);
-    Ok(())
+    Ok(true)
 }

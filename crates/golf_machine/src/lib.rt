@@ -7,6 +7,8 @@ mod entering;
 mod finalising;
 mod leaving;
 mod numbers;
+mod operands;
+mod passing;
 mod performing;
 mod printing;
 mod stepping;

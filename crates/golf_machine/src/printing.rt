@@ -1,14 +1,15 @@
 //! What `fmt.Println` prints.
 
-ghost use Rattle.std.specs.Prelude.{◌≡◌, ◌++◌, true, false, IfOk, OnOk, OnErr, MatchOption};
+ghost use Rattle.std.specs.Prelude.{◌≡◌, ◌++◌, true, false, IfOk, OnErr, MatchOption};
 ghost use Rattle.golf_model.specs.Values.{bytes_of, line_bytes};
 ghost use Rattle.golf_model.specs.Turn.{prints};
-ghost use Rattle.golf_state.specs.Doing.{does, Stands};
+ghost use Rattle.golf_state.specs.Doing.{Stands};
+ghost use Rattle.golf_machine.specs.Fits.{Fits};
 
 use crate::entering::last_values;
 use golf_base::{List, Memory};
 use golf_data::{Code, Value};
-use golf_state::{Acting, State, proceed};
+use golf_state::{Acting, Outcome, State, proceed};
 use std::alloc::Global;
 
 // Adds a value as it is printed, if it has a form.
@@ -41,9 +42,7 @@ fn add_value(
             }
             None => Ok(false),
         },
-        Value::Unit => Ok(false),
-        Value::Nil => Ok(false),
-        Value::Ref(_) => Ok(false),
+        Value::Unit | Value::Nil | Value::Ref(_) => Ok(false),
     }
 }
 
@@ -75,19 +74,19 @@ pub fn print(
     state: &mut State,
     acting: Acting,
     count: u32,
-) -> Result<(), Memory>
+) -> Result<Outcome, Memory>
     requires { Stands acting.goroutine.0 acting.after state.old }
-    ensures ok { OnOk result (state.new ≡ does (λ a. prints code.now a count) acting.goroutine.0 acting.line state.old) }
+    ensures ok { IfOk result (λ outcome. Fits outcome (λ a. prints code.now a count) acting.goroutine.0 acting.line state.old state.new) }
     ensures err { OnErr result (state.new ≡ state.old) }
 {
     let g = acting.goroutine;
     let Some(values) = last_values(state, g, count) else {
-        return Ok(());
+        return Ok(Outcome::Stuck);
     };
     let Some(line) = line_of(alloc, code.texts.as_slice(), values)? else {
-        return Ok(());
+        return Ok(Outcome::Stuck);
     };
     state.add_output(line.as_slice())?;
     proceed(state, acting, acting.after, count as usize);
-    Ok(())
+    Ok(Outcome::Done)
 }

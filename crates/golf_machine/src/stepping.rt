@@ -1,12 +1,15 @@
 //! The turn of one goroutine.
 
-ghost use Rattle.std.specs.Prelude.{◌≡◌, IfOk, OnOk, OnErr, option_map};
+ghost use Rattle.std.specs.Prelude.{◌≡◌, ℕ, false, IfOk, OnOk, OnErr, option_map};
 ghost use Rattle.golf_theory.specs.Maps.{find};
-ghost use Rattle.golf_data.specs.Places.{HasPlaces};
 ghost use Rattle.golf_model.specs.Changes.{apply_all};
+ghost use Rattle.golf_model.specs.State.{not_empty};
 ghost use Rattle.golf_model.specs.Views.{frame_view};
 ghost use Rattle.golf_model.specs.Turn.{line_at, return_line, turn_of, is_collection, goroutine_collects};
 ghost use Rattle.golf_state.specs.Doing.{Runs};
+ghost use Rattle.golf_state.specs.Looked.{frames_of};
+ghost use Rattle.golf_machine.specs.Passing.{IsAtTop, IsNowhereOnTop};
+ghost use Rattle.golf_machine.specs.Stepping.{has_rule, has_collected};
 
 use crate::entering::begin_queued;
 use crate::leaving::{leave_returning, leave_unwinding};
@@ -15,6 +18,17 @@ use golf_base::{GoroutineId, Memory};
 use golf_data::{Code, CodeLine, Frame, Instr, Leaving};
 use golf_state::{Acting, State};
 use std::alloc::Global;
+
+/// What came of the turn of one goroutine.
+#[derive(Clone, Copy, Debug, PartialEq, Eq)]
+pub enum Acted {
+    /// It goes on.
+    Went,
+    /// Its instruction is a collection, which is to follow.
+    Collects,
+    /// No rule fits: nothing has changed.
+    Stuck,
+}
 
 // The instruction at a place of a function, with its line.
 #[inline(always)]
@@ -43,47 +57,74 @@ fn is_collection(instr: &Instr) -> bool
     matches!(instr, Instr::Collect)
 }
 
-/// The turn of a goroutine that runs; a `select` takes the ready case at the place `choice`, counted
-/// round. It answers whether the instruction is a collection.
-#[inline(always)]
+/// The turn of a goroutine that runs and is at this instruction, before the place `after`; a `select` takes the ready
+/// case at the place `choice`, counted round.
 pub fn act(
     alloc: Global,
     code: &Code,
     state: &mut State,
     g: GoroutineId,
+    line: &CodeLine,
+    after: u32,
     choice: u64,
-) -> Result<bool, Memory>
-    requires places { HasPlaces code.now }
+) -> Result<Acted, Memory>
     requires runs { Runs g.0 state.old }
+    requires at { IsAtTop code.now (frames_of g.0 state.old) line.now after }
     ensures ok { OnOk result (state.new ≡ apply_all (turn_of code.now g.0 choice state.old (find g.0 state.old.goroutines)) state.old) }
-    ensures collects { IfOk result (λ collects. collects ≡ goroutine_collects code.now (find g.0 state.old.goroutines)) }
+    ensures fits { IfOk result (λ acted. has_rule acted ≡ not_empty (turn_of code.now g.0 choice state.old (find g.0 state.old.goroutines))) }
+    ensures collects { IfOk result (λ acted. has_collected acted ≡ goroutine_collects code.now (find g.0 state.old.goroutines)) }
+    ensures err { OnErr result (state.new ≡ state.old) }
+{
+    let acting = Acting {
+        goroutine: g,
+        line: line.line,
+        after,
+    };
+    let fits = perform(alloc, code, state, acting, &line.instr, choice)?;
+    if is_collection(&line.instr) {
+        return Ok(Acted::Collects);
+    }
+    Ok(went_if(fits))
+}
+
+// A turn that is no collection.
+#[inline(always)]
+fn went_if(fits: bool) -> Acted
+    ensures fits { has_rule result ≡ fits }
+    ensures collects { has_collected result ≡ false }
+{
+    if fits { Acted::Went } else { Acted::Stuck }
+}
+
+/// The turn of a goroutine that runs and is at no instruction: it has no frame, or its innermost frame is leaving or at
+/// its end.
+pub fn act_nowhere(
+    alloc: Global,
+    code: &Code,
+    state: &mut State,
+    g: GoroutineId,
+) -> Result<Acted, Memory>
+    requires runs { Runs g.0 state.old }
+    requires nowhere { IsNowhereOnTop code.now (frames_of g.0 state.old) }
+    ensures ok { OnOk result ((choice : ℕ) → state.new ≡ apply_all (turn_of code.now g.0 choice state.old (find g.0 state.old.goroutines)) state.old) }
+    ensures fits { IfOk result (λ acted. (choice : ℕ) → has_rule acted ≡ not_empty (turn_of code.now g.0 choice state.old (find g.0 state.old.goroutines))) }
+    ensures collects { IfOk result (λ acted. has_collected acted ≡ goroutine_collects code.now (find g.0 state.old.goroutines)) }
     ensures err { OnErr result (state.new ≡ state.old) }
 {
     let Some(frame) = state.frame(g) else {
-        begin_queued(alloc, code, state, g)?;
-        return Ok(false);
+        let fits = begin_queued(alloc, code, state, g)?;
+        return Ok(went_if(fits));
     };
     match frame.leaving {
-        Leaving::No => {
-            let Some(line) = line_at(code, frame.function, frame.at) else {
-                return Ok(false);
-            };
-            let acting = Acting {
-                goroutine: g,
-                line: line.line,
-                after: frame.at + 1,
-            };
-            perform(alloc, code, state, acting, &line.instr, choice)?;
-            Ok(is_collection(&line.instr))
-        }
+        Leaving::No => Ok(Acted::Stuck),
         Leaving::Returning(value) => {
             let line = return_line(code, frame);
-            leave_returning(alloc, code, state, g, line, value)?;
-            Ok(false)
+            let fits = leave_returning(alloc, code, state, g, line, value)?;
+            Ok(went_if(fits))
         }
         Leaving::Unwinding(fault) => {
-            leave_unwinding(alloc, code, state, g, fault)?;
-            Ok(false)
+            let fits = leave_unwinding(alloc, code, state, g, fault)?;
+            Ok(went_if(fits))
         }
     }
 }

@@ -1,22 +1,23 @@
 //! The instructions on structs, slices and channels, and those that make objects.
 
-ghost use Rattle.std.specs.Prelude.{◌≡◌, ◌∷◌, IfOk, OnOk, OnErr, is_some, length, drop, slice_get, option_map};
+ghost use Rattle.std.specs.Prelude.{◌≡◌, ◌∷◌, IfOk, OnErr, is_some, length, drop, slice_get, option_map, pos, false};
 ghost use Rattle.golf_theory.specs.Maps.{find};
 ghost use Rattle.golf_model.specs.Acting.{goes, leaves, panics, at_condition, at_reference, at_reference_or, at_struct, at_slice};
 ghost use Rattle.golf_model.specs.Conditions.{makes_condition, gets_mutex};
-ghost use Rattle.golf_model.specs.Structures.{makes_struct, gets_field, sets_field, field_set, makes_slice, makes_channel, gets_element, sets_element, element_set, element, within, measures, length_of};
+ghost use Rattle.golf_model.specs.Structures.{makes, makes_struct, gets_field, sets_field, field_set, makes_slice, makes_channel, gets_element, sets_element, element_set, element, within, measures, length_of};
 ghost use Rattle.golf_model.specs.Values.{zeros_of};
 ghost use Rattle.golf_data.specs.declared.goroutine.PanicKind.{PanicKind};
-ghost use Rattle.golf_state.specs.Doing.{does, Stands};
+ghost use Rattle.golf_data.specs.declared.value.Object.{Object};
+ghost use Rattle.golf_state.specs.Doing.{Stands};
+ghost use Rattle.golf_machine.specs.Fits.{Fits};
 ghost use Rattle.golf_machine.specs.Objects.{struct_of, slice_of, has_place, is_nil_or_mutex, field_changed, element_changed, measured};
 
-use crate::calculating::{int_in, last_int};
-use crate::values::zero_of;
+use crate::operands::{Reference, int_in, last_int, reference_in, zero_of};
 use golf_base::{List, Memory, ObjectId};
 use golf_data::{Channel, Code, Object, PanicKind, Value};
 use golf_ring::Ring;
 use golf_state::{
-    Acting, Given, State, fault, last_operand, last_operands, last_three_operands, make_onto,
+    Acting, Given, Outcome, State, last_operand, last_operands, last_three_operands, make_onto,
     make_over, proceed, proceed_with,
 };
 use golf_sync::condition_at;
@@ -31,12 +32,7 @@ fn struct_at(state: &State, object: ObjectId) -> Option<&List<Value>>
 {
     match state.heap().get(object)? {
         Object::Struct(fields) => Some(fields),
-        Object::Slice(_) => None,
-        Object::Chan(_) => None,
-        Object::Mutex(_) => None,
-        Object::Group(_) => None,
-        Object::Rw(_) => None,
-        Object::Cond(_) => None,
+        _ => None,
     }
 }
 
@@ -53,12 +49,7 @@ fn slice_at(state: &State, object: ObjectId) -> Option<&List<Value>>
 {
     match state.heap().get(object)? {
         Object::Slice(elements) => Some(elements),
-        Object::Struct(_) => None,
-        Object::Chan(_) => None,
-        Object::Mutex(_) => None,
-        Object::Group(_) => None,
-        Object::Rw(_) => None,
-        Object::Cond(_) => None,
+        _ => None,
     }
 }
 
@@ -73,6 +64,36 @@ pub fn zeros_of(alloc: Global, values: &[Value]) -> Result<List<Value>, Memory>
     Ok(zeros)
 }
 
+/// Makes an unlocked mutex.
+pub fn new_mutex(state: &mut State, acting: Acting) -> Result<Outcome, Memory>
+    requires { Stands acting.goroutine.0 acting.after state.old }
+    ensures ok { IfOk result (λ outcome. Fits outcome (λ a. makes a (Object.Mutex false) a.frame.operands state.old) acting.goroutine.0 acting.line state.old state.new) }
+    ensures err { OnErr result (state.new ≡ state.old) }
+{
+    make_onto(state, acting, Object::Mutex(false))?;
+    Ok(Outcome::Done)
+}
+
+/// Makes a wait group that counts 0.
+pub fn new_group(state: &mut State, acting: Acting) -> Result<Outcome, Memory>
+    requires { Stands acting.goroutine.0 acting.after state.old }
+    ensures ok { IfOk result (λ outcome. Fits outcome (λ a. makes a (Object.Group (pos 0)) a.frame.operands state.old) acting.goroutine.0 acting.line state.old state.new) }
+    ensures err { OnErr result (state.new ≡ state.old) }
+{
+    make_onto(state, acting, Object::Group(0))?;
+    Ok(Outcome::Done)
+}
+
+/// Makes an unlocked reader and writer mutex.
+pub fn new_rw(state: &mut State, acting: Acting) -> Result<Outcome, Memory>
+    requires { Stands acting.goroutine.0 acting.after state.old }
+    ensures ok { IfOk result (λ outcome. Fits outcome (λ a. makes a (Object.Rw (pos 0)) a.frame.operands state.old) acting.goroutine.0 acting.line state.old state.new) }
+    ensures err { OnErr result (state.new ≡ state.old) }
+{
+    make_onto(state, acting, Object::Rw(0))?;
+    Ok(Outcome::Done)
+}
+
 /// Makes a struct with the zero values of a row of the code's table, if that is there.
 pub fn new_struct(
     alloc: Global,
@@ -80,56 +101,59 @@ pub fn new_struct(
     state: &mut State,
     acting: Acting,
     row: u32,
-) -> Result<(), Memory>
+) -> Result<Outcome, Memory>
     requires { Stands acting.goroutine.0 acting.after state.old }
-    ensures ok { OnOk result (state.new ≡ does (λ a. makes_struct code.now a row state.old) acting.goroutine.0 acting.line state.old) }
+    ensures ok { IfOk result (λ outcome. Fits outcome (λ a. makes_struct code.now a row state.old) acting.goroutine.0 acting.line state.old state.new) }
     ensures err { OnErr result (state.new ≡ state.old) }
 {
     match code.structs.as_slice().get(row as usize) {
         Some(zeros) => {
             let fields = zeros_of(alloc, zeros.as_slice())?;
-            make_onto(state, acting, Object::Struct(fields))
+            make_onto(state, acting, Object::Struct(fields))?;
+            Ok(Outcome::Done)
         }
-        None => Ok(()),
+        None => Ok(Outcome::Stuck),
     }
 }
 
 // The field at a place of the struct that a value refers to.
-fn get_field_of(state: &mut State, acting: Acting, object: Value, field: u32) -> Result<(), Memory>
+fn get_field_of(
+    state: &mut State,
+    acting: Acting,
+    object: Value,
+    field: u32,
+) -> Result<Outcome, Memory>
     requires { Stands acting.goroutine.0 acting.after state.old }
-    ensures ok { OnOk result (state.new ≡ does (λ a. at_reference a (λ o. at_struct (λ fields. leaves a (drop 1 a.frame.operands) (slice_get fields field)) (find o state.old.objects)) object) acting.goroutine.0 acting.line state.old) }
+    ensures ok { IfOk result (λ outcome. Fits outcome (λ a. at_reference a (λ o. at_struct (λ fields. leaves a (drop 1 a.frame.operands) (slice_get fields field)) (find o state.old.objects)) object) acting.goroutine.0 acting.line state.old state.new) }
     ensures err { OnErr result (state.new ≡ state.old) }
 {
-    match object {
-        Value::Ref(object) => {
+    match reference_in(object) {
+        Reference::To(object) => {
             let Some(fields) = struct_at(state, object) else {
-                return Ok(());
+                return Ok(Outcome::Stuck);
             };
             match fields.as_slice().get(field as usize).copied() {
-                Some(value) => proceed_with(state, acting, acting.after, 1, Given::One(value)),
-                None => Ok(()),
+                Some(value) => {
+                    proceed_with(state, acting, acting.after, 1, Given::One(value))?;
+                    Ok(Outcome::Done)
+                }
+                None => Ok(Outcome::Stuck),
             }
         }
-        Value::Nil => {
-            fault(state, acting, PanicKind::NilPointer);
-            Ok(())
-        }
-        Value::Int(_) => Ok(()),
-        Value::Bool(_) => Ok(()),
-        Value::Text(_) => Ok(()),
-        Value::Unit => Ok(()),
+        Reference::Nil => Ok(Outcome::Panic(PanicKind::NilPointer)),
+        Reference::Misfit => Ok(Outcome::Stuck),
     }
 }
 
 /// Leaves a field of the struct that the last operand refers to; it panics on nil.
-pub fn get_field(state: &mut State, acting: Acting, field: u32) -> Result<(), Memory>
+pub fn get_field(state: &mut State, acting: Acting, field: u32) -> Result<Outcome, Memory>
     requires { Stands acting.goroutine.0 acting.after state.old }
-    ensures ok { OnOk result (state.new ≡ does (λ a. gets_field a field state.old) acting.goroutine.0 acting.line state.old) }
+    ensures ok { IfOk result (λ outcome. Fits outcome (λ a. gets_field a field state.old) acting.goroutine.0 acting.line state.old state.new) }
     ensures err { OnErr result (state.new ≡ state.old) }
 {
     match last_operand(state, acting.goroutine) {
         Some(object) => get_field_of(state, acting, object, field),
-        None => Ok(()),
+        None => Ok(Outcome::Stuck),
     }
 }
 
@@ -155,33 +179,41 @@ fn has_field(state: &State, object: ObjectId, field: u32) -> bool
 }
 
 // The field at a place of the struct that a value refers to becomes this value.
-fn set_field_of(state: &mut State, acting: Acting, object: Value, field: u32, value: Value)
+fn set_field_of(
+    state: &mut State,
+    acting: Acting,
+    object: Value,
+    field: u32,
+    value: Value,
+) -> Result<Outcome, Memory>
     requires { Stands acting.goroutine.0 acting.after state.old }
-    ensures { state.new ≡ does (λ a. at_reference a (λ o. at_struct (field_set a field value (drop 2 a.frame.operands) o) (find o state.old.objects)) object) acting.goroutine.0 acting.line state.old }
+    ensures ok { IfOk result (λ outcome. Fits outcome (λ a. at_reference a (λ o. at_struct (field_set a field value (drop 2 a.frame.operands) o) (find o state.old.objects)) object) acting.goroutine.0 acting.line state.old state.new) }
+    ensures err { OnErr result (state.new ≡ state.old) }
 {
-    match object {
-        Value::Ref(object) => {
-            if has_field(state, object, field) {
-                change_field(state.object_mut(object), field as usize, value);
-                proceed(state, acting, acting.after, 2);
+    match reference_in(object) {
+        Reference::To(object) => {
+            if !has_field(state, object, field) {
+                return Ok(Outcome::Stuck);
             }
+            change_field(state.object_mut(object), field as usize, value);
+            proceed(state, acting, acting.after, 2);
+            Ok(Outcome::Done)
         }
-        Value::Nil => fault(state, acting, PanicKind::NilPointer),
-        Value::Int(_) => {},
-        Value::Bool(_) => {},
-        Value::Text(_) => {},
-        Value::Unit => {},
+        Reference::Nil => Ok(Outcome::Panic(PanicKind::NilPointer)),
+        Reference::Misfit => Ok(Outcome::Stuck),
     }
 }
 
 /// Stores the last operand in a field of the struct that the operand before it refers to; it panics
 /// on nil.
-pub fn set_field(state: &mut State, acting: Acting, field: u32)
+pub fn set_field(state: &mut State, acting: Acting, field: u32) -> Result<Outcome, Memory>
     requires { Stands acting.goroutine.0 acting.after state.old }
-    ensures { state.new ≡ does (λ a. sets_field a field state.old) acting.goroutine.0 acting.line state.old }
+    ensures ok { IfOk result (λ outcome. Fits outcome (λ a. sets_field a field state.old) acting.goroutine.0 acting.line state.old state.new) }
+    ensures err { OnErr result (state.new ≡ state.old) }
 {
-    if let Some((object, value)) = last_operands(state, acting.goroutine) {
-        set_field_of(state, acting, object, field, value);
+    match last_operands(state, acting.goroutine) {
+        Some((object, value)) => set_field_of(state, acting, object, field, value),
+        None => Ok(Outcome::Stuck),
     }
 }
 
@@ -192,21 +224,21 @@ pub fn new_slice(
     state: &mut State,
     acting: Acting,
     zero: Value,
-) -> Result<(), Memory>
+) -> Result<Outcome, Memory>
     requires { Stands acting.goroutine.0 acting.after state.old }
-    ensures ok { OnOk result (state.new ≡ does (λ a. makes_slice a zero state.old) acting.goroutine.0 acting.line state.old) }
+    ensures ok { IfOk result (λ outcome. Fits outcome (λ a. makes_slice a zero state.old) acting.goroutine.0 acting.line state.old state.new) }
     ensures err { OnErr result (state.new ≡ state.old) }
 {
     let Some(size) = last_int(state, acting.goroutine) else {
-        return Ok(());
+        return Ok(Outcome::Stuck);
     };
     if size < 0 || size > MOST_ELEMENTS {
-        fault(state, acting, PanicKind::SliceSize);
-        return Ok(());
+        return Ok(Outcome::Panic(PanicKind::SliceSize));
     }
     let mut elements = List::new(alloc);
     elements.extend_with(size as usize, zero_of(zero))?;
-    make_over(state, acting, Object::Slice(elements))
+    make_over(state, acting, Object::Slice(elements))?;
+    Ok(Outcome::Done)
 }
 
 /// Makes a channel whose capacity is the last operand; it panics if that is too great or
@@ -216,17 +248,16 @@ pub fn new_channel(
     state: &mut State,
     acting: Acting,
     zero: Value,
-) -> Result<(), Memory>
+) -> Result<Outcome, Memory>
     requires { Stands acting.goroutine.0 acting.after state.old }
-    ensures ok { OnOk result (state.new ≡ does (λ a. makes_channel a zero state.old) acting.goroutine.0 acting.line state.old) }
+    ensures ok { IfOk result (λ outcome. Fits outcome (λ a. makes_channel a zero state.old) acting.goroutine.0 acting.line state.old state.new) }
     ensures err { OnErr result (state.new ≡ state.old) }
 {
     let Some(size) = last_int(state, acting.goroutine) else {
-        return Ok(());
+        return Ok(Outcome::Stuck);
     };
     if size < 0 || size > MOST_ELEMENTS {
-        fault(state, acting, PanicKind::ChanSize);
-        return Ok(());
+        return Ok(Outcome::Panic(PanicKind::ChanSize));
     }
     let channel = Channel {
         capacity: size as u32,
@@ -234,36 +265,35 @@ pub fn new_channel(
         closed: false,
         zero: zero_of(zero),
     };
-    make_over(state, acting, Object::Chan(channel))
+    make_over(state, acting, Object::Chan(channel))?;
+    Ok(Outcome::Done)
 }
 
 // Whether a value is nil or a mutex.
 fn is_nil_or_mutex(state: &State, value: Value) -> bool
     ensures { result ≡ is_nil_or_mutex state.now value }
 {
-    match value {
-        Value::Ref(object) => matches!(state.heap().get(object), Some(Object::Mutex(_))),
-        Value::Nil => true,
-        Value::Int(_) => false,
-        Value::Bool(_) => false,
-        Value::Text(_) => false,
-        Value::Unit => false,
+    match reference_in(value) {
+        Reference::To(object) => matches!(state.heap().get(object), Some(Object::Mutex(_))),
+        Reference::Nil => true,
+        Reference::Misfit => false,
     }
 }
 
 /// Makes a condition with the mutex that is the last operand, or nil.
-pub fn new_condition(state: &mut State, acting: Acting) -> Result<(), Memory>
+pub fn new_condition(state: &mut State, acting: Acting) -> Result<Outcome, Memory>
     requires { Stands acting.goroutine.0 acting.after state.old }
-    ensures ok { OnOk result (state.new ≡ does (λ a. makes_condition a state.old) acting.goroutine.0 acting.line state.old) }
+    ensures ok { IfOk result (λ outcome. Fits outcome (λ a. makes_condition a state.old) acting.goroutine.0 acting.line state.old state.new) }
     ensures err { OnErr result (state.new ≡ state.old) }
 {
     let Some(mutex) = last_operand(state, acting.goroutine) else {
-        return Ok(());
+        return Ok(Outcome::Stuck);
     };
     if is_nil_or_mutex(state, mutex) {
-        return make_over(state, acting, Object::Cond(mutex));
+        make_over(state, acting, Object::Cond(mutex))?;
+        return Ok(Outcome::Done);
     }
-    Ok(())
+    Ok(Outcome::Stuck)
 }
 
 // The element at an index, if the slice has it.
@@ -277,50 +307,51 @@ fn element_at(elements: &[Value], index: i64) -> Option<Value>
 }
 
 // The element at an index of the slice that a value refers to.
-fn get_element_of(state: &mut State, acting: Acting, slice: Value, index: i64) -> Result<(), Memory>
+fn get_element_of(
+    state: &mut State,
+    acting: Acting,
+    slice: Value,
+    index: i64,
+) -> Result<Outcome, Memory>
     requires { Stands acting.goroutine.0 acting.after state.old }
-    ensures ok { OnOk result (state.new ≡ does (λ a. at_reference_or (panics a (PanicKind.Index index 0)) (λ o. at_slice (λ xs. within a index (length xs) (λ v. goes a (v ∷ drop 2 a.frame.operands)) (element xs index)) (find o state.old.objects)) slice) acting.goroutine.0 acting.line state.old) }
+    ensures ok { IfOk result (λ outcome. Fits outcome (λ a. at_reference_or (panics a (PanicKind.Index index 0)) (λ o. at_slice (λ xs. within a index (length xs) (λ v. goes a (v ∷ drop 2 a.frame.operands)) (element xs index)) (find o state.old.objects)) slice) acting.goroutine.0 acting.line state.old state.new) }
     ensures err { OnErr result (state.new ≡ state.old) }
 {
-    match slice {
-        Value::Ref(object) => {
+    match reference_in(slice) {
+        Reference::To(object) => {
             let Some(elements) = slice_at(state, object) else {
-                return Ok(());
+                return Ok(Outcome::Stuck);
             };
             let length = u32::try_from(elements.len()).map_err(|_| Memory)?;
             match element_at(elements.as_slice(), index) {
-                Some(value) => proceed_with(state, acting, acting.after, 2, Given::One(value)),
-                None => {
-                    fault(state, acting, PanicKind::Index { at: index, length });
-                    Ok(())
+                Some(value) => {
+                    proceed_with(state, acting, acting.after, 2, Given::One(value))?;
+                    Ok(Outcome::Done)
                 }
+                None => Ok(Outcome::Panic(PanicKind::Index { at: index, length })),
             }
         }
-        Value::Nil => {
+        Reference::Nil => {
             let (at, length) = (index, 0);
-            fault(state, acting, PanicKind::Index { at, length });
-            Ok(())
+            Ok(Outcome::Panic(PanicKind::Index { at, length }))
         }
-        Value::Int(_) => Ok(()),
-        Value::Bool(_) => Ok(()),
-        Value::Text(_) => Ok(()),
-        Value::Unit => Ok(()),
+        Reference::Misfit => Ok(Outcome::Stuck),
     }
 }
 
 /// Leaves the element of the slice that the operand before the last refers to, at the index that is
 /// the last; it panics if the index is out of range. Nil has no elements.
-pub fn get_element(state: &mut State, acting: Acting) -> Result<(), Memory>
+pub fn get_element(state: &mut State, acting: Acting) -> Result<Outcome, Memory>
     requires { Stands acting.goroutine.0 acting.after state.old }
-    ensures ok { OnOk result (state.new ≡ does (λ a. gets_element a state.old) acting.goroutine.0 acting.line state.old) }
+    ensures ok { IfOk result (λ outcome. Fits outcome (λ a. gets_element a state.old) acting.goroutine.0 acting.line state.old state.new) }
     ensures err { OnErr result (state.new ≡ state.old) }
 {
     let Some((slice, index)) = last_operands(state, acting.goroutine) else {
-        return Ok(());
+        return Ok(Outcome::Stuck);
     };
     match int_in(index) {
         Some(index) => get_element_of(state, acting, slice, index),
-        None => Ok(()),
+        None => Ok(Outcome::Stuck),
     }
 }
 
@@ -342,23 +373,22 @@ fn set_element_at(
     object: ObjectId,
     index: i64,
     value: Value,
-) -> Result<(), Memory>
+) -> Result<Outcome, Memory>
     requires { Stands acting.goroutine.0 acting.after state.old }
-    ensures ok { OnOk result (state.new ≡ does (λ a. at_slice (element_set a index value (drop 3 a.frame.operands) object.0) (find object.0 state.old.objects)) acting.goroutine.0 acting.line state.old) }
+    ensures ok { IfOk result (λ outcome. Fits outcome (λ a. at_slice (element_set a index value (drop 3 a.frame.operands) object.0) (find object.0 state.old.objects)) acting.goroutine.0 acting.line state.old state.new) }
     ensures err { OnErr result (state.new ≡ state.old) }
 {
     let Some(elements) = slice_at(state, object) else {
-        return Ok(());
+        return Ok(Outcome::Stuck);
     };
     let length = u32::try_from(elements.len()).map_err(|_| Memory)?;
     if element_at(elements.as_slice(), index).is_none() {
-        fault(state, acting, PanicKind::Index { at: index, length });
-        return Ok(());
+        return Ok(Outcome::Panic(PanicKind::Index { at: index, length }));
     }
     let at = index.unsigned_abs() as usize;
     change_element(state.object_mut(object), at, value);
     proceed(state, acting, acting.after, 3);
-    Ok(())
+    Ok(Outcome::Done)
 }
 
 // The element at an index of the slice that a value refers to becomes this value.
@@ -368,38 +398,34 @@ fn set_element_of(
     slice: Value,
     index: i64,
     value: Value,
-) -> Result<(), Memory>
+) -> Result<Outcome, Memory>
     requires { Stands acting.goroutine.0 acting.after state.old }
-    ensures ok { OnOk result (state.new ≡ does (λ a. at_reference_or (panics a (PanicKind.Index index 0)) (λ o. at_slice (element_set a index value (drop 3 a.frame.operands) o) (find o state.old.objects)) slice) acting.goroutine.0 acting.line state.old) }
+    ensures ok { IfOk result (λ outcome. Fits outcome (λ a. at_reference_or (panics a (PanicKind.Index index 0)) (λ o. at_slice (element_set a index value (drop 3 a.frame.operands) o) (find o state.old.objects)) slice) acting.goroutine.0 acting.line state.old state.new) }
     ensures err { OnErr result (state.new ≡ state.old) }
 {
-    match slice {
-        Value::Ref(object) => set_element_at(state, acting, object, index, value),
-        Value::Nil => {
+    match reference_in(slice) {
+        Reference::To(object) => set_element_at(state, acting, object, index, value),
+        Reference::Nil => {
             let (at, length) = (index, 0);
-            fault(state, acting, PanicKind::Index { at, length });
-            Ok(())
+            Ok(Outcome::Panic(PanicKind::Index { at, length }))
         }
-        Value::Int(_) => Ok(()),
-        Value::Bool(_) => Ok(()),
-        Value::Text(_) => Ok(()),
-        Value::Unit => Ok(()),
+        Reference::Misfit => Ok(Outcome::Stuck),
     }
 }
 
 /// Stores the last operand in the slice that the first of the last three refers to, at the index
 /// between; it panics if the index is out of range. Nil has no elements.
-pub fn set_element(state: &mut State, acting: Acting) -> Result<(), Memory>
+pub fn set_element(state: &mut State, acting: Acting) -> Result<Outcome, Memory>
     requires { Stands acting.goroutine.0 acting.after state.old }
-    ensures ok { OnOk result (state.new ≡ does (λ a. sets_element a state.old) acting.goroutine.0 acting.line state.old) }
+    ensures ok { IfOk result (λ outcome. Fits outcome (λ a. sets_element a state.old) acting.goroutine.0 acting.line state.old state.new) }
     ensures err { OnErr result (state.new ≡ state.old) }
 {
     let Some((slice, index, value)) = last_three_operands(state, acting.goroutine) else {
-        return Ok(());
+        return Ok(Outcome::Stuck);
     };
     match int_in(index) {
         Some(index) => set_element_of(state, acting, slice, index, value),
-        None => Ok(()),
+        None => Ok(Outcome::Stuck),
     }
 }
 
@@ -410,11 +436,7 @@ fn length_of(object: &Object) -> Option<usize>
     match object {
         Object::Slice(elements) => Some(elements.len()),
         Object::Chan(channel) => Some(channel.buffer.len()),
-        Object::Struct(_) => None,
-        Object::Mutex(_) => None,
-        Object::Group(_) => None,
-        Object::Rw(_) => None,
-        Object::Cond(_) => None,
+        _ => None,
     }
 }
 
@@ -422,64 +444,59 @@ fn length_of(object: &Object) -> Option<usize>
 fn length_at(state: &State, value: Value) -> Option<usize>
     ensures { result ≡ measured state.now value }
 {
-    match value {
-        Value::Ref(object) => length_of(state.heap().get(object)?),
-        Value::Nil => Some(0),
-        Value::Int(_) => None,
-        Value::Bool(_) => None,
-        Value::Text(_) => None,
-        Value::Unit => None,
+    match reference_in(value) {
+        Reference::To(object) => length_of(state.heap().get(object)?),
+        Reference::Nil => Some(0),
+        Reference::Misfit => None,
     }
 }
 
 /// Leaves how many elements the slice has that the last operand refers to, or values the buffer of
 /// the channel; 0 for nil.
-pub fn measure(state: &mut State, acting: Acting) -> Result<(), Memory>
+pub fn measure(state: &mut State, acting: Acting) -> Result<Outcome, Memory>
     requires { Stands acting.goroutine.0 acting.after state.old }
-    ensures ok { OnOk result (state.new ≡ does (λ a. measures a state.old) acting.goroutine.0 acting.line state.old) }
+    ensures ok { IfOk result (λ outcome. Fits outcome (λ a. measures a state.old) acting.goroutine.0 acting.line state.old state.new) }
     ensures err { OnErr result (state.new ≡ state.old) }
 {
     let Some(value) = last_operand(state, acting.goroutine) else {
-        return Ok(());
+        return Ok(Outcome::Stuck);
     };
     let Some(length) = length_at(state, value) else {
-        return Ok(());
+        return Ok(Outcome::Stuck);
     };
     let count = i64::try_from(length).map_err(|_| Memory)?;
     let given = Given::One(Value::Int(count));
-    proceed_with(state, acting, acting.after, 1, given)
+    proceed_with(state, acting, acting.after, 1, given)?;
+    Ok(Outcome::Done)
 }
 
 // The mutex of the condition that a value refers to.
-fn get_mutex_of(state: &mut State, acting: Acting, condition: Value) -> Result<(), Memory>
+fn get_mutex_of(state: &mut State, acting: Acting, condition: Value) -> Result<Outcome, Memory>
     requires { Stands acting.goroutine.0 acting.after state.old }
-    ensures ok { OnOk result (state.new ≡ does (λ a. at_reference a (λ o. at_condition (λ m. goes a (m ∷ drop 1 a.frame.operands)) (find o state.old.objects)) condition) acting.goroutine.0 acting.line state.old) }
+    ensures ok { IfOk result (λ outcome. Fits outcome (λ a. at_reference a (λ o. at_condition (λ m. goes a (m ∷ drop 1 a.frame.operands)) (find o state.old.objects)) condition) acting.goroutine.0 acting.line state.old state.new) }
     ensures err { OnErr result (state.new ≡ state.old) }
 {
-    match condition {
-        Value::Ref(object) => match condition_at(state, object) {
-            Some(mutex) => proceed_with(state, acting, acting.after, 1, Given::One(mutex)),
-            None => Ok(()),
+    match reference_in(condition) {
+        Reference::To(object) => match condition_at(state, object) {
+            Some(mutex) => {
+                proceed_with(state, acting, acting.after, 1, Given::One(mutex))?;
+                Ok(Outcome::Done)
+            }
+            None => Ok(Outcome::Stuck),
         },
-        Value::Nil => {
-            fault(state, acting, PanicKind::NilPointer);
-            Ok(())
-        }
-        Value::Int(_) => Ok(()),
-        Value::Bool(_) => Ok(()),
-        Value::Text(_) => Ok(()),
-        Value::Unit => Ok(()),
+        Reference::Nil => Ok(Outcome::Panic(PanicKind::NilPointer)),
+        Reference::Misfit => Ok(Outcome::Stuck),
     }
 }
 
 /// Leaves the mutex of the condition that the last operand refers to; it panics on nil.
-pub fn get_mutex(state: &mut State, acting: Acting) -> Result<(), Memory>
+pub fn get_mutex(state: &mut State, acting: Acting) -> Result<Outcome, Memory>
     requires { Stands acting.goroutine.0 acting.after state.old }
-    ensures ok { OnOk result (state.new ≡ does (λ a. gets_mutex a state.old) acting.goroutine.0 acting.line state.old) }
+    ensures ok { IfOk result (λ outcome. Fits outcome (λ a. gets_mutex a state.old) acting.goroutine.0 acting.line state.old state.new) }
     ensures err { OnErr result (state.new ≡ state.old) }
 {
     match last_operand(state, acting.goroutine) {
         Some(condition) => get_mutex_of(state, acting, condition),
-        None => Ok(()),
+        None => Ok(Outcome::Stuck),
     }
 }

@@ -8,13 +8,14 @@ ghost use Rattle.golf_model.specs.Clearing.{clearing};
 ghost use Rattle.golf_model.specs.State.{ending, start as start_of};
 ghost use Rattle.golf_model.specs.Turn.{step, wants_collection, goroutine_collects};
 ghost use Rattle.golf_state.specs.Doing.{Runs};
+ghost use Rattle.golf_machine.specs.Passing.{taken};
+ghost use Rattle.golf_machine.specs.Stepping.{has_collected, keeps_slots};
 ghost use Rattle.golf_machine.specs.Turns.{turned_of};
-ghost use Rattle.golf_machine.specs.Within.{taken};
 
 use crate::entering::first_frames;
-use crate::stepping::act;
+use crate::passing::{Passed, pass};
+use crate::stepping::{Acted, act, act_nowhere};
 use crate::structures::zeros_of;
-use crate::within::pass;
 use golf_base::{GoroutineId, Memory};
 use golf_data::{Code, Ending};
 use golf_state::State;
@@ -41,12 +42,12 @@ pub fn start(alloc: Global, code: &Code) -> Result<State, Memory>
     State::new(alloc, globals, frames, code.main_line)
 }
 
-// What no instruction can read any more is cleared after the turn of a goroutine, unless it was a
-// collection.
-fn clear_after(code: &Code, state: &mut State, g: GoroutineId, collects: bool)
-    ensures { state.new ≡ apply_all (clearing code.now collects (Some g.0) state.old) state.old }
+// What no instruction can read any more is cleared after the turn of a goroutine, unless it keeps its
+// slots.
+fn clear_after(code: &Code, state: &mut State, g: GoroutineId, keeps: bool)
+    ensures { state.new ≡ apply_all (clearing code.now keeps (Some g.0) state.old) state.old }
 {
-    if !collects {
+    if !keeps {
         state.clear_slots(code, g);
     }
 }
@@ -84,6 +85,30 @@ fn turned_of(ending: Option<Ending>, collects: bool) -> Turned
     }
 }
 
+// Whether a turn was a collection.
+#[inline(always)]
+fn has_collected(acted: Acted) -> bool
+    ensures { result ≡ has_collected acted }
+{
+    match acted {
+        Acted::Collects => true,
+        Acted::Went => false,
+        Acted::Stuck => false,
+    }
+}
+
+// Whether nothing is cleared after a turn: it was a collection, or no rule fitted.
+#[inline(always)]
+fn keeps_slots(acted: Acted) -> bool
+    ensures { result ≡ keeps_slots acted }
+{
+    match acted {
+        Acted::Collects => true,
+        Acted::Went => false,
+        Acted::Stuck => true,
+    }
+}
+
 // The turn of a goroutine that runs, and what is cleared after it.
 #[inline(always)]
 fn take(
@@ -100,12 +125,13 @@ fn take(
     ensures turned { IfOk result (λ turned. turned ≡ turned_of (ending state.new) (goroutine_collects code.now (find g.0 state.old.goroutines))) }
     ensures err { OnErr result (state.new ≡ state.old) }
 {
-    if pass(code, state, g)? {
-        return Ok(Turned::Went);
-    }
-    let collects = act(alloc, code, state, g, choice)?;
-    clear_after(code, state, g, collects);
-    Ok(turned_of(state.ending(), collects))
+    let acted = match pass(code, state, g)? {
+        Passed::Over => return Ok(Turned::Went),
+        Passed::At(line, after) => act(alloc, code, state, g, line, after, choice)?,
+        Passed::Nowhere => act_nowhere(alloc, code, state, g)?,
+    };
+    clear_after(code, state, g, keeps_slots(acted));
+    Ok(turned_of(state.ending(), has_collected(acted)))
 }
 
 /// One turn: of the goroutines that can run, in rising order, the one at the place of the number,

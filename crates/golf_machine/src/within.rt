@@ -1,25 +1,35 @@
 //! Instructions that touch the innermost frame alone; they may look at globals.
 
-ghost use Rattle.std.specs.Prelude.{◌≡◌, ◌<◌, ◌≤◌, ◌+◌, ◌^◌, ◌∷◌, [], ℕ, length, drop, IfOk, OnErr, option_map, slice_get, true, false};
-ghost use Rattle.golf_data.specs.Places.{HasPlaces};
+ghost use Rattle.std.specs.Prelude.{◌≡◌, ◌<◌, ◌≤◌, ◌+◌, ◌^◌, ◌∷◌, [], ℕ, length, drop, IfOk, OnErr, slice_get, true, false};
 ghost use Rattle.golf_data.specs.declared.code.Code.{Code};
 ghost use Rattle.golf_model.specs.Acting.{next, jumps};
 ghost use Rattle.golf_model.specs.Calculating.{pushes, loads, stores, loads_global, drops, doubles, doubles_two, negates, inverts, computes, divides, compares, equates, jumps_unless};
 ghost use Rattle.golf_model.specs.State.{State};
 ghost use Rattle.golf_model.specs.Turn.{changes, is_collection};
-ghost use Rattle.golf_model.specs.Views.{frame_view, frame_views};
-ghost use Rattle.golf_state.specs.Doing.{Runs};
+ghost use Rattle.golf_model.specs.Views.{frame_view};
 ghost use Rattle.golf_state.specs.Going.{went};
 ghost use Rattle.golf_state.specs.Operands.{two_of};
 ghost use Rattle.golf_machine.specs.Operations.{int_in, ints_in, bool_in, operation_of, division_of, comparison_of};
-ghost use Rattle.golf_machine.specs.Within.{IsDone, cleared_in, HasPassed, HasPassedOnTop, HasTakenTurn};
+ghost use Rattle.golf_machine.specs.Within.{HasGone, is_on_frame};
+ghost use Rattle.golf_machine.specs.declared.within.Within.TheVariants as within;
 
-use crate::calculating::{
-    Comparison, Division, Operation, are_equal, bool_in, holds, int_in, part_of, result_of,
-};
-use golf_base::{GoroutineId, List, Memory};
-use golf_data::{Code, CodeLine, Frame, Function, Instr, Leaving, Value};
-use golf_state::State;
+use crate::calculating::{Comparison, Division, Operation, are_equal, holds, part_of, result_of};
+use crate::operands::{bool_in, int_in};
+use golf_base::{List, Memory};
+use golf_data::{Frame, Instr, Value};
+
+/// What an instruction came to that may touch the innermost frame alone.
+#[derive(Clone, Copy, Debug, PartialEq, Eq)]
+pub(crate) enum Within {
+    /// It is done.
+    Done,
+    /// It panics, since the divisor is 0: nothing has changed yet.
+    ZeroDivisor,
+    /// No rule fits: nothing has changed.
+    Stuck,
+    /// It touches more than the frame: nothing has changed.
+    Beyond,
+}
 
 // The last operand, if there is one.
 #[inline(always)]
@@ -95,14 +105,14 @@ fn put(frame: &mut Frame, taken: usize, value: Value)
 
 // Pushes a value.
 #[inline(always)]
-fn push(frame: &mut Frame, value: Value) -> Result<bool, Memory>
+fn push(frame: &mut Frame, value: Value) -> Result<Within, Memory>
     requires place { frame.old.at + 1 < 2 ^ 32 }
-    ensures ok { IfOk result (λ done. IsDone done (λ a. pushes a value) (frame_view frame.old) (frame_view frame.new)) }
+    ensures ok { IfOk result (λ came. HasGone true came (λ a. pushes a value) (frame_view frame.old) (frame_view frame.new)) }
     ensures err { OnErr result (frame_view frame.new ≡ frame_view frame.old) }
 {
     frame.operands.push(value)?;
     frame.at += 1;
-    Ok(true)
+    Ok(Within::Done)
 }
 
 // The value of a slot, if it is there.
@@ -115,32 +125,32 @@ fn slot_of(frame: &Frame, slot: u32) -> Option<Value>
 
 // Pushes a slot, if it is there.
 #[inline(always)]
-fn load(frame: &mut Frame, slot: u32) -> Result<bool, Memory>
+fn load(frame: &mut Frame, slot: u32) -> Result<Within, Memory>
     requires place { frame.old.at + 1 < 2 ^ 32 }
-    ensures ok { IfOk result (λ done. IsDone done (λ a. loads a slot) (frame_view frame.old) (frame_view frame.new)) }
+    ensures ok { IfOk result (λ came. HasGone true came (λ a. loads a slot) (frame_view frame.old) (frame_view frame.new)) }
     ensures err { OnErr result (frame_view frame.new ≡ frame_view frame.old) }
 {
     match slot_of(frame, slot) {
         Some(value) => push(frame, value),
-        None => Ok(false),
+        None => Ok(Within::Stuck),
     }
 }
 
 // Stores the last operand in a slot, if both are there.
 #[inline(always)]
-fn store(frame: &mut Frame, slot: u32) -> bool
+fn store(frame: &mut Frame, slot: u32) -> Within
     requires place { frame.old.at + 1 < 2 ^ 32 }
-    ensures { IsDone result (λ a. stores a slot) (frame_view frame.old) (frame_view frame.new) }
+    ensures { HasGone true result (λ a. stores a slot) (frame_view frame.old) (frame_view frame.new) }
 {
     if slot as usize >= frame.slots.len() {
-        return false;
+        return Within::Stuck;
     }
     let Some(value) = frame.operands.pop() else {
-        return false;
+        return Within::Stuck;
     };
     frame.slots.set(slot as usize, value);
     frame.at += 1;
-    true
+    Within::Done
 }
 
 // The value of a global, if it is there.
@@ -153,168 +163,171 @@ fn global_of(globals: &[Value], global: u32) -> Option<Value>
 
 // Pushes a global, if it is there.
 #[inline(always)]
-fn load_global(frame: &mut Frame, globals: &[Value], global: u32) -> Result<bool, Memory>
+fn load_global(frame: &mut Frame, globals: &[Value], global: u32) -> Result<Within, Memory>
     requires place { frame.old.at + 1 < 2 ^ 32 }
-    ensures ok { IfOk result (λ done. (s : State) → s.globals ≡ globals.now → IsDone done (λ a. loads_global a global s) (frame_view frame.old) (frame_view frame.new)) }
+    ensures ok { IfOk result (λ came. (s : State) → s.globals ≡ globals.now → HasGone true came (λ a. loads_global a global s) (frame_view frame.old) (frame_view frame.new)) }
     ensures err { OnErr result (frame_view frame.new ≡ frame_view frame.old) }
 {
     match global_of(globals, global) {
         Some(value) => push(frame, value),
-        None => Ok(false),
+        None => Ok(Within::Stuck),
     }
 }
 
 // Drops the last operand, if there is one.
-fn drop_last(frame: &mut Frame) -> bool
+fn drop_last(frame: &mut Frame) -> Within
     requires place { frame.old.at + 1 < 2 ^ 32 }
-    ensures { IsDone result drops (frame_view frame.old) (frame_view frame.new) }
+    ensures { HasGone true result drops (frame_view frame.old) (frame_view frame.new) }
 {
     if frame.operands.is_empty() {
-        return false;
+        return Within::Stuck;
     }
     let after = frame.at + 1;
     go_to(frame, after, 1);
-    true
+    Within::Done
 }
 
 // Doubles the last operand, if there is one.
-fn double(frame: &mut Frame) -> Result<bool, Memory>
+fn double(frame: &mut Frame) -> Result<Within, Memory>
     requires place { frame.old.at + 1 < 2 ^ 32 }
-    ensures ok { IfOk result (λ done. IsDone done doubles (frame_view frame.old) (frame_view frame.new)) }
+    ensures ok { IfOk result (λ came. HasGone true came doubles (frame_view frame.old) (frame_view frame.new)) }
     ensures err { OnErr result (frame_view frame.new ≡ frame_view frame.old) }
 {
     match last(frame) {
         Some(value) => push(frame, value),
-        None => Ok(false),
+        None => Ok(Within::Stuck),
     }
 }
 
 // Doubles the last two operands, if there are two.
-fn double_two(frame: &mut Frame) -> Result<bool, Memory>
+fn double_two(frame: &mut Frame) -> Result<Within, Memory>
     requires place { frame.old.at + 1 < 2 ^ 32 }
-    ensures ok { IfOk result (λ done. IsDone done doubles_two (frame_view frame.old) (frame_view frame.new)) }
+    ensures ok { IfOk result (λ came. HasGone true came doubles_two (frame_view frame.old) (frame_view frame.new)) }
     ensures err { OnErr result (frame_view frame.new ≡ frame_view frame.old) }
 {
     let Some((first, second)) = last_two(frame) else {
-        return Ok(false);
+        return Ok(Within::Stuck);
     };
     frame.operands.reserve(2)?;
     frame.operands.push_ready(first);
     frame.operands.push_ready(second);
     frame.at += 1;
-    Ok(true)
+    Ok(Within::Done)
 }
 
 // Negates an integer.
-fn negate(frame: &mut Frame) -> bool
+fn negate(frame: &mut Frame) -> Within
     requires place { frame.old.at + 1 < 2 ^ 32 }
-    ensures { IsDone result negates (frame_view frame.old) (frame_view frame.new) }
+    ensures { HasGone true result negates (frame_view frame.old) (frame_view frame.new) }
 {
     let Some(n) = last_int(frame) else {
-        return false;
+        return Within::Stuck;
     };
     put(frame, 1, Value::Int(n.wrapping_neg()));
-    true
+    Within::Done
 }
 
 // Inverts a truth value.
-fn invert(frame: &mut Frame) -> bool
+fn invert(frame: &mut Frame) -> Within
     requires place { frame.old.at + 1 < 2 ^ 32 }
-    ensures { IsDone result inverts (frame_view frame.old) (frame_view frame.new) }
+    ensures { HasGone true result inverts (frame_view frame.old) (frame_view frame.new) }
 {
     let Some(b) = last_bool(frame) else {
-        return false;
+        return Within::Stuck;
     };
     put(frame, 1, Value::Bool(!b));
-    true
+    Within::Done
 }
 
 // An integer from two.
 #[inline(always)]
-fn compute(frame: &mut Frame, operation: Operation) -> bool
+fn compute(frame: &mut Frame, operation: Operation) -> Within
     requires place { frame.old.at + 1 < 2 ^ 32 }
-    ensures { IsDone result (computes (operation_of operation)) (frame_view frame.old) (frame_view frame.new) }
+    ensures { HasGone true result (computes (operation_of operation)) (frame_view frame.old) (frame_view frame.new) }
 {
     let Some((m, n)) = last_ints(frame) else {
-        return false;
+        return Within::Stuck;
     };
     put(frame, 2, Value::Int(result_of(operation, m, n)));
-    true
+    Within::Done
 }
 
-// An integer from two, of which the second divides the first; a zero divisor is left to others.
-fn divide(frame: &mut Frame, division: Division) -> bool
+// An integer from two, of which the second divides the first; it panics if that is 0.
+fn divide(frame: &mut Frame, division: Division) -> Within
     requires place { frame.old.at + 1 < 2 ^ 32 }
-    ensures { IsDone result (divides (division_of division)) (frame_view frame.old) (frame_view frame.new) }
+    ensures { HasGone true result (divides (division_of division)) (frame_view frame.old) (frame_view frame.new) }
 {
     let Some((m, n)) = last_ints(frame) else {
-        return false;
+        return Within::Stuck;
     };
     if n == 0 {
-        return false;
+        return Within::ZeroDivisor;
     }
     put(frame, 2, Value::Int(part_of(division, m, n)));
-    true
+    Within::Done
 }
 
 // A truth value from two integers.
 #[inline(always)]
-fn compare(frame: &mut Frame, comparison: Comparison) -> bool
+fn compare(frame: &mut Frame, comparison: Comparison) -> Within
     requires place { frame.old.at + 1 < 2 ^ 32 }
-    ensures { IsDone result (compares (comparison_of comparison)) (frame_view frame.old) (frame_view frame.new) }
+    ensures { HasGone true result (compares (comparison_of comparison)) (frame_view frame.old) (frame_view frame.new) }
 {
     let Some((m, n)) = last_ints(frame) else {
-        return false;
+        return Within::Stuck;
     };
     put(frame, 2, Value::Bool(holds(comparison, m, n)));
-    true
+    Within::Done
 }
 
 // Whether the last two operands, which are of one kind, are equal.
-fn equate(frame: &mut Frame) -> bool
+fn equate(frame: &mut Frame) -> Within
     requires place { frame.old.at + 1 < 2 ^ 32 }
-    ensures { IsDone result equates (frame_view frame.old) (frame_view frame.new) }
+    ensures { HasGone true result equates (frame_view frame.old) (frame_view frame.new) }
 {
     let Some((x, y)) = last_two(frame) else {
-        return false;
+        return Within::Stuck;
     };
     let Some(equal) = are_equal(x, y) else {
-        return false;
+        return Within::Stuck;
     };
     put(frame, 2, Value::Bool(equal));
-    true
+    Within::Done
 }
 
 // Goes on at the target.
 #[inline(always)]
-fn jump(frame: &mut Frame, target: u32) -> bool
-    ensures { IsDone result (λ a. jumps a target a.frame.operands) (frame_view frame.old) (frame_view frame.new) }
+fn jump(frame: &mut Frame, target: u32) -> Within
+    ensures { HasGone true result (λ a. jumps a target a.frame.operands) (frame_view frame.old) (frame_view frame.new) }
 {
     go_to(frame, target, 0);
-    true
+    Within::Done
 }
 
 // Goes on at the target if the last operand is false.
 #[inline(always)]
-fn jump_unless(frame: &mut Frame, target: u32) -> bool
+fn jump_unless(frame: &mut Frame, target: u32) -> Within
     requires place { frame.old.at + 1 < 2 ^ 32 }
-    ensures { IsDone result (λ a. jumps_unless a target) (frame_view frame.old) (frame_view frame.new) }
+    ensures { HasGone true result (λ a. jumps_unless a target) (frame_view frame.old) (frame_view frame.new) }
 {
     let Some(b) = last_bool(frame) else {
-        return false;
+        return Within::Stuck;
     };
     let after = if b { frame.at + 1 } else { target };
     go_to(frame, after, 1);
-    true
+    Within::Done
 }
 
-// Does an instruction of a frame, with these globals, if it touches that frame alone, and fits. It answers
-// whether it did; else nothing has changed.
+/// Does an instruction of a frame, with these globals, if it touches that frame alone.
 #[inline(always)]
-fn perform_within(frame: &mut Frame, globals: &[Value], instr: &Instr) -> Result<bool, Memory>
+pub(crate) fn perform_within(
+    frame: &mut Frame,
+    globals: &[Value],
+    instr: &Instr,
+) -> Result<Within, Memory>
     requires place { frame.old.at + 1 < 2 ^ 32 }
-    ensures ok { IfOk result (λ done. (code : Code) (choice : ℕ) (s : State) → s.globals ≡ globals.now → IsDone done (λ a. changes code instr.now a choice s) (frame_view frame.old) (frame_view frame.new)) }
-    ensures plain { IfOk result (λ done. done ≡ true → is_collection instr.now ≡ false) }
+    ensures ok { IfOk result (λ came. (code : Code) (choice : ℕ) (s : State) → s.globals ≡ globals.now → HasGone (is_on_frame instr.now) came (λ a. changes code instr.now a choice s) (frame_view frame.old) (frame_view frame.new)) }
+    ensures plain { IfOk result (λ came. came ≡ within.Done → is_collection instr.now ≡ false) }
     ensures err { OnErr result (frame_view frame.new ≡ frame_view frame.old) }
 {
     match instr {
@@ -341,99 +354,6 @@ fn perform_within(frame: &mut Frame, globals: &[Value], instr: &Instr) -> Result
         Instr::AtMost => Ok(compare(frame, Comparison::AtMost)),
         Instr::Jump(target) => Ok(jump(frame, *target)),
         Instr::JumpIfNot(target) => Ok(jump_unless(frame, *target)),
-        _ => Ok(false),
+        _ => Ok(Within::Beyond),
     }
-}
-
-// The function of this number.
-#[inline(always)]
-fn function_at(code: &Code, number: u32) -> Option<&Function>
-    ensures function { option_map (λ f. f.now) result ≡ slice_get code.now.functions number }
-{
-    code.functions.as_slice().get(number as usize)
-}
-
-// The instruction at a place of a function, with its line.
-#[inline(always)]
-fn line_in(function: &Function, at: u32) -> Option<&CodeLine>
-    ensures line { option_map (λ l. l.now) result ≡ slice_get function.now.body at }
-{
-    function.body.as_slice().get(at as usize)
-}
-
-// The mask of a place of a function, if there is one.
-#[inline(always)]
-fn mask_in(function: &Function, at: u32) -> Option<u64>
-    ensures { result ≡ slice_get function.now.live at }
-{
-    function.live.as_slice().get(at as usize).copied()
-}
-
-// The slots of a frame of this function which no instruction from its next one on can read hold 0.
-#[inline(always)]
-fn clear_in(function: &Function, frame: &mut Frame)
-    ensures { frame_view frame.new ≡ cleared_in function.now (frame_view frame.old) }
-{
-    if let Some(mask) = mask_in(function, frame.at) {
-        frame.slots.clear_under(mask);
-    }
-}
-
-// The turn of a frame, with these globals, that is at an instruction which touches the frame alone, and fits,
-// with what is cleared after it. It answers whether that was so; else nothing has changed.
-#[inline(always)]
-fn pass_in(code: &Code, globals: &[Value], frame: &mut Frame) -> Result<bool, Memory>
-    requires places { HasPlaces code.now }
-    ensures ok { IfOk result (λ done. HasPassed done code.now globals.now (frame_view frame.old) (frame_view frame.new)) }
-    ensures err { OnErr result (frame_view frame.new ≡ frame_view frame.old) }
-{
-    match frame.leaving {
-        Leaving::No => {}
-        Leaving::Returning(_) => return Ok(false),
-        Leaving::Unwinding(_) => return Ok(false),
-    }
-    let Some(function) = function_at(code, frame.function) else {
-        return Ok(false);
-    };
-    let Some(line) = line_in(function, frame.at) else {
-        return Ok(false);
-    };
-    if !perform_within(frame, globals, &line.instr)? {
-        return Ok(false);
-    }
-    clear_in(function, frame);
-    Ok(true)
-}
-
-/// The same of the innermost frame, if there is one.
-#[inline(always)]
-pub(crate) fn pass_on_top(
-    code: &Code,
-    globals: &[Value],
-    frames: &mut List<Frame>,
-) -> Result<bool, Memory>
-    requires places { HasPlaces code.now }
-    ensures ok { IfOk result (λ done. HasPassedOnTop done code.now globals.now (frame_views frames.old) (frame_views frames.new)) }
-    ensures err { OnErr result (frame_views frames.new ≡ frame_views frames.old) }
-{
-    let count = frames.len();
-    if count == 0 {
-        return Ok(false);
-    }
-    let done = pass_in(code, globals, frames.item_mut(count - 1))?;
-    Ok(done)
-}
-
-/// The turn of a goroutine that runs, with what is cleared after it, if its instruction touches its
-/// innermost frame alone, and fits. It answers whether that was so; else nothing has changed.
-#[inline(always)]
-pub(crate) fn pass(code: &Code, state: &mut State, g: GoroutineId) -> Result<bool, Memory>
-    requires places { HasPlaces code.now }
-    requires runs { Runs g.0 state.old }
-    ensures ok { IfOk result (λ done. HasTakenTurn done code.now g.0 state.old state.new) }
-    ensures err { OnErr result (state.new ≡ state.old) }
-{
-    let (frames, globals) = state.frames_and_globals(g);
-    let done = pass_on_top(code, globals, frames)?;
-    Ok(done)
 }

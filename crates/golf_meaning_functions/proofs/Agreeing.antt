@@ -1,7 +1,7 @@
 -- The code of a function and its source agree.
 -- For: `functions_agree`, src/lib.rt
 -- By: induction over the list of statements of the body; cases of how the body ends
-use Rattle.std.proofs.Common.{◌≡◌, ℕ, zero, suc, ◌+◌, ◌-◌, ◌≤◌, pos, List, [], ◌∷◌, ◌++◌, length, map, Bool, Option, Some, None, refl, ap, sym, ◌∙◌, subst, slice_get, arith, append_assoc, length-append}
+use Rattle.std.proofs.Common.{◌≡◌, ℕ, zero, suc, ◌+◌, ◌-◌, pos, List, [], ◌∷◌, ◌++◌, length, map, Bool, Option, Some, None, refl, ap, sym, ◌∙◌, subst, slice_get, arith, append_assoc, length-append}
 use Rattle.std.specs.Prelude.{replicate}
 use Rattle.golf_syntax_trees.specs.declared.statements.Stmt.{Stmt}
 use Rattle.golf_syntax_trees.specs.declared.declarations.Func.{Func}
@@ -75,9 +75,6 @@ last-ends : (l : ℕ) (r : Option GoType) (n at : ℕ) (ts : List ℕ) (now : Li
 last-ends l None n at ts now u = refl
 last-ends l (Some t) n at ts now u = last-push l (zero_value (Some t)) n at ts now u
 
-one-fewer : (n j : ℕ) → suc n ≤ j → n ≤ j
-one-fewer n j le = omega (arith, le)
-
 -- the body of a function goes as this flow does, from these locals and this frame
 record BodyGoes (f : Flow) (o : Way) : Type 0 where
   locals : List Local
@@ -89,32 +86,32 @@ record BodyGoes (f : Flow) (o : Way) : Type 0 where
 
 -- if the way ends as it is told, so does the code
 module _ (code : List CodeLine) (c : Frame) (w : World) (n to : ℕ) where
-  done-ends : (t : Told) (e : End) (o : Way) → EndsAlike t e o → ((r : Told) → o ≡ Way.Ends r → (j : ℕ) × Enough r.end (suc n) j × (exec code j 0 c w ≡ r)) → t.end ≡ e → Done code c w n t e
+  done-ends : (t : Told) (e : End) (o : Way) → EndsAlike t e o → ((r : Told) → o ≡ Way.Ends r → (j : ℕ) × Enough r.end n j × (exec code j 0 c w ≡ r)) → t.end ≡ e → Done code c w n t e
   done-ends t (End.Halts (Halt.Unfit why)) o h k q = tt
   done-ends t (End.Halts (Halt.Returned v)) o h k q = let r = k t h in (r.0, tt, r.2)
   done-ends t (End.Halts Halt.Divided) o h k q = let r = k t h in (r.0, tt, r.2)
   done-ends t (End.Halts Halt.Waits) o h k q = let r = k t h in (r.0, tt, r.2)
-  done-ends t End.Short o h k q = let r = k t h in (r.0, one-fewer n r.0 (subst (λ e. Enough e (suc n) r.0) q r.1), r.2)
+  done-ends t End.Short o h k q = let r = k t h in (r.0, subst (λ e. Enough e n r.0) q r.1, r.2)
 
-  from-ends : (o : Way) → Follows code (suc n) 0 [] to c w o → (r : Told) → o ≡ Way.Ends r → (j : ℕ) × Enough r.end (suc n) j × (exec code j 0 c w ≡ r)
-  from-ends o h r e = subst (Follows code (suc n) 0 [] to c w) e h
+  from-ends : (o : Way) → Follows code n 0 [] to c w o → (r : Told) → o ≡ Way.Ends r → (j : ℕ) × Enough r.end n j × (exec code j 0 c w ≡ r)
+  from-ends o h r e = subst (Follows code n 0 [] to c w) e h
 
   body-done : (l : ℕ) (r : Option GoType) (f : Flow) (o : Way) (at : ℕ) → BodyGoes f o
-      → Follows code (suc n) 0 [] to c w (then_way o (run (suc n) (all (last_return l r ∷ [])) at [])) → Done code c w n (told_by r f) (told_by r f).end
+      → Follows code n 0 [] to c w (then_way o (run n (all (last_return l r ∷ [])) at [])) → Done code c w n (told_by r f) (told_by r f).end
   body-done l r (Flow.Goes Course.On env u) o at body k =
       let h = body.goes in
-      let ways : then_way o (run (suc n) (all (last_return l r ∷ [])) at []) ≡ Way.Ends (halted (Halt.Returned (at_end r)) u.operations) =
-      ap (λ z. then_way z (run (suc n) (all (last_return l r ∷ [])) at [])) h.1 ∙ ap (λ z. then_way z (λ d x. Way.Through d x)) (last-ends l r (suc n) at [] h.0 u) in
-      let d = from-ends (then_way o (run (suc n) (all (last_return l r ∷ [])) at [])) k (halted (Halt.Returned (at_end r)) u.operations) ways in
+      let ways : then_way o (run n (all (last_return l r ∷ [])) at []) ≡ Way.Ends (halted (Halt.Returned (at_end r)) u.operations) =
+      ap (λ z. then_way z (run n (all (last_return l r ∷ [])) at [])) h.1 ∙ ap (λ z. then_way z (λ d x. Way.Through d x)) (last-ends l r n at [] h.0 u) in
+      let d = from-ends (then_way o (run n (all (last_return l r ∷ [])) at [])) k (halted (Halt.Returned (at_end r)) u.operations) ways in
       (d.0, tt, d.2)
   body-done l r (Flow.Goes Course.Breaks env u) o at body k = tt
   body-done l r (Flow.Goes Course.Continues env u) o at body k = tt
   body-done l r (Flow.Goes Course.Skips env u) o at body k = tt
   body-done l r (Flow.Ends t) o at body k =
-      done-ends t t.end (then_way o (run (suc n) (all (last_return l r ∷ [])) at [])) (through t t.end body.goes) (from-ends (then_way o (run (suc n) (all (last_return l r ∷ [])) at [])) k) refl
+      done-ends t t.end (then_way o (run n (all (last_return l r ∷ [])) at [])) (through t t.end body.goes) (from-ends (then_way o (run n (all (last_return l r ∷ [])) at [])) k) refl
     where
-      through : (t : Told) (e : End) → EndsAlike t e o → EndsAlike t e (then_way o (run (suc n) (all (last_return l r ∷ [])) at []))
-      through t e q = Rattle.golf_meaning_statements.proofs.Flowing.ends-in t e (λ z. then_way z (run (suc n) (all (last_return l r ∷ [])) at [])) o refl q
+      through : (t : Told) (e : End) → EndsAlike t e o → EndsAlike t e (then_way o (run n (all (last_return l r ∷ [])) at []))
+      through t e q = Rattle.golf_meaning_statements.proofs.Flowing.ends-in t e (λ z. then_way z (run n (all (last_return l r ∷ [])) at [])) o refl q
 
 length-replicate : (k : ℕ) (v : Value) → length (replicate k v) ≡ k
 length-replicate zero v = refl
@@ -138,14 +135,14 @@ functions-agree t gives names k f arguments answers enough never =
     let means = body-means t f in
     let known = body-known names f arguments zs enough in
     both-ways fn.body c w (Meaning t out k f arguments answers)
-    (λ n. body-done fn.body c w n (0 + size (all (body ∷ last ∷ []))) f.line r (in_order (map (step t) f.body) a s (suc n) (named s.locals arguments) w) (run (suc n) body 0 [] c w) (0 + size body)
+    (λ n. body-done fn.body c w n (0 + size (all (body ∷ last ∷ []))) f.line r (in_order (map (step t) f.body) a s n (named s.locals arguments) w) (run n body 0 [] c w) (0 + size body)
     (record {
       locals = s.locals;
       locals_after = (behind s ((body_part t f).walk s)).locals;
       next = s.next;
       slots = slots;
       around = a;
-      goes = means.goes a s (suc n) (named s.locals arguments) slots known (omega (arith, long, many, enough)) 0 [] [] w;
+      goes = means.goes a s n (named s.locals arguments) slots known (omega (arith, long, many, enough)) 0 [] [] w;
     })
-    (placed-follows fn.body (suc n) (all (body ∷ last ∷ [])) 0 [] c w (stand-whole [] (placed (all (body ∷ last ∷ [])) 0 []) 0 refl)))
+    (placed-follows fn.body n (all (body ∷ last ∷ [])) 0 [] c w (stand-whole [] (placed (all (body ∷ last ∷ [])) 0 []) 0 refl)))
     never

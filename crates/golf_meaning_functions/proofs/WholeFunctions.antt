@@ -1,7 +1,7 @@
 -- Whole functions and methods, and those of a file by their numbers, against what was worked out by hand.
 -- For: `Meaning`, specs/Functions.antt; `MeaningOf`, specs/Files.antt
 -- By: computing; for types of parameters, induction over the list of parameters
-use Rattle.std.specs.Prelude.{◌≡◌, ℕ, suc, true, false, List, [], ◌∷◌, ◌++◌, Option, Some, None, map, flat_map, codes}
+use Rattle.std.specs.Prelude.{◌≡◌, ℕ, true, false, List, [], ◌∷◌, ◌++◌, Option, Some, None, map, flat_map, codes}
 use Rattle.std.proofs.Common.{refl, ap, ◌∙◌}
 use Rattle.golf_syntax_trees.specs.declared.types.TypeExpr.{TypeExpr}
 use Rattle.golf_syntax_trees.specs.declared.expressions.BinaryOperator.TheVariants as binary
@@ -89,7 +89,7 @@ scope_of r t ps =
 
 abbrev told_of : Option Receiver → Option GoType → List (List ℕ × Option GoType) → List Step → List Value → List Answer → ℕ → Told
 told_of r t ps xs arguments answers n =
-    told_by t (in_order xs (record { breaks = 0; continues = 0; functions = 3 }) (scope_of r t ps) (suc n) (named (scope_of r t ps).locals arguments) (begins answers))
+    told_by t (in_order xs (record { breaks = 0; continues = 0; functions = 3 }) (scope_of r t ps) n (named (scope_of r t ps).locals arguments) (begins answers))
 
 -- a function of the file, with three functions before the first one that is made
 abbrev means : FuncSample → List Value → List Answer → ℕ → Told
@@ -126,17 +126,17 @@ add = record {
 abbrev received : Value → Value → Answer
 received v ok = answer (v ∷ ok ∷ [])
 
--- two values and then no more: 1 + 2 * 10 + 3 * 10, with two turns
-pub adds : means add (ref 0 ∷ int 1 ∷ int 10 ∷ []) (received (int 2) (Value.Bool true) ∷ received (int 3) (Value.Bool true) ∷ received (int 0) (Value.Bool false) ∷ []) 2
+-- two values and then no more: 1 + 2 * 10 + 3 * 10, with two turns and the one that ends the loop
+pub adds : means add (ref 0 ∷ int 1 ∷ int 10 ∷ []) (received (int 2) (Value.Bool true) ∷ received (int 3) (Value.Bool true) ∷ received (int 0) (Value.Bool false) ∷ []) 3
     ≡ gives (shown Instr.ReceiveOk (ref 0 ∷ []) ∷ shown Instr.ReceiveOk (ref 0 ∷ []) ∷ shown Instr.ReceiveOk (ref 0 ∷ []) ∷ []) (int 51)
 unfolding meaning type_name value_name call_name package_name text_number named_base made_base sync_base member fmt_member runtime_member sync_member condition_member condition_method mutex_method group_method read_method write_method field_type is_here is_reserved may_be_declared assigned_name kept_faults pair_differs put_in_faults range_names_differ
-adds = works_out add (ref 0 ∷ int 1 ∷ int 10 ∷ []) (received (int 2) (Value.Bool true) ∷ received (int 3) (Value.Bool true) ∷ received (int 0) (Value.Bool false) ∷ []) 2
+adds = works_out add (ref 0 ∷ int 1 ∷ int 10 ∷ []) (received (int 2) (Value.Bool true) ∷ received (int 3) (Value.Bool true) ∷ received (int 0) (Value.Bool false) ∷ []) 3
 
--- the same with one turn: it is short
-pub adds_too_often : means add (ref 0 ∷ int 1 ∷ int 10 ∷ []) (received (int 2) (Value.Bool true) ∷ received (int 3) (Value.Bool true) ∷ received (int 0) (Value.Bool false) ∷ []) 1
+-- the same with two turns: it is short
+pub adds_too_often : means add (ref 0 ∷ int 1 ∷ int 10 ∷ []) (received (int 2) (Value.Bool true) ∷ received (int 3) (Value.Bool true) ∷ received (int 0) (Value.Bool false) ∷ []) 2
     ≡ ends (shown Instr.ReceiveOk (ref 0 ∷ []) ∷ shown Instr.ReceiveOk (ref 0 ∷ []) ∷ []) End.Short
 unfolding meaning type_name value_name call_name package_name text_number named_base made_base sync_base member fmt_member runtime_member sync_member condition_member condition_method mutex_method group_method read_method write_method field_type is_here is_reserved may_be_declared assigned_name kept_faults pair_differs put_in_faults range_names_differ
-adds_too_often = works_out add (ref 0 ∷ int 1 ∷ int 10 ∷ []) (received (int 2) (Value.Bool true) ∷ received (int 3) (Value.Bool true) ∷ received (int 0) (Value.Bool false) ∷ []) 1
+adds_too_often = works_out add (ref 0 ∷ int 1 ∷ int 10 ∷ []) (received (int 2) (Value.Bool true) ∷ received (int 3) (Value.Bool true) ∷ received (int 0) (Value.Bool false) ∷ []) 2
 
 -- func (t *T) m(a int) { t.n += a; if a < 1 { return }; defer t.m(a - 1) }
 abbrev down : FuncSample

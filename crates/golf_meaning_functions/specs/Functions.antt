@@ -1,5 +1,5 @@
 -- What a function does with its arguments, as its source says, and as its flat code says.
-use Rattle.std.specs.Prelude.{ℕ, suc, ◌-◌, pos, List, [], ◌∷◌, ◌++◌, length, replicate, map, Option, Some, None}
+use Rattle.std.specs.Prelude.{ℕ, ◌-◌, pos, List, [], ◌∷◌, ◌++◌, length, replicate, map, Option, Some, None}
 use Rattle.golf_syntax_trees.specs.declared.declarations.Func.{Func}
 use Rattle.golf_data.specs.declared.value.Value.{Value}
 use Rattle.golf_data.specs.declared.code.Function.{Function}
@@ -37,10 +37,10 @@ told_by r (Flow.Goes Course.Continues env w) = halted (Halt.Unfit Misfit.OfRule)
 told_by r (Flow.Goes Course.Skips env w) = halted (Halt.Unfit Misfit.OfRule) w.operations
 told_by r (Flow.Ends t) = t
 
--- The meaning of a function of a file, with so many functions before the next one that is made: each loop takes at most n turns.
+-- The meaning of a function of a file, with so many functions before the next one that is made: each loop begins at most n turns, and a look at which its condition is false is a turn.
 abbrev pub Meaning : Tables → Scope → ℕ → Func → List Value → List Answer → ℕ → Told
 Meaning t file functions f arguments answers n =
-    told_by (result_type file f.result) (in_order (map (step t) f.body) (record { breaks = 0; continues = 0; functions = functions }) (body_scope file f) (suc n) (named (body_scope file f).locals arguments) (begins answers))
+    told_by (result_type file f.result) (in_order (map (step t) f.body) (record { breaks = 0; continues = 0; functions = functions }) (body_scope file f) n (named (body_scope file f).locals arguments) (begins answers))
 
 -- the arguments stand in the first slots, and the others hold 0 (profile); no slot is cleared
 abbrev pub filled : Function → List Value → List Value

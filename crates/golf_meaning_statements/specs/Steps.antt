@@ -216,7 +216,7 @@ else_deed t l first test body otherwise = in_block (λ a s n env w.
     let x = L.then_part t l first test (parts body) in
     or_else (then_step t l first test body (within 2 a) s n env w) (λ env u. ends_here (otherwise.deed (within 1 (past a (x.lay (within 2 a) s))) (behind s (x.walk s)) n env u)))
 
--- Loops: as many turns are begun as were asked for, and one more, in which a condition may be false.
+-- Loops: at most so many turns are begun; a turn begins with the look at the condition.
 
 abbrev pub in_loop : ℕ → ℕ → Deed → Deed
 in_loop breaks continues d a s n env w = d (record { breaks = breaks; continues = continues; functions = a.functions }) (record s { breaks = true; loops = true }) n env w

@@ -1,7 +1,7 @@
 -- The functions of a file that break no rule are unfit by an answer alone.
 -- For: `functions_fit`, src/lib.rt
 -- By: induction over the lists of locals, of parameters and of statements
-use Rattle.std.proofs.Common.{◌≡◌, ℕ, suc, true, false, List, [], ◌∷◌, ◌++◌, map, Option, Some, None, refl, sym, ap, ◌∙◌, subst}
+use Rattle.std.proofs.Common.{◌≡◌, ℕ, true, false, List, [], ◌∷◌, ◌++◌, map, Option, Some, None, refl, sym, ap, ◌∙◌, subst}
 use Rattle.std.proofs.lemmas.Bool.{and_parts, false≢true}
 use Rattle.golf_syntax_trees.specs.declared.declarations.Receiver.{Receiver}
 use Rattle.golf_syntax_trees.specs.declared.statements.Stmt.{Stmt}
@@ -83,6 +83,6 @@ functions-fit types t names f k arguments answers n file ok given =
     let fit = names-given sb.locals arguments (subst (λ os. ArgumentsFit os arguments) (sym same) given) in
     let later = none-right p.faults _ (none-right r.faults _ ok.none) in
     let clean = subst (λ ws. (W.in_order ws sb).faults ≡ []) (sym (walks-are t f.body)) (none-left (W.in_order (map walk f.body) sb).faults _ later) in
-    let flow = in_order (map (step t) f.body) (record { breaks = 0; continues = 0; functions = k }) sb (suc n) (named sb.locals arguments) (begins answers) in
+    let flow = in_order (map (step t) f.body) (record { breaks = 0; continues = 0; functions = k }) sb n (named sb.locals arguments) (begins answers) in
     told-sound (result_type out f.result) sb (behind sb ((L.in_order (parts (map (step t) f.body))).walk sb)).locals flow refl refl
-    (order-fits types t (map (step t) f.body) (each-right types t f.body ok.good) (record { breaks = 0; continues = 0; functions = k }) sb (suc n) (named sb.locals arguments) (begins answers) file fit clean)
+    (order-fits types t (map (step t) f.body) (each-right types t f.body ok.good) (record { breaks = 0; continues = 0; functions = k }) sb n (named sb.locals arguments) (begins answers) file fit clean)

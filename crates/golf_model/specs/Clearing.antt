@@ -34,7 +34,7 @@ abbrev pub clears : Code → ℕ → Option GoroutineView → List Change
 clears code g None = []
 clears code g (Some r) = clears_in code g r r.mode r.frames
 
--- after the turn of a goroutine, in the state that the turn leaves; after the turn of a collection nothing is cleared
+-- after the turn of a goroutine, in the state that the turn leaves; after some turns nothing is
 abbrev pub clearing : Code → Bool → Option ℕ → State → List Change
 clearing code true m s = []
 clearing code false None s = []

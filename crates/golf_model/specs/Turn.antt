@@ -1,5 +1,5 @@
 -- One turn of the plain machine: the changes that it is made of, and the state after it.
-use Rattle.std.specs.Prelude.{◌≡◌, ℕ, ◌-◌, ◌/◌, ◌%◌, Bool, true, false, cond, pos, List, [], ◌∷◌, length, Option, Some, None, option_and_then, ◌==◌, slice_get, int_lt, int_le}
+use Rattle.std.specs.Prelude.{◌≡◌, ℕ, ◌-◌, ◌/◌, ◌%◌, Bool, true, false, not, ◌||◌, cond, pos, List, [], ◌∷◌, length, Option, Some, None, option_and_then, ◌==◌, slice_get, int_lt, int_le}
 use Rattle.golf_theory.specs.Maps.{find}
 use Rattle.golf_data.specs.declared.value.Value.{Value}
 use Rattle.golf_data.specs.declared.value.Object.{Object}
@@ -173,14 +173,22 @@ wants_collection code s c = goroutine_collects code (option_and_then (λ g. find
 abbrev pub turned : Code → State → ℕ → State
 turned code s c = apply_all (turn_changes code (c / length (runnable s)) s (whose_turn s c)) s
 
+-- whether a rule fits the turn of this number: it has changes
+abbrev pub moves_on : Code → State → ℕ → Bool
+moves_on code s c = not_empty (turn_changes code (c / length (runnable s)) s (whose_turn s c))
+
+-- whether nothing is cleared after the turn of this number: its instruction is a collection, or no rule fits
+abbrev pub clears_nothing : Code → State → ℕ → Bool
+clears_nothing code s c = wants_collection code s c || not (moves_on code s c)
+
 -- what is cleared after it
 abbrev pub cleared_after : Code → State → ℕ → List Change
-cleared_after code s c = clearing code (wants_collection code s c) (whose_turn s c) (turned code s c)
+cleared_after code s c = clearing code (clears_nothing code s c) (whose_turn s c) (turned code s c)
 
--- the state after the turn of this number: its changes, and then the innermost frame of its goroutine is cleared
+-- the state after the turn of this number: its changes, and then the innermost frame of its goroutine is cleared; if no rule fits it is unchanged
 abbrev pub step : Code → State → ℕ → State
 step code s c = apply_all (cleared_after code s c) (turned code s c)
 
--- the turn of this number has changes: the state is not stuck
+-- a rule fits the turn of this number: the state is not stuck
 abbrev pub MovesOn : Code → State → ℕ → Type 0
-MovesOn code s c = not_empty (turn_changes code (c / length (runnable s)) s (whose_turn s c)) ≡ true
+MovesOn code s c = moves_on code s c ≡ true

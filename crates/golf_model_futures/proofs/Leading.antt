@@ -15,7 +15,7 @@ use Rattle.golf_data.specs.declared.code.Code.{Code}
 use Rattle.golf_model.specs.Views.{FrameView, GoroutineView}
 use Rattle.golf_model.specs.State.{State, start, call_frame, runnable}
 use Rattle.golf_model.specs.Changes.{Change, apply, apply_all, pass_on, pass_on_at, pass_on_by}
-use Rattle.golf_model.specs.Turn.{turned, wants_collection, cleared_after, step, turn_changes, whose_turn}
+use Rattle.golf_model.specs.Turn.{turned, clears_nothing, cleared_after, step, turn_changes, whose_turn}
 use Rattle.golf_model.specs.Refs.{frames_refs}
 use Rattle.golf_model.specs.Reaching.{reach, sources}
 use Rattle.golf_model.specs.Collecting.{queued, plain_collect, cut, sets_finalisers, real_collect}
@@ -128,7 +128,7 @@ numbered-step code s k n =
     let m = numbered-turned code s k n in
     numbered_changes (cleared_after code s k) t m
     (good-sound (Given t) (Started t) (Unfinalised t) t.last_object (cleared_after code s k)
-    (good-clearing (Given t) (Started t) code (wants_collection code s k) (whose_turn s k) t
+    (good-clearing (Given t) (Started t) code (clears_nothing code s k) (whose_turn s k) t
     (λ g r i e j. let h = Entry-find g t.goroutines r e in (Entry-below t.next_goroutine t.goroutines g r m.goroutines_below h, goroutine-in t m g r h))))
 
 -- collections

@@ -19,7 +19,7 @@ use Rattle.golf_model.specs.Views.{GoroutineView}
 use Rattle.golf_model.specs.Refs.{goroutine_refs, refs_of_goroutine, has_finaliser}
 use Rattle.golf_model.specs.Living.{Node, Live, live_list, has_object}
 use Rattle.golf_model.specs.Changes.{Change, apply, apply_all}
-use Rattle.golf_model.specs.Turn.{line_at, wants_collection, turned, cleared_after, step, turn_changes, whose_turn}
+use Rattle.golf_model.specs.Turn.{line_at, clears_nothing, turned, cleared_after, step, turn_changes, whose_turn}
 use Rattle.golf_model.specs.Reaching.{RefersTo, reach, sources}
 use Rattle.golf_model.specs.Collecting.{plain_collect, is_setting, sets_finalisers, prevents_removal}
 use Rattle.golf_model.specs.Futures.{Numbered, Leads}
@@ -91,7 +91,7 @@ none-changes O G n (c ∷ cs) s h a =
 
 pub none-step : (O G : ℕ → Type 0) (code : Code) (s : State) (k : ℕ) (c : Ground s O G) → sets_finalisers code ≡ false → ((g : ℕ) → whose_turn s k ≡ Some g → G g) → s.finalisers ≡ [] → (step code s k).finalisers ≡ []
 none-step O G code s k c h w e =
-    finalisers-clearing code (wants_collection code s k) (whose_turn s k) (turned code s k)
+    finalisers-clearing code (clears_nothing code s k) (whose_turn s k) (turned code s k)
     ∙ none-changes O G s.last_object (turn_changes code (k / length (runnable s)) s (whose_turn s k)) s e
     (sound_turn O G Nothing code s c (allows-none O G code s c h) (k / length (runnable s)) (whose_turn s k) w)
 

@@ -15,7 +15,7 @@ use Rattle.golf_data.specs.declared.code.Code.{Code}
 use Rattle.golf_model.specs.Views.{FrameView, GoroutineView}
 use Rattle.golf_model.specs.State.{State, start, call_frame, runnable}
 use Rattle.golf_model.specs.Changes.{Change, apply, apply_all, pass_on, pass_on_at, pass_on_by}
-use Rattle.golf_model.specs.Turn.{turned, wants_collection, cleared_after, step, turn_changes, whose_turn}
+use Rattle.golf_model.specs.Turn.{turned, clears_nothing, cleared_after, step, turn_changes, whose_turn}
 use Rattle.golf_model.specs.Refs.{frames_refs, goroutine_refs}
 use Rattle.golf_model.specs.Collecting.{plain_collect}
 use Rattle.golf_model.specs.Running.{Event, run, stops}
@@ -165,7 +165,7 @@ whole-step code s k n w =
     (sound_turn (Here s) All All code s (whole-ground s f) (λ g at l is t o h. tt) (k / length (runnable s)) (whose_turn s k) (λ g h. tt)) in
     flow-whole s (step code s k) (numbered-step code s k n) (here-then s t (step code s k) (here-changes cs s) (here-changes ds t))
     (flow_changes (Here s) All All t.last_object ds t v.new_objects v
-    (good-sound (Here s) All All t.last_object ds (good-clearing (Here s) All code (wants_collection code s k) (whose_turn s k) t (λ g r i e j. (tt, v.goroutines g r tt (Entry-find g t.goroutines r e))))))
+    (good-sound (Here s) All All t.last_object ds (good-clearing (Here s) All code (clears_nothing code s k) (whose_turn s k) t (λ g r i e j. (tt, v.goroutines g r tt (Entry-find g t.goroutines r e))))))
 
 pub whole-collect : (s : State) → Numbered s → IsWhole s → IsWhole (plain_collect s)
 whole-collect s n w = flow-whole s (plain_collect s) (numbered-collect s n) (here-same s (plain_collect s) refl refl) (flow-collect (Here s) All s (whole-flows s w))

@@ -1,7 +1,7 @@
 -- What was printed before changes nothing: a state with more output goes the same way.
 -- For: `printing_is_apart`, src/lib.rt; `prefixed`, specs/Printing.antt
 -- By: induction over the lists of events, of changes and of offers
-use Rattle.std.proofs.Common.{◌≡◌, ℕ, ◌+◌, ◌/◌, map, filter, Bool, true, false, ◌&&◌, List, [], ◌∷◌, ◌++◌, length, Option, Some, None, refl, ap, ◌∙◌, append_assoc}
+use Rattle.std.proofs.Common.{◌≡◌, ℕ, ◌+◌, ◌/◌, map, filter, Bool, true, false, not, ◌&&◌, ◌||◌, List, [], ◌∷◌, ◌++◌, length, Option, Some, None, refl, ap, ◌∙◌, append_assoc}
 use Rattle.golf_theory.specs.Maps.{find, keys, keys_where}
 use Rattle.golf_theory.specs.Membership.{is_in}
 use Rattle.golf_data.specs.declared.value.Value.{Value}
@@ -13,12 +13,12 @@ use Rattle.golf_data.specs.declared.code.CodeLine.{CodeLine}
 use Rattle.golf_data.specs.declared.goroutine.Leaving.{Leaving}
 use Rattle.golf_data.specs.declared.report.Book.{Book}
 use Rattle.golf_model.specs.Views.{FrameView, GoroutineView}
-use Rattle.golf_model.specs.State.{State, runnable}
+use Rattle.golf_model.specs.State.{State, not_empty, runnable}
 use Rattle.golf_model.specs.Changes.{Change, apply, apply_all, pass_on, pass_on_at, pass_on_by}
 use Rattle.golf_model.specs.Acting.{Actor, choose, at_reference_or}
 use Rattle.golf_model.specs.Selecting.{Offer, Taken, offers_of, is_nil_or_channel, all_on_channels, is_ready_on, is_ready, kept_if, ready, proceeds_by, chosen, selects_one, selects_from}
 use Rattle.golf_model.specs.Clearing.{clearing}
-use Rattle.golf_model.specs.Turn.{changes, line_at, performs, frame_changes, goroutine_changes, turn_of, turn_changes, whose_turn, turned, cleared_after, step, wants_collection}
+use Rattle.golf_model.specs.Turn.{changes, line_at, performs, frame_changes, goroutine_changes, turn_of, turn_changes, whose_turn, turned, cleared_after, step, wants_collection, clears_nothing}
 use Rattle.golf_model.specs.Reaching.{reach, sources}
 use Rattle.golf_model.specs.Living.{live_list, live_objects, has_object, dead, is_dead}
 use Rattle.golf_model.specs.Collecting.{plain_collect, queue_outside}
@@ -131,11 +131,15 @@ module _ (w : List ℕ) (code : Code) where
   same-clearing false None s = refl
   same-clearing false (Some g) s = refl
 
+  same-clears : (s : State) (k : ℕ) → clears_nothing code (prefixed w s) k ≡ clears_nothing code s k
+  same-clears s k = ap (λ (cs : List Change). wants_collection code s k || not (not_empty cs)) (same-turn (k / length (runnable s)) s (whose_turn s k))
+
   pub step-prefixed : (s : State) (k : ℕ) → step code (prefixed w s) k ≡ prefixed w (step code s k)
   step-prefixed s k =
-      let b = wants_collection code s k in
+      let b = clears_nothing code s k in
       let t = turned code s k in
-      ap (λ (u : State). apply_all (clearing code b (whose_turn s k) u) u) (turned-prefixed s k)
+      ap (λ (c : Bool). let u : State = turned code (prefixed w s) k in apply_all (clearing code c (whose_turn s k) u) u) (same-clears s k)
+      ∙ ap (λ (u : State). apply_all (clearing code b (whose_turn s k) u) u) (turned-prefixed s k)
       ∙ ap (λ (cs : List Change). apply_all cs (prefixed w t)) (same-clearing b (whose_turn s k) t)
       ∙ same-apply_all (cleared_after code s k) t
 

@@ -1,7 +1,7 @@
 -- A turn of a state that is cut down is that turn cut down.
 -- For: `step`, `turn_changes`, golf_model/specs/Turn.antt; `cut`, golf_model/specs/Collecting.antt
 -- By: cases of whose turn it is and of the frame on top; no induction
-use Rattle.std.proofs.Common.{◌≡◌, ℕ, ◌%◌, ◌/◌, Bool, true, List, [], ◌∷◌, length, Option, Some, None, refl, ap, ◌∙◌, slice_get}
+use Rattle.std.proofs.Common.{◌≡◌, ℕ, ◌%◌, ◌/◌, Bool, true, not, ◌||◌, List, [], ◌∷◌, length, Option, Some, None, refl, ap, ◌∙◌, slice_get}
 use Rattle.std.specs.Prelude.{option_and_then}
 use Rattle.std.proofs.lemmas.Bool.{and_parts}
 use Rattle.golf_theory.specs.Membership.{Every}
@@ -16,7 +16,7 @@ use Rattle.golf_data.specs.declared.goroutine.Leaving.{Leaving}
 use Rattle.golf_model.specs.Views.{FrameView, GoroutineView}
 use Rattle.golf_model.specs.State.{State, can_run, runnable, ending, ending_of, not_empty, is_running}
 use Rattle.golf_model.specs.Changes.{Change, apply_all}
-use Rattle.golf_model.specs.Turn.{line_at, acting, performs, frame_changes, goroutine_changes, turn_of, turn_changes, whose_turn, turned, cleared_after, step, goroutine_collects, wants_collection}
+use Rattle.golf_model.specs.Turn.{line_at, acting, performs, frame_changes, goroutine_changes, turn_of, turn_changes, whose_turn, turned, cleared_after, step, goroutine_collects, wants_collection, moves_on, clears_nothing}
 use Rattle.golf_model.specs.Clearing.{clearing}
 use Rattle.golf_model.specs.Refs.{frames_refs, goroutine_refs}
 use Rattle.golf_model.specs.Collecting.{cut}
@@ -85,6 +85,11 @@ module _ (stays kept : ℕ → Bool) (O G : ℕ → Type 0) (s : State) (c : Clo
         ∙ ap (turn_changes code (k / length (runnable s)) (cut stays kept s)) (same-whose_turn k)
         ∙ same-turn (k / length (runnable s)) (whose_turn s k) (turn-member k)
 
+    same-clears : (k : ℕ) → clears_nothing code (cut stays kept s) k ≡ clears_nothing code s k
+    same-clears k =
+        ap (λ (b : Bool). b || not (moves_on code (cut stays kept s) k)) (same-wants k)
+        ∙ ap (λ (cs : List Change). wants_collection code s k || not (not_empty cs)) (same-turn_changes k)
+
     -- so are the changes of the cut state, and what is cleared after them
     cut_turned : (k : ℕ) → KeepsFresh stays kept s → turned code (cut stays kept s) k ≡ cut stays kept (turned code s k)
     cut_turned k f =
@@ -96,10 +101,10 @@ module _ (stays kept : ℕ → Bool) (O G : ℕ → Type 0) (s : State) (c : Clo
 
     cut_behind : (k : ℕ) → KeepsFresh stays kept s → cleared_after code (cut stays kept s) k ≡ cleared_after code s k
     cut_behind k f =
-        ap (λ (b : Bool). clearing code b (whose_turn (cut stays kept s) k) (turned code (cut stays kept s) k)) (same-wants k)
-        ∙ ap (λ (m : Option ℕ). clearing code (wants_collection code s k) m (turned code (cut stays kept s) k)) (same-whose_turn k)
-        ∙ ap (clearing code (wants_collection code s k) (whose_turn s k)) (cut_turned k f)
-        ∙ same-clearing stays kept code (wants_collection code s k) (whose_turn s k) (turned code s k) (λ g h. sub_g g (turn-member k g h))
+        ap (λ (b : Bool). clearing code b (whose_turn (cut stays kept s) k) (turned code (cut stays kept s) k)) (same-clears k)
+        ∙ ap (λ (m : Option ℕ). clearing code (clears_nothing code s k) m (turned code (cut stays kept s) k)) (same-whose_turn k)
+        ∙ ap (clearing code (clears_nothing code s k) (whose_turn s k)) (cut_turned k f)
+        ∙ same-clearing stays kept code (clears_nothing code s k) (whose_turn s k) (turned code s k) (λ g h. sub_g g (turn-member k g h))
 
     -- a step of the cut state is the step, cut
     pub cut_step : (k : ℕ) → KeepsFresh stays kept s → step code (cut stays kept s) k ≡ cut stays kept (step code s k)

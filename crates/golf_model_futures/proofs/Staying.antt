@@ -12,7 +12,7 @@ use Rattle.golf_theory.proofs.Agreements.{agree-same, agree-then, agree-wider}
 use Rattle.golf_data.specs.declared.code.Code.{Code}
 use Rattle.golf_model.specs.Views.{GoroutineView}
 use Rattle.golf_model.specs.State.{State, is_running, can_run, runnable}
-use Rattle.golf_model.specs.Turn.{turned, cleared_after, step, turn_changes, whose_turn, wants_collection}
+use Rattle.golf_model.specs.Turn.{turned, cleared_after, step, turn_changes, whose_turn, wants_collection, clears_nothing}
 use Rattle.golf_model.specs.Collecting.{plain_collect}
 use Rattle.golf_model.specs.Running.{Event, has_ended, collected_if, happens_in, happens, run}
 use Rattle.golf_model_futures.specs.Invariant.{Closed, Confined, Nothing, Sound, Unfinalised}
@@ -70,7 +70,7 @@ module _ (code : Code) (G : ℕ → Type 0) where
     turned-confined k = confined_changes O G (Unfinalised s) s.last_object (turn_changes code (k / length (runnable s)) s (whose_turn s k)) s c.new_objects c (turn-sound k)
 
     pub behind-sound : (k : ℕ) → Sound O G Nothing (turned code s k).last_object (cleared_after code s k)
-    behind-sound k = good-sound O G Nothing (turned code s k).last_object (cleared_after code s k) (closed-clearing O G code (wants_collection code s k) (whose_turn s k) (turned code s k) (turned-closed k))
+    behind-sound k = good-sound O G Nothing (turned code s k).last_object (cleared_after code s k) (closed-clearing O G code (clears_nothing code s k) (whose_turn s k) (turned code s k) (turned-closed k))
 
     pub step-closed : (k : ℕ) → Closed (step code s k) O G
     step-closed k = let t = turned-closed k in closed_changes O G Nothing (turned code s k).last_object (cleared_after code s k) (turned code s k) t.new_objects t (behind-sound k)

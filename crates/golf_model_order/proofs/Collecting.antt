@@ -16,7 +16,7 @@ use Rattle.golf_model.specs.State.{State, can_run, not_empty, runnable, ending_o
 use Rattle.golf_model.specs.Changes.{become, apply_all}
 use Rattle.golf_model.specs.Acting.{standing, next}
 use Rattle.golf_model.specs.Clearing.{clearing}
-use Rattle.golf_model.specs.Turn.{turned, line_at, acting, performs, frame_changes, goroutine_changes, turn_of, turn_changes, whose_turn, step, is_collection, line_collects, frame_collects, frames_collect, goroutine_collects, wants_collection}
+use Rattle.golf_model.specs.Turn.{turned, line_at, acting, performs, frame_changes, goroutine_changes, turn_of, turn_changes, whose_turn, step, is_collection, line_collects, frame_collects, frames_collect, goroutine_collects, wants_collection, moves_on}
 
 only-collect : (i : Instr) → is_collection i ≡ true → i ≡ Instr.Collect
 only-collect Instr.Collect e = refl
@@ -71,4 +71,4 @@ module _ (code : Code) (s : State) (choice : ℕ) (goes : ending s ≡ None) whe
 pub collecting-goes : (code : Code) (s : State) (k : ℕ) → ending s ≡ None → wants_collection code s k ≡ true → ending (step code s k) ≡ None
 collecting-goes code s k goes h =
     let t = turned code s k in
-    ap (λ (b : Bool). ending (apply_all (clearing code b (whose_turn s k) t) t)) h ∙ at-turn code s (k / length (runnable s)) goes (whose_turn s k) h
+    ap (λ (b : Bool). ending (apply_all (clearing code (b || not (moves_on code s k)) (whose_turn s k) t) t)) h ∙ at-turn code s (k / length (runnable s)) goes (whose_turn s k) h

@@ -21,7 +21,7 @@ use Rattle.golf_model.specs.State.{State, is_running, not_empty, runnable}
 use Rattle.golf_model.specs.Waiting.{ticket_of, waits_of, wait_for, wait_on}
 use Rattle.golf_model.specs.Waking.{Waking, released, closed_for, closed_on, released_by, reads_next, woken_by}
 use Rattle.golf_model.specs.Changes.{Change, apply, apply_all, moved, pass_on, pass_on_at, pass_on_by}
-use Rattle.golf_model.specs.Turn.{turned, wants_collection, cleared_after, step, turn_changes, whose_turn}
+use Rattle.golf_model.specs.Turn.{turned, clears_nothing, cleared_after, step, turn_changes, whose_turn}
 use Rattle.golf_model_order.specs.Orderly.{IsBlocked, InOrder, HasMutex, IsOrderly, SameKind, KeepsOrder, AllKeepOrder}
 use Rattle.golf_model_order.proofs.Instructions.{keep_turn, keep_clearing}
 
@@ -308,5 +308,5 @@ order_changes xs (c ∷ cs) s k a h = let b = order_kept xs s k h c a.0 in order
 pub order-step : (code : Code) (s : State) (k : ℕ) → IsRising s.goroutines → IsOrderly s → IsOrderly (step code s k)
 order-step code s k n h =
     let t = turned code s k in
-    order_changes t.objects (cleared_after code s k) t (kinds-same t.objects) (keep_clearing t.objects code (wants_collection code s k) (whose_turn s k) t)
+    order_changes t.objects (cleared_after code s k) t (kinds-same t.objects) (keep_clearing t.objects code (clears_nothing code s k) (whose_turn s k) t)
     (order_changes s.objects (turn_changes code (k / length (runnable s)) s (whose_turn s k)) s (kinds-same s.objects) (keep_turn code s k n) h)

@@ -21,7 +21,7 @@ use Rattle.golf_model.specs.State.{State, start, is_running, not_empty, can_run,
 use Rattle.golf_model.specs.Calculating.{sum, difference, product, quotient, remainder}
 use Rattle.golf_model.specs.Acting.{Actor}
 use Rattle.golf_model.specs.Changes.{apply_all}
-use Rattle.golf_model.specs.Turn.{changes, line_at, return_line, acting, performs, frame_changes, goroutine_changes, turn_of, turn_changes, whose_turn, wants_collection, turned, cleared_after}
+use Rattle.golf_model.specs.Turn.{changes, line_at, return_line, acting, performs, frame_changes, goroutine_changes, turn_of, turn_changes, whose_turn, clears_nothing, turned, cleared_after}
 use Rattle.golf_model.specs.Presence.{IsWhole, Present}
 use Rattle.golf_model.specs.Refs.{frames_refs}
 use Rattle.golf_model.specs.Futures.{Numbered}
@@ -203,7 +203,7 @@ turned-typed code types known s c shapes w whole n o =
 pub turns-keep-types : TurnsKeepTypes
 turns-keep-types code types known s c shapes w whole n o =
     let t = turned-typed code types known s c shapes w whole n o in
-    typed-changes types t.0 (cleared_after code s c) (turned code s c) t.1 (fits-clearing code types shapes t.0 (wants_collection code s c) (whose_turn s c) (turned code s c) t.1)
+    typed-changes types t.0 (cleared_after code s c) (turned code s c) t.1 (fits-clearing code types shapes t.0 (clears_nothing code s c) (whose_turn s c) (turned code s c) t.1)
 
 pub start-is-typed : StartIsTyped
 start-is-typed code types shapes =

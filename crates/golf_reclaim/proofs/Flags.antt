@@ -1,5 +1,5 @@
 -- Lists of flags, one place after another, and flags that a test gives.
--- For: `either`, `retained` and `unflagged`, src/marking.rt; `unlisted`, src/ledger.rt
+-- For: `either`, `retained` and `unflagged`, src/marking.rt
 -- By: induction over the list of flags, and over the list of entries
 use Rattle.std.proofs.Common.{◌≡◌, ℕ, zero, suc, ◌+◌, ◌<◌, ◌≤◌, Bool, true, false, ◌||◌, ◌&&◌, cond, List, [], ◌∷◌, ◌++◌, length, map, filter, take, get_or, Some, refl, sym, ap, ◌∙◌, arith, slice_get}
 use Rattle.std.proofs.lemmas.List.{take_all}
@@ -86,9 +86,3 @@ keys_where-filter p (e ∷ es) = let rest = keys_where-filter p es in
       | true ↦ ap (λ (z : List ℕ). e.0 ∷ z) rest
       | false ↦ rest
     ]
-
-pub filter-more : {X : Type 0} {old new : List X} (p : X → Bool) (xs : List X) (i : ℕ) (d : X) (b : Bool) → take (i + 1) xs ≡ take i xs ++ get_or xs i d ∷ [] → (filter p (take i xs ++ get_or xs i d ∷ []) ≡ filter p (take i xs) ++ filter p (get_or xs i d ∷ []))
-    → p (get_or xs i d) ≡ b → old ≡ filter p (take i xs) → new ≡ old ++ cond b (get_or xs i d ∷ []) [] → new ≡ filter p (take (i + 1) xs)
-filter-more {X} {old} {new} p xs i d b cut append is so made =
-    made ∙ ap (λ (z : List X). z ++ cond b (get_or xs i d ∷ []) []) so ∙ ap (λ c. filter p (take i xs) ++ cond c (get_or xs i d ∷ []) []) (sym is)
-    ∙ sym append ∙ ap (filter p) (sym cut)

@@ -1,8 +1,11 @@
 pub mod Flags
 pub mod Entries
 pub mod Translating
+pub mod Once
 pub mod Reports
+pub mod PlainReports
 pub mod Gone
+pub mod Rising
 pub mod States
 pub mod Noting
 pub mod Promises

@@ -1,99 +1,115 @@
--- The numbers of those who stay, as the book grows.
--- For: `staying_after` and `Ledger::note`, src/ledger.rt; `HasStaying`, specs/Noting.antt
+-- Who stays reported, as the book grows.
+-- For: `staying_after`, `Ledger::unreported` and `Ledger::note`, src/ledger.rt; `HasStaying`, specs/Noting.antt
 -- By: cases of the lists in which a number stands; no induction
-use Rattle.std.proofs.Common.{◌≡◌, ℕ, Bool, true, false, not, cond, ◌&&◌, ◌||◌, List, [], ◌++◌, filter, Result, Ok, Err, refl, sym, ap, ◌∙◌}
-use Rattle.std.specs.Prelude.{IfOk, IsOk, is_ok}
-use Rattle.std.specs.List.Sorted.{IsNonDecreasing}
-use Rattle.std.proofs.lemmas.Bool.{and_parts, and_from, true≢false}
+use Rattle.std.proofs.Common.{◌≡◌, ℕ, ◌+◌, ◌≤◌, Bool, true, false, not, cond, ◌&&◌, ◌||◌, List, [], ◌∷◌, ◌++◌, filter, Result, Ok, Err, inl, inr, refl, sym, ap, ◌∙◌, arith}
+use Rattle.std.specs.Prelude.{IsOk, is_ok, nat_lt}
+use Rattle.std.specs.List.Sorted.{IsNonDecreasingBy, IsPermutation}
+use Rattle.std.proofs.lemmas.Bool.{and_parts, and_from, cases_Bool, lt-ltb, le-ltb, true≢false}
 use Rattle.std.proofs.lemmas.List.{map-append}
+use Rattle.std.proofs.lemmas.List.Elements.{filter-append}
+use Rattle.std.proofs.lemmas.List.Sorted.{Contains-permutation, IsPermutation-sym}
+use Rattle.golf_theory.specs.Counting.{times}
 use Rattle.golf_theory.specs.Membership.{In, is_in}
-use Rattle.golf_theory.proofs.Lists.{In-filter, In-filter_old, In-map, filter-same, Every-from}
-use Rattle.golf_theory.proofs.Tests.{is_in-from, In-from, is_in-out, is_in-append, same_test}
+use Rattle.golf_theory.proofs.Lists.{In-filter, In-filter_old, In-Contains, Contains-In, filter-same, Every-from}
+use Rattle.golf_theory.proofs.Tests.{is_in-from, In-from, not_in-from, is_in-append, is_in-same, same_test}
+use Rattle.golf_theory.proofs.Times.{times-append, times-In, times-none}
 use Rattle.golf_base.specs.declared.ids.GoroutineId.{GoroutineId}
+use Rattle.golf_data.specs.declared.report.Book.{Book}
 use Rattle.golf_model.specs.Reporting.{numbers}
-use Rattle.golf_reclaim.specs.Noting.{HasStaying, AreApart}
+use Rattle.golf_reclaim.specs.Noting.{stays_reported, HasStaying, CanNote}
+use Rattle.golf_reclaim.proofs.Flags.{map-filter-swap}
 
-pub among-filtered : (p : ℕ → Bool) (x : ℕ) (xs : List ℕ) → is_in x (filter p xs) ≡ (p x && is_in x xs)
+among-filtered : (p : ℕ → Bool) (x : ℕ) (xs : List ℕ) → is_in x (filter p xs) ≡ (p x && is_in x xs)
 among-filtered p x xs = same_test (is_in x (filter p xs)) (p x && is_in x xs)
     (λ t. let i = In-filter p x xs (In-from x (filter p xs) t) in and_from (p x) (is_in x xs) i.1 (is_in-from x xs i.0))
     (λ t. let a = and_parts (p x) (is_in x xs) t in is_in-from x (filter p xs) (In-filter_old p x xs a.0 (In-from x xs a.1)))
 
--- r: reported before, n: now, c: removed before, o: now
-staying-by : (r n c o : Bool) → (n ≡ true → c ≡ false) → (not o && ((r && not c) || n)) ≡ ((r || n) && not (c || o))
-staying-by true n true true h = refl
-staying-by true n false true h = refl
-staying-by false true true true h = refl
-staying-by false true false true h = refl
-staying-by false false true true h = refl
-staying-by false false false true h = refl
-staying-by true true true false h = h refl
-staying-by true false true false h = refl
-staying-by true n false false h = refl
-staying-by false true true false h = h refl
-staying-by false true false false h = refl
-staying-by false false c false h = refl
-
 numbers-append : (gs hs : List GoroutineId) → numbers (gs ++ hs) ≡ numbers gs ++ numbers hs
 numbers-append gs hs = map-append (λ (g : GoroutineId). g.0) gs hs
 
-pub staying-noted : (reported reclaimed new gone : List GoroutineId) (staying after : List ℕ) → HasStaying reported reclaimed staying → AreApart (numbers new) (numbers reclaimed) → IsNonDecreasing after
-    → ((n : ℕ) → is_in n after ≡ is_in n (filter (λ k. not (is_in k (numbers gone))) (staying ++ numbers new))) → HasStaying (reported ++ new) (reclaimed ++ gone) after
-staying-noted reported reclaimed new gone staying after has apart rises members = record {
+-- ---- who stays is who was reported more often than removed
+
+more-by : (b : Bool) (r c : ℕ) → r ≡ c + cond b 1 0 → nat_lt c r ≡ b
+more-by true r c e = lt-ltb c r (omega (arith, e))
+more-by false r c e = le-ltb c r (omega (arith, e))
+
+pub stays-alike : (book : Book) (staying : List GoroutineId) (g : ℕ) → HasStaying book.reported book.reclaimed staying → stays_reported book g ≡ is_in g (numbers staying)
+stays-alike book staying g has = more-by (is_in g (numbers staying)) (times g (numbers book.reported)) (times g (numbers book.reclaimed)) (has.counts g)
+
+pub unreported-alike : (book : Book) (staying goroutines : List GoroutineId) → HasStaying book.reported book.reclaimed staying
+    → filter (λ g. not (is_in g.0 (numbers staying))) goroutines ≡ filter (λ g. not (stays_reported book g.0)) goroutines
+unreported-alike book staying goroutines has =
+    filter-same (λ (g : GoroutineId). not (is_in g.0 (numbers staying))) (λ (g : GoroutineId). not (stays_reported book g.0)) goroutines
+    (Every-from (λ (g : GoroutineId). not (is_in g.0 (numbers staying)) ≡ not (stays_reported book g.0)) goroutines (λ g i. ap not (sym (stays-alike book staying g.0 has))))
+
+-- ---- once more is noted
+
+-- a number that stands at most once stands once if it is a member
+once : (g : ℕ) (xs : List ℕ) → times g xs ≤ 1 → times g xs ≡ cond (is_in g xs) 1 0
+once g xs l = elim (cases_Bool (is_in g xs)) [
+  | inl t ↦ rw t (let i = times-In g xs (In-from g xs t) in omega (arith, i, l))
+  | inr f ↦ rw f (times-none g xs (not_in-from g xs f))
+]
+
+-- b: stays before, n: new, o: gone now; r: how often reported before, c: how often removed
+counted-by : (b n o : Bool) (r c : ℕ) → r ≡ c + cond b 1 0 → (n ≡ true → b ≡ false) → (o ≡ true → (b || n) ≡ true) → r + cond n 1 0 ≡ (c + cond o 1 0) + cond (not o && (b || n)) 1 0
+counted-by true true o r c e h k = absurd (true≢false (h refl))
+counted-by true false true r c e h k = omega (arith, e)
+counted-by true false false r c e h k = omega (arith, e)
+counted-by false true true r c e h k = omega (arith, e)
+counted-by false true false r c e h k = omega (arith, e)
+counted-by false false true r c e h k = absurd (true≢false (sym (k refl)))
+counted-by false false false r c e h k = omega (arith, e)
+
+pub staying-noted : (book : Book) (new gone staying after : List GoroutineId) → HasStaying book.reported book.reclaimed staying → CanNote (numbers new) (numbers gone) book → IsNonDecreasingBy (λ (g : GoroutineId). g.0) after
+    → ((n : ℕ) → is_in n (numbers after) ≡ is_in n (filter (λ k. not (is_in k (numbers gone))) (numbers (staying ++ new)))) → HasStaying (book.reported ++ new) (book.reclaimed ++ gone) after
+staying-noted book new gone staying after has can rises members = record {
   rises = rises;
-  members = λ g.
-      let r : Bool = is_in g (numbers reported) in
+  counts = λ g.
+      let b : Bool = is_in g (numbers staying) in
       let n : Bool = is_in g (numbers new) in
-      let c : Bool = is_in g (numbers reclaimed) in
       let o : Bool = is_in g (numbers gone) in
-      members g
-      ∙ among-filtered (λ k. not (is_in k (numbers gone))) g (staying ++ numbers new)
-      ∙ ap (λ b. not o && b) (is_in-append g staying (numbers new) ∙ ap (λ b. b || n) (has.members g))
-      ∙ staying-by r n c o (λ t. is_in-out g (numbers reclaimed) (apart g (In-from g (numbers new) t)))
-      ∙ ap (λ b. b && not (c || o)) (sym (ap (is_in g) (numbers-append reported new) ∙ is_in-append g (numbers reported) (numbers new)))
-      ∙ ap (λ b. is_in g (numbers (reported ++ new)) && not b) (sym (ap (is_in g) (numbers-append reclaimed gone) ∙ is_in-append g (numbers reclaimed) (numbers gone)));
+      let r : ℕ = times g (numbers book.reported) in
+      let c : ℕ = times g (numbers book.reclaimed) in
+      let same = stays-alike book staying g has in
+      let stays : is_in g (numbers after) ≡ (not o && (b || n)) =
+      members g ∙ among-filtered (λ k. not (is_in k (numbers gone))) g (numbers (staying ++ new))
+      ∙ ap (λ d. not o && d) (ap (is_in g) (numbers-append staying new) ∙ is_in-append g (numbers staying) (numbers new)) in
+      ap (times g) (numbers-append book.reported new)
+      ∙ times-append g (numbers book.reported) (numbers new)
+      ∙ ap (λ k. r + k) (once g (numbers new) (can.new_once g))
+      ∙ counted-by b n o r c (has.counts g) (λ t. sym same ∙ can.unreported g (In-from g (numbers new) t)) (λ t. ap (λ d. d || n) (sym same) ∙ can.reported g (In-from g (numbers gone) t))
+      ∙ ap (λ k. (c + k) + cond (not o && (b || n)) 1 0) (sym (once g (numbers gone) (can.gone_once g)))
+      ∙ ap (λ k. k + cond (not o && (b || n)) 1 0) (sym (ap (times g) (numbers-append book.reclaimed gone) ∙ times-append g (numbers book.reclaimed) (numbers gone)))
+      ∙ ap (λ d. times g (numbers (book.reclaimed ++ gone)) + cond d 1 0) (sym stays);
 }
 
--- none of those who are there was removed, so the numbers that stay tell who was reported
-pub known-alike : (reported reclaimed : List GoroutineId) (staying : List ℕ) (g : ℕ) → HasStaying reported reclaimed staying → (In g (numbers reclaimed) → ⊥) → is_in g staying ≡ is_in g (numbers reported)
-known-alike reported reclaimed staying g has apart =
-    has.members g ∙ ap (λ b. is_in g (numbers reported) && not b) (is_in-out g (numbers reclaimed) apart) ∙ and-true (is_in g (numbers reported))
+-- gathered in two steps, and then in another order
+pub staying-among : {now then after : List GoroutineId} (staying new gone : List GoroutineId) (n : ℕ) → now ≡ [] ++ filter (λ g. not (is_in g.0 (numbers gone))) staying → then ≡ now ++ filter (λ g. not (is_in g.0 (numbers gone))) new → IsPermutation then after
+    → is_in n (numbers after) ≡ is_in n (filter (λ k. not (is_in k (numbers gone))) (numbers (staying ++ new)))
+staying-among {now} {then} {after} staying new gone n first second moved =
+    is_in-same n (numbers after) (numbers then) (λ i. members after then (IsPermutation-sym then after moved) i) (λ i. members then after moved i)
+    ∙ ap (λ (l : List GoroutineId). is_in n (numbers l)) (second ∙ ap (λ (l : List GoroutineId). l ++ filter p new) first ∙ sym (filter-append p staying new))
+    ∙ ap (is_in n) (sym (map-filter-swap (λ (g : GoroutineId). g.0) (λ k. not (is_in k (numbers gone))) (staying ++ new)))
   where
-    and-true : (b : Bool) → (b && true) ≡ b
-    and-true true = refl
-    and-true false = refl
+    p : GoroutineId → Bool
+    p g = not (is_in g.0 (numbers gone))
 
--- gathered in two lists, by numbers in order
-pub staying-among : {now then : List ℕ} (staying out new gone : List ℕ) (n : ℕ) → now ≡ [] ++ filter (λ k. not (is_in k out)) staying → then ≡ now ++ filter (λ k. not (is_in k out)) new → ((k : ℕ) → is_in k out ≡ is_in k gone) → (others : List ℕ) → ((k : ℕ) → is_in k new ≡ is_in k others)
-    → is_in n then ≡ is_in n (filter (λ k. not (is_in k gone)) (staying ++ others))
-staying-among {now} {then} staying out new gone n first second alike others same =
-    let f : List ℕ = filter (λ k. not (is_in k out)) staying in
-    let e : List ℕ = filter (λ k. not (is_in k out)) new in
-    ap (is_in n) (second ∙ ap (λ (l : List ℕ). l ++ e) first)
-    ∙ is_in-append n f e
-    ∙ ap (λ b. b || is_in n e) (among-filtered (λ k. not (is_in k out)) n staying)
-    ∙ ap (λ b. (not (is_in n out) && is_in n staying) || b) (among-filtered (λ k. not (is_in k out)) n new)
-    ∙ ap (λ b. (not b && is_in n staying) || (not b && is_in n new)) (alike n)
-    ∙ ap (λ b. (not (is_in n gone) && is_in n staying) || (not (is_in n gone) && b)) (same n)
-    ∙ shared (is_in n gone) (is_in n staying) (is_in n others)
-    ∙ ap (λ b. not (is_in n gone) && b) (sym (is_in-append n staying others))
-    ∙ sym (among-filtered (λ k. not (is_in k gone)) n (staying ++ others))
-  where
-    shared : (o a b : Bool) → ((not o && a) || (not o && b)) ≡ (not o && (a || b))
-    shared true a b = refl
-    shared false a b = refl
+    named : GoroutineId
+    named = record { 0 = n }
 
--- if a list of goroutines has none who was removed, the numbers that stay tell who of them was reported
-pub unreported-alike : (reported reclaimed : List GoroutineId) (staying : List ℕ) (goroutines : List GoroutineId) → HasStaying reported reclaimed staying → AreApart (numbers goroutines) (numbers reclaimed)
-    → filter (λ g. not (is_in g.0 staying)) goroutines ≡ filter (λ g. not (is_in g.0 (numbers reported))) goroutines
-unreported-alike reported reclaimed staying goroutines has apart =
-    filter-same (λ (g : GoroutineId). not (is_in g.0 staying)) (λ (g : GoroutineId). not (is_in g.0 (numbers reported))) goroutines
-    (Every-from (λ (g : GoroutineId). not (is_in g.0 staying) ≡ not (is_in g.0 (numbers reported))) goroutines
-    (λ g i. ap not (known-alike reported reclaimed staying g.0 has (apart g.0 (In-map (λ (x : GoroutineId). x.0) g goroutines i)))))
+    to : (xs : List GoroutineId) → In n (numbers xs) → In named xs
+    to [] h = absurd h
+    to (x ∷ xs) (inl e) = inl (ap (λ (k : ℕ). let g : GoroutineId = record { 0 = k } in g) e)
+    to (x ∷ xs) (inr i) = inr (to xs i)
 
--- what holds of an answer that went well
-pub where-new : {E : Type 0} (r : Result (List GoroutineId) E) (old new : List GoroutineId) → old ≡ new → IfOk r (λ x. x ≡ old) → IfOk r (λ x. x ≡ new)
-where-new (Ok x) old new e h = h ∙ e
-where-new (Err x) old new e h = h
+    from : (xs : List GoroutineId) → In named xs → In n (numbers xs)
+    from [] h = absurd h
+    from (x ∷ xs) (inl e) = inl (ap (λ (g : GoroutineId). g.0) e)
+    from (x ∷ xs) (inr i) = inr (from xs i)
+
+    members : (xs ys : List GoroutineId) → IsPermutation xs ys → In n (numbers xs) → In n (numbers ys)
+    members xs ys q i = from ys (In-Contains ys named (Contains-permutation xs ys named q (Contains-In xs named (to xs i))))
 
 -- what room was taken for is added
 pub added : {A E : Type 0} (r : Result A E) (old xs after : List GoroutineId) → IsOk r → after ≡ cond (is_ok r) (old ++ xs) old → after ≡ old ++ xs

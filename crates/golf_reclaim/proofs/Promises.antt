@@ -14,19 +14,20 @@ use Rattle.golf_model.specs.State.{State}
 use Rattle.golf_model.specs.Living.{dead}
 use Rattle.golf_model.specs.Collecting.{plain_collect, keeps, removed, retained, real_collect}
 use Rattle.golf_model.specs.Futures.{Numbered, Leads, futures}
-use Rattle.golf_model.specs.Reporting.{numbers, report}
 use Rattle.golf_model.proofs.Agreeing.{dead-sound, dead-complete, keeps-sound, keeps-complete, retained-sound, retained-complete}
 use Rattle.golf_model_futures.specs.Telling.{named}
 use Rattle.golf_model_futures.proofs.DeadStill.{dead_still}
 use Rattle.golf_model_futures.proofs.Recovering.{recovery-unseen}
-use Rattle.golf_model_futures.proofs.Tellings.{report-named}
 use Rattle.golf_model_progress.proofs.Leading.{never-stuck}
+use Rattle.golf_reclaim.specs.Noting.{stays_reported}
+use Rattle.golf_reclaim.specs.Collected.{new_in, report_of}
+use Rattle.golf_reclaim.proofs.Entries.{entries-name}
 use Rattle.golf_reclaim.specs.Promises.{AreStill, IsUnseen, IsRemoved, LeavesExactly, MovesOnAfter}
 
-pub are-still : (s : State) (b : Book) (recover sets : Bool) (r : Report) → Numbered s → r ≡ report recover sets b s → AreStill r s
+pub are-still : (s : State) (b : Book) (recover sets : Bool) (r : Report) → Numbered s → r ≡ report_of recover sets b s → AreStill r s
 are-still s b recover sets r n e = λ code g h.
-    let i = subst (In g) (ap named e ∙ report-named recover sets b s n) h in
-    dead_still code s g n (dead-sound s g (In-filter (λ x. not (is_in x (numbers b.reported))) g (dead s) i).0)
+    let i = entries-name s g (new_in b s) (subst (In g) (ap named e) h) in
+    dead_still code s g n (dead-sound s g (In-filter (λ k. not (stays_reported b k)) g (dead s) i).0)
 
 module _ (s t : State) (recover sets : Bool) (is : t ≡ real_collect s recover sets) where
   pub is-unseen : IsUnseen recover sets s t

@@ -1,6 +1,7 @@
--- The book of a run, and who in it is still there.
-use Rattle.std.specs.Prelude.{◌≡◌, ℕ, ◌+◌, not, ◌&&◌, List, ◌++◌}
-use Rattle.std.specs.List.Sorted.{IsNonDecreasing}
+-- The book of a run: who in it stays reported, and what a collection adds.
+use Rattle.std.specs.Prelude.{◌≡◌, ◌≤◌, ℕ, ◌+◌, Bool, true, false, cond, ◌||◌, List, ◌++◌, nat_lt}
+use Rattle.std.specs.List.Sorted.{IsNonDecreasingBy}
+use Rattle.golf_theory.specs.Counting.{times}
 use Rattle.golf_theory.specs.Maps.{keys}
 use Rattle.golf_theory.specs.Membership.{In, is_in}
 use Rattle.golf_base.specs.declared.ids.GoroutineId.{GoroutineId}
@@ -8,19 +9,26 @@ use Rattle.golf_data.specs.declared.report.Book.{Book}
 use Rattle.golf_model.specs.State.{State}
 use Rattle.golf_model.specs.Reporting.{numbers}
 
--- these numbers rise, and are those that were reported and not removed
-pub record HasStaying (reported reclaimed : List GoroutineId) (staying : List ℕ) : Type 0 where
-  pub rises : IsNonDecreasing staying
-  pub members : (g : ℕ) → is_in g staying ≡ (is_in g (numbers reported) && not (is_in g (numbers reclaimed)))
+-- a goroutine stays reported if the book has reported its number more often than it has removed it
+abbrev pub stays_reported : Book → ℕ → Bool
+stays_reported book g = nat_lt (times g (numbers book.reclaimed)) (times g (numbers book.reported))
 
--- no number of the first list is one of the second
-abbrev pub AreApart : List ℕ → List ℕ → Type 0
-AreApart xs ys = (x : ℕ) → In x xs → In x ys → ⊥
+-- the numbers of those who stay rise; each of them was reported once more than it was removed, and any other number as often
+pub record HasStaying (reported reclaimed staying : List GoroutineId) : Type 0 where
+  pub rises : IsNonDecreasingBy (λ (g : GoroutineId). g.0) staying
+  pub counts : (g : ℕ) → times g (numbers reported) ≡ times g (numbers reclaimed) + cond (is_in g (numbers staying)) 1 0
 
--- the goroutines that were removed are not there
-abbrev pub AreGone : Book → State → Type 0
-AreGone book s = AreApart (keys s.goroutines) (numbers book.reclaimed)
+-- the first are new to the book, the second stay reported or are new, and no number stands twice in either list
+pub record CanNote (new gone : List ℕ) (book : Book) : Type 0 where
+  pub new_once : (g : ℕ) → times g new ≤ 1
+  pub gone_once : (g : ℕ) → times g gone ≤ 1
+  pub unreported : (g : ℕ) → In g new → stays_reported book g ≡ false
+  pub reported : (g : ℕ) → In g gone → (stays_reported book g || is_in g new) ≡ true
 
 -- the book with one collection more, which reported and removed these
 abbrev pub noted : List GoroutineId → List GoroutineId → Book → Book
 noted new gone book = record { collections = book.collections + 1; reported = book.reported ++ new; reclaimed = book.reclaimed ++ gone }
+
+-- no goroutine of the state was removed before
+abbrev pub AreGone : Book → State → Type 0
+AreGone book s = (g : ℕ) → In g (keys s.goroutines) → In g (numbers book.reclaimed) → ⊥

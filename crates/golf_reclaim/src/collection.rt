@@ -4,6 +4,7 @@ ghost use Rattle.std.specs.Prelude.{◌≡◌, ◌-◌, ◌<◌, ◌≤◌, ◌^
 ghost use Rattle.golf_model.specs.Collecting.{real_collect};
 ghost use Rattle.golf_model.specs.Presence.{IsWhole};
 ghost use Rattle.golf_model.specs.Reporting.{book_after, report};
+ghost use Rattle.golf_reclaim.specs.Collected.{noted_by, report_of};
 ghost use Rattle.golf_reclaim.specs.Noting.{AreGone};
 ghost use Rattle.golf_reclaim.specs.Promises.{AreStill, IsUnseen, LeavesExactly, MovesOnAfter};
 
@@ -28,9 +29,13 @@ pub struct CollectOptions {
     pub sets_finalisers: bool,
 }
 
-/// Finds what is live, reports the dead goroutines that no collection in the book reported, removes
+/// Finds what is live, reports the dead goroutines that do not stay reported in the book, removes
 /// those that are not kept if it is asked to recover, queues the finalisers of objects that nothing
 /// else reaches, and frees what is left without a reference (package runtime, `SetFinalizer`; profile).
+///
+/// A goroutine stays reported if the book has reported it more often than removed it. The clauses
+/// `report` and `book` are about the state before the call. In every run no goroutine of that state was
+/// removed before: report and book are then those of the plain machine (`plain_report`, `plain_book`).
 ///
 /// Each marker passes the gate before each of its turns at what is live; the second marking passes
 /// none. All memory is taken before anything is changed: a call that answers `Memory` leaves state and
@@ -45,13 +50,14 @@ pub fn collect<R: Threads + Sync, G: Gate + Sync>(
     gate: &G,
 ) -> Result<Report, Memory>
     requires whole { IsWhole state.old }
-    requires gone { AreGone book.old state.old }
     requires count { book.old.collections < 2 ^ 32 - 1 }
     requires some { 0 < options.markers }
     requires few { options.markers ≤ 16 }
     ensures state { OnOk result (state.new ≡ real_collect state.old options.recover options.sets_finalisers) }
-    ensures report { IfOk result (λ r. r ≡ report options.recover options.sets_finalisers book.old state.old) }
-    ensures book { OnOk result (book.new ≡ book_after options.recover options.sets_finalisers book.old state.old) }
+    ensures report { IfOk result (λ r. r ≡ report_of options.recover options.sets_finalisers book.old state.old) }
+    ensures book { OnOk result (book.new ≡ noted_by options.recover options.sets_finalisers book.old state.old) }
+    ensures plain_report { AreGone book.old state.old → IfOk result (λ r. r ≡ report options.recover options.sets_finalisers book.old state.old) }
+    ensures plain_book { AreGone book.old state.old → OnOk result (book.new ≡ book_after options.recover options.sets_finalisers book.old state.old) }
     ensures err_state { OnErr result (state.new ≡ state.old) }
     ensures err_book { OnErr result (book.new ≡ book.old) }
     ensures still { IfOk result (λ r. AreStill r state.old) }

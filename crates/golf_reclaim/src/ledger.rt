@@ -1,33 +1,34 @@
-//! The book of a run, and who in it is still there.
+//! The book of a run, and who in it stays reported.
 
 ghost use Rattle.std.specs.Prelude.{◌≡◌, ◌+◌, ◌-◌, ◌<◌, ◌^◌, ◌++◌, ℕ, [], IfOk, OnErr, OnOk, filter, length, not};
-ghost use Rattle.std.specs.List.Sorted.{IsNonDecreasing};
+ghost use Rattle.std.specs.List.Sorted.{IsNonDecreasingBy};
 ghost use Rattle.golf_theory.specs.Maps.{keys};
 ghost use Rattle.golf_theory.specs.Membership.{is_in};
 ghost use Rattle.golf_heap.specs.Objects.{kept};
 ghost use Rattle.golf_model.specs.Collecting.{queue_outside};
 ghost use Rattle.golf_model.specs.Presence.{IsWhole};
 ghost use Rattle.golf_model.specs.Reporting.{numbers};
-ghost use Rattle.golf_reclaim.specs.Noting.{noted, AreApart};
+ghost use Rattle.golf_reclaim.specs.Noting.{noted, stays_reported, CanNote};
 
 use golf_base::{GoroutineId, List, Memory};
 use golf_final::queue_finalisers;
 use golf_model::Marked;
-use golf_snapshot::{in_order, is_among};
+use golf_snapshot::is_among;
 use golf_state::State;
 use std::alloc::Global;
 use std::marker::Model;
 
 /// What all collections of a run so far have reported and removed, seen as their book.
 ///
-/// The numbers of those that were reported and not removed stand beside it in rising order: a
-/// collection finds out by a binary search among them who is new, and goes through no earlier report.
+/// The numbers of those that stay reported stand beside it in rising order: a goroutine stays reported
+/// if the book has reported its number more often than it has removed it. A collection finds out by a
+/// binary search among them who is new, and goes through no earlier report.
 #[derive(Debug, Drop)]
 pub struct Ledger {
     collections: u32,
     reported: Vec<GoroutineId>,
     reclaimed: Vec<GoroutineId>,
-    staying: Vec<u32>,
+    staying: Vec<GoroutineId>,
 }
 
 impl Model for Ledger {
@@ -75,20 +76,21 @@ impl Ledger {
         self.reclaimed.as_slice()
     }
 
-    /// Those goroutines, none of which was removed, that are not reported yet.
+    /// Those of the goroutines that do not stay reported.
     pub(crate) fn unreported(
         &self,
         alloc: Global,
         goroutines: &[GoroutineId],
     ) -> Result<List<GoroutineId>, Memory>
-        requires { AreApart (numbers goroutines.now) (numbers self.now.reclaimed) }
-        ensures { IfOk result (λ new. new ≡ filter (λ g. not (is_in g.0 (numbers self.now.reported))) goroutines.now) }
+        ensures { IfOk result (λ new. new ≡ filter (λ g. not (stays_reported self.now g.0)) goroutines.now) }
     {
-        unlisted(alloc, goroutines, self.staying.as_slice())
+        let mut new = Vec::new(alloc);
+        add_unlisted(&mut new, goroutines, self.staying.as_slice())?;
+        Ok(List::from_vec(new))
     }
 
     /// Queues the finalisers of the objects that the marking leaves out, and notes a collection that
-    /// reported and removed these goroutines. On `Memory` state and book are unchanged.
+    /// reported these goroutines and removed those, whose numbers rise. On `Memory` state and book are unchanged.
     pub(crate) fn note(
         &mut self,
         alloc: Global,
@@ -99,7 +101,8 @@ impl Ledger {
     ) -> Result<(), Memory>
         requires marked { length retained.now.flags ≡ length state.old.objects }
         requires whole { IsWhole state.old }
-        requires apart { AreApart (numbers new.now) (numbers self.old.reclaimed) }
+        requires rises { IsNonDecreasingBy (λ g. g.0) gone.now }
+        requires known { CanNote (numbers new.now) (numbers gone.now) self.old }
         requires count { self.old.collections < 2 ^ 32 - 1 }
         ensures state { OnOk result (state.new ≡ queue_outside (kept retained.now.flags (keys state.old.objects)) state.old) }
         ensures book { OnOk result (self.new ≡ noted new.now gone.now self.old) }
@@ -118,52 +121,37 @@ impl Ledger {
     }
 }
 
-// Those goroutines whose numbers are not among these, which rise.
-fn unlisted(
-    alloc: Global,
+// Adds those of the goroutines that are none of the others, whose numbers rise.
+fn add_unlisted(
+    list: &mut Vec<GoroutineId>,
     goroutines: &[GoroutineId],
-    numbers: &[u32],
-) -> Result<List<GoroutineId>, Memory>
-    requires { IsNonDecreasing numbers.now }
-    ensures { IfOk result (λ new. new ≡ filter (λ g. not (is_in g.0 numbers.now)) goroutines.now) }
+    others: &[GoroutineId],
+) -> Result<(), Memory>
+    requires { IsNonDecreasingBy (λ g. g.0) others.now }
+    ensures { OnOk result (list.new.items ≡ list.old.items ++ filter (λ g. not (is_in g.0 (numbers others.now))) goroutines.now) }
 {
-    let mut new = List::new(alloc);
     for g in goroutines {
-        if !is_among(g.0, numbers) {
-            new.push(*g)?;
-        }
-    }
-    Ok(new)
-}
-
-// Those of the numbers that are not among others, which rise.
-fn add_unlisted(list: &mut Vec<u32>, numbers: &[u32], others: &[u32]) -> Result<(), Memory>
-    requires { IsNonDecreasing others.now }
-    ensures { OnOk result (list.new.items ≡ list.old.items ++ filter (λ n. not (is_in n others.now)) numbers.now) }
-{
-    for number in numbers {
-        if !is_among(*number, others) {
-            list.push(*number)?;
+        if !is_among(*g, others) {
+            list.push(*g)?;
         }
     }
     Ok(())
 }
 
-// The numbers of those who stay, once these goroutines are reported and those removed.
+// Those who stay reported, once these goroutines are reported and those removed.
 fn staying_after(
     alloc: Global,
-    staying: &[u32],
+    staying: &[GoroutineId],
     new: &[GoroutineId],
     gone: &[GoroutineId],
-) -> Result<Vec<u32>, Memory>
-    ensures members { IfOk result (λ after. (n : ℕ) → is_in n after.items ≡ is_in n (filter (λ k. not (is_in k (numbers gone.now))) (staying.now ++ numbers new.now))) }
-    ensures rises { IfOk result (λ after. IsNonDecreasing after.items) }
+) -> Result<Vec<GoroutineId>, Memory>
+    requires { IsNonDecreasingBy (λ g. g.0) gone.now }
+    ensures members { IfOk result (λ after. (n : ℕ) → is_in n (numbers after.items) ≡ is_in n (filter (λ k. not (is_in k (numbers gone.now))) (numbers (staying.now ++ new.now)))) }
+    ensures rises { IfOk result (λ after. IsNonDecreasingBy (λ g. g.0) after.items) }
 {
-    let gone = in_order(alloc, gone)?;
-    let new = in_order(alloc, new)?;
     let mut after = Vec::new(alloc);
-    add_unlisted(&mut after, staying, gone.as_slice())?;
-    add_unlisted(&mut after, new.as_slice(), gone.as_slice())?;
+    add_unlisted(&mut after, staying, gone)?;
+    add_unlisted(&mut after, new, gone)?;
     after.sort()?;
     Ok(after)
 }

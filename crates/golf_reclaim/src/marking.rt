@@ -1,6 +1,7 @@
 //! What is live, who is removed, and what is left.
 
 ghost use Rattle.std.specs.Prelude.{◌≡◌, ◌<◌, ◌≤◌, ◌^◌, IfOk, length, map};
+ghost use Rattle.std.specs.List.Sorted.{IsNonDecreasingBy};
 ghost use Rattle.golf_model.specs.Futures.{Numbered};
 ghost use Rattle.golf_model.specs.Graph.{node_count, sleeper_count};
 ghost use Rattle.golf_model.specs.Living.{dead, live_objects};
@@ -112,7 +113,7 @@ pub fn find_gone(
     unflagged(alloc, graph, stays.as_slice())
 }
 
-/// Marks what is reached without these goroutines, and finds the objects that are left.
+/// Marks what is reached without these goroutines, whose numbers rise, and finds the objects that are left.
 pub(crate) fn find_retained<R: Threads + Sync>(
     rt: &R,
     alloc: Global,
@@ -123,6 +124,7 @@ pub(crate) fn find_retained<R: Threads + Sync>(
 ) -> Result<Rest, Memory>
     requires live { live ≡ live_parts state.now }
     requires whole { IsWhole state.now }
+    requires rises { IsNonDecreasingBy (λ g. g.0) gone.now }
     requires some { 0 < markers }
     requires few { markers ≤ 16 }
     ensures marked { IfOk result (λ rest. MarksLeast (retained_parts state.now (numbers gone.now)) rest.marked) }

@@ -1,25 +1,26 @@
--- Numbers in order, and whether one is among them.
--- For: `in_order` and `is_among`, src/among.rt.
--- By: induction over the list of goroutines; the rest by the laws of sorting and of binary search.
-use Rattle.std.proofs.Common.{◌≡◌, ℕ, Bool, List, [], ◌∷◌, ◌++◌, get_or, Result, Ok, Err, inl, inr, refl, sym, ap, subst, ◌∙◌, arith, nat_cmp}
+-- Whether a goroutine is among some.
+-- For: `is_among`, src/among.rt.
+-- By: induction over the list of goroutines; the rest by the laws of binary search.
+use Rattle.std.proofs.Common.{◌≡◌, ◌≤◌, ℕ, zero, suc, List, [], ◌∷◌, map, get_or, Result, Ok, Err, inl, inr, refl, sym, ap, subst, ◌∙◌, arith, nat_cmp}
 use Rattle.std.specs.Prelude.{is_ok}
-use Rattle.std.specs.List.Sorted.{IsNonDecreasing, IsBinarySearchResult, IsPermutation}
+use Rattle.std.specs.List.Sorted.{IsNonDecreasing, IsNonDecreasingBy, IsBinarySearchResult}
 use Rattle.std.proofs.lemmas.Bool.{cases_lt}
-use Rattle.std.proofs.lemmas.List.Sorted.{searched, Contains-permutation, IsPermutation-sym}
+use Rattle.std.proofs.lemmas.List.Sorted.{searched}
+use Rattle.std.proofs.lemmas.List.{length-map}
+use Rattle.std.specs.Ordering.{ordering_index}
 use Rattle.std.proofs.lemmas.Option.{slice_get_within, get_or_from_slice_get}
 use Rattle.golf_theory.specs.Membership.{In, is_in}
-use Rattle.golf_theory.proofs.Lists.{In-get_or, In-Contains, Contains-In}
-use Rattle.golf_theory.proofs.Tests.{is_in-from, is_in-out, is_in-same}
-use Rattle.golf_model.specs.Refs.{refs_if, goroutine_refs, goroutine_refs_where}
-use Rattle.golf_model.specs.Views.{GoroutineView}
+use Rattle.golf_theory.proofs.Lists.{In-get_or}
+use Rattle.golf_theory.proofs.Tests.{is_in-from, is_in-out}
+use Rattle.golf_base.specs.declared.ids.GoroutineId.{GoroutineId}
 use Rattle.golf_snapshot.proofs.Ranking.{In-place}
 
--- what the search finds
-pub found-among : (xs : List ℕ) (n : ℕ) (r : Result ℕ ℕ) → IsNonDecreasing xs → IsBinarySearchResult (λ y. nat_cmp y n) xs r → is_ok r ≡ is_in n xs
-found-among xs n (Ok i) rises h =
+-- a search finds a number that is there
+found-number : (xs : List ℕ) (n : ℕ) (r : Result ℕ ℕ) → IsNonDecreasing xs → IsBinarySearchResult (λ y. nat_cmp y n) xs r → is_ok r ≡ is_in n xs
+found-number xs n (Ok i) rises h =
     let f = searched xs n (Ok i) h (λ i j l m. rises i j 0 l m) in
     sym (is_in-from n xs (subst (λ k. In k xs) f.1 (In-get_or xs i 0 f.0)))
-found-among xs n (Err i) rises h =
+found-number xs n (Err i) rises h =
     let f = searched xs n (Err i) h (λ i j l m. rises i j 0 l m) in
     sym (is_in-out n xs (λ m.
     let p = In-place xs n m in
@@ -30,14 +31,27 @@ found-among xs n (Err i) rises h =
       | inr g ↦ let b = f.2 p.0 g within in omega (arith, at, b)
     ]))
 
--- another order has the same members
-pub same-among : (xs ys : List ℕ) (n : ℕ) → IsPermutation xs ys → is_in n ys ≡ is_in n xs
-same-among xs ys n p = is_in-same n ys xs
-    (λ i. In-Contains xs n (Contains-permutation ys xs n (IsPermutation-sym xs ys p) (Contains-In ys n i)))
-    (λ i. In-Contains ys n (Contains-permutation xs ys n p (Contains-In xs n i)))
+-- beyond the end the default stands in both lists
+number-at : (gs : List GoroutineId) (k d : ℕ) → get_or (map (λ (g : GoroutineId). g.0) gs) k d ≡ (get_or gs k (record { 0 = d })).0
+number-at [] k d = refl
+number-at (g ∷ gs) zero d = refl
+number-at (g ∷ gs) (suc k) d = number-at gs k d
 
--- what a test of goroutines gives depends on its answers alone
-pub refs_where-alike : (p q : ℕ → Bool) (es : List (ℕ × GoroutineView)) → ((g : ℕ) → p g ≡ q g) → goroutine_refs_where p es ≡ goroutine_refs_where q es
-refs_where-alike p q [] h = refl
-refs_where-alike p q (e ∷ es) h =
-    ap (λ b. refs_if b (goroutine_refs e.1) ++ goroutine_refs_where p es) (h e.0) ∙ ap (λ (l : List ℕ). refs_if (q e.0) (goroutine_refs e.1) ++ l) (refs_where-alike p q es h)
+-- a search for a goroutine is a search for its number
+search-numbers : (gs : List GoroutineId) (n : ℕ) (r : Result ℕ ℕ) → IsBinarySearchResult (λ (g : GoroutineId). nat_cmp g.0 n) gs r → IsBinarySearchResult (λ y. nat_cmp y n) (map (λ (g : GoroutineId). g.0) gs) r
+search-numbers gs n (Ok i) h = λ d. ap (λ (y : ℕ). nat_cmp y n) (number-at gs i d) ∙ h (record { 0 = d })
+search-numbers gs n (Err i) h = λ up.
+    let parted = h (λ j k d le l.
+    subst (λ (y : ℕ). ordering_index (nat_cmp y n) ≤ ordering_index (nat_cmp (get_or gs k d).0 n)) (number-at gs j d.0)
+    (subst (λ (y : ℕ). ordering_index (nat_cmp (get_or (map (λ (g : GoroutineId). g.0) gs) j d.0) n) ≤ ordering_index (nat_cmp y n)) (number-at gs k d.0) (up j k d.0 le (omega (arith, l, length-map gs (λ (g : GoroutineId). g.0)))))) in (
+      λ k d a l. ap (λ (y : ℕ). nat_cmp y n) (number-at gs k d) ∙ parted.0 k (record { 0 = d }) a l,
+      λ k d a l. ap (λ (y : ℕ). nat_cmp y n) (number-at gs k d) ∙ parted.1 k (record { 0 = d }) a (omega (arith, l, length-map gs (λ (g : GoroutineId). g.0))),
+    )
+
+-- what the search finds
+pub found-among : (gs : List GoroutineId) (n : ℕ) (r : Result ℕ ℕ) → IsNonDecreasingBy (λ (g : GoroutineId). g.0) gs → IsBinarySearchResult (λ (g : GoroutineId). nat_cmp g.0 n) gs r → is_ok r ≡ is_in n (map (λ (g : GoroutineId). g.0) gs)
+found-among gs n r rises h = found-number (map (λ (g : GoroutineId). g.0) gs) n r
+    (λ i j d le l.
+    subst (λ (y : ℕ). y ≤ get_or (map (λ (g : GoroutineId). g.0) gs) j d) (sym (number-at gs i d))
+    (subst (λ (y : ℕ). (get_or gs i (record { 0 = d })).0 ≤ y) (sym (number-at gs j d)) (rises i j (record { 0 = d }) le (omega (arith, l, length-map gs (λ (g : GoroutineId). g.0))))))
+    (search-numbers gs n r h)

@@ -1,45 +1,32 @@
 //! Whether a goroutine is one of some.
 
-ghost use Rattle.std.specs.Prelude.{◌≡◌, ℕ, not, map, IfOk};
-ghost use Rattle.std.specs.List.Sorted.{IsNonDecreasing};
+ghost use Rattle.std.specs.Prelude.{◌≡◌, not, map, IfOk};
+ghost use Rattle.std.specs.List.Sorted.{IsNonDecreasingBy};
 ghost use Rattle.golf_theory.specs.Membership.{is_in};
 
 use golf_base::{GoroutineId, List, Memory};
 use std::alloc::Global;
 
-/// The numbers of goroutines, in rising order.
-pub fn in_order(alloc: Global, goroutines: &[GoroutineId]) -> Result<Vec<u32>, Memory>
-    ensures members { IfOk result (λ numbers. (n : ℕ) → is_in n numbers.items ≡ is_in n (map (λ g. g.0) goroutines.now)) }
-    ensures rises { IfOk result (λ numbers. IsNonDecreasing numbers.items) }
+/// Whether a goroutine is one of these, whose numbers rise.
+pub fn is_among(g: GoroutineId, goroutines: &[GoroutineId]) -> bool
+    requires { IsNonDecreasingBy (λ h. h.0) goroutines.now }
+    ensures { result ≡ is_in g.0 (map (λ h. h.0) goroutines.now) }
 {
-    let mut numbers = Vec::new(alloc);
-    for g in goroutines {
-        numbers.push(g.0)?;
-    }
-    numbers.sort()?;
-    Ok(numbers)
+    goroutines.binary_search(&g).is_ok()
 }
 
-/// Whether a number is one of these, which rise.
-pub fn is_among(number: u32, numbers: &[u32]) -> bool
-    requires { IsNonDecreasing numbers.now }
-    ensures { result ≡ is_in number numbers.now }
-{
-    numbers.binary_search(&number).is_ok()
-}
-
-/// For each of these goroutines whether it is none of the others.
+/// For each of these goroutines whether it is none of the others, whose numbers rise.
 pub fn outside(
     alloc: Global,
     goroutines: &[GoroutineId],
     others: &[GoroutineId],
 ) -> Result<List<bool>, Memory>
+    requires { IsNonDecreasingBy (λ h. h.0) others.now }
     ensures { IfOk result (λ flags. flags ≡ map (λ g. not (is_in g.0 (map (λ h. h.0) others.now))) goroutines.now) }
 {
-    let numbers = in_order(alloc, others)?;
     let mut flags = List::new(alloc);
     for g in goroutines {
-        flags.push(!is_among(g.0, numbers.as_slice()))?;
+        flags.push(!is_among(*g, others))?;
     }
     Ok(flags)
 }

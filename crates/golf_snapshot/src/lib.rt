@@ -9,7 +9,7 @@ mod nodes;
 mod references;
 mod retained;
 
-pub use among::{in_order, is_among, outside};
+pub use among::{is_among, outside};
 pub use graph::live_graph;
 pub use laws::{live_graph_law, retained_graph_law};
 pub use retained::retained_graph;

@@ -1,7 +1,7 @@
 //! What is reached without some goroutines: the live graph with other roots.
 
 ghost use Rattle.std.specs.Prelude.{◌≡◌, ◌++◌, ◌<◌, ◌^◌, ◌↔◌, IfOk, IsTrue, OnOk, Some, map, not};
-ghost use Rattle.std.specs.List.Sorted.{IsNonDecreasing};
+ghost use Rattle.std.specs.List.Sorted.{IsNonDecreasingBy};
 ghost use Rattle.golf_theory.specs.Maps.{find};
 ghost use Rattle.golf_theory.specs.Membership.{is_in};
 ghost use Rattle.golf_model.specs.Futures.{Numbered};
@@ -13,7 +13,7 @@ ghost use Rattle.golf_snapshot.specs.Parts.{ranks, live_parts, retained_parts};
 ghost use Rattle.golf_snapshot.specs.Stands.{ReachesAlike};
 ghost use Rattle.golf_snapshot.specs.Stepping.{entry_at, finalised_rows};
 
-use crate::among::{in_order, is_among};
+use crate::among::is_among;
 use crate::goroutines::add_queue;
 use crate::references::{add_goroutine, add_values};
 use golf_base::{GoroutineId, List, Memory};
@@ -21,8 +21,8 @@ use golf_model::Graph;
 use golf_state::State;
 use std::alloc::Global;
 
-/// The graph whose least closed set is what is reached without these goroutines: the live graph with
-/// other roots, and without its sleepers. Each goroutine is looked up in the list by a binary search.
+/// The graph whose least closed set is what is reached without these goroutines, whose numbers rise: the live
+/// graph with other roots, and without its sleepers. Each goroutine is looked up in the list by a binary search.
 pub fn retained_graph(
     alloc: Global,
     state: &State,
@@ -31,6 +31,7 @@ pub fn retained_graph(
 ) -> Result<Graph, Memory>
     requires live { live ≡ live_parts state.now }
     requires whole { IsWhole state.now }
+    requires rises { IsNonDecreasingBy (λ g. g.0) gone.now }
     ensures graph { IfOk result (λ graph. graph ≡ retained_parts state.now (map (λ g. g.0) gone.now)) }
     ensures numbered { IfOk result (λ graph. Numbered state.now) }
     ensures reached { IfOk result (λ graph. ReachesAlike graph state.now (map (λ g. g.0) gone.now)) }
@@ -46,34 +47,34 @@ fn source_nodes(
     live: &Graph,
     gone: &[GoroutineId],
 ) -> Result<List<u32>, Memory>
-    requires { live.now ≡ live_parts state.now }
+    requires live { live.now ≡ live_parts state.now }
+    requires rises { IsNonDecreasingBy (λ g. g.0) gone.now }
     ensures roots { IfOk result (λ roots. roots ≡ ranks state.now.objects (sources state.now (map (λ g. g.0) gone.now))) }
     ensures numbered { IfOk result (λ roots. IsWhole state.now → Numbered state.now) }
 {
     let mut roots = List::new(alloc);
     add_values(state.heap(), &mut roots, state.globals())?;
     add_queue(state.heap(), &mut roots, state.queue())?;
-    let gone = in_order(alloc, gone)?;
-    add_others(alloc, state, live, &mut roots, gone.as_slice())?;
+    add_others(alloc, state, live, &mut roots, gone)?;
     add_finalised_rows(live, &mut roots)?;
     Ok(roots)
 }
 
 // ---- the goroutines that stay
 
-// Adds the nodes of the goroutines whose numbers are not among these, which rise. The live graph has
+// Adds the nodes of the goroutines that are none of these, whose numbers rise. The live graph has
 // those of a sleeper.
 fn add_others(
     alloc: Global,
     state: &State,
     live: &Graph,
     nodes: &mut List<u32>,
-    gone: &[u32],
+    gone: &[GoroutineId],
 ) -> Result<(), Memory>
     requires live { live.now ≡ live_parts state.now }
-    requires rises { IsNonDecreasing gone.now }
+    requires rises { IsNonDecreasingBy (λ g. g.0) gone.now }
     ensures { OnOk result (nodes.new
-        ≡ nodes.old ++ ranks state.now.objects (goroutine_refs_where (λ g. not (is_in g gone.now)) state.now.goroutines)) }
+        ≡ nodes.old ++ ranks state.now.objects (goroutine_refs_where (λ g. not (is_in g (map (λ h. h.0) gone.now))) state.now.goroutines)) }
 {
     let mut sleeper = 0;
     let goroutines = state.goroutines(alloc)?;
@@ -99,38 +100,38 @@ fn is_next(live: &Graph, sleeper: u32, g: GoroutineId) -> bool
     live.goroutine_of(sleeper).0 == g.0
 }
 
-// Adds the nodes of a sleeper, if its number is not among these.
+// Adds the nodes of a sleeper, if it is none of these.
 fn add_sleeper_unless_gone(
     live: &Graph,
     sleeper: u32,
     nodes: &mut List<u32>,
-    gone: &[u32],
+    gone: &[GoroutineId],
     g: GoroutineId,
 ) -> Result<(), Memory>
     requires within { sleeper < sleeper_count live.now }
-    requires rises { IsNonDecreasing gone.now }
-    ensures { OnOk result (nodes.new ≡ nodes.old ++ refs_if (not (is_in g.0 gone.now)) (sleeper_references live.now sleeper)) }
+    requires rises { IsNonDecreasingBy (λ g. g.0) gone.now }
+    ensures { OnOk result (nodes.new ≡ nodes.old ++ refs_if (not (is_in g.0 (map (λ h. h.0) gone.now))) (sleeper_references live.now sleeper)) }
 {
-    if !is_among(g.0, gone) {
+    if !is_among(g, gone) {
         nodes.extend_from_slice(live.references(sleeper))?;
     }
     Ok(())
 }
 
-// Adds the nodes of the goroutine of this number, if it is not among these.
+// Adds the nodes of the goroutine of this number, if it is none of these.
 fn add_unless_gone(
     state: &State,
     nodes: &mut List<u32>,
-    gone: &[u32],
+    gone: &[GoroutineId],
     g: GoroutineId,
 ) -> Result<(), Memory>
-    requires { IsNonDecreasing gone.now }
+    requires { IsNonDecreasingBy (λ g. g.0) gone.now }
     ensures { OnOk result (nodes.new
-        ≡ nodes.old ++ ranks state.now.objects (goroutine_refs_where (λ h. not (is_in h gone.now)) (entry_at g.0 (find g.0 state.now.goroutines)))) }
+        ≡ nodes.old ++ ranks state.now.objects (goroutine_refs_where (λ h. not (is_in h (map (λ k. k.0) gone.now))) (entry_at g.0 (find g.0 state.now.goroutines)))) }
 {
     match state.goroutine(g) {
         Some(goroutine) => {
-            if !is_among(g.0, gone) {
+            if !is_among(g, gone) {
                 add_goroutine(state.heap(), nodes, goroutine)?;
             }
             Ok(())

@@ -1,5 +1,5 @@
 -- What becomes of a goroutine's frames. The innermost frame stands first, and so do the top operand and the latest deferred call.
-use Rattle.std.specs.Prelude.{ℕ, List, [], ◌∷◌, ◌++◌, Option, Some, None, drop, slice_get, slice_set}
+use Rattle.std.specs.Prelude.{ℕ, List, [], ◌∷◌, ◌++◌, Option, Some, drop}
 use Rattle.golf_data.specs.declared.value.Value.{Value}
 use Rattle.golf_data.specs.declared.goroutine.Deferred.{Deferred}
 use Rattle.golf_data.specs.declared.goroutine.Leaving.{Leaving}
@@ -19,15 +19,6 @@ exchanged_in after v f (w ∷ rest) = record f { at = after; operands = v ∷ re
 
 abbrev pub exchanged : ℕ → Value → FrameView → FrameView
 exchanged after v f = exchanged_in after v f f.operands
-
--- with the top operand in a slot, if both are there
-abbrev pub stored_in : ℕ → ℕ → FrameView → List Value → Option Value → FrameView
-stored_in after i f [] old = f
-stored_in after i f (v ∷ rest) None = f
-stored_in after i f (v ∷ rest) (Some old) = record f { at = after; slots = slice_set f.slots i v; operands = rest }
-
-abbrev pub stored : ℕ → ℕ → FrameView → FrameView
-stored after i f = stored_in after i f f.operands (slice_get f.slots i)
 
 -- the frame returns, with a value if it has one
 abbrev pub has_returned : ℕ → ℕ → Option Value → FrameView → FrameView

@@ -55,7 +55,6 @@ abbrev pub values_of : Given → List Value
 values_of Given.Nothing = []
 values_of (Given.One v) = v ∷ []
 values_of (Given.Two v b) = Value.Bool b ∷ v ∷ []
-values_of (Given.Both v w) = w ∷ v ∷ []
 
 -- the state with these globals, without an object, in which goroutine 1 runs with these frames and goroutine 0 has none
 abbrev pub opening : List Value → List FrameView → ℕ → State

@@ -5,7 +5,7 @@ ghost use Rattle.std.specs.Borrow.{sem};
 ghost use Rattle.golf_model.specs.Views.{frame_view, frame_views, goroutine_view};
 ghost use Rattle.golf_model.specs.Waking.{resumed_frame, unwinding, on_top};
 ghost use Rattle.golf_state.specs.Looked.{advanced, values_of};
-ghost use Rattle.golf_state.specs.Going.{went, exchanged, stored, has_returned, has_deferred};
+ghost use Rattle.golf_state.specs.Going.{went, exchanged, has_returned, has_deferred};
 ghost use Rattle.golf_state.specs.Roominess.{HasRoom};
 ghost use Rattle.golf_state.specs.Wakening.{wakened};
 ghost use Rattle.golf_state.specs.LendingTop.{LendsTop};
@@ -13,14 +13,12 @@ ghost use Rattle.golf_state.specs.LendingTop.{LendsTop};
 use golf_base::{List, Memory, Room};
 use golf_data::{Deferred, Fault, Frame, Goroutine, Leaving, Mode, Value, Wait};
 
-/// What a goroutine is given that goes on: no value, one, a value and whether it was sent, or two
-/// values.
+/// What a goroutine is given that goes on: no value, one, or a value and whether it was sent.
 #[derive(Clone, Copy, Debug, PartialEq, Eq)]
 pub enum Given {
     Nothing,
     One(Value),
     Two(Value, bool),
-    Both(Value, Value),
 }
 
 /// Lends the innermost frame, the last one.
@@ -46,10 +44,6 @@ fn give(operands: &mut Room<Value>, given: Given)
         Given::Two(value, sent) => {
             operands.push_ready(value);
             operands.push_ready(Value::Bool(sent));
-        }
-        Given::Both(first, second) => {
-            operands.push_ready(first);
-            operands.push_ready(second);
         }
     }
 }
@@ -140,29 +134,6 @@ pub fn exchange(frames: &mut List<Frame>, after: u32, value: Value)
 {
     if !frames.is_empty() {
         exchange_last(top_mut(frames), after, value);
-    }
-}
-
-// Stores the last operand in a slot, if both are there, and goes on at a place.
-fn store_last(frame: &mut Frame, after: u32, slot: u32)
-    ensures { frame_view frame.new ≡ stored after slot (frame_view frame.old) }
-{
-    if slot as usize >= frame.slots.len() {
-        return;
-    }
-    if let Some(value) = frame.operands.pop() {
-        frame.slots.set(slot as usize, value);
-        frame.at = after;
-    }
-}
-
-/// Stores the last operand of the innermost frame in a slot, if both are there, and goes on at a
-/// place.
-pub fn store(frames: &mut List<Frame>, after: u32, slot: u32)
-    ensures { frame_views frames.new ≡ on_top (stored after slot) (frame_views frames.old) }
-{
-    if !frames.is_empty() {
-        store_last(top_mut(frames), after, slot);
     }
 }
 

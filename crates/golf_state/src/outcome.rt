@@ -112,7 +112,9 @@ pub fn block_at(
 pub fn one_wait(alloc: Global, wait: Wait) -> Result<List<Wait>, Memory>
     ensures { IfOk result (λ waits. waits ≡ wait ∷ []) }
 {
-    Ok(List::from_vec(vec![in alloc; wait]?))
+    let mut waits = Vec::with_capacity(alloc, 1)?;
+    waits.push_reserved(wait);
+    Ok(List::from_vec(waits))
 }
 
 /// The goroutine in its turn blocks after its instruction, without so many operands, on an object

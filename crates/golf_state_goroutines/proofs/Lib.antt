@@ -7,6 +7,7 @@ pub mod Middles
 pub mod Gathers
 pub mod PlaceLaws
 pub mod Splits
+pub mod Found
 pub mod Summing
 pub mod BlockLaws
 pub mod Openings

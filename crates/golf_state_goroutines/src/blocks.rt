@@ -6,9 +6,9 @@ ghost use Rattle.golf_heap.specs.Objects.{rank, kept};
 ghost use Rattle.golf_theory.specs.Maps.{AllBelow};
 ghost use Rattle.golf_state_goroutines.specs.Places.{plain_entries, running_of};
 ghost use Rattle.golf_state_goroutines.specs.Goroutines.{AllUnder, IsNone};
-ghost use Rattle.golf_state_goroutines.specs.Blocks.{numbers, IsBlock, AreBlocks, IsPlace, keyed_blocks};
+ghost use Rattle.golf_state_goroutines.specs.Blocks.{numbers, IsBlock, AreBlocks, keyed_blocks};
 
-use crate::places::{Place, index_in, list_running, rank_of, take_place};
+use crate::places::{Place, list_running, take_place};
 use crate::rising::{add_last, leave_out, put_in};
 use golf_base::{GoroutineId, Memory};
 use golf_heap::close_up;
@@ -22,9 +22,9 @@ pub struct Block {
     pub running: Vec<GoroutineId>,
 }
 
-// The key as an index, if its block stands there, as it does if no block before it is gone.
+/// The key as an index, if its block stands there, as it does if no block before it is gone.
 #[inline(always)]
-fn index_of(blocks: &[Block], key: u32) -> Option<usize>
+pub fn index_of(blocks: &[Block], key: u32) -> Option<usize>
     requires { AreBlocks 0 blocks.now }
     ensures { IfSome result (λ at. at ≡ rank key (keyed_blocks blocks.now)) }
 {
@@ -45,42 +45,6 @@ pub fn block_of(blocks: &[Block], key: u32) -> usize
     match index_of(blocks, key) {
         Some(at) => at,
         None => blocks.partition_point(|block| block.key < key),
-    }
-}
-
-// The place of a number, if no block before its own is gone, and nothing before it there.
-#[inline(always)]
-fn near_place(blocks: &[Block], number: u32) -> Option<(usize, usize)>
-    requires { AreBlocks 0 blocks.now }
-    ensures { IfSome result (λ place. IsPlace number blocks.now place.0 place.1) }
-{
-    let at = index_of(blocks, number / 256)?;
-    let block = blocks.get(at)?;
-    let index = index_in(block.places.as_slice(), number)?;
-    Some((at, index))
-}
-
-// The place of a number, by binary searches.
-fn far_place(blocks: &[Block], number: u32) -> (usize, usize)
-    requires { AreBlocks 0 blocks.now }
-    ensures { IsPlace number blocks.now result.0 result.1 }
-{
-    let at = block_of(blocks, number / 256);
-    match blocks.get(at) {
-        Some(block) => (at, rank_of(block.places.as_slice(), number)),
-        None => (at, 0),
-    }
-}
-
-/// The place of a number: how many blocks stand before its own, and how many goroutines before it there.
-#[inline(always)]
-pub fn place_in(blocks: &[Block], number: u32) -> (usize, usize)
-    requires { AreBlocks 0 blocks.now }
-    ensures { IsPlace number blocks.now result.0 result.1 }
-{
-    match near_place(blocks, number) {
-        Some(place) => place,
-        None => far_place(blocks, number),
     }
 }
 

@@ -7,6 +7,7 @@
 
 mod blocks;
 mod counting;
+mod finding;
 mod opening;
 mod places;
 mod retaining;

@@ -1,6 +1,6 @@
 //! Goroutines in rising order of number.
 
-ghost use Rattle.std.specs.Prelude.{◌≡◌, ◌<◌, ◌≤◌, ◌+◌, ◌∷◌, ◌++◌, [], map, vec_len, vec_capacity, length, remove};
+ghost use Rattle.std.specs.Prelude.{◌≡◌, ◌<◌, ◌≤◌, ◌+◌, ◌∷◌, ◌++◌, [], map, vec_len, vec_capacity, length, insert, remove};
 ghost use Rattle.golf_theory.specs.Stored.{placed, without};
 ghost use Rattle.golf_state_goroutines.specs.Rising.{RisesFrom, leading};
 
@@ -43,6 +43,21 @@ pub fn leave_out(goroutines: &mut Vec<GoroutineId>, g: GoroutineId)
     }
 }
 
+// Puts a goroutine at a place, for which there is room. Nothing is moved if it comes last.
+#[inline(always)]
+fn put_at(goroutines: &mut Vec<GoroutineId>, at: usize, g: GoroutineId)
+    requires room { vec_len goroutines.old < vec_capacity goroutines.old }
+    requires within { at ≤ length goroutines.old.items }
+    ensures items { goroutines.new.items ≡ insert goroutines.old.items at g }
+    ensures room { vec_capacity goroutines.old ≤ vec_capacity goroutines.new }
+{
+    if at == goroutines.len() {
+        goroutines.push_reserved(g);
+    } else {
+        let _ = goroutines.insert(at, g);
+    }
+}
+
 /// Puts a goroutine at its place, for which there is room.
 #[inline(always)]
 pub fn put_in(goroutines: &mut Vec<GoroutineId>, g: GoroutineId)
@@ -52,7 +67,7 @@ pub fn put_in(goroutines: &mut Vec<GoroutineId>, g: GoroutineId)
     ensures room { vec_capacity goroutines.old ≤ vec_capacity goroutines.new }
 {
     let at = leading(goroutines.as_slice(), u64::from(g.0) + 1);
-    let _ = goroutines.insert(at, g);
+    put_at(goroutines, at, g);
 }
 
 /// Adds a goroutine at the end, for which there is room.
@@ -62,6 +77,5 @@ pub fn add_last(goroutines: &mut Vec<GoroutineId>, g: GoroutineId)
     ensures room { vec_capacity goroutines.old ≤ vec_capacity goroutines.new }
     ensures len { vec_len goroutines.new ≡ vec_len goroutines.old + 1 }
 {
-    let end = goroutines.len();
-    let _ = goroutines.insert(end, g);
+    goroutines.push_reserved(g);
 }

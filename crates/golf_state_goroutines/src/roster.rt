@@ -10,8 +10,9 @@ ghost use Rattle.golf_state_goroutines.specs.Goroutines.{added, parted, stopped,
 ghost use Rattle.golf_state_goroutines.specs.Blocks.{places_in};
 ghost use Rattle.golf_state_goroutines.specs.Lending.{LendsGoroutine};
 
-use crate::blocks::{Block, block_of, join, part, place_in, start, stop};
+use crate::blocks::{Block, block_of, join, part, start, stop};
 use crate::counting::{count_places, count_running};
+use crate::finding::{goroutine_in, place_in};
 use crate::opening::{close_blocks, open};
 use crate::places::Place;
 use crate::retaining::retain_places;
@@ -90,15 +91,7 @@ impl Roster {
     pub fn get(&self, number: u32) -> Option<&Goroutine>
         ensures { option_map (λ r. goroutine_view r.now) result ≡ find number (plain_entries self.now.places) }
     {
-        let blocks = self.blocks.as_slice();
-        let (at, index) = place_in(blocks, number);
-        let block = blocks.get(at)?;
-        let place = block.places.as_slice().get(index)?;
-        if place.number == number {
-            Some(place.goroutine.get())
-        } else {
-            None
-        }
+        goroutine_in(self.blocks.as_slice(), number)
     }
 
     /// Whether the goroutine of this number is there.

@@ -34,3 +34,18 @@ fn a_report_tells_where_a_goroutine_was_started_and_waits(rt: HostRuntime) -> Re
     assert_eq!(rt; report.reported.as_slice(), [stuck].as_slice());
     Ok(())
 }
+
+#[test]
+fn a_removed_goroutine_that_is_there_again_is_reported_again(rt: HostRuntime) -> Result<(), Fail> {
+    let code = stuck_receiver(rt.alloc())?;
+    let mut book = Ledger::new(rt.alloc());
+    let mut first = state_of(rt.alloc(), &code)?;
+    let mut second = state_of(rt.alloc(), &code)?;
+    let report = collect_once(&rt, rt.alloc(), &code, &mut first, &mut book, true)?;
+    assert_eq!(rt; (report.reported.len(), report.reclaimed), (1, 1));
+    let report = collect_once(&rt, rt.alloc(), &code, &mut second, &mut book, false)?;
+    assert_eq!(rt; (report.reported.len(), report.kept), (1, 1));
+    let report = collect_once(&rt, rt.alloc(), &code, &mut second, &mut book, true)?;
+    assert_eq!(rt; (report.reported.len(), report.reclaimed), (0, 1));
+    Ok(())
+}

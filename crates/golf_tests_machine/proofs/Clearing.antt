@@ -1,4 +1,4 @@
--- What turns clear: under a mask, in a frame that leaves, and if no rule fits.
+-- What turns clear: under a mask, in a frame that leaves, and nothing if no rule fits.
 use Rattle.std.specs.Prelude.{◌≡◌, ℕ, List, [], ◌∷◌, ◌++◌, map, Option, Some, option_map, refl}
 use Rattle.golf_theory.specs.Maps.{find}
 use Rattle.golf_data.specs.declared.value.Value.{Value}
@@ -92,6 +92,9 @@ no_rule_fits = refl
 pub slot_before_it : slots_in stuck ≡ Some ((number 7 ∷ []) ∷ [])
 slot_before_it = refl
 
--- the turn clears the frame
-pub slot_after_it : slots_in (step stuck_code stuck 0) ≡ Some ((number 0 ∷ []) ∷ [])
+-- the turn changes nothing
+pub slot_after_it : slots_in (step stuck_code stuck 0) ≡ Some ((number 7 ∷ []) ∷ [])
 slot_after_it = refl
+
+pub state_after_it : step stuck_code stuck 0 ≡ stuck
+state_after_it = refl

@@ -58,10 +58,13 @@ fn generated_files_are_summed_up(rt: HostRuntime) -> Result<(), Fail> {
 
 // 100 marked objects and 50 awake sleepers are scanned, and each marker passes the gate once more.
 #[test]
-fn four_markers_scan_a_generated_file(rt: HostRuntime) -> Result<(), Fail> {
+fn all_markers_scan_a_generated_file(rt: HostRuntime) -> Result<(), Fail> {
     let file = sample_file(rt.alloc(), 100)?;
     let four = passes(&rt, "generate 100", b"")?;
     let one = passes(&rt, "run --markers 1", file.as_slice())?;
+    let sixteen = passes(&rt, "run --markers 16", file.as_slice())?;
+    let recovering = passes(&rt, "run --markers 16 --recover", file.as_slice())?;
     assert!(rt; four == Some(154) && one == Some(151));
+    assert!(rt; sixteen == Some(166) && recovering == Some(166));
     Ok(())
 }

@@ -26,6 +26,8 @@ mod reasons;
 #[cfg(test)]
 mod refusals;
 #[cfg(test)]
+mod rounds;
+#[cfg(test)]
 mod rules;
 #[cfg(test)]
 mod runs;

@@ -1,8 +1,9 @@
 //! What the markers of the program see at their gate.
 
 use crate::calls::{Outcome, Row, expect_rows, run_with};
+use crate::rounds::RoundGate;
 use crate::runs::TWO_ROUNDS;
-use crate::worked::{CYCLE, CYCLE_ERRORS};
+use crate::worked::{CYCLE, CYCLE_ERRORS, FINALISED_HELD};
 use golf_base::Gate;
 use golf_run_texts::Status;
 use golf_tests_support::{MeetingGate, StealingGate};
@@ -45,6 +46,33 @@ fn the_markers_of_the_program_share_their_work(rt: HostRuntime) -> Result<(), Fa
     let line = "collection 1: marked 5, reported 0, kept 0, reclaimed 0, objects 5\n";
     let clean = is_clean(&rt, GLOBALS_IN_A_SLICE, line, &gate)?;
     assert!(rt; clean && gate.both_seen());
+    Ok(())
+}
+
+#[test]
+fn sixteen_markers_of_the_program_mark_at_once(rt: HostRuntime) -> Result<(), Fail> {
+    let gate = RoundGate::new(16, 0);
+    let _ = run_with(&rt, "run --markers 16", TWO_ROUNDS.as_bytes(), &gate)?;
+    assert!(rt; gate.all_met());
+    Ok(())
+}
+
+// How often the gate is passed: once for each marked object and each awake sleeper, and once more by each marker. A second
+// marking, with a finaliser or recovery, passes none.
+const SIXTEEN: [(&str, &str, u64); 4] = [
+    ("run --markers 16", TWO_ROUNDS, 20),
+    ("run --markers 16 --recover", TWO_ROUNDS, 20),
+    ("run --markers 16", FINALISED_HELD, 16),
+    ("run --markers 16 --recover", FINALISED_HELD, 16),
+];
+
+#[test]
+fn each_of_sixteen_markers_of_the_program_passes_the_gate(rt: HostRuntime) -> Result<(), Fail> {
+    for (line, file, wanted) in SIXTEEN.iter() {
+        let gate = RoundGate::new(16, 0);
+        let _ = run_with(&rt, *line, file.as_bytes(), &gate)?;
+        assert!(rt; gate.passes() == *wanted, "{line}: {wanted}");
+    }
     Ok(())
 }
 

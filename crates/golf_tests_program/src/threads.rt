@@ -1,11 +1,12 @@
 //! Runs by threads: their history, its replay by written choices, and how they end.
 
 use crate::calls::{Ends, Outcome, Row, expect_ends, expect_failing, expect_rows, run_with};
+use crate::rounds::RoundGate;
 use crate::runs::{EMPTY_MAIN, LEAK};
 use crate::worked::{CHOICE, POOL};
 use golf_base::OpenGate;
 use golf_run_texts::Status;
-use golf_tests_support::MeetingGate;
+use golf_tests_support::{CountingGate, MeetingGate};
 use std::alloc::Global;
 use std::str;
 use std::test::Fail;
@@ -87,6 +88,37 @@ fn threads_of_the_program_step_at_the_same_time(rt: HostRuntime) -> Result<(), F
     let gate = MeetingGate::new();
     let Outcome { out, .. } = run_with(&rt, "run --threads 2", LEAK.as_bytes(), &gate)?;
     assert!(rt; gate.both_seen() && out.written() == "1\n".as_bytes());
+    Ok(())
+}
+
+// How many numbers a list of them has.
+fn count_of(numbers: &str) -> u64 {
+    let mut count = 1;
+    for byte in numbers.as_bytes() {
+        if *byte == b',' && count < 1_000_000 {
+            count += 1;
+        }
+    }
+    count
+}
+
+// A worker comes to its turn 1 once it has taken a turn of the program.
+#[test]
+fn each_of_four_threads_of_the_program_takes_a_turn(rt: HostRuntime) -> Result<(), Fail> {
+    let gate = RoundGate::new(4, 1);
+    let Outcome { err, .. } = run_with(&rt, "run --threads 4", POOL.as_bytes(), &gate)?;
+    let (_, numbers) = split_history(err.written())?;
+    assert!(rt; gate.all_met());
+    assert!(rt; gate.passes().checked_sub(count_of(numbers)) == Some(4));
+    Ok(())
+}
+
+// The history has three numbers.
+#[test]
+fn each_of_four_threads_passes_the_gate_on_an_empty_main(rt: HostRuntime) -> Result<(), Fail> {
+    let gate = CountingGate::new();
+    let _ = run_with(&rt, "run --threads 4", EMPTY_MAIN.as_bytes(), &gate)?;
+    assert!(rt; gate.passes() == 7);
     Ok(())
 }
 

@@ -177,7 +177,8 @@ const CLASSIC_LEAK: &str = "\
     \truntime.GC()\n\
     }\n";
 
-const FINALISED_HELD: &str = "\
+/// Goroutine 2 is dead, and refers to an object with a finaliser.
+pub const FINALISED_HELD: &str = "\
     package main\n\
     import (\n\
     \t\"fmt\"\n\

@@ -1,7 +1,7 @@
 -- A turn that asks for a collection, and how it is taken back.
 -- For: `turn_and_collect`, src/turning.rt; `wants_collection`, golf_model/specs/Turn.antt
 -- By: cases of the frame on top and of its next instruction; no induction
-use Rattle.std.proofs.Common.{◌≡◌, ℕ, ◌+◌, ◌/◌, Bool, true, false, List, [], ◌∷◌, length, Option, Some, None, refl, sym, ap, ◌∙◌}
+use Rattle.std.proofs.Common.{◌≡◌, ℕ, ◌+◌, ◌/◌, Bool, true, false, not, ◌||◌, List, [], ◌∷◌, length, Option, Some, None, refl, sym, ap, ◌∙◌}
 use Rattle.std.specs.Prelude.{option_and_then}
 use Rattle.golf_theory.specs.Maps.{find, IsRising}
 use Rattle.golf_data.specs.declared.code.Code.{Code}
@@ -16,7 +16,7 @@ use Rattle.golf_model.specs.Waking.{on_top}
 use Rattle.golf_model.specs.Changes.{Change, apply_all}
 use Rattle.golf_model.specs.Acting.{next, stands, goes}
 use Rattle.golf_model.specs.Clearing.{clearing}
-use Rattle.golf_model.specs.Turn.{turned, changes, line_at, acting, performs, frame_changes, goroutine_changes, turn_of, turn_changes, whose_turn, step, is_collection, line_collects, frame_collects, frames_collect, goroutine_collects, wants_collection}
+use Rattle.golf_model.specs.Turn.{turned, changes, line_at, acting, performs, frame_changes, goroutine_changes, turn_of, turn_changes, whose_turn, step, is_collection, line_collects, frame_collects, frames_collect, goroutine_collects, wants_collection, moves_on}
 use Rattle.golf_state.specs.Going.{went}
 use Rattle.golf_state.specs.Looked.{frames_of, frames_in, reframed, runs, is_running_in}
 use Rattle.golf_state.specs.Doing.{Stands}
@@ -83,7 +83,7 @@ at-collect code s n g rises turn wants =
         next = refl;
       };
       line = t.goes.line;
-      then = ap (λ (b : Bool). let t : State = turned code s n in apply_all (clearing code b (whose_turn s n) t) t) wants
+      then = ap (λ (b : Bool). let t : State = turned code s n in apply_all (clearing code (b || not (moves_on code s n)) (whose_turn s n) t) t) wants
           ∙ ap (λ (m : Option ℕ). apply_all (turn_changes code choice s m) s) turn
           ∙ ap (λ (o : Option GoroutineView). apply_all (turn_of code g choice s o) s) found
           ∙ ap (λ (cs : List Change). apply_all cs s) t.goes.is;

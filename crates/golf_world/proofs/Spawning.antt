@@ -38,7 +38,7 @@ use Rattle.golf_model.specs.Conditions.{makes_condition, gets_mutex, awaits_by, 
 use Rattle.golf_model.specs.Calls.{is_full, enters, calls, spawns, ends, returns_to, unwinds_to, returns_by, begins_deferred, leaves_returning, leaves_unwinding}
 use Rattle.golf_model.specs.Finalising.{finalises_by, finalises, unfinalises, begins_queued}
 use Rattle.golf_model.specs.Clearing.{clears_in, clears, clearing}
-use Rattle.golf_model.specs.Turn.{turned, changes, line_at, return_line, acting, performs, frame_changes, goroutine_changes, turn_of, turn_changes, whose_turn, wants_collection, cleared_after, step}
+use Rattle.golf_model.specs.Turn.{turned, changes, line_at, return_line, acting, performs, frame_changes, goroutine_changes, turn_of, turn_changes, whose_turn, clears_nothing, cleared_after, step}
 use Rattle.golf_world.specs.Spawning.{starts_one, Quiet_by, Quiet, Few_by, Few}
 use Rattle.golf_world.proofs.SpawnWays.{on-some, on-choice, on-one, on-two, on-three, on-operands, on-ints, on-reference_or, on-struct, on-slice, on-channel, on-mutex, on-group, on-rw, on-condition, few-goes, few-jumps, few-leaves, few-panics, few-dies, few-blocks, on-reference}
 
@@ -480,7 +480,7 @@ runnable-size s = length-keys_where (can_run s.queue) s.goroutines
 pub step-size : (code : Code) (s : State) (c : ℕ) → length (step code s c).goroutines ≤ length s.goroutines + 1
 step-size code s c =
     let a = few-size (turn_changes code (c / length (runnable s)) s (whose_turn s c)) s (few_turn code s (c / length (runnable s)) (whose_turn s c)) in
-    let b = quiet-size (cleared_after code s c) (turned code s c) (quiet-clearing code (wants_collection code s c) (whose_turn s c) (turned code s c)) in
+    let b = quiet-size (cleared_after code s c) (turned code s c) (quiet-clearing code (clears_nothing code s c) (whose_turn s c) (turned code s c)) in
     omega arith
 
 pub collect-size : (s : State) (recover sets_finalisers : Bool) → length (real_collect s recover sets_finalisers).goroutines ≤ length s.goroutines

@@ -1,22 +1,19 @@
-use Rattle.std.proofs.Common.{List, []}
-use Rattle.golf_data.specs.declared.code.Code.{Code}
-use Rattle.golf_model.specs.Changes.{Change}
-use Rattle.golf_model.specs.Acting.{Actor}
-use Rattle.golf_model.specs.Turn.{changes}
-use Rattle.golf_state.proofs.Outcomings.{carried, stands-to-fault}
+use Rattle.std.proofs.lemmas.Result.{IfOk-weaker}
+use Rattle.std.proofs.Common.{subst}
+use Rattle.golf_model.specs.Selecting.{selects}
+use Rattle.golf_state.specs.Outcomes.{Comes}
+use Rattle.golf_machine.proofs.Fits.{fits-comes}
 use Rattle.golf_machine.proofs.performing.operate.Goals as goal
 
--- any code: these instructions look at none
-blank : Code
-blank = record { functions = []; globals = []; structs = []; texts = []; main_line = 0 }
-
-pub carry_out-requires : goal.carry_out-requires
-carry_out-requires c =
+pub returns-in-Select-clause-ok : goal.returns-in-Select-clause-ok
+returns-in-Select-clause-ok c =
+    let g = c.args.acting.goroutine.0 in
+    let line = c.args.acting.line in
     let s = c.args.state.now in
-    let act : Actor → List Change = λ a. changes blank c.args.instr.now a c.args.choice s in
-    stands-to-fault c.in_ok-outcome.outcome act c.args.acting.goroutine.0 c.args.acting.after c.args.acting.line s c.perform_communication.new.state c.requires.stands (c.in_ok-outcome.ensures.ok blank)
+    let t = c.select.new.state in
+    IfOk-weaker c.select.result _ _
+    (λ outcome h. rw c.in-Select.is (fits-comes outcome _ g line s t c.requires.stays (subst (λ xs. Comes outcome (λ a. selects a s c.args.choice xs c.in-Select.otherwise) g line s t) c.as_slice-cases.ensures h)))
+    c.select.ensures.ok
 
-pub returns-clause-ok : goal.returns-clause-ok
-returns-clause-ok c = λ code.
-    let s = c.args.state.now in
-    carried c.in_ok-outcome.outcome (λ a. changes code c.args.instr.now a c.args.choice s) c.args.acting.goroutine.0 c.args.acting.line s c.perform_communication.new.state c.carry_out.new.state (c.in_ok-outcome.ensures.ok code) c.carry_out.ensures
+pub returns-in-Int-clause-ok : goal.returns-in-Int-clause-ok
+returns-in-Int-clause-ok c = IfOk-weaker c.perform_on_frame.result _ _ (λ outcome h. h c.args.code.now c.args.choice) c.perform_on_frame.ensures.ok

@@ -1,20 +1,21 @@
-use Rattle.std.proofs.lemmas.Result.{on_ok_weaker}
+use Rattle.std.proofs.Common.{List, ◌∙◌}
+use Rattle.golf_model.specs.Changes.{Change}
+use Rattle.golf_model.specs.Acting.{Actor}
+use Rattle.golf_model.specs.Turn.{changes}
+use Rattle.golf_machine.proofs.Fits.{carried, stands-to-fault}
 use Rattle.golf_machine.proofs.performing.perform.Goals as goal
 
-pub returns-in-Values-clause-ok : goal.returns-in-Values-clause-ok
-returns-in-Values-clause-ok c = on_ok_weaker c.perform_value.result (λ h. h c.args.code.now c.args.choice) c.perform_value.ensures.ok
+pub carry_out-requires : goal.carry_out-requires
+carry_out-requires c =
+    let s = c.args.state.now in
+    let act : Actor → List Change = λ a. changes c.args.code.now c.args.instr.now a c.args.choice s in
+    stands-to-fault c.in_ok-outcome.outcome act c.args.acting.goroutine.0 c.args.acting.after c.args.acting.line s c.operate.new.state c.requires.stands c.in_ok-outcome.ensures.ok
 
-pub returns-in-Calculations-clause-ok : goal.returns-in-Calculations-clause-ok
-returns-in-Calculations-clause-ok c = on_ok_weaker c.perform_calculation.result (λ h. h c.args.code.now c.args.choice) c.perform_calculation.ensures.ok
+pub returns-clause-ok : goal.returns-clause-ok
+returns-clause-ok c =
+    let s = c.args.state.now in
+    let act : Actor → List Change = λ a. changes c.args.code.now c.args.instr.now a c.args.choice s in
+    carried c.in_ok-outcome.outcome act c.args.acting.goroutine.0 c.args.acting.line s c.operate.new.state c.carry_out.new.state c.in_ok-outcome.ensures.ok c.carry_out.ensures
 
-pub returns-in-Structures-clause-ok : goal.returns-in-Structures-clause-ok
-returns-in-Structures-clause-ok c = on_ok_weaker c.perform_structure.result (λ h. h c.args.choice) c.perform_structure.ensures.ok
-
-pub returns-in-Communication-clause-ok : goal.returns-in-Communication-clause-ok
-returns-in-Communication-clause-ok c = on_ok_weaker c.operate.result (λ h. h c.args.code.now) c.operate.ensures.ok
-
-pub returns-in-Sharing-clause-ok : goal.returns-in-Sharing-clause-ok
-returns-in-Sharing-clause-ok c = on_ok_weaker c.share.result (λ h. h c.args.code.now c.args.choice) c.share.ensures.ok
-
-pub returns-in-Calls-clause-ok : goal.returns-in-Calls-clause-ok
-returns-in-Calls-clause-ok c = on_ok_weaker c.perform_call.result (λ h. h c.args.choice) c.perform_call.ensures.ok
+pub returns-clause-fits : goal.returns-clause-fits
+returns-clause-fits c = c.is_fit.ensures ∙ c.in_ok-outcome.ensures.ok.1

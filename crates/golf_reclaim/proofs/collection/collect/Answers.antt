@@ -12,19 +12,30 @@ use Rattle.golf_model.specs.Reaching.{reach, sources}
 use Rattle.golf_model.specs.Collecting.{plain_collect, removed, retained}
 use Rattle.golf_model.specs.Reporting.{numbers, entries, retained_objects}
 use Rattle.golf_heap.specs.Objects.{kept}
-use Rattle.golf_reclaim.proofs.Reports.{report-is, book-is, dead-apart, new-apart, fewer-gone}
+use Rattle.golf_reclaim.specs.Noting.{stays_reported}
+use Rattle.golf_reclaim.proofs.Rising.{gone-rise}
+use Rattle.golf_reclaim.proofs.Reports.{report-is, book-is, can-note, fewer-gone}
+use Rattle.golf_reclaim.proofs.PlainReports.{report-plain, book-plain}
 use Rattle.golf_reclaim.proofs.States.{zero-stays, queued-alike, collected, stays-are}
 use Rattle.golf_reclaim.proofs.Translating.{retained-flags}
 use Rattle.golf_reclaim.proofs.Promises.{are-still, is-unseen, leaves-exactly, moves-on}
 use Rattle.golf_reclaim.proofs.collection.collect.Goals as goal
 
-pub unreported-requires : goal.unreported-requires
-unreported-requires g c =
-    dead-apart c.args.state.now c.args.book.now c.as_slice-2.result.now c.requires.gone (ap numbers c.as_slice-2.ensures ∙ c.in_ok-found.ensures.dead)
+pub find_retained-requires-clause-rises : goal.find_retained-requires-clause-rises
+find_retained-requires-clause-rises g c κs within = gone-rise c.args.state.now c.in_ok-found.ensures.numbered.goroutines_rise c.in_ok-found.found.dead c.as_slice-gone.result.now c.in_ok-found.ensures.dead c.args.options.recover c.args.options.sets_finalisers (ap numbers c.as_slice-gone.ensures ∙ c.in_ok-found.ensures.gone)
 
-pub note-requires-clause-apart : goal.note-requires-clause-apart
-note-requires-clause-apart g c =
-    new-apart c.args.state.now c.args.book.now c.as_slice-2.result.now c.as_slice-4.result.now c.requires.gone (ap numbers c.as_slice-2.ensures ∙ c.in_ok-found.ensures.dead) (c.as_slice-4.ensures ∙ c.in_ok-new.ensures)
+pub outside-requires : goal.outside-requires
+outside-requires g c = gone-rise c.args.state.now c.in_ok-found.ensures.numbered.goroutines_rise c.in_ok-found.found.dead c.as_slice-gone.result.now c.in_ok-found.ensures.dead c.args.options.recover c.args.options.sets_finalisers (ap numbers c.as_slice-gone.ensures ∙ c.in_ok-found.ensures.gone)
+
+pub note-requires-clause-rises : goal.note-requires-clause-rises
+note-requires-clause-rises g c = gone-rise c.args.state.now c.in_ok-found.ensures.numbered.goroutines_rise c.in_ok-found.found.dead c.as_slice-gone.result.now c.in_ok-found.ensures.dead c.args.options.recover c.args.options.sets_finalisers (ap numbers c.as_slice-gone.ensures ∙ c.in_ok-found.ensures.gone)
+
+pub note-requires-clause-known : goal.note-requires-clause-known
+note-requires-clause-known g c =
+    let s = c.args.state.now in
+    let b = c.args.book.now in
+    can-note s b c.args.options.recover c.args.options.sets_finalisers c.in_ok-found.found.dead c.as_slice-gone.result.now c.in_ok-found.ensures.dead (ap numbers c.as_slice-gone.ensures ∙ c.in_ok-found.ensures.gone) c.as_slice-4.result.now
+    (c.as_slice-4.ensures ∙ c.in_ok-new.ensures ∙ ap (λ (l : List GoroutineId). filter (λ (h : GoroutineId). not (stays_reported b h.0)) l) c.as_slice-2.ensures) c.in_ok-found.ensures.numbered
 
 pub retain_goroutines-requires-clause-count : goal.retain_goroutines-requires-clause-count
 retain_goroutines-requires-clause-count g c =
@@ -49,12 +60,12 @@ retain_goroutines-requires-clause-zero g c =
 
 pub overflow_sub-result : goal.overflow_sub-result
 overflow_sub-result g c =
-    let less = fewer-gone c.args.state.now c.args.book.now c.args.options.recover c.args.options.sets_finalisers c.requires.gone c.in_ok-found.found.dead c.as_slice-gone.result.now c.in_ok-found.ensures.dead (ap numbers c.as_slice-gone.ensures ∙ c.in_ok-found.ensures.gone) in
+    let less = fewer-gone c.args.state.now c.args.book.now c.args.options.recover c.args.options.sets_finalisers c.in_ok-found.found.dead c.as_slice-gone.result.now c.in_ok-found.ensures.dead (ap numbers c.as_slice-gone.ensures ∙ c.in_ok-found.ensures.gone) in
     omega (arith, less, c.len.ensures)
 
 pub overflow_cast-result-2 : goal.overflow_cast-result-2
 overflow_cast-result-2 g c =
-    let less = fewer-gone c.args.state.now c.args.book.now c.args.options.recover c.args.options.sets_finalisers c.requires.gone c.in_ok-found.found.dead c.as_slice-gone.result.now c.in_ok-found.ensures.dead (ap numbers c.as_slice-gone.ensures ∙ c.in_ok-found.ensures.gone) in
+    let less = fewer-gone c.args.state.now c.args.book.now c.args.options.recover c.args.options.sets_finalisers c.in_ok-found.found.dead c.as_slice-gone.result.now c.in_ok-found.ensures.dead (ap numbers c.as_slice-gone.ensures ∙ c.in_ok-found.ensures.gone) in
     omega (arith, less, c.in_ok-found.ensures.few)
 
 pub returns-clause-state : goal.returns-clause-state
@@ -90,9 +101,9 @@ returns-clause-report g c =
     let new = c.in_ok-new.new in
     let are = c.in_ok-found.ensures.dead in
     let out : numbers gone ≡ removed s recover sets = ap numbers c.as_slice-gone.ensures ∙ c.in_ok-found.ensures.gone in
-    let fresh = c.in_ok-new.ensures ∙ ap (λ (l : List GoroutineId). filter (λ (h : GoroutineId). not (is_in h.0 (numbers b.reported))) l) c.as_slice-2.ensures in
-    let less = fewer-gone s b recover sets c.requires.gone found gone are out in
-    report-is s b recover sets c.requires.gone found new gone are out fresh (record {
+    let fresh = c.in_ok-new.ensures ∙ ap (λ (l : List GoroutineId). filter (λ (h : GoroutineId). not (stays_reported b h.0)) l) c.as_slice-2.ensures in
+    let less = fewer-gone s b recover sets found gone are out in
+    report-is s b recover sets found gone are out new fresh (record {
       number = c.collections.result;
       marked = c.in_ok-found.found.objects;
       reported = c.in_ok-reported.reported;
@@ -114,8 +125,14 @@ returns-clause-book g c =
     let recover : Bool = c.args.options.recover in
     let sets : Bool = c.args.options.sets_finalisers in
     let out : numbers c.as_slice-gone.result.now ≡ removed s recover sets = ap numbers c.as_slice-gone.ensures ∙ c.in_ok-found.ensures.gone in
-    let fresh = c.as_slice-4.ensures ∙ c.in_ok-new.ensures ∙ ap (λ (l : List GoroutineId). filter (λ (h : GoroutineId). not (is_in h.0 (numbers b.reported))) l) c.as_slice-2.ensures in
-    c.in_ok-note.ensures.book ∙ book-is s b recover sets c.requires.gone c.in_ok-found.found.dead c.as_slice-4.result.now c.as_slice-gone.result.now c.in_ok-found.ensures.dead out fresh
+    let fresh = c.as_slice-4.ensures ∙ c.in_ok-new.ensures ∙ ap (λ (l : List GoroutineId). filter (λ (h : GoroutineId). not (stays_reported b h.0)) l) c.as_slice-2.ensures in
+    c.in_ok-note.ensures.book ∙ book-is s b recover sets c.in_ok-found.found.dead c.as_slice-gone.result.now c.in_ok-found.ensures.dead out c.as_slice-4.result.now fresh
+
+pub returns-clause-plain_report : goal.returns-clause-plain_report
+returns-clause-plain_report g c apart = returns-clause-report g c ∙ report-plain c.args.state.now c.args.book.now c.args.options.recover c.args.options.sets_finalisers apart
+
+pub returns-clause-plain_book : goal.returns-clause-plain_book
+returns-clause-plain_book g c apart = returns-clause-book g c ∙ book-plain c.args.state.now c.args.book.now c.args.options.recover c.args.options.sets_finalisers apart
 
 pub returns-clause-still : goal.returns-clause-still
 returns-clause-still g c = are-still c.args.state.now c.args.book.now c.args.options.recover c.args.options.sets_finalisers _ c.in_ok-found.ensures.numbered (returns-clause-report g c)

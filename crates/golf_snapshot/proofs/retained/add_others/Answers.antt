@@ -11,7 +11,7 @@ use Rattle.golf_snapshot.proofs.retained.add_others.Goals.{then-is_next+in_ok-ad
 pub loop-g-init : goal.loop-g-init
 loop-g-init c =
     let s = c.args.state.now in
-    let test : ℕ → Bool = λ g. not (is_in g c.args.gone.now) in
+    let test : ℕ → Bool = λ g. not (is_in g (map (λ k. k.0) c.args.gone.now)) in
     (gather-init (TestedNodes s.objects test) refl (tested-append s.objects test) c.args.nodes.now s.goroutines, refl)
 
 pub add_sleeper_unless_gone-requires-clause-within : goal.add_sleeper_unless_gone-requires-clause-within
@@ -32,7 +32,7 @@ loop-g-preserved c =
     let present = ap (λ (xs : List GoroutineId). map (λ g. g.0) xs) c.as_slice-g-items.ensures ∙ c.in_ok-goroutines.ensures.present in
     let d : GoroutineId = record { 0 = 0 } in
     let g : GoroutineId = get_or gs i d in
-    let test : ℕ → Bool = λ h. not (is_in h c.args.gone.now) in
+    let test : ℕ → Bool = λ h. not (is_in h (map (λ k. k.0) c.args.gone.now)) in
     let here = entry-listed s.goroutines gs i d rises present c.loop-g-test.true in
     let old = c.loop-g.invariant in
     elim c.if-is_next.branch [
@@ -57,5 +57,5 @@ loop-g-preserved c =
 pub returns : goal.returns
 returns c =
     let s = c.args.state.now in
-    let test : ℕ → Bool = λ g. not (is_in g c.args.gone.now) in
+    let test : ℕ → Bool = λ g. not (is_in g (map (λ k. k.0) c.args.gone.now)) in
     gather-end (TestedNodes s.objects test) refl (tested-append s.objects test) c.args.nodes.now c.loop-g.nodes s.goroutines c.as_slice-g-items.result.now c.loop-g.g-index (ap (λ (xs : List GoroutineId). map (λ g. g.0) xs) c.as_slice-g-items.ensures ∙ c.in_ok-goroutines.ensures.present) c.loop-g-test.false c.loop-g.invariant.0

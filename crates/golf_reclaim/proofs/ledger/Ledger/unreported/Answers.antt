@@ -1,21 +1,23 @@
-use Rattle.std.proofs.Common.{◌≡◌, ℕ, List, filter, not, sym, ap, subst, ◌∙◌}
+use Rattle.std.proofs.Common.{List, ◌++◌, filter, not, ap, ◌∙◌}
 use Rattle.golf_theory.specs.Membership.{is_in}
 use Rattle.golf_base.specs.declared.ids.GoroutineId.{GoroutineId}
 use Rattle.golf_data.specs.declared.report.Book.{Book}
 use Rattle.golf_model.specs.Reporting.{numbers}
-use Rattle.golf_reclaim.specs.Noting.{AreApart}
-use Rattle.golf_reclaim.proofs.Noting.{unreported-alike, where-new}
+use Rattle.golf_reclaim.specs.Noting.{stays_reported}
+use Rattle.golf_reclaim.proofs.Noting.{unreported-alike}
 use Rattle.golf_reclaim.proofs.ledger.Ledger.unreported.Goals as goal
+
+pub add_unlisted-requires : goal.add_unlisted-requires
+add_unlisted-requires c = rw c.as_slice.ensures.value c.self.invariant.rises
 
 pub returns : goal.returns
 returns c =
     let s = c.self.inside in
     let gs = c.args.goroutines.now in
-    let reported : s.reported.items ≡ c.args.self.now.reported = ap (λ (b : Book). b.reported) c.self.view_is in
-    let reclaimed : s.reclaimed.items ≡ c.args.self.now.reclaimed = ap (λ (b : Book). b.reclaimed) c.self.view_is in
-    let apart : AreApart (numbers gs) (numbers s.reclaimed.items) = subst (λ (l : List GoroutineId). AreApart (numbers gs) (numbers l)) (sym reclaimed) c.requires in
-    where-new c.unlisted.result (filter (λ (g : GoroutineId). not (is_in g.0 c.as_slice.result.now)) gs) (filter (λ (g : GoroutineId). not (is_in g.0 (numbers c.args.self.now.reported))) gs)
-    (ap (λ (l : List ℕ). filter (λ (g : GoroutineId). not (is_in g.0 l)) gs) c.as_slice.ensures.value
-    ∙ unreported-alike s.reported.items s.reclaimed.items s.staying.items gs c.self.invariant apart
-    ∙ ap (λ (l : List GoroutineId). filter (λ (g : GoroutineId). not (is_in g.0 (numbers l))) gs) reported)
-    c.unlisted.ensures
+    let book : Book = record { collections = s.collections; reported = s.reported.items; reclaimed = s.reclaimed.items } in
+    c.from_vec.ensures
+    ∙ c.in_ok-add_unlisted.ensures
+    ∙ ap (λ (l : List GoroutineId). l ++ filter (λ (g : GoroutineId). not (is_in g.0 (numbers c.as_slice.result.now))) gs) c.new-new.ensures.items
+    ∙ ap (λ (l : List GoroutineId). filter (λ (g : GoroutineId). not (is_in g.0 (numbers l))) gs) c.as_slice.ensures.value
+    ∙ unreported-alike book s.staying.items gs c.self.invariant
+    ∙ ap (λ (b : Book). filter (λ (g : GoroutineId). not (stays_reported b g.0)) gs) c.self.view_is

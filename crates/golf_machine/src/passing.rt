@@ -1,0 +1,121 @@
+//! Turns that touch the innermost frame alone.
+
+ghost use Rattle.std.specs.Prelude.{◌≡◌, IfOk, OnErr, option_map, slice_get};
+ghost use Rattle.golf_data.specs.Places.{HasPlaces};
+ghost use Rattle.golf_model.specs.Views.{frame_view, frame_views};
+ghost use Rattle.golf_state.specs.Doing.{Runs};
+ghost use Rattle.golf_machine.specs.Passing.{cleared_in, HasPassed, HasPassedOnTop, HasTakenTurn};
+
+use crate::within::{Within, perform_within};
+use golf_base::{GoroutineId, List, Memory};
+use golf_data::{Code, CodeLine, Frame, Function, Leaving, Value};
+use golf_state::State;
+
+/// How far a turn came on the innermost frame alone.
+#[derive(Clone, Copy, Debug, Drop)]
+pub(crate) enum Passed<'c> {
+    /// It is over, with what is cleared after it.
+    Over,
+    /// Nothing has changed: this instruction is still to be done, and the number is the place after it.
+    At(&'c CodeLine, u32),
+    /// Nothing has changed: there is no frame, or it is leaving, or it is at no instruction.
+    Nowhere,
+}
+
+// The function of this number.
+#[inline(always)]
+fn function_at(code: &Code, number: u32) -> Option<&Function>
+    ensures function { option_map (λ f. f.now) result ≡ slice_get code.now.functions number }
+{
+    code.functions.as_slice().get(number as usize)
+}
+
+// The instruction at a place of a function, with its line.
+#[inline(always)]
+fn line_in(function: &Function, at: u32) -> Option<&CodeLine>
+    ensures line { option_map (λ l. l.now) result ≡ slice_get function.now.body at }
+{
+    function.body.as_slice().get(at as usize)
+}
+
+// The mask of a place of a function, if there is one.
+#[inline(always)]
+fn mask_in(function: &Function, at: u32) -> Option<u64>
+    ensures { result ≡ slice_get function.now.live at }
+{
+    function.live.as_slice().get(at as usize).copied()
+}
+
+// The slots of a frame of this function which no instruction from its next one on can read hold 0.
+#[inline(always)]
+fn clear_in(function: &Function, frame: &mut Frame)
+    ensures { frame_view frame.new ≡ cleared_in function.now (frame_view frame.old) }
+{
+    if let Some(mask) = mask_in(function, frame.at) {
+        frame.slots.clear_under(mask);
+    }
+}
+
+// The turn of a frame, with these globals, if its instruction touches the frame alone, and fits and does not panic.
+#[inline(always)]
+fn pass_in<'c>(code: &'c Code, globals: &[Value], frame: &mut Frame) -> Result<Passed<'c>, Memory>
+    requires places { HasPlaces code.now }
+    ensures ok { IfOk result (λ passed. HasPassed passed code.now globals.now (frame_view frame.old) (frame_view frame.new)) }
+    ensures err { OnErr result (frame_view frame.new ≡ frame_view frame.old) }
+{
+    match frame.leaving {
+        Leaving::No => {}
+        Leaving::Returning(_) | Leaving::Unwinding(_) => return Ok(Passed::Nowhere),
+    }
+    let Some(function) = function_at(code, frame.function) else {
+        return Ok(Passed::Nowhere);
+    };
+    let Some(line) = line_in(function, frame.at) else {
+        return Ok(Passed::Nowhere);
+    };
+    match perform_within(frame, globals, &line.instr)? {
+        Within::Done => {}
+        Within::ZeroDivisor | Within::Stuck | Within::Beyond => {
+            return Ok(Passed::At(line, frame.at + 1));
+        }
+    }
+    clear_in(function, frame);
+    Ok(Passed::Over)
+}
+
+/// The same of the innermost frame, if there is one.
+#[inline(always)]
+pub(crate) fn pass_on_top<'c>(
+    code: &'c Code,
+    globals: &[Value],
+    frames: &mut List<Frame>,
+) -> Result<Passed<'c>, Memory>
+    requires places { HasPlaces code.now }
+    ensures ok { IfOk result (λ passed. HasPassedOnTop passed code.now globals.now (frame_views frames.old) (frame_views frames.new)) }
+    ensures err { OnErr result (frame_views frames.new ≡ frame_views frames.old) }
+{
+    let count = frames.len();
+    if count == 0 {
+        return Ok(Passed::Nowhere);
+    }
+    let passed = pass_in(code, globals, frames.item_mut(count - 1))?;
+    Ok(passed)
+}
+
+/// The turn of a goroutine that runs, with what is cleared after it, if its instruction touches its innermost frame
+/// alone, and fits and does not panic. Else nothing has changed, and it answers where the goroutine is.
+#[inline(always)]
+pub(crate) fn pass<'c>(
+    code: &'c Code,
+    state: &mut State,
+    g: GoroutineId,
+) -> Result<Passed<'c>, Memory>
+    requires places { HasPlaces code.now }
+    requires runs { Runs g.0 state.old }
+    ensures ok { IfOk result (λ passed. HasTakenTurn passed code.now g.0 state.old state.new) }
+    ensures err { OnErr result (state.new ≡ state.old) }
+{
+    let (frames, globals) = state.frames_and_globals(g);
+    let passed = pass_on_top(code, globals, frames)?;
+    Ok(passed)
+}

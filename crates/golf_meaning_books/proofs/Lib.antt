@@ -1,0 +1,11 @@
+pub mod Serving
+pub mod Framing
+pub mod Others
+pub mod Owning
+pub mod Leaving
+pub mod Rebooking
+pub mod Turned
+pub mod Clearing
+pub mod Booking
+pub mod Counting
+pub mod Runs

@@ -1,0 +1,179 @@
+-- In each state of a run the frames of every goroutine match its calls.
+-- For: `RunsAreBooked`, golf_meaning_books/specs/Books.antt; the law `runs_are_booked`, src/lib.rt.
+-- By: induction over the events of the run.
+use Rattle.std.proofs.Common.{◌≡◌, ℕ, ◌==◌, ◌/◌, Bool, true, false, cond, List, [], ◌∷◌, length, Option, Some, None, refl, ap, sym, ◌∙◌, subst, slice_get, arith}
+use Rattle.std.specs.Prelude.{is_some, option_map, option_to_list}
+use Rattle.std.proofs.lemmas.Bool.{eqb-true, eqb-false}
+use Rattle.golf_theory.specs.Membership.{Every}
+use Rattle.golf_theory.specs.Maps.{Entry, find}
+use Rattle.golf_theory.proofs.MapFinds.{find-Entry, Entry-below}
+use Rattle.golf_data.specs.declared.code.Code.{Code}
+use Rattle.golf_data.specs.declared.code.Function.{Function}
+use Rattle.golf_data.specs.declared.goroutine.Ending.{Ending}
+use Rattle.golf_data.specs.declared.goroutine.Mode.{Mode}
+use Rattle.golf_model.specs.Views.{GoroutineView}
+use Rattle.golf_model.specs.State.{State, is_running, not_empty, runnable, ending_of, ending, opened, start}
+use Rattle.golf_model.specs.Changes.{apply_all}
+use Rattle.golf_model.specs.Collecting.{plain_collect}
+use Rattle.golf_model.specs.Clearing.{clearing}
+use Rattle.golf_model.specs.Turn.{goroutine_changes, turn_of, turn_changes, whose_turn, wants_collection, turned, clears_nothing, step, MovesOn}
+use Rattle.golf_model.specs.Running.{Event, has_ended, collected_if, happens_in, happens, run}
+use Rattle.golf_model.specs.Futures.{Numbered}
+use Rattle.golf_model_futures.proofs.Staying.{turn-running}
+use Rattle.golf_model_futures.proofs.Leading.{numbered-start, numbered-turned, numbered-step, numbered-collect}
+use Rattle.golf_model_futures.proofs.Stopping.{run-kept}
+use Rattle.golf_model_typing.specs.Types.{Types, Typing, ValuesFit}
+use Rattle.golf_model_typing.specs.Shapes.{HasShapes}
+use Rattle.golf_meaning_books.specs.Books.{Book, fresh, turned_book, booked_in, book_from, first_book, Takes, HasLife, HasParameters, Matches, HasMasks, RunsAreBooked}
+use Rattle.golf_meaning_books.proofs.Framing.{fresh-top}
+use Rattle.golf_meaning_books.proofs.Others.{one-some, none-some}
+use Rattle.golf_meaning_books.proofs.Rebooking.{matches-live}
+use Rattle.golf_meaning_books.proofs.Turned.{own_calls, started_calls, Done}
+use Rattle.golf_meaning_books.proofs.Clearing.{after-clearing}
+use Rattle.golf_meaning_books.proofs.Booking.{Booked, PassesOn, turn-done}
+use Rattle.golf_meaning_books.proofs.Counting.{call-takes, passes-on}
+
+-- ---- a turn
+
+runs-so : (m : Mode) → is_running m ≡ true → m ≡ Mode.Running
+runs-so Mode.Running e = refl
+runs-so (Mode.Blocked kind line waits ticket) e = cc
+
+-- after a turn all calls are those that are written down
+from-done : (code : Code) (types : Types) (s : State) (c g : ℕ) (b : Book) → Booked code types s b → Done code types s g b (step code s c) → Booked code types (step code s c) (turned_book code s c (Some g) b)
+from-done code types s c g b booked d =
+    let t = step code s c in record {
+      lives = λ h. elim (h == g) as (λ z. Every (HasLife code types) (cond z (own_calls code s g b t) (cond (h == s.next_goroutine) (started_calls code s g t h) (b h)))) [
+        | true ↦ d.lives
+        | false ↦ elim (h == s.next_goroutine) as (λ z. h == s.next_goroutine ≡ z → Every (HasLife code types) (cond z (started_calls code s g t h) (b h))) [
+          | true ↦ λ e. subst (λ j. Every (HasLife code types) (started_calls code s g t j)) (sym (eqb-true h s.next_goroutine e)) d.begun
+          | false ↦ λ e. booked.lives h
+        ] refl
+      ];
+      fits = λ none h q found. elim (h == g) as (λ z. h == g ≡ z → Matches code types q.mode q.frames (cond z (own_calls code s g b t) (cond (h == s.next_goroutine) (started_calls code s g t h) (b h)))) [
+        | true ↦ λ e. d.fits none q (ap (λ j. find j t.goroutines) (sym (eqb-true h g e)) ∙ found)
+        | false ↦ λ e. d.others none h q (λ same. eqb-false h g e same) found
+      ] refl;
+    }
+
+module _ (code : Code) (types : Types) (masks : HasMasks code) (s : State) (c : ℕ) (b : Book) (numbered : Numbered s) (going : s.recorded ≡ None) (booked : Booked code types s b) (moves : MovesOn code s c) (passes : (g : ℕ) (r : GoroutineView) → Entry s.goroutines g r → r.mode ≡ Mode.Running → PassesOn code types s r.frames) where
+  abbrev choice : ℕ
+  choice = c / length (runnable s)
+
+  fits-a-rule : (g : ℕ) → whose_turn s c ≡ Some g → turn_of code g choice s (find g s.goroutines) ≡ [] → ⊥
+  fits-a-rule g e none = false-true (sym (ap not_empty (ap (turn_changes code choice s) e ∙ none)) ∙ moves)
+    where
+      false-true : false ≡ true → ⊥
+      false-true i = cc
+
+  of-goroutine : (g : ℕ) → whose_turn s c ≡ Some g → Done code types s g b (step code s c)
+  of-goroutine g e =
+      let r = turn-running s c g e in
+      let found = find-Entry s.goroutines g r.0 numbered.goroutines_rise r.1 in
+      let t = turned code s c in
+      let above = numbered-turned code s c numbered in
+      let d = turn-done code types masks b s numbered.goroutines_rise numbered.goroutines_below (booked.fits going) choice g r.0 found (runs-so r.0.mode r.2) (passes g r.0 r.1 (runs-so r.0.mode r.2)) (fits-a-rule g e) t above.goroutines_below (ap (λ m. apply_all (turn_changes code choice s m) s) e) in
+      subst (λ m. Done code types s g b (apply_all (clearing code (clears_nothing code s c) m t) t)) (sym e)
+      (after-clearing code types masks s g b (λ same. let below = Entry-below s.next_goroutine s.goroutines g r.0 numbered.goroutines_below r.1 in omega (arith, below, same)) t d (clears_nothing code s c))
+
+  turn-by : (m : Option ℕ) → whose_turn s c ≡ m → Booked code types (step code s c) (turned_book code s c m b)
+  turn-by None e = absurd (false-true (sym (ap not_empty (ap (turn_changes code choice s) e)) ∙ moves))
+    where
+      false-true : false ≡ true → ⊥
+      false-true i = cc
+  turn-by (Some g) e = from-done code types s c g b booked (of-goroutine g e)
+
+  turn-booked : Booked code types (step code s c) (turned_book code s c (whose_turn s c) b)
+  turn-booked = turn-by (whose_turn s c) refl
+
+-- ---- an event
+
+not-recorded : (m : Option Ending) (awake : Bool) → ending_of m awake ≡ None → m ≡ None
+not-recorded None awake e = refl
+not-recorded (Some x) awake e = cc
+
+not-ended : (m : Option Ending) → is_some m ≡ false → m ≡ None
+not-ended None e = refl
+not-ended (Some x) e = cc
+
+-- a collection touches no goroutine
+collected-booked : (code : Code) (types : Types) (collects : Bool) (s : State) (b : Book) → Booked code types s b → Booked code types (collected_if plain_collect code collects s) b
+collected-booked code types true s b h = record { lives = h.lives; fits = h.fits }
+collected-booked code types false s b h = h
+
+-- a state in which a rule fits each turn, and calls have their arguments
+record Well (code : Code) (types : Types) (s : State) : Type 0 where
+  moves : (c : ℕ) → ending s ≡ None → MovesOn code s c
+  passes : (g : ℕ) (r : GoroutineView) → Entry s.goroutines g r → r.mode ≡ Mode.Running → PassesOn code types s r.frames
+
+event-booked : (code : Code) (types : Types) → HasMasks code → (s : State) (b : Book) → Numbered s → Booked code types s b → Well code types s → (ended : Bool) → has_ended s ≡ ended → (e : Event) → Booked code types (happens_in plain_collect code ended s e) (booked_in ended code s e b)
+event-booked code types masks s b n h well true i e = h
+event-booked code types masks s b n h well false i (Event.Turn c) =
+    let open_end = not-ended (ending s) i in
+    collected-booked code types (wants_collection code s c) (step code s c) (turned_book code s c (whose_turn s c) b) (turn-booked code types masks s c b n (not-recorded s.recorded (not_empty (runnable s)) open_end) h (well.moves c open_end) well.passes)
+event-booked code types masks s b n h well false i Event.Collect = collected-booked code types true s b h
+
+-- ---- a run
+
+numbered-run : (code : Code) (es : List Event) (s : State) → Numbered s → Numbered (run code s es)
+numbered-run code es s n = run-kept code Numbered (λ t k m. numbered-step code t k m) (λ t m. numbered-collect t m) es s n
+
+run-booked : (code : Code) (types : Types) → HasMasks code → (es : List Event) (s : State) (b : Book) → Numbered s → Booked code types s b → ((later : List Event) → Well code types (run code s later)) → Booked code types (run code s es) (book_from code s es b)
+run-booked code types masks [] s b n h well = h
+run-booked code types masks (e ∷ es) s b n h well =
+    run-booked code types masks es (happens code s e) (booked_in (has_ended s) code s e b) (numbered-run code (e ∷ []) s n) (event-booked code types masks s b n h (well []) (has_ended s) refl e) (λ later. well (e ∷ later))
+
+-- ---- the opening state
+
+-- goroutine 1 as it begins
+abbrev first_one : Code → Option Function → GoroutineView
+first_one code m = record { frames = option_to_list (option_map (opened 0 [] true) m); mode = Mode.Running; started = code.main_line }
+
+module _ (code : Code) (types : Types) (masks : HasMasks code) (moves : MovesOn code (start code) 0) (takes : Takes code types 0 []) where
+  -- without function 0 no rule fits its turn
+  some-function : slice_get code.functions 0 ≡ None → ⊥
+  some-function e = false-true (sym (ap (λ m. not_empty (goroutine_changes code 1 (first_one code m) 0 (start code) (first_one code m).frames)) e) ∙ moves)
+    where
+      false-true : false ≡ true → ⊥
+      false-true i = cc
+
+  module _ (fn : Function) (is : slice_get code.functions 0 ≡ Some fn) where
+    begun : Matches code types Mode.Running (opened 0 [] true fn ∷ []) (fresh 0 [] ∷ [])
+    begun = (fresh-top code types masks 0 [] true fn is (takes fn is), tt)
+
+    begun-fits : Matches code types Mode.Running (first_one code (slice_get code.functions 0)).frames (fresh 0 [] ∷ [])
+    begun-fits = subst (λ m. Matches code types Mode.Running (first_one code m).frames (fresh 0 [] ∷ [])) (sym is) begun
+
+    begun-lives : (first : Bool) → Every (HasLife code types) (cond first (fresh 0 [] ∷ []) [])
+    begun-lives true = matches-live code types Mode.Running (opened 0 [] true fn ∷ []) (fresh 0 [] ∷ []) begun
+    begun-lives false = tt
+
+    first-fits : (h : ℕ) (q : GoroutineView) (zeroth first : Bool) → h == 0 ≡ zeroth → h == 1 ≡ first → cond zeroth (Some (record { frames = []; mode = Mode.Running; started = 0 })) (cond first (Some (first_one code (slice_get code.functions 0))) None) ≡ Some q → Matches code types q.mode q.frames (cond first (fresh 0 [] ∷ []) [])
+    first-fits h q true true i j e = absurd (let zero_is = eqb-true h 0 i in let one_is = eqb-true h 1 j in omega (arith, zero_is, one_is))
+    first-fits h q true false i j e = subst (λ (z : GoroutineView). Matches code types z.mode z.frames []) (one-some _ q e) tt
+    first-fits h q false true i j e = subst (λ (z : GoroutineView). Matches code types z.mode z.frames (fresh 0 [] ∷ [])) (one-some _ q e) begun-fits
+    first-fits h q false false i j e = absurd (none-some q e)
+
+    first-booked : Booked code types (start code) first_book
+    first-booked = record { lives = λ h. begun-lives (h == 1); fits = λ none h q found. first-fits h q (h == 0) (h == 1) refl refl found }
+
+  start-with : (m : Option Function) → slice_get code.functions 0 ≡ m → Booked code types (start code) first_book
+  start-with None e = absurd (some-function e)
+  start-with (Some fn) e = first-booked fn e
+
+  start-booked : Booked code types (start code) first_book
+  start-booked = start-with (slice_get code.functions 0) refl
+
+-- function 0 takes no arguments
+none-taken : (code : Code) (types : Typing) → HasShapes code types → HasParameters code types → Takes code types.of 0 []
+none-taken code types shapes parameters =
+    let x = shapes.first in call-takes code types shapes parameters [] 0 [] (x.0, x.1, subst (λ ts. ValuesFit types.of [] [] ts) (sym x.2) tt)
+
+pub runs-are-booked : RunsAreBooked
+runs-are-booked code types masks shapes parameters goes events =
+    let n = numbered-run code events (start code) (numbered-start code) in
+    let well : (later : List Event) → Well code types.of (run code (start code) later) = λ later. record { moves = goes.1 later; passes = passes-on code types shapes parameters (goes.0 later).0 (run code (start code) later) (goes.0 later).1 } in
+    let h = run-booked code types.of masks events (start code) first_book (numbered-start code) (start-booked code types.of masks (goes.1 [] 0 refl) (none-taken code types shapes parameters)) well in record {
+      going = λ e g r entry. h.fits (not-recorded (run code (start code) events).recorded (not_empty (runnable (run code (start code) events))) e) g r (find-Entry (run code (start code) events).goroutines g r n.goroutines_rise entry);
+      always = h.lives;
+    }

@@ -1,0 +1,232 @@
+-- The calls of a run: what each has shown, and was answered, turn by turn; and what is to hold of them.
+use Rattle.std.specs.Prelude.{◌≡◌, ℕ, zero, suc, ◌-◌, ◌==◌, Bool, true, false, cond, List, [], ◌∷◌, ◌++◌, length, Option, Some, None, unwrap_or, slice_get}
+use Rattle.golf_theory.specs.Maps.{find, Entry}
+use Rattle.golf_theory.specs.Membership.{Every}
+use Rattle.golf_data.specs.declared.value.Value.{Value}
+use Rattle.golf_data.specs.declared.code.Code.{Code}
+use Rattle.golf_data.specs.declared.code.CodeLine.{CodeLine}
+use Rattle.golf_data.specs.declared.code.Function.{Function}
+use Rattle.golf_data.specs.declared.goroutine.Deferred.{Deferred}
+use Rattle.golf_data.specs.declared.goroutine.Leaving.{Leaving}
+use Rattle.golf_data.specs.declared.goroutine.Mode.{Mode}
+use Rattle.golf_data.specs.declared.goroutine.Queued.{Queued}
+use Rattle.golf_data.specs.declared.goroutine.Wait.{Wait}
+use Rattle.golf_live.specs.Live.{live}
+use Rattle.golf_model.specs.Views.{FrameView, GoroutineView}
+use Rattle.golf_model.specs.State.{State, start, ending}
+use Rattle.golf_model.specs.Turn.{line_at, whose_turn, step, MovesOn}
+use Rattle.golf_model.specs.Running.{Event, has_ended, happens, run}
+use Rattle.golf_model_typing.specs.Types.{ValueType, Signature, Types, Typing, ValuesFit}
+use Rattle.golf_model_typing.specs.Shapes.{HasShapes}
+use Rattle.golf_model_typing.specs.WellTyped.{WellTyped}
+use Rattle.golf_meaning_flat.specs.Worlds.{Operation, Answer, Halt, pushed}
+use Rattle.golf_meaning_flat.specs.Flat.{lower}
+use Rattle.golf_meaning_turns.specs.Showing.{IsOfLock}
+use Rattle.golf_meaning_turns.specs.Life.{frame, Now, Life}
+use Rattle.golf_meaning_turns.specs.Turning.{answer, Asked, shows}
+
+-- ---- what is written down of a call
+
+-- the function with the arguments, the operations that it has shown, the answers that it got, and whether the last operation waits for its answer
+pub record Call : Type 0 where
+  pub function : ℕ
+  pub arguments : List Value
+  pub shown : List Operation
+  pub got : List Answer
+  pub asks : Option Asked
+
+abbrev pub fresh : ℕ → List Value → Call
+fresh f vs = record { function = f; arguments = vs; shown = []; got = []; asks = None }
+
+-- so many operands in source order
+abbrev pub popped : ℕ → List Value → List Value → List Value
+popped zero vs os = vs
+popped (suc n) vs [] = vs
+popped (suc n) vs (v ∷ os) = popped n (v ∷ vs) os
+
+-- before the next turn of a call the answer to its last operation is written down: the clause whose place it stands at, and what lies on top of the operands that were left
+abbrev pub settled_by : Option Asked → FrameView → Call → Call
+settled_by None f k = k
+settled_by (Some q) f k = record k { got = k.got ++ answer (lower q.ranks f.at) (popped (length f.operands - length q.rest) [] f.operands) ∷ []; asks = None }
+
+abbrev pub with_shown : Option (Operation × Asked) → Call → Call
+with_shown None k = k
+with_shown (Some x) k = record k { shown = k.shown ++ x.0 ∷ []; asks = Some x.1 }
+
+-- ---- the calls of a goroutine after its turn
+
+abbrev pub line_shows : Option CodeLine → FrameView → Option (Operation × Asked)
+line_shows None f = None
+line_shows (Some l) f = shows l.instr f.operands
+
+-- the innermost call, by how its frame is left
+abbrev pub turned_call : Code → FrameView → Leaving → Call → Call
+turned_call code f Leaving.No k = with_shown (line_shows (line_at code f.function f.at) f) (settled_by k.asks f k)
+turned_call code f (Leaving.Returning v) k = k
+turned_call code f (Leaving.Unwinding x) k = k
+
+-- the arguments of the call that a turn begins: those of the operation, or of the deferred call
+abbrev pub operands_shown : Option (Operation × Asked) → List Value
+operands_shown None = []
+operands_shown (Some x) = x.0.operands
+
+abbrev pub first_arguments : List Deferred → List Value
+first_arguments [] = []
+first_arguments (d ∷ ds) = d.arguments
+
+abbrev pub passed : Code → FrameView → Leaving → List Value
+passed code f Leaving.No = operands_shown (line_shows (line_at code f.function f.at) f)
+passed code f (Leaving.Returning v) = first_arguments f.deferred
+passed code f (Leaving.Unwinding x) = first_arguments f.deferred
+
+-- whether a list is longer than another
+abbrev pub is_longer : {X : Type 0} → List X → List X → Bool
+is_longer [] ys = false
+is_longer (x ∷ xs) [] = true
+is_longer (x ∷ xs) (y ∷ ys) = is_longer xs ys
+
+abbrev pub begun_in : List FrameView → List Value → List Call
+begun_in [] vs = []
+begun_in (f ∷ fs) vs = fresh f.function vs ∷ []
+
+-- a frame more is a call more, and a frame fewer one fewer
+abbrev pub rebooked : Code → FrameView → List FrameView → List FrameView → Call → List Call → List Call
+rebooked code f callers after k ks = cond (is_longer after (f ∷ callers)) (begun_in after (passed code f f.leaving) ++ turned_call code f f.leaving k ∷ ks) (cond (is_longer (f ∷ callers) after) ks (turned_call code f f.leaving k ∷ ks))
+
+abbrev pub queue_arguments : List Queued → List Value
+queue_arguments [] = []
+queue_arguments (q ∷ qs) = Value.Ref q.object ∷ []
+
+abbrev pub calls_after : Code → List Queued → List FrameView → List FrameView → List Call → List Call
+calls_after code queue [] after ks = begun_in after (queue_arguments queue)
+calls_after code queue (f ∷ callers) after [] = []
+calls_after code queue (f ∷ callers) after (k ∷ ks) = rebooked code f callers after k ks
+
+-- ---- the book of a run: the calls of each goroutine, the innermost first
+
+abbrev pub Book : Type 0
+Book = ℕ → List Call
+
+abbrev pub frames_in : Option GoroutineView → List FrameView
+frames_in None = []
+frames_in (Some r) = r.frames
+
+abbrev pub frames_at : State → ℕ → List FrameView
+frames_at s g = frames_in (find g s.goroutines)
+
+-- the goroutine that is started gets the operands of `go`
+abbrev pub started_with : Code → List FrameView → List Value
+started_with code [] = []
+started_with code (f ∷ callers) = passed code f f.leaving
+
+abbrev pub turned_book : Code → State → ℕ → Option ℕ → Book → Book
+turned_book code s c None b h = b h
+turned_book code s c (Some g) b h =
+    cond (h == g) (calls_after code s.queue (frames_at s g) (frames_at (step code s c) g) (b g))
+    (cond (h == s.next_goroutine) (begun_in (frames_at (step code s c) h) (started_with code (frames_at s g))) (b h))
+
+abbrev pub booked_in : Bool → Code → State → Event → Book → Book
+booked_in true code s e b = b
+booked_in false code s (Event.Turn c) b = turned_book code s c (whose_turn s c) b
+booked_in false code s Event.Collect b = b
+
+abbrev pub book_from : Code → State → List Event → Book → Book
+book_from code s [] b = b
+book_from code s (e ∷ es) b = book_from code (happens code s e) es (booked_in (has_ended s) code s e b)
+
+-- at first goroutine 1 has a call of function 0
+abbrev pub first_book : Book
+first_book g = cond (g == 1) (fresh 0 [] ∷ []) []
+
+-- the calls of the run from the opening state
+abbrev pub book_of : Code → List Event → Book
+book_of code es = book_from code (start code) es first_book
+
+-- ---- what holds of them
+
+-- the values are of the types of the function's parameters, by what was known of objects at some time
+abbrev pub AreArguments : Types → ℕ → List Value → Type 0
+AreArguments types f vs = (known : List (ℕ × ValueType)) × (sig : Signature) × (slice_get types.functions f ≡ Some sig) × ValuesFit types known vs sig.params
+
+-- the function of this number may be called with them
+abbrev pub Takes : Code → Types → ℕ → List Value → Type 0
+Takes code types f vs = (fn : Function) → slice_get code.functions f ≡ Some fn → (length vs ≡ fn.params) × AreArguments types f vs
+
+-- the call of the function has arguments of its types, and a life
+abbrev pub Lives : Types → Function → Call → Type 0
+Lives types fn k = AreArguments types k.function k.arguments × ((now : Now) × Life fn k.arguments k.shown k.got now)
+
+abbrev pub HasLife : Code → Types → Call → Type 0
+HasLife code types k = (fn : Function) × (slice_get code.functions k.function ≡ Some fn) × Lives types fn k
+
+-- with this answer to its last operation it stands there
+abbrev pub LivesAt : Function → Call → List ℕ → ℕ → List Value → List Value → List Value → Type 0
+LivesAt fn k ranks to slots values rest = Life fn k.arguments k.shown (k.got ++ answer (lower ranks to) values ∷ []) (Now.Stands to (frame slots (pushed values rest)))
+
+-- whatever it is served with by this wait, and if it is only woken, the call lives on
+abbrev pub MayServe : Function → Call → Asked → FrameView → Wait → Type 0
+MayServe fn k q f w = ((values : List Value) → LivesAt fn k q.ranks (unwrap_or w.target f.at) f.slots values q.rest) × (IsOfLock w.side → LivesAt fn k q.ranks f.at f.slots [] q.rest)
+
+-- the innermost frame of a goroutine, and its call: it stands at its place; it was answered; it waits; or it is being left, and returns what its source returns
+abbrev pub IsOnTop : Function → Call → FrameView → Option Asked → Mode → Type 0
+IsOnTop fn k f None Mode.Running = Life fn k.arguments k.shown k.got (Now.Stands f.at (frame f.slots f.operands))
+IsOnTop fn k f None (Mode.Blocked kind line waits ticket) = ⊥
+IsOnTop fn k f (Some q) Mode.Running = (values : List Value) × (f.operands ≡ pushed values q.rest) × LivesAt fn k q.ranks f.at f.slots values q.rest
+IsOnTop fn k f (Some q) (Mode.Blocked kind line waits ticket) = (f.operands ≡ q.rest) × Every (MayServe fn k q f) waits
+
+abbrev pub IsLeft : Function → Call → Leaving → Type 0
+IsLeft fn k Leaving.No = Unit {0}
+IsLeft fn k (Leaving.Returning v) = Life fn k.arguments k.shown k.got (Now.Halted (Halt.Returned v))
+IsLeft fn k (Leaving.Unwinding x) = Unit {0}
+
+abbrev pub Top : Function → Call → FrameView → Leaving → Mode → Type 0
+Top fn k f Leaving.No mode = IsOnTop fn k f k.asks mode
+Top fn k f (Leaving.Returning v) mode = IsLeft fn k (Leaving.Returning v)
+Top fn k f (Leaving.Unwinding x) mode = Unit {0}
+
+-- a frame below: its call waits for what the one above gives
+abbrev pub WaitsBelow : Function → Call → FrameView → Option Asked → Type 0
+WaitsBelow fn k f None = ⊥
+WaitsBelow fn k f (Some q) = (f.operands ≡ q.rest) × ((values : List Value) → LivesAt fn k q.ranks f.at f.slots values q.rest)
+
+abbrev pub Below : Function → Call → FrameView → Leaving → Type 0
+Below fn k f Leaving.No = WaitsBelow fn k f k.asks
+Below fn k f (Leaving.Returning v) = IsLeft fn k (Leaving.Returning v)
+Below fn k f (Leaving.Unwinding x) = Unit {0}
+
+-- a frame is of the function of its call
+abbrev pub Of : Code → Types → Call → FrameView → (Function → Type 0) → Type 0
+Of code types k f P = (fn : Function) × (slice_get code.functions k.function ≡ Some fn) × (f.function ≡ k.function) × Lives types fn k × P fn
+
+abbrev pub AllBelow : Code → Types → List FrameView → List Call → Type 0
+AllBelow code types [] [] = Unit {0}
+AllBelow code types (f ∷ fs) (k ∷ ks) = Of code types k f (λ fn. Below fn k f f.leaving) × AllBelow code types fs ks
+AllBelow code types _ _ = ⊥
+
+-- the frames of a goroutine and its calls
+abbrev pub Matches : Code → Types → Mode → List FrameView → List Call → Type 0
+Matches code types mode [] [] = Unit {0}
+Matches code types mode (f ∷ fs) (k ∷ ks) = Of code types k f (λ fn. Top fn k f f.leaving mode) × AllBelow code types fs ks
+Matches code types mode _ _ = ⊥
+
+-- the masks of each function are those of its body
+abbrev pub HasMasks : Code → Type 0
+HasMasks code = (k : ℕ) (fn : Function) → slice_get code.functions k ≡ Some fn → fn.live ≡ live fn.slots fn.body
+
+-- each function has as many parameters as its type says
+abbrev pub HasParameters : Code → Typing → Type 0
+HasParameters code types = (k : ℕ) (fn : Function) (sig : Signature) → slice_get code.functions k ≡ Some fn → slice_get types.of.functions k ≡ Some sig → fn.params ≡ length sig.params
+
+-- each state of the run is well typed, and none is stuck before its ending
+abbrev pub GoesWell : Code → Typing → Type 0
+GoesWell code types =
+    ((events : List Event) → (known : List (ℕ × ValueType)) × WellTyped types known (run code (start code) events)) × ((events : List Event) (c : ℕ) → ending (run code (start code) events) ≡ None → MovesOn code (run code (start code) events) c)
+
+-- In each state of a run without an ending the frames of each goroutine match its calls, with the operations that they have shown and the answers that they got in that run; and always each call has arguments of its types, and a life.
+pub record IsBooked (code : Code) (types : Types) (events : List Event) : Type 0 where
+  pub going : ending (run code (start code) events) ≡ None → (g : ℕ) (r : GoroutineView) → Entry (run code (start code) events).goroutines g r → Matches code types r.mode r.frames (book_of code events g)
+  pub always : (g : ℕ) → Every (HasLife code types) (book_of code events g)
+
+-- so it is for each code with shapes that goes well
+abbrev pub RunsAreBooked : Type 0
+RunsAreBooked = (code : Code) (types : Typing) → HasMasks code → HasShapes code types → HasParameters code types → GoesWell code types → (events : List Event) → IsBooked code types.of events

@@ -1,0 +1,3 @@
+pub mod Files
+pub mod Arguments
+pub mod Runs

@@ -1,0 +1,68 @@
+-- The sources of the functions of a program mean what its calls show in a run.
+-- For: `RunsMeanSources`, golf_meaning_runs/specs/Laws.antt; the law `runs_mean_their_sources`, src/lib.rt.
+-- By: cases of where a call stands; induction over lists of calls.
+use Rattle.std.proofs.Common.{ℕ, zero, suc, ◌<◌, ◌≤◌, List, [], map, ap, sym, ◌∙◌, subst, append-nil, arith}
+use Rattle.golf_theory.proofs.Lists.{Every-weaker}
+use Rattle.golf_syntax_trees.specs.declared.declarations.File.{File}
+use Rattle.golf_data.specs.declared.value.Value.{Value}
+use Rattle.golf_check_types.specs.Files.{outside}
+use Rattle.golf_model_typing.specs.Types.{Typing, ValuesFit}
+use Rattle.golf_code_of.specs.Files.{tables_of, CodeOf}
+use Rattle.golf_code_shapes.specs.FunctionLaws.{made_signature}
+use Rattle.golf_code_shapes.specs.FileLaws.{made_in, scope_of, types_of_file}
+use Rattle.golf_code_shapes_globals.proofs.Globals.{names-fit}
+use Rattle.golf_code_never_stuck.specs.Reached.{IsProgram}
+use Rattle.golf_code_never_stuck.proofs.Plain.{sound-run, plain-runs-go-on}
+use Rattle.golf_code_never_stuck.proofs.Reaching.{files-have-shapes}
+use Rattle.golf_meaning_flat.specs.Worlds.{Operation, Answer, Misfit, Told}
+use Rattle.golf_meaning_flat.specs.Laws.{BeginsWith, NeverUnfit}
+use Rattle.golf_meaning_functions.specs.Files.{function_count, MeaningOf}
+use Rattle.golf_meaning_typing.specs.Flowing.{EndSound}
+use Rattle.golf_meaning_typing.specs.FileLaws.{parameters_at}
+use Rattle.golf_meaning_typed_files.proofs.Files.{files-sound}
+use Rattle.golf_meaning_turns.specs.Life.{Now}
+use Rattle.golf_meaning_books.specs.Books.{AreArguments, Call, book_of, HasLife}
+use Rattle.golf_meaning_books.proofs.Runs.{runs-are-booked}
+use Rattle.golf_meaning_lives.specs.Laws.{SourceMeans}
+use Rattle.golf_meaning_lives.proofs.Sources.{lives-mean-source}
+use Rattle.golf_meaning_runs.specs.Laws.{AnswersFit, IsMeant, RunsMeanSources}
+use Rattle.golf_meaning_runs.proofs.Files.{files-have-masks, files-have-parameters}
+use Rattle.golf_meaning_runs.proofs.Arguments.{arguments-held, parameters-known, signature-at}
+
+-- what a source means begins with what was shown
+begins-with : (file : File) (k : ℕ) (arguments : List Value) (shown : List Operation) (got : List Answer) (now : Now) → SourceMeans file k arguments shown got now → (n : ℕ) × BeginsWith (MeaningOf file k arguments got n).operations shown
+begins-with file k arguments shown got (Now.Stands at c) h = h
+begins-with file k arguments shown got (Now.Asks at c before) h = (h.0, ([], ap (λ (t : Told). t.operations) h.1 ∙ sym (append-nil shown)))
+begins-with file k arguments shown got (Now.Halted halt) h = (h.0, ([], ap (λ (t : Told). t.operations) h.1 ∙ sym (append-nil shown)))
+
+-- if no answer is unfit, nothing is
+never-unfit : (f : ℕ → Told) → ((n : ℕ) → EndSound (f n).end) → AnswersFit f → NeverUnfit f
+never-unfit f sound fit n Misfit.OfAnswer e = fit n e
+never-unfit f sound fit n Misfit.OfRule e = subst EndSound e (sound n)
+
+module _ (file : File) (program : IsProgram file) where
+  -- with such arguments the source of a function is unfit by an answer alone
+  sound : (k : ℕ) (arguments : List Value) (got : List Answer) → 0 < k → k ≤ function_count file.declarations → AreArguments (types_of_file file) k arguments → (n : ℕ) → EndSound (MeaningOf file k arguments got n).end
+  sound zero arguments got above in_file h n = absurd (omega (arith, above))
+  sound (suc k) arguments got above in_file (known, sig, is, fit) n =
+      let xs = file.declarations in
+      let f = scope_of file in
+      let less : k < function_count xs = omega (arith, in_file) in
+      let names = names-fit file program.typed in
+      let same = signature-at (tables_of xs) f xs (map made_signature (made_in (tables_of xs) f xs)) k sig less is in
+      files-sound file program.typed program.good k arguments got n less
+      (arguments-held (types_of_file file) known (parameters_at (outside f) xs k) arguments (parameters-known f 0 xs k names.declarations) (subst (λ ts. ValuesFit (types_of_file file) known arguments ts) same fit))
+
+  live-meant : (k : Call) → HasLife (CodeOf file) (types_of_file file) k → IsMeant file k
+  live-meant k (fn, is, (given, (now, life))) above in_file fit =
+      begins-with file k.function k.arguments k.shown k.got now
+      (lives-mean-source file k.function fn k.arguments k.shown k.got now above in_file is (never-unfit (MeaningOf file k.function k.arguments k.got) (sound k.function k.arguments k.got above in_file given) fit) life)
+
+pub runs-mean-sources : RunsMeanSources
+runs-mean-sources file program events =
+    let x = files-have-shapes file program in
+    let of_file : Typing = record { of = types_of_file file; shapes = x.0 } in
+    let booked = runs-are-booked (CodeOf file) of_file (files-have-masks file) x.1 (files-have-parameters file x.0) (λ es. let s = sound-run (CodeOf file) of_file x.1 es in (s.known, s.typed), (plain-runs-go-on file program).0) events in record {
+      booked = booked;
+      meant = λ g. Every-weaker (HasLife (CodeOf file) (types_of_file file)) (IsMeant file) (λ k h. live-meant file program k h) (book_of (CodeOf file) events g) (booked.always g);
+    }

@@ -1,0 +1,5 @@
+pub mod Inner
+pub mod Needing
+pub mod Showing
+pub mod Living
+pub mod Turning

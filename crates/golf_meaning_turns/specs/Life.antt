@@ -1,0 +1,59 @@
+-- The life of a call: the operations that it has shown, and the answers that it got.
+use Rattle.std.specs.Prelude.{◌≡◌, ℕ, ◌-◌, pos, List, [], ◌∷◌, ◌++◌, length, replicate, Some, slice_get}
+use Rattle.golf_data.specs.declared.value.Value.{Value}
+use Rattle.golf_data.specs.declared.code.CodeLine.{CodeLine}
+use Rattle.golf_data.specs.declared.code.Function.{Function}
+use Rattle.golf_meaning_flat.specs.Worlds.{Operation, Answer, Halt, End, Told, World}
+use Rattle.golf_meaning_flat.specs.Doing.{Frame, doing}
+use Rattle.golf_meaning_flat.specs.Flat.{exec}
+use Rattle.golf_meaning_turns.specs.Stepping.{Stepped, stepped}
+use Rattle.golf_meaning_turns.specs.Laws.{AlikeAt}
+
+-- the answers that are left, and the operations that were shown
+abbrev pub world : List Answer → List Operation → World
+world answers operations = record { answers = answers; operations = operations }
+
+abbrev pub frame : List Value → List Value → Frame
+frame slots operands = record { slots = slots; operands = operands }
+
+-- a call stands at a place; or it waits for the answer to the operation at a place, before which it had shown these operations; or it has halted
+pub data Now : Type 0 where
+  Stands : (at : ℕ) (c : Frame) → Now
+  Asks : (at : ℕ) (c : Frame) (before : List Operation) → Now
+  Halted : (h : Halt) → Now
+
+-- the slots of a call before its first instruction: the arguments, and 0 in the others (profile)
+abbrev pub first_slots : Function → List Value → List Value
+first_slots fn arguments = arguments ++ replicate (fn.slots - length arguments) (Value.Int (pos 0))
+
+-- What a call of a function with these arguments has shown, and was answered, when it stands at a place.
+pub data Life (fn : Function) (arguments : List Value) : List Operation → List Answer → Now → Type 0 where
+  -- it begins, with as many arguments as the function has parameters
+  Begins : length arguments ≡ fn.params → Life fn arguments [] [] (Now.Stands 0 (frame (first_slots fn arguments) []))
+  -- an instruction that shows nothing
+  Turns : {os : List Operation} {got : List Answer} {at : ℕ} {c : Frame} (l : CodeLine) (to : ℕ) (d : Frame) → Life fn arguments os got (Now.Stands at c) → slice_get fn.body at ≡ Some l
+      → ((w : World) → stepped (doing l.instr) at c w ≡ Stepped.Goes to d w) → Life fn arguments os got (Now.Stands to d)
+  -- slots that are not needed are cleared
+  Clears : {os : List Operation} {got : List Answer} {at : ℕ} {c : Frame} (slots : List Value) → Life fn arguments os got (Now.Stands at c) → AlikeAt fn.body at c.slots slots → Life fn arguments os got (Now.Stands at (frame slots c.operands))
+  -- an operation is shown
+  Shows : {os : List Operation} {got : List Answer} {at : ℕ} {c : Frame} (l : CodeLine) (o : Operation) → Life fn arguments os got (Now.Stands at c) → slice_get fn.body at ≡ Some l
+      → stepped (doing l.instr) at c (world [] os) ≡ Stepped.Halts Halt.Waits (os ++ o ∷ []) → Life fn arguments (os ++ o ∷ []) got (Now.Asks at c os)
+  -- and is answered
+  Answered : {os before : List Operation} {got : List Answer} {at : ℕ} {c : Frame} (l : CodeLine) (a : Answer) (to : ℕ) (d : Frame) → Life fn arguments os got (Now.Asks at c before) → slice_get fn.body at ≡ Some l
+      → ((later : List Answer) → stepped (doing l.instr) at c (world (a ∷ later) before) ≡ Stepped.Goes to d (world later os)) → Life fn arguments os (got ++ a ∷ []) (Now.Stands to d)
+  -- it returns, or divides by zero
+  Halts : {os : List Operation} {got : List Answer} {at : ℕ} {c : Frame} (l : CodeLine) (h : Halt) → Life fn arguments os got (Now.Stands at c) → slice_get fn.body at ≡ Some l
+      → ((w : World) → stepped (doing l.instr) at c w ≡ Stepped.Halts h w.operations) → Life fn arguments os got (Now.Halted h)
+
+-- the meaning of the code of a call
+abbrev pub call_means : Function → List Value → List Answer → ℕ → Told
+call_means fn arguments answers n = exec fn.body n 0 (frame (first_slots fn arguments) []) (world answers [])
+
+-- with the answers that it got, the code means what the call has shown: it is at work after so many instructions, it waits at its last operation, or it ends so
+abbrev pub HasShown : Function → List Value → List Operation → List Answer → Now → Type 0
+HasShown fn arguments os got (Now.Stands at c) = (n : ℕ) × (call_means fn arguments got n ≡ record { operations = os; end = End.Short })
+HasShown fn arguments os got (Now.Asks at c before) = (n : ℕ) × (call_means fn arguments got n ≡ record { operations = os; end = End.Halts Halt.Waits })
+HasShown fn arguments os got (Now.Halted h) = (n : ℕ) × (call_means fn arguments got n ≡ record { operations = os; end = End.Halts h })
+
+abbrev pub LivesMean : Type 0
+LivesMean = (fn : Function) (arguments : List Value) (os : List Operation) (got : List Answer) (now : Now) → Life fn arguments os got now → HasShown fn arguments os got now
