@@ -9,8 +9,8 @@ ghost use Rattle.golf_state.specs.Outcomes.{Comes};
 
 use crate::channel::{channel_at, close_it};
 use golf_base::ObjectId;
-use golf_data::{PanicKind, Value};
-use golf_state::{Acting, Outcome, State, Waking, last_operand, proceed};
+use golf_data::PanicKind;
+use golf_state::{Acting, Outcome, Reference, State, Waking, last_operand, proceed, reference_in};
 
 // Closes a channel.
 fn close_at(state: &mut State, acting: Acting, object: ObjectId) -> Outcome
@@ -40,12 +40,9 @@ pub fn close(state: &mut State, acting: Acting) -> Outcome
     let Some(channel) = last_operand(state, acting.goroutine) else {
         return Outcome::Stuck;
     };
-    match channel {
-        Value::Ref(object) => close_at(state, acting, object),
-        Value::Nil => Outcome::Panic(PanicKind::CloseNil),
-        Value::Int(_) => Outcome::Stuck,
-        Value::Bool(_) => Outcome::Stuck,
-        Value::Text(_) => Outcome::Stuck,
-        Value::Unit => Outcome::Stuck,
+    match reference_in(channel) {
+        Reference::To(object) => close_at(state, acting, object),
+        Reference::Nil => Outcome::Panic(PanicKind::CloseNil),
+        Reference::Misfit => Outcome::Stuck,
     }
 }

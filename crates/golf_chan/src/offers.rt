@@ -9,7 +9,7 @@ ghost use Rattle.golf_model.specs.Selecting.{all_on_channels, is_nil_or_channel,
 use crate::channel::channel_at;
 use golf_base::{List, Memory, ObjectId};
 use golf_data::{CaseKind, Channel, SelectCase, Side, Value, Wait, WaitKind};
-use golf_state::State;
+use golf_state::{Reference, State, reference_in};
 use std::alloc::Global;
 
 /// A case of a `select` with its operands.
@@ -112,13 +112,10 @@ pub fn offers_of(
 fn is_nil_or_channel(state: &State, value: Value) -> bool
     ensures { result ≡ is_nil_or_channel state.now value }
 {
-    match value {
-        Value::Ref(object) => channel_at(state, object).is_some(),
-        Value::Nil => true,
-        Value::Int(_) => false,
-        Value::Bool(_) => false,
-        Value::Text(_) => false,
-        Value::Unit => false,
+    match reference_in(value) {
+        Reference::To(object) => channel_at(state, object).is_some(),
+        Reference::Nil => true,
+        Reference::Misfit => false,
     }
 }
 
@@ -156,16 +153,12 @@ fn can_proceed(state: &State, kind: CaseKind, object: ObjectId, channel: &Channe
 fn is_ready(state: &State, offer: &Offer) -> bool
     ensures { result ≡ is_ready state.now (plain_offer offer.now) }
 {
-    match offer.channel {
-        Value::Ref(object) => match channel_at(state, object) {
-            Some(channel) => can_proceed(state, offer.kind, object, channel),
-            None => false,
-        },
-        Value::Nil => false,
-        Value::Int(_) => false,
-        Value::Bool(_) => false,
-        Value::Text(_) => false,
-        Value::Unit => false,
+    let Some(object) = object_of(offer.channel) else {
+        return false;
+    };
+    match channel_at(state, object) {
+        Some(channel) => can_proceed(state, offer.kind, object, channel),
+        None => false,
     }
 }
 
@@ -207,13 +200,10 @@ fn wait_of(offer: &Offer, object: ObjectId) -> Wait
 fn object_of(value: Value) -> Option<ObjectId>
     ensures { result ≡ object_of value }
 {
-    match value {
-        Value::Ref(object) => Some(object),
-        Value::Nil => None,
-        Value::Int(_) => None,
-        Value::Bool(_) => None,
-        Value::Text(_) => None,
-        Value::Unit => None,
+    match reference_in(value) {
+        Reference::To(object) => Some(object),
+        Reference::Nil => None,
+        Reference::Misfit => None,
     }
 }
 

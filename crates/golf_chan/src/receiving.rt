@@ -12,8 +12,8 @@ use crate::channel::{channel_at, take_first};
 use golf_base::{List, Memory, ObjectId};
 use golf_data::{Channel, Side, Value, Wait, WaitKind};
 use golf_state::{
-    Acting, Given, Outcome, State, Wakening, block_at, last_operand, one_wait, proceed_with,
-    received,
+    Acting, Given, Outcome, Reference, State, Wakening, block_at, last_operand, one_wait,
+    proceed_with, received, reference_in,
 };
 use std::alloc::Global;
 
@@ -154,8 +154,8 @@ pub fn receive(
     let Some(channel) = last_operand(state, acting.goroutine) else {
         return Ok(Outcome::Stuck);
     };
-    match channel {
-        Value::Ref(object) => {
+    match reference_in(channel) {
+        Reference::To(object) => {
             let receiving = Receiving {
                 target: acting.after,
                 taken: 1,
@@ -163,14 +163,11 @@ pub fn receive(
             };
             receive_on(alloc, state, acting, receiving, object)
         }
-        Value::Nil => {
+        Reference::Nil => {
             let waits = List::new(alloc);
             block_at(state, acting, acting.after, 1, WaitKind::ReceiveNil, waits)?;
             Ok(Outcome::Blocked)
         }
-        Value::Int(_) => Ok(Outcome::Stuck),
-        Value::Bool(_) => Ok(Outcome::Stuck),
-        Value::Text(_) => Ok(Outcome::Stuck),
-        Value::Unit => Ok(Outcome::Stuck),
+        Reference::Misfit => Ok(Outcome::Stuck),
     }
 }

@@ -10,7 +10,8 @@ use crate::channel::{buffer, channel_at};
 use golf_base::{List, Memory, ObjectId};
 use golf_data::{PanicKind, Side, Value, Wait, WaitKind};
 use golf_state::{
-    Acting, Outcome, State, Wakening, block_at, last_operands, one_wait, proceed, received,
+    Acting, Outcome, Reference, State, Wakening, block_at, last_operands, one_wait, proceed,
+    received, reference_in,
 };
 use std::alloc::Global;
 
@@ -72,16 +73,13 @@ pub fn send(alloc: Global, state: &mut State, acting: Acting) -> Result<Outcome,
     let Some((channel, value)) = last_operands(state, acting.goroutine) else {
         return Ok(Outcome::Stuck);
     };
-    match channel {
-        Value::Ref(object) => send_on(alloc, state, acting, acting.after, 2, object, value),
-        Value::Nil => {
+    match reference_in(channel) {
+        Reference::To(object) => send_on(alloc, state, acting, acting.after, 2, object, value),
+        Reference::Nil => {
             let waits = List::new(alloc);
             block_at(state, acting, acting.after, 2, WaitKind::SendNil, waits)?;
             Ok(Outcome::Blocked)
         }
-        Value::Int(_) => Ok(Outcome::Stuck),
-        Value::Bool(_) => Ok(Outcome::Stuck),
-        Value::Text(_) => Ok(Outcome::Stuck),
-        Value::Unit => Ok(Outcome::Stuck),
+        Reference::Misfit => Ok(Outcome::Stuck),
     }
 }

@@ -16,8 +16,6 @@ use Rattle.golf_syntax_trees.specs.declared.declarations.Func.{Func}
 use Rattle.golf_syntax_trees.specs.declared.declarations.Decl.{Decl}
 use Rattle.golf_syntax_trees.specs.declared.declarations.Decl.TheVariants as d
 use Rattle.golf_data.specs.declared.value.Value.{Value}
-use Rattle.golf_data.specs.declared.code.Code.{Code}
-use Rattle.golf_data.specs.declared.code.Function.{Function}
 use Rattle.golf_data.specs.declared.code.Instr.{Instr}
 use Rattle.golf_check_types.specs.declared.facts.Fact.{Fact}
 use Rattle.golf_check_types.specs.declared.facts.Fact.TheVariants as fact
@@ -38,17 +36,17 @@ use Rattle.golf_code_of.specs.declared.making.Around.{Around}
 use Rattle.golf_code_of.specs.declared.tables.Tables.{Tables}
 use Rattle.golf_code_of.specs.Table.{Texts}
 use Rattle.golf_code_of.specs.Texts.{texts_of}
-use Rattle.golf_code_of.specs.Values.{const_value, zero_value}
+use Rattle.golf_code_of.specs.Values.{const_value}
 use Rattle.golf_code_of.specs.Expressions.{Made}
 use Rattle.golf_code_of.specs.Coding.{piece_at}
 use Rattle.golf_code_of.specs.Statements.{Laid, Part}
 use Rattle.golf_code_of.specs.Laying.{stmt_part}
-use Rattle.golf_code_of.specs.Files.{Functions, function, function_of, body_part, body_laid, slots_of, last_return, functions_from, initial, initials, constants_in, tables_of, code_in, CodeOf, giving, main_number, main_line, made_function}
+use Rattle.golf_code_of.specs.Files.{function, function_of, body_part, body_laid, slots_of, last_return, functions_from, initial, initials, constants_in, tables_of, code_in, CodeOf, giving, main_line}
 use Rattle.golf_code_of.proofs.Walks.{walks-agree}
 use Rattle.golf_code_facts.specs.Facts.{skip}
 use Rattle.golf_code_facts.specs.Expressions.{pushed_at}
 use Rattle.golf_code_facts.specs.Statements.{LaidBy, PieceBy, by, piece_by, in_order as in_order_by}
-use Rattle.golf_code_facts.specs.Files.{past_const, past_content, past_decl, const_by, constants_by, tables_by, body_by, function_by, functions_by, initial_by, initials_by, code_by, CodeBy}
+use Rattle.golf_code_facts.specs.Files.{past_const, past_content, past_decl, const_by, constants_by, tables_by, body_by, function_by, initial_by, DeclsBy, initial_before, function_before, decls_by, code_of, code_by, CodeBy}
 use Rattle.golf_code_facts.specs.Laws.{FilesFollow}
 use Rattle.golf_code_facts.proofs.Steps.{skipped}
 use Rattle.golf_code_facts.proofs.Expressions.{made-alone, past-alone}
@@ -110,15 +108,6 @@ module _ (t : Tables) (f : FileScope) where
   initial-is g l (content.Zero w) rest = refl
   initial-is g l (content.Typed w e) rest = stored-global g l e rest
   initial-is g l (content.Untyped e) rest = stored-global g l e rest
-
-  pub initials-are : (g : ℕ) (xs : List Decl) → initials_by t g xs (walk_facts f g xs) ≡ initials t f g xs
-  initials-are g [] = refl
-  initials-are g (d.Const l n c ∷ xs) = ap (initials_by t g xs) (past-decl f g (d.Const l n c) (walk_facts f g xs)) ∙ initials-are g xs
-  initials-are g (d.Var v ∷ xs) =
-      ap (λ (x : PieceBy). Piece.Then x.piece (initials_by t (g + 1) xs x.left)) (initial-is g v.line v.content (walk_facts f (g + 1) xs))
-      ∙ ap (λ p. Piece.Then (initial t (record (outside f) { initialises = Some g }) g v.line v.content) p) (initials-are (g + 1) xs)
-  initials-are g (d.Struct l n fields ∷ xs) = initials-are g xs
-  initials-are g (d.Func x ∷ xs) = ap (initials_by t g xs) (past-decl f g (d.Func x) (walk_facts f g xs)) ∙ initials-are g xs
 
 -- Functions.
 
@@ -188,29 +177,26 @@ module _ (t : Tables) (gives : List Bool) (b f : FileScope) (alike : (o : Option
   abbrev signatures : List Decl → List Signature
   signatures xs = flat_map (function_types (outside b)) xs
 
-  pub functions-are : (g n : ℕ) (xs : List Decl) → functions_by t gives (signatures xs) n xs (walk_facts f g xs) ≡ functions_from t gives (outside f) n xs
-  functions-are g n [] = refl
-  functions-are g n (d.Const l c v ∷ xs) = ap (functions_by t gives (signatures xs) n xs) (past-decl f g (d.Const l c v) (walk_facts f g xs)) ∙ functions-are g n xs
-  functions-are g n (d.Var v ∷ xs) = ap (functions_by t gives (signatures xs) n xs) (past-decl f g (d.Var v) (walk_facts f (g + 1) xs)) ∙ functions-are (g + 1) n xs
-  functions-are g n (d.Struct l c fields ∷ xs) = functions-are g n xs
-  functions-are g n (d.Func x ∷ xs) =
+  pub decls-are : (g n : ℕ) (xs : List Decl) → decls_by t gives (signatures xs) g n xs (walk_facts f g xs) ≡ record { initials = initials t f g xs; functions = functions_from t gives (outside f) n xs }
+  decls-are g n [] = refl
+  decls-are g n (d.Const l c v ∷ xs) = ap (decls_by t gives (signatures xs) g n xs) (past-const f g l c v (walk_facts f g xs)) ∙ decls-are g n xs
+  decls-are g n (d.Var v ∷ xs) =
+      ap (λ (x : PieceBy). initial_before x.piece (decls_by t gives (signatures xs) (g + 1) n xs x.left)) (initial-is t f g v.line v.content (walk_facts f (g + 1) xs))
+      ∙ ap (initial_before (initial t (record (outside f) { initialises = Some g }) g v.line v.content)) (decls-are (g + 1) n xs)
+  decls-are g n (d.Struct l c fields ∷ xs) = decls-are g n xs
+  decls-are g n (d.Func x ∷ xs) =
       ap step (laid-is t (outside f) x n (walk_facts f g xs))
-      ∙ ap (λ h. more h (functions_by t gives (signatures xs) (n + length made.made) xs (walk_facts f g xs))) (function-is t (outside f) x gives made.piece (result_type (outside b) x.result) (length (parts_walk x (outside f) (head_scope (outside f) x)).facts) (alike x.result))
-      ∙ ap (more (function_of t gives (outside f) x made.piece)) (functions-are g (n + length made.made) xs)
+      ∙ ap (λ h. function_before h made.made (decls_by t gives (signatures xs) g (n + length made.made) xs (walk_facts f g xs))) (function-is t (outside f) x gives made.piece (result_type (outside b) x.result) (length (parts_walk x (outside f) (head_scope (outside f) x)).facts) (alike x.result))
+      ∙ ap (function_before (function_of t gives (outside f) x made.piece) made.made) (decls-are g (n + length made.made) xs)
     where
       made : Laid
       made = body_laid t (outside f) n x
 
-      more : Function → Functions → Functions
-      more h rest = record { own = h ∷ rest.own; made = made.made ++ rest.made }
-
-      step : LaidBy → Functions
+      step : LaidBy → DeclsBy
       step y =
-          let rest = functions_by t gives (signatures xs) (n + length y.laid.made) xs y.left in
-          record {
-            own = function_by gives x (result_type (outside b) x.result) (fact.Function (body_scope (outside f) x).next (behind (head_scope (outside f) x) (parts_walk x (outside f) (head_scope (outside f) x))).next (length (parts_walk x (outside f) (head_scope (outside f) x)).facts)) y.laid.piece ∷ rest.own;
-            made = y.laid.made ++ rest.made;
-          }
+          function_before
+          (function_by gives x (result_type (outside b) x.result) (fact.Function (body_scope (outside f) x).next (behind (head_scope (outside f) x) (parts_walk x (outside f) (head_scope (outside f) x))).next (length (parts_walk x (outside f) (head_scope (outside f) x)).facts)) y.laid.piece)
+          y.laid.made (decls_by t gives (signatures xs) g (n + length y.laid.made) xs y.left)
 
 -- Files.
 
@@ -254,25 +240,14 @@ module _ (i : Imports) (xs : List Decl) where
       table : List Value → Tables
       table vs = record { texts = texts_of xs; constants = vs }
 
-  -- with these functions, and this body of function 0
-  abbrev code_with : Tables → Functions → Piece → Code
-  code_with t fs entry = record {
-    functions = function (giving whole) 0 0 (main_line xs) (all (entry ∷ op (main_line xs) (Instr.Call (main_number whole) 0) ∷ op (main_line xs) Instr.Return ∷ [])) ∷ (fs.own ++ map (made_function (giving whole)) fs.made);
-    globals = map zero_value whole.globals;
-    structs = map (map zero_value) whole.fields;
-    texts = t.texts;
-    main_line = main_line xs;
-  }
-
   pub code-is : code_by (tables_by xs (walk_facts whole 0 xs)) whole xs (walk_facts whole 0 xs) ≡ code_in (tables_of xs) whole xs
   code-is =
       let t = tables_of xs in
       let n = length whole.functions + 1 in
       let facts = walk_facts whole 0 xs in
       ap (λ u. code_by u whole xs facts) tables-are
-      ∙ ap (λ ss. code_with t (functions_by t (giving whole) ss n xs facts) (initials_by t 0 xs facts)) signatures-are
-      ∙ ap (λ fs. code_with t fs (initials_by t 0 xs facts)) (functions-are t (giving whole) bare whole results-alike 0 n xs)
-      ∙ ap (code_with t (functions_from t (giving whole) (outside whole) n xs)) (initials-are t whole 0 xs)
+      ∙ ap (λ ss. code_of t whole (main_line xs) (decls_by t (giving whole) ss 0 n xs facts)) signatures-are
+      ∙ ap (code_of t whole (main_line xs)) (decls-are t (giving whole) bare whole results-alike 0 n xs)
 
 pub files-follow : FilesFollow
 unfolding CodeBy CodeOf facts_in

@@ -20,6 +20,7 @@ use Rattle.golf_check_types.specs.Files.{file_scope, with_imports, no_imports}
 use Rattle.golf_code_layout.specs.Piece.{Piece, all, op}
 use Rattle.golf_code_of.specs.declared.tables.Tables.{Tables}
 use Rattle.golf_code_of.specs.Table.{Texts}
+use Rattle.golf_code_of.specs.declared.making.Making.{Making}
 use Rattle.golf_code_of.specs.Texts.{texts_of}
 use Rattle.golf_code_of.specs.Values.{zero_value, const_value}
 use Rattle.golf_code_of.specs.Files.{Functions, no_functions, function, last_return, made_function, main_number, main_line, giving}
@@ -79,14 +80,6 @@ past_signature (s ∷ ss) = ss
 abbrev pub function_by : List Bool → Func → Option GoType → Fact → Piece → Function
 function_by gives f result head body = function gives (arguments_in head) (slots_in head) f.line (all (body ∷ last_return f.line result ∷ []))
 
-abbrev pub functions_by : Tables → List Bool → List Signature → ℕ → List Decl → List Fact → Functions
-functions_by t gives ss n [] fs = no_functions
-functions_by t gives ss n (d.Func f ∷ xs) fs =
-    let x = body_by t n f fs in
-    let rest = functions_by t gives (past_signature ss) (n + length x.laid.made) xs x.left in
-    record { own = function_by gives f (next_result ss) (next fs) x.laid.piece ∷ rest.own; made = x.laid.made ++ rest.made }
-functions_by t gives ss n (x ∷ xs) fs = functions_by t gives ss n xs (past_decl x fs)
-
 -- Function 0.
 
 abbrev pub initial_by : Tables → ℕ → ℕ → VarContent → List Fact → PieceBy
@@ -94,27 +87,48 @@ initial_by t g l (content.Zero w) fs = piece_by Piece.Empty fs
 initial_by t g l (content.Typed w e) fs = piece_by (all (pushed_at t l fs e ∷ op l (Instr.StoreGlobal g) ∷ [])) (skip fs)
 initial_by t g l (content.Untyped e) fs = piece_by (all (pushed_at t l fs e ∷ op l (Instr.StoreGlobal g) ∷ [])) (skip fs)
 
--- the initialisers in source order, if so many globals stand above
-abbrev pub initials_by : Tables → ℕ → List Decl → List Fact → Piece
-initials_by t g [] fs = Piece.Empty
-initials_by t g (d.Var v ∷ xs) fs = let x = initial_by t g v.line v.content fs in Piece.Then x.piece (initials_by t (g + 1) xs x.left)
-initials_by t g (x ∷ xs) fs = initials_by t g xs (past_decl x fs)
+-- what ends it: `main` is called
+abbrev pub entry_by : ℕ → ℕ → Piece → Piece
+entry_by main line initials = all (initials ∷ op line (Instr.Call main 0) ∷ op line Instr.Return ∷ [])
 
-abbrev pub entry_by : Tables → ℕ → ℕ → List Decl → List Fact → Piece
-entry_by t main line xs fs = all (initials_by t 0 xs fs ∷ op line (Instr.Call main 0) ∷ op line Instr.Return ∷ [])
+-- Declarations in source order, in one walk.
+
+-- the initialisers of globals, and functions and methods with what is made for them
+pub record DeclsBy : Type 0 where
+  pub initials : Piece
+  pub functions : Functions
+
+abbrev pub initial_before : Piece → DeclsBy → DeclsBy
+initial_before p xs = record xs { initials = Piece.Then p xs.initials }
+
+abbrev pub function_before : Function → List Making → DeclsBy → DeclsBy
+function_before f made xs = record xs { functions = record { own = f ∷ xs.functions.own; made = made ++ xs.functions.made } }
+
+-- if the next functions have these signatures, so many globals stand above, and so many functions before the next one that is made
+abbrev pub decls_by : Tables → List Bool → List Signature → ℕ → ℕ → List Decl → List Fact → DeclsBy
+decls_by t gives ss g n [] fs = record { initials = Piece.Empty; functions = no_functions }
+decls_by t gives ss g n (d.Const l m c ∷ xs) fs = decls_by t gives ss g n xs (past_const c fs)
+decls_by t gives ss g n (d.Var v ∷ xs) fs = let x = initial_by t g v.line v.content fs in initial_before x.piece (decls_by t gives ss (g + 1) n xs x.left)
+decls_by t gives ss g n (d.Struct l m fields ∷ xs) fs = decls_by t gives ss g n xs fs
+decls_by t gives ss g n (d.Func f ∷ xs) fs =
+    let x = body_by t n f fs in
+    function_before (function_by gives f (next_result ss) (next fs) x.laid.piece) x.laid.made (decls_by t gives (past_signature ss) g (n + length x.laid.made) xs x.left)
 
 -- The whole code.
 
+-- function 0, functions and methods, and those that are made, if `main` has this number and this line
+abbrev pub all_functions : List Bool → ℕ → ℕ → DeclsBy → List Function
+all_functions gives main line xs = function gives 0 0 line (entry_by main line xs.initials) ∷ (xs.functions.own ++ map (made_function gives) xs.functions.made)
+
+abbrev pub code_of : Tables → FileScope → ℕ → DeclsBy → Code
+code_of t f line xs = record { functions = all_functions (giving f) (main_number f) line xs; globals = map zero_value f.globals; structs = map (map zero_value) f.fields; texts = t.texts; main_line = line }
+
+-- all declarations of a file
+abbrev pub file_by : Tables → FileScope → List Decl → List Fact → DeclsBy
+file_by t f xs facts = decls_by t (giving f) f.functions 0 (length f.functions + 1) xs facts
+
 abbrev pub code_by : Tables → FileScope → List Decl → List Fact → Code
-code_by t f xs facts =
-    let fs = functions_by t (giving f) f.functions (length f.functions + 1) xs facts in
-    record {
-      functions = function (giving f) 0 0 (main_line xs) (entry_by t (main_number f) (main_line xs) xs facts) ∷ (fs.own ++ map (made_function (giving f)) fs.made);
-      globals = map zero_value f.globals;
-      structs = map (map zero_value) f.fields;
-      texts = t.texts;
-      main_line = main_line xs;
-    }
+code_by t f xs facts = code_of t f (main_line xs) (file_by t f xs facts)
 
 -- the code of a file by what was written down of it
 unfoldable pub CodeBy : File → List Fact → Code

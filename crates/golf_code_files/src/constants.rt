@@ -1,16 +1,15 @@
 //! The values of constants. Those of integers stand in their facts.
 
-ghost use Rattle.std.specs.Prelude.{◌≡◌, ◌++◌, IfOk, OnOk};
-ghost use Rattle.golf_code_facts.specs.Files.{const_by, constants_by, tables_by};
-ghost use Rattle.golf_code_files.specs.Steps.{decl_constants};
+ghost use Rattle.std.specs.Prelude.{◌≡◌, IfOk, OnOk};
+ghost use Rattle.golf_code_facts.specs.Files.{past_const, past_content, const_by, constants_by, tables_by};
+ghost use Rattle.golf_code_files.specs.Steps.{PassesOver};
 
-use crate::passing::pass_decl;
 use golf_base::{List, Memory};
 use golf_code_expressions::Facts;
 use golf_code_of::{Tables, TextTable};
 use golf_code_texts::texts_of_decls;
 use golf_data::Value;
-use golf_syntax_trees::{Const, Decl};
+use golf_syntax_trees::{Const, Decl, VarContent};
 use std::alloc::Global;
 
 fn const_value(texts: &TextTable, constant: &Const, facts: &Facts) -> Result<Value, Memory>
@@ -25,27 +24,50 @@ fn const_value(texts: &TextTable, constant: &Const, facts: &Facts) -> Result<Val
     }
 }
 
-// Adds the value of a constant, if the declaration is one.
+/// Passes over the value of a constant.
+pub fn pass_const(facts: &mut Facts, constant: &Const)
+    ensures { facts.new ≡ past_const constant.now facts.old }
+{
+    match constant {
+        Const::Integer(_) => facts.pass(),
+        Const::Negative(_) => facts.pass(),
+        Const::Text(_) => {}
+        Const::True => {}
+        Const::False => {}
+    }
+}
+
+fn pass_content(facts: &mut Facts, content: &VarContent)
+    ensures { facts.new ≡ past_content content.now facts.old }
+{
+    match content {
+        VarContent::Zero(_) => {}
+        VarContent::Typed(_, _) => facts.skip(),
+        VarContent::Untyped(_) => facts.skip(),
+    }
+}
+
+// Passes over a declaration. Adds its value, if it is a constant.
 fn add_constant(
     texts: &TextTable,
     decl: &Decl,
-    facts: &Facts,
+    facts: &mut Facts,
     constants: &mut List<Value>,
 ) -> Result<(), Memory>
-    ensures { OnOk result (constants.new ≡ constants.old ++ decl_constants texts.now decl.now facts.now) }
+    ensures { OnOk result (PassesOver texts.now decl.now facts.old constants.old facts.new constants.new) }
 {
     match decl {
         Decl::Const(_, _, constant) => {
             constants.push(const_value(texts, constant, facts)?)?;
-            Ok(())
+            pass_const(facts, constant);
         }
-        Decl::Var(_) => Ok(()),
-        Decl::Struct(_, _, _) => Ok(()),
-        Decl::Func(_) => Ok(()),
+        Decl::Var(var) => pass_content(facts, var.get().content.get()),
+        Decl::Struct(_, _, _) => {}
+        Decl::Func(_) => facts.skip(),
     }
+    Ok(())
 }
 
-#[tactic(auto, using(crate::proofs::Laws::constants_more))]
 fn constants_of(
     alloc: Global,
     texts: &TextTable,
@@ -57,8 +79,7 @@ fn constants_of(
     let mut left = facts;
     let mut constants = List::new(alloc);
     for decl in decls {
-        add_constant(texts, decl, &left, &mut constants)?;
-        pass_decl(&mut left, decl);
+        add_constant(texts, decl, &mut left, &mut constants)?;
     }
     Ok(constants)
 }

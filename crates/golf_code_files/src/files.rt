@@ -1,78 +1,52 @@
 //! The code of a file.
 
 ghost use Rattle.std.specs.Prelude.{◌≡◌, IfOk};
-ghost use Rattle.golf_code_facts.specs.Files.{tables_by, code_by};
-ghost use Rattle.golf_code_files.specs.Steps.{functions_with, code_of_parts};
+ghost use Rattle.golf_code_of.specs.Files.{giving as giving_in, main_number as main_number_in};
+ghost use Rattle.golf_code_facts.specs.Files.{tables_by, all_functions, file_by, code_by};
 
 use crate::constants::tables;
-use crate::entry::entry;
-use crate::functions::own_functions;
 use crate::made::made_functions;
-use crate::numbers::{first_made, giving, main_line, main_number};
+use crate::numbers::{giving, main_line, main_number};
 use crate::values::{struct_zeros, zero_values};
+use crate::walk::{Walk, start, walk_decls};
 use golf_base::{List, Memory};
 use golf_check_types::{Fact, FileScope, Operand};
-use golf_code_expressions::{Draft, Facts, Writer};
+use golf_code_expressions::Facts;
+use golf_code_layout::op;
 use golf_code_of::Tables;
-use golf_data::{Code, Function};
+use golf_code_targets::function;
+use golf_data::{Code, Function, Instr};
 use golf_syntax_trees::Decl;
 use std::alloc::Global;
 
 // Function 0, those of the file, and those that are made.
-fn all_functions(
+fn functions(
     alloc: Global,
     tables: &Tables,
-    gives: &[bool],
     file: &FileScope,
     line: u32,
     decls: &[Decl],
     facts: Facts,
 ) -> Result<List<Function>, Memory>
-    ensures { IfOk result (λ fs. fs ≡ functions_with tables.now gives.now file.now line decls.now facts.entry) }
+    ensures { IfOk result (λ fs. fs ≡ all_functions (giving_in file.now) (main_number_in file.now) line (file_by tables.now file.now decls.now facts.entry)) }
 {
-    let mut writer = Writer {
-        facts,
-        draft: Draft {
-            tables,
-            emitted: List::new(alloc),
-            made: List::new(alloc),
-            functions: first_made(file)?,
-            alloc,
-        },
-    };
+    let gives = giving(alloc, file)?;
+    let gives = gives.as_slice();
     let mut functions = List::new(alloc);
-    let first = entry(&mut writer, gives, main_number(file)?, line, decls)?;
-    functions.push(first)?;
-    own_functions(
-        &mut writer,
-        gives,
-        file.functions.as_slice(),
-        decls,
-        &mut functions,
-    )?;
+    // Keeps the place of function 0, whose code is whole when the walk ends.
+    functions.push(function(alloc, gives, 0, 0, line, &[])?)?;
+    let mut walk = start(alloc, tables, gives, file, facts)?;
+    walk_decls(&mut walk, decls, &mut functions)?;
+    let Walk {
+        mut initials,
+        writer,
+        ..
+    } = walk;
+    op(&mut initials, line, Instr::Call(main_number(file)?, 0))?;
+    op(&mut initials, line, Instr::Return)?;
+    functions.set(0, function(alloc, gives, 0, 0, line, initials.as_slice())?);
     made_functions(alloc, gives, writer.draft.made.as_slice(), &mut functions)?;
     Ok(functions)
-}
-
-fn code_with(
-    alloc: Global,
-    tables: &Tables,
-    file: &FileScope,
-    line: u32,
-    functions: List<Function>,
-) -> Result<Code, Memory>
-    ensures { IfOk result (λ code. code ≡ code_of_parts tables.now file.now line functions) }
-{
-    let globals = zero_values(alloc, file.globals.as_slice())?;
-    let structs = struct_zeros(alloc, file.fields.as_slice())?;
-    let texts = tables.texts.list(alloc)?;
-    Ok(Code {
-        functions,
-        globals,
-        structs,
-        texts,
-        main_line: line,
-    })
 }
 
 /// The code of the declarations of a file, by the facts of them all.
@@ -80,10 +54,14 @@ pub fn code(alloc: Global, file: &FileScope, decls: &[Decl], facts: &[Fact]) -> 
     ensures { IfOk result (λ code. code ≡ code_by (tables_by decls.now facts.now) file.now decls.now facts.now) }
 {
     let unknown = Operand::Unknown;
-    let facts = Facts::new(facts, &unknown);
-    let tables = tables(alloc, decls, facts.copy())?;
-    let gives = giving(alloc, file)?;
+    let tables = tables(alloc, decls, Facts::new(facts, &unknown))?;
     let line = main_line(decls);
-    let functions = all_functions(alloc, &tables, gives.as_slice(), file, line, decls, facts)?;
-    code_with(alloc, &tables, file, line, functions)
+    let facts = Facts::new(facts, &unknown);
+    Ok(Code {
+        functions: functions(alloc, &tables, file, line, decls, facts)?,
+        globals: zero_values(alloc, file.globals.as_slice())?,
+        structs: struct_zeros(alloc, file.fields.as_slice())?,
+        texts: tables.texts.list(alloc)?,
+        main_line: line,
+    })
 }

@@ -10,7 +10,7 @@ ghost use Rattle.golf_code_targets.specs.Heights.{stands, leads, takes_in, choic
 use crate::stack::Stack;
 use golf_base::{List, Memory};
 use golf_code_layout::Emitted;
-use golf_data::{Instr, SelectCase, case_left, case_taken, goes_on, left, taken};
+use golf_data::{Instr, SelectCase, case_left, case_taken, effect_of};
 use std::alloc::Global;
 
 /// How many operands stand at places, as far as a pass over parts has come.
@@ -41,9 +41,10 @@ fn no_heights(alloc: Global) -> Heights
 fn through(gives: &[bool], instr: &Instr, before: u32) -> Result<Option<u32>, Memory>
     ensures { IfOk result (λ h. h ≡ through_of gives.now instr.now before) }
 {
-    let rest = before.saturating_sub(taken(instr));
-    let after = rest.checked_add(left(gives, instr)).ok_or(Memory)?;
-    if goes_on(instr) {
+    let effect = effect_of(gives, instr);
+    let rest = before.saturating_sub(effect.taken);
+    let after = rest.checked_add(effect.left).ok_or(Memory)?;
+    if effect.goes_on {
         Ok(Some(after))
     } else {
         Ok(None)

@@ -1,218 +1,83 @@
-//! How many operands an instruction takes and leaves, and whether it goes on.
+//! What instructions do to the operands of their frames, and whether they go on: the table.
 
-ghost use Rattle.std.specs.Prelude.{◌≡◌};
-ghost use Rattle.golf_data.specs.Effects.{taken as taken_by, left as left_by, goes_on as goes_on_by, case_left as left_by_case, case_taken as taken_by_case};
+ghost use Rattle.std.specs.Prelude.{◌≡◌, true, false};
+ghost use Rattle.golf_data.specs.Effects.{taken, left, goes_on, case_left as left_by_case, case_taken as taken_by_case};
 
 use crate::code::{CaseKind, Instr};
 
-/// How many operands an instruction takes.
-pub fn taken(instr: &Instr) -> u32
-    ensures { result ≡ taken_by instr.now }
+/// What an instruction does to the operands of its frame.
+#[derive(Clone, Copy, Debug, PartialEq, Eq)]
+pub struct Effect {
+    /// How many operands it takes.
+    pub taken: u32,
+    /// How many it leaves.
+    pub left: u32,
+    /// Whether it leads to the next instruction.
+    pub goes_on: bool,
+}
+
+// Takes and leaves so many operands, and goes on.
+fn goes(taken: u32, left: u32) -> Effect
+    ensures { result ≡ record { taken = taken; left = left; goes_on = true } }
 {
-    match instr {
-        Instr::Int(_)
-        | Instr::Bool(_)
-        | Instr::Text(_)
-        | Instr::Unit
-        | Instr::Nil
-        | Instr::Load(_)
-        | Instr::LoadGlobal(_)
-        | Instr::NewStruct(_)
-        | Instr::NewMutex
-        | Instr::NewGroup
-        | Instr::NewRw
-        | Instr::Jump(_)
-        | Instr::Return
-        | Instr::Collect => 0,
-        Instr::Dup2
-        | Instr::Add
-        | Instr::Sub
-        | Instr::Mul
-        | Instr::Div
-        | Instr::Rem
-        | Instr::Eq
-        | Instr::Less
-        | Instr::AtMost
-        | Instr::SetField(_)
-        | Instr::Index
-        | Instr::Send
-        | Instr::GroupAdd => 2,
-        Instr::SetIndex => 3,
-        Instr::Call(_, count) => *count,
-        Instr::Go(_, count) => *count,
-        Instr::Defer(_, count) => *count,
-        Instr::Print(count) => *count,
-        Instr::Store(_)
-        | Instr::StoreGlobal(_)
-        | Instr::Drop
-        | Instr::Dup
-        | Instr::Neg
-        | Instr::Not
-        | Instr::JumpIfNot(_)
-        | Instr::NewCond
-        | Instr::Field(_)
-        | Instr::NewSlice(_)
-        | Instr::NewChan(_)
-        | Instr::Len
-        | Instr::Receive
-        | Instr::ReceiveOk
-        | Instr::Close
-        | Instr::Select(_, _)
-        | Instr::Lock
-        | Instr::Unlock
-        | Instr::GroupWait
-        | Instr::RwLock
-        | Instr::RwUnlock
-        | Instr::ReadLock
-        | Instr::ReadUnlock
-        | Instr::CondMutex
-        | Instr::CondWait
-        | Instr::CondSignal
-        | Instr::CondBroadcast
-        | Instr::ReturnValue
-        | Instr::SetFinalizer(_)
-        | Instr::ClearFinalizer
-        | Instr::Panic => 1,
+    Effect {
+        taken,
+        left,
+        goes_on: true,
     }
 }
 
-/// How many operands an instruction leaves, if these functions give a value.
-pub fn left(gives: &[bool], instr: &Instr) -> u32
-    ensures { result ≡ left_by gives.now instr.now }
+// Takes so many operands, and does not go on.
+fn ends(taken: u32) -> Effect
+    ensures { result ≡ record { taken = taken; left = 0; goes_on = false } }
 {
-    match instr {
-        Instr::Int(_)
-        | Instr::Bool(_)
-        | Instr::Text(_)
-        | Instr::Unit
-        | Instr::Nil
-        | Instr::Load(_)
-        | Instr::LoadGlobal(_)
-        | Instr::Neg
-        | Instr::Not
-        | Instr::Add
-        | Instr::Sub
-        | Instr::Mul
-        | Instr::Div
-        | Instr::Rem
-        | Instr::Eq
-        | Instr::Less
-        | Instr::AtMost
-        | Instr::NewStruct(_)
-        | Instr::NewMutex
-        | Instr::NewGroup
-        | Instr::NewRw
-        | Instr::NewCond
-        | Instr::Field(_)
-        | Instr::NewSlice(_)
-        | Instr::NewChan(_)
-        | Instr::Index
-        | Instr::Len
-        | Instr::Receive
-        | Instr::CondMutex => 1,
-        Instr::Dup | Instr::ReceiveOk => 2,
-        Instr::Dup2 => 4,
-        Instr::Call(function, _) => u32::from(
-            gives.get(*function as usize).copied().unwrap_or(false),
-        ),
-        Instr::Store(_)
-        | Instr::StoreGlobal(_)
-        | Instr::Drop
-        | Instr::Jump(_)
-        | Instr::JumpIfNot(_)
-        | Instr::SetField(_)
-        | Instr::SetIndex
-        | Instr::Send
-        | Instr::Close
-        | Instr::Select(_, _)
-        | Instr::Lock
-        | Instr::Unlock
-        | Instr::GroupAdd
-        | Instr::GroupWait
-        | Instr::RwLock
-        | Instr::RwUnlock
-        | Instr::ReadLock
-        | Instr::ReadUnlock
-        | Instr::CondWait
-        | Instr::CondSignal
-        | Instr::CondBroadcast
-        | Instr::Go(_, _)
-        | Instr::Defer(_, _)
-        | Instr::Return
-        | Instr::ReturnValue
-        | Instr::Print(_)
-        | Instr::Collect
-        | Instr::SetFinalizer(_)
-        | Instr::ClearFinalizer
-        | Instr::Panic => 0,
+    Effect {
+        taken,
+        left: 0,
+        goes_on: false,
     }
 }
 
-/// Whether the next instruction is led to by this one.
-pub fn goes_on(instr: &Instr) -> bool
-    ensures { result ≡ goes_on_by instr.now }
+/// What an instruction does to the operands of its frame, if these functions give a value.
+pub fn effect_of(gives: &[bool], instr: &Instr) -> Effect
+    ensures taken { result.taken ≡ taken instr.now }
+    ensures left { result.left ≡ left gives.now instr.now }
+    ensures goes_on { result.goes_on ≡ goes_on instr.now }
 {
     match instr {
-        Instr::Jump(_) | Instr::Return | Instr::ReturnValue | Instr::Panic => false,
-        Instr::Int(_)
-        | Instr::Bool(_)
-        | Instr::Text(_)
-        | Instr::Unit
-        | Instr::Nil
-        | Instr::Load(_)
-        | Instr::Store(_)
-        | Instr::LoadGlobal(_)
-        | Instr::StoreGlobal(_)
-        | Instr::Drop
-        | Instr::Dup
-        | Instr::Dup2
-        | Instr::Neg
-        | Instr::Not
-        | Instr::Add
-        | Instr::Sub
-        | Instr::Mul
-        | Instr::Div
-        | Instr::Rem
-        | Instr::Eq
-        | Instr::Less
-        | Instr::AtMost
-        | Instr::JumpIfNot(_)
-        | Instr::NewStruct(_)
-        | Instr::NewMutex
-        | Instr::NewGroup
-        | Instr::NewRw
-        | Instr::NewCond
-        | Instr::Field(_)
-        | Instr::SetField(_)
-        | Instr::NewSlice(_)
-        | Instr::NewChan(_)
-        | Instr::Index
-        | Instr::SetIndex
-        | Instr::Len
-        | Instr::Send
-        | Instr::Receive
-        | Instr::ReceiveOk
-        | Instr::Close
-        | Instr::Select(_, _)
-        | Instr::Lock
-        | Instr::Unlock
-        | Instr::GroupAdd
-        | Instr::GroupWait
-        | Instr::RwLock
-        | Instr::RwUnlock
-        | Instr::ReadLock
-        | Instr::ReadUnlock
-        | Instr::CondMutex
-        | Instr::CondWait
-        | Instr::CondSignal
-        | Instr::CondBroadcast
-        | Instr::Call(_, _)
-        | Instr::Go(_, _)
-        | Instr::Defer(_, _)
-        | Instr::Print(_)
-        | Instr::Collect
-        | Instr::SetFinalizer(_)
-        | Instr::ClearFinalizer => true,
+        Instr::Int(_) | Instr::Bool(_) | Instr::Text(_) | Instr::Unit | Instr::Nil => goes(0, 1),
+        Instr::Load(_) | Instr::LoadGlobal(_) => goes(0, 1),
+        Instr::Store(_) | Instr::StoreGlobal(_) | Instr::Drop => goes(1, 0),
+        Instr::Dup => goes(1, 2),
+        Instr::Dup2 => goes(2, 4),
+        Instr::Neg | Instr::Not => goes(1, 1),
+        Instr::Add | Instr::Sub | Instr::Mul | Instr::Div | Instr::Rem => goes(2, 1),
+        Instr::Eq | Instr::Less | Instr::AtMost => goes(2, 1),
+        Instr::Jump(_) => ends(0),
+        Instr::JumpIfNot(_) => goes(1, 0),
+        Instr::NewStruct(_) | Instr::NewMutex | Instr::NewGroup | Instr::NewRw => goes(0, 1),
+        Instr::NewCond | Instr::NewSlice(_) | Instr::NewChan(_) => goes(1, 1),
+        Instr::Field(_) | Instr::Len | Instr::CondMutex => goes(1, 1),
+        Instr::SetField(_) => goes(2, 0),
+        Instr::Index => goes(2, 1),
+        Instr::SetIndex => goes(3, 0),
+        Instr::Send => goes(2, 0),
+        Instr::Receive => goes(1, 1),
+        Instr::ReceiveOk => goes(1, 2),
+        Instr::Close | Instr::Select(_, _) => goes(1, 0),
+        Instr::Lock | Instr::Unlock | Instr::GroupWait => goes(1, 0),
+        Instr::GroupAdd => goes(2, 0),
+        Instr::RwLock | Instr::RwUnlock | Instr::ReadLock | Instr::ReadUnlock => goes(1, 0),
+        Instr::CondWait | Instr::CondSignal | Instr::CondBroadcast => goes(1, 0),
+        Instr::Call(function, count) => {
+            let value = gives.get(*function as usize).copied().unwrap_or(false);
+            goes(*count, u32::from(value))
+        }
+        Instr::Go(_, count) | Instr::Defer(_, count) | Instr::Print(count) => goes(*count, 0),
+        Instr::Return => ends(0),
+        Instr::ReturnValue | Instr::Panic => ends(1),
+        Instr::Collect => goes(0, 0),
+        Instr::SetFinalizer(_) | Instr::ClearFinalizer => goes(1, 0),
     }
 }
 

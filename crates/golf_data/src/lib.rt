@@ -10,7 +10,7 @@ mod slots;
 mod value;
 
 pub use code::{CaseKind, Code, CodeLine, Function, Instr, SelectCase};
-pub use effects::{case_left, case_taken, goes_on, left, taken};
+pub use effects::{Effect, case_left, case_taken, effect_of};
 pub use equality::same_lines;
 pub use goroutine::{
     Deferred, Ending, Fault, Frame, Goroutine, Leaving, Mode, PanicKind, Queued, Side, Wait,

@@ -1,9 +1,8 @@
--- Operands that are integers, truth values or references, and what is done with them.
+-- Operands that are integers or truth values, and what is done with them.
 use Rattle.std.specs.Prelude.{Bool, List, [], ◌∷◌, Option, None, ℤ, int_lt, int_le, option_and_then, option_map}
 use Rattle.golf_data.specs.declared.value.Value.{Value}
 use Rattle.golf_model.specs.Values.{int_of, bool_of}
 use Rattle.golf_model.specs.Calculating.{sum, difference, product, quotient, remainder}
-use Rattle.golf_machine.specs.declared.operands.Reference.{Reference}
 use Rattle.golf_machine.specs.declared.calculating.Operation.{Operation}
 use Rattle.golf_machine.specs.declared.calculating.Division.{Division}
 use Rattle.golf_machine.specs.declared.calculating.Comparison.{Comparison}
@@ -23,11 +22,6 @@ abbrev pub ints_in : List Value → Option (ℤ × ℤ)
 ints_in [] = None
 ints_in (y ∷ []) = None
 ints_in (y ∷ x ∷ rest) = option_and_then (λ m. option_map (λ n. (m, n)) (int_of y)) (int_of x)
-
-abbrev pub reference_of : Value → Reference
-reference_of Value.Nil = Reference.Nil
-reference_of (Value.Ref o) = Reference.To o
-reference_of _ = Reference.Misfit
 
 abbrev pub operation_of : Operation → ℤ → ℤ → ℤ
 operation_of Operation.Add m n = sum m n

@@ -8,11 +8,10 @@ ghost use Rattle.golf_model.specs.Finalising.{finalises, finalises_by, unfinalis
 ghost use Rattle.golf_state.specs.Doing.{Stands};
 ghost use Rattle.golf_machine.specs.Fits.{Fits};
 
-use crate::operands::{Reference, reference_in};
 use crate::structures::is_struct;
 use golf_base::{Memory, ObjectId};
 use golf_data::PanicKind;
-use golf_state::{Acting, Outcome, State, last_operand, proceed};
+use golf_state::{Acting, Outcome, Reference, State, last_operand, proceed, reference_in};
 
 // The function becomes the finaliser of a struct.
 fn finalise_at(

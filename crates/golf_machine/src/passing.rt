@@ -22,17 +22,17 @@ pub(crate) enum Passed<'c> {
     Nowhere,
 }
 
-// The function of this number.
+/// The function of this number.
 #[inline(always)]
-fn function_at(code: &Code, number: u32) -> Option<&Function>
+pub(crate) fn function_at(code: &Code, number: u32) -> Option<&Function>
     ensures function { option_map (λ f. f.now) result ≡ slice_get code.now.functions number }
 {
     code.functions.as_slice().get(number as usize)
 }
 
-// The instruction at a place of a function, with its line.
+/// The instruction at a place of a function, with its line.
 #[inline(always)]
-fn line_in(function: &Function, at: u32) -> Option<&CodeLine>
+pub(crate) fn line_in(function: &Function, at: u32) -> Option<&CodeLine>
     ensures line { option_map (λ l. l.now) result ≡ slice_get function.now.body at }
 {
     function.body.as_slice().get(at as usize)

@@ -17,14 +17,14 @@ use crate::finalising::{finalise, unfinalise};
 use crate::leaving::{return_with_value, return_without_value};
 use crate::printing::print;
 use crate::structures::{
-    get_element, get_field, get_mutex, measure, new_channel, new_condition, new_group, new_mutex,
-    new_rw, new_slice, new_struct, set_element, set_field,
+    get_element, get_field, get_mutex, measure, new_channel, new_condition, new_object, new_slice,
+    new_struct, set_element, set_field,
 };
 use crate::values::{panic_with, skip, store_global};
 use crate::within::{Within, perform_within};
 use golf_base::Memory;
 use golf_chan::{close, receive, select, send};
-use golf_data::{Code, Instr, PanicKind};
+use golf_data::{Code, Instr, Object, PanicKind};
 use golf_state::{Acting, Outcome, State, carry_out};
 use golf_sync::{
     cond_broadcast, cond_signal, cond_wait, group_add, group_wait, lock, read_lock, read_unlock,
@@ -126,9 +126,9 @@ fn operate(
         | Instr::JumpIfNot(_) => perform_on_frame(state, acting, instr),
         Instr::StoreGlobal(global) => store_global(state, acting, *global),
         Instr::NewStruct(row) => new_struct(alloc, code, state, acting, *row),
-        Instr::NewMutex => new_mutex(state, acting),
-        Instr::NewGroup => new_group(state, acting),
-        Instr::NewRw => new_rw(state, acting),
+        Instr::NewMutex => new_object(state, acting, Object::Mutex(false)),
+        Instr::NewGroup => new_object(state, acting, Object::Group(0)),
+        Instr::NewRw => new_object(state, acting, Object::Rw(0)),
         Instr::NewCond => new_condition(state, acting),
         Instr::Field(field) => get_field(state, acting, *field),
         Instr::SetField(field) => set_field(state, acting, *field),

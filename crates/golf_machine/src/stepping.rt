@@ -13,6 +13,7 @@ ghost use Rattle.golf_machine.specs.Stepping.{has_rule, has_collected};
 
 use crate::entering::begin_queued;
 use crate::leaving::{leave_returning, leave_unwinding};
+use crate::passing::{function_at, line_in};
 use crate::performing::perform;
 use golf_base::{GoroutineId, Memory};
 use golf_data::{Code, CodeLine, Frame, Instr, Leaving};
@@ -35,8 +36,7 @@ pub enum Acted {
 fn line_at(code: &Code, function: u32, at: u32) -> Option<&CodeLine>
     ensures line { option_map (λ l. l.now) result ≡ line_at code.now function at }
 {
-    let function = code.functions.as_slice().get(function as usize)?;
-    function.body.as_slice().get(at as usize)
+    line_in(function_at(code, function)?, at)
 }
 
 // The line of the return of a returning frame, which stands after it.

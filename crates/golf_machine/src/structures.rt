@@ -12,13 +12,13 @@ ghost use Rattle.golf_state.specs.Doing.{Stands};
 ghost use Rattle.golf_machine.specs.Fits.{Fits};
 ghost use Rattle.golf_machine.specs.Objects.{struct_of, slice_of, has_place, is_nil_or_mutex, field_changed, element_changed, measured};
 
-use crate::operands::{Reference, int_in, last_int, reference_in, zero_of};
+use crate::operands::{last_int, zero_of};
 use golf_base::{List, Memory, ObjectId};
 use golf_data::{Channel, Code, Object, PanicKind, Value};
 use golf_ring::Ring;
 use golf_state::{
-    Acting, Given, Outcome, State, last_operand, last_operands, last_three_operands, make_onto,
-    make_over, proceed, proceed_with,
+    Acting, Given, Outcome, Reference, State, int_in, last_operand, last_operands,
+    last_three_operands, make_onto, make_over, proceed, proceed_with, reference_in,
 };
 use golf_sync::condition_at;
 use std::alloc::Global;
@@ -64,33 +64,13 @@ pub fn zeros_of(alloc: Global, values: &[Value]) -> Result<List<Value>, Memory>
     Ok(zeros)
 }
 
-/// Makes an unlocked mutex.
-pub fn new_mutex(state: &mut State, acting: Acting) -> Result<Outcome, Memory>
+/// Makes this object: an unlocked mutex, an unlocked reader and writer mutex, or a wait group that counts 0.
+pub fn new_object(state: &mut State, acting: Acting, object: Object) -> Result<Outcome, Memory>
     requires { Stands acting.goroutine.0 acting.after state.old }
-    ensures ok { IfOk result (λ outcome. Fits outcome (λ a. makes a (Object.Mutex false) a.frame.operands state.old) acting.goroutine.0 acting.line state.old state.new) }
+    ensures ok { IfOk result (λ outcome. Fits outcome (λ a. makes a object a.frame.operands state.old) acting.goroutine.0 acting.line state.old state.new) }
     ensures err { OnErr result (state.new ≡ state.old) }
 {
-    make_onto(state, acting, Object::Mutex(false))?;
-    Ok(Outcome::Done)
-}
-
-/// Makes a wait group that counts 0.
-pub fn new_group(state: &mut State, acting: Acting) -> Result<Outcome, Memory>
-    requires { Stands acting.goroutine.0 acting.after state.old }
-    ensures ok { IfOk result (λ outcome. Fits outcome (λ a. makes a (Object.Group (pos 0)) a.frame.operands state.old) acting.goroutine.0 acting.line state.old state.new) }
-    ensures err { OnErr result (state.new ≡ state.old) }
-{
-    make_onto(state, acting, Object::Group(0))?;
-    Ok(Outcome::Done)
-}
-
-/// Makes an unlocked reader and writer mutex.
-pub fn new_rw(state: &mut State, acting: Acting) -> Result<Outcome, Memory>
-    requires { Stands acting.goroutine.0 acting.after state.old }
-    ensures ok { IfOk result (λ outcome. Fits outcome (λ a. makes a (Object.Rw (pos 0)) a.frame.operands state.old) acting.goroutine.0 acting.line state.old state.new) }
-    ensures err { OnErr result (state.new ≡ state.old) }
-{
-    make_onto(state, acting, Object::Rw(0))?;
+    make_onto(state, acting, object)?;
     Ok(Outcome::Done)
 }
 

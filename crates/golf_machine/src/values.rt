@@ -7,10 +7,9 @@ ghost use Rattle.golf_model.specs.Turn.{panics_with};
 ghost use Rattle.golf_state.specs.Doing.{Stands};
 ghost use Rattle.golf_machine.specs.Fits.{Fits};
 
-use crate::operands::text_in;
 use golf_base::Memory;
 use golf_data::PanicKind;
-use golf_state::{Acting, Outcome, State, last_operand, proceed};
+use golf_state::{Acting, Outcome, State, last_operand, proceed, text_in};
 
 /// Stores the last operand in a global, if both are there.
 pub fn store_global(state: &mut State, acting: Acting, global: u32) -> Result<Outcome, Memory>

@@ -14,9 +14,9 @@ ghost use Rattle.golf_machine.specs.Within.{HasGone, is_on_frame};
 ghost use Rattle.golf_machine.specs.declared.within.Within.TheVariants as within;
 
 use crate::calculating::{Comparison, Division, Operation, are_equal, holds, part_of, result_of};
-use crate::operands::{bool_in, int_in};
 use golf_base::{List, Memory};
 use golf_data::{Frame, Instr, Value};
+use golf_state::{bool_in, int_in};
 
 /// What an instruction came to that may touch the innermost frame alone.
 #[derive(Clone, Copy, Debug, PartialEq, Eq)]

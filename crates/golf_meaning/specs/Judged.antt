@@ -5,16 +5,11 @@ use Rattle.golf_data.specs.declared.value.Value.{Value}
 use Rattle.golf_data.specs.declared.code.Code.{Code}
 use Rattle.golf_data.specs.declared.code.Function.{Function}
 use Rattle.golf_code_of.specs.Files.{CodeOf}
+use Rattle.golf_code_files.specs.Comparing.{HasSameBody}
 use Rattle.golf_meaning_flat.specs.Worlds.{Answer}
 use Rattle.golf_meaning_flat.specs.Laws.{Agree, NeverUnfit}
 use Rattle.golf_meaning_functions.specs.Functions.{CodeMeaning}
 use Rattle.golf_meaning_functions.specs.Files.{function_count, MeaningOf}
-
--- the same parameters, the same slots, and the same body with its lines
-pub record HasSameBody (f g : Function) : Type 0 where
-  pub params : f.params ≡ g.params
-  pub slots : f.slots ≡ g.slots
-  pub body : f.body ≡ g.body
 
 -- both are there, and have the same body
 abbrev pub AreSame : Option Function → Option Function → Type 0
@@ -43,10 +38,6 @@ abbrev pub Agrees : File → Code → ℕ → Type 0
 Agrees file code k = FunctionAgrees file k (slice_get code.functions k)
 
 -- ---- all of them
-
--- both have functions of the numbers from 1 to this one, with the same bodies
-abbrev pub AreSameTo : ℕ → List Function → List Function → Type 0
-AreSameTo last fs gs = (k : ℕ) → 0 < k → k ≤ last → AreSame (slice_get fs k) (slice_get gs k)
 
 -- the code has each function and method of the file as its code has it
 abbrev pub AllAreCodeOf : File → Code → Type 0

@@ -1,18 +1,31 @@
 //! A function of a code, and all functions of a file, judged by the code of the file.
 
-ghost use Rattle.std.specs.Prelude.{◌≡◌, ◌↔◌, IfOk, IsTrue};
+ghost use Rattle.std.specs.Prelude.{◌≡◌, ◌↔◌, drop, slice_get, IfOk, IsTrue};
 ghost use Rattle.golf_check_types.specs.Files.{facts_in};
 ghost use Rattle.golf_check.specs.Heads.{scope_of};
 ghost use Rattle.golf_meaning_functions.specs.Files.{function_count as count_of};
-ghost use Rattle.golf_meaning.specs.Judged.{IsCodeOf, IsNumbered, Agrees, AllAreCodeOf, AllAgree};
+ghost use Rattle.golf_meaning.specs.Judged.{AreSame, IsCodeOf, IsNumbered, Agrees, AllAreCodeOf, AllAgree};
 
-use crate::bodies::{are_all_same, are_same};
 use golf_base::Memory;
 use golf_check::Checked;
 use golf_code::generate;
-use golf_data::Code;
+use golf_code_files::{begin_with_code, has_same_body};
+use golf_data::{Code, Function};
 use golf_syntax_trees::Decl;
 use std::alloc::Global;
+
+// Whether both codes have a function of this number, with the same parameters, slots and body.
+fn are_same(code: &Code, other: &Code, number: usize) -> bool
+    ensures { IsTrue result ↔ AreSame (slice_get code.now.functions number) (slice_get other.now.functions number) }
+{
+    match (
+        code.functions.as_slice().get(number),
+        other.functions.as_slice().get(number),
+    ) {
+        (Some(function), Some(other)) => has_same_body(function, other),
+        _ => false,
+    }
+}
 
 /// Whether the code has a function of this number, with the parameters, the slots and the body,
 /// each line of it with its place in the source, that the function has in the code of the file.
@@ -52,16 +65,27 @@ pub fn function_count(declarations: &[Decl]) -> usize
     count
 }
 
+// The functions but the first one, which runs the initialisers.
+fn past_entry(functions: &[Function]) -> &[Function]
+    ensures { result.now ≡ drop 1 functions.now }
+{
+    match functions {
+        [] => functions,
+        [_, others @ ..] => others,
+    }
+}
+
 /// Whether each function and method of the file has the code that the file gives it, as
-/// `check_body` judges one; then each agrees with its source, both ways. The code of the file is
-/// made once, so the cost is linear.
+/// `check_body` judges one; then each agrees with its source, both ways. The functions of the file
+/// are made once, in one walk, and each is dropped once it is compared.
 pub fn check_all(alloc: Global, checked: &Checked, code: &Code) -> Result<bool, Memory>
     requires scope { checked.now.scope ≡ scope_of checked.now.file }
     requires facts { checked.now.facts ≡ facts_in checked.now.file }
     ensures exact { IfOk result (λ same. IsTrue same ↔ AllAreCodeOf checked.now.file code.now) }
     ensures agrees { IfOk result (λ same. IsTrue same → AllAgree checked.now.file code.now) }
 {
-    let made = generate(alloc, checked)?;
-    let last = function_count(checked.file.declarations.as_slice());
-    Ok(are_all_same(code, &made, last))
+    let decls = checked.file.declarations.as_slice();
+    let facts = checked.facts.as_slice();
+    let functions = past_entry(code.functions.as_slice());
+    begin_with_code(alloc, &checked.scope.file, decls, facts, functions)
 }

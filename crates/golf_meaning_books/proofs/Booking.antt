@@ -22,12 +22,11 @@ use Rattle.golf_model.specs.Changes.{Change, apply_all}
 use Rattle.golf_model.specs.Acting.{Actor, on_some}
 use Rattle.golf_model.specs.Finalising.{begins_queued}
 use Rattle.golf_model.specs.Turn.{changes, line_at, return_line, acting, performs, frame_changes, goroutine_changes, turn_of}
-use Rattle.golf_model_typing.specs.Types.{Types}
 use Rattle.golf_meaning_turns.specs.Showing.{CalledBy}
 use Rattle.golf_meaning_turns.specs.Life.{frame, Now, Life}
 use Rattle.golf_meaning_turns.specs.Turning.{operation, Asked, shows}
 use Rattle.golf_meaning_turns.proofs.Turning.{turns-are-lived}
-use Rattle.golf_meaning_books.specs.Books.{AreArguments, Call, Book, fresh, settled_by, with_shown, line_shows, turned_call, operands_shown, passed, calls_after, frames_in, frames_at, Takes, HasLife, IsOnTop, Top, Matches, HasMasks}
+use Rattle.golf_meaning_books.specs.Books.{RunTypes, shaping, Shaped, AreArguments, Call, Book, fresh, settled_by, with_shown, line_shows, turned_call, operands_shown, passed, calls_after, frames_in, frames_at, Takes, HasLife, IsOnTop, Top, Matches, HasMasks}
 use Rattle.golf_meaning_books.proofs.Framing.{fresh-top, settled-lives}
 use Rattle.golf_meaning_books.proofs.Others.{Fits, runs-awake}
 use Rattle.golf_meaning_books.proofs.Owning.{Became, by-life}
@@ -35,29 +34,30 @@ use Rattle.golf_meaning_books.proofs.Leaving.{by-returning, by-unwinding}
 use Rattle.golf_meaning_books.proofs.Turned.{Done, done-going, done}
 
 -- each call has a life, and unless the run has ended each goroutine matches its calls
-pub record Booked (code : Code) (types : Types) (s : State) (b : Book) : Type 0 where
+pub record Booked (code : Code) (types : RunTypes) (s : State) (b : Book) : Type 0 where
   pub lives : (h : ℕ) → Every (HasLife code types) (b h)
   pub fits : s.recorded ≡ None → Fits code types b s
 
 -- a call whose last answer is written down
-record Settled (types : Types) (fn : Function) (k : Call) (f : FrameView) (settled : Call) : Type 0 where
+record Settled (types : RunTypes) (fn : Function) (k : Call) (f : FrameView) (settled : Call) : Type 0 where
   same : settled.function ≡ k.function
   given : AreArguments types settled.function settled.arguments
   idle : settled.asks ≡ None
-  life : Life fn settled.arguments settled.shown settled.got (Now.Stands f.at (frame f.slots f.operands))
+  life : Life fn (shaping types settled.function) settled.arguments settled.shown settled.got (Now.Stands f.at (frame f.slots f.operands))
 
-settles : (types : Types) (fn : Function) (k : Call) (f : FrameView) (m : Option Asked) → AreArguments types k.function k.arguments → k.asks ≡ m → IsOnTop fn k f m Mode.Running → Settled types fn k f (settled_by m f k)
-settles types fn k f None given e h = record { same = refl; given = given; idle = e; life = h }
-settles types fn k f (Some q) given e h = record { same = refl; given = given; idle = refl; life = settled-lives fn k f q h }
+settles : (types : RunTypes) (fn : Function) (k : Call) (f : FrameView) (m : Option Asked) → AreArguments types k.function k.arguments → k.asks ≡ m → Shaped types k.function f.at (frame f.slots f.operands) → IsOnTop types fn k f m Mode.Running → Settled types fn k f (settled_by m f k)
+settles types fn k f None given e fits h = record { same = refl; given = given; idle = e; life = h }
+settles types fn k f (Some q) given e fits h = record { same = refl; given = given; idle = refl; life = settled-lives types fn k f q fits h }
 
--- what a goroutine with these frames passes on in its turn, and the entries of the queue, have as many values as the functions have parameters
-pub record PassesOn (code : Code) (types : Types) (s : State) (frames : List FrameView) : Type 0 where
+-- the innermost frame has the shape of its place; and what a goroutine with these frames passes on in its turn, and the entries of the queue, have as many values as the functions have parameters
+pub record PassesOn (code : Code) (types : RunTypes) (s : State) (frames : List FrameView) : Type 0 where
+  pub stands : (f : FrameView) (callers : List FrameView) → frames ≡ f ∷ callers → f.leaving ≡ Leaving.No → Shaped types f.function f.at (frame f.slots f.operands)
   pub operands : (f : FrameView) (callers : List FrameView) (l : CodeLine) → frames ≡ f ∷ callers → f.leaving ≡ Leaving.No → line_at code f.function f.at ≡ Some l
       → (vs : List Value) (q : Asked) → shows l.instr f.operands ≡ Some (operation l.instr vs, q) → (n : ℕ) → CalledBy l.instr n → Takes code types n vs
   pub deferred : (f : FrameView) (callers : List FrameView) → frames ≡ f ∷ callers → Every (λ (d : Deferred). Takes code types d.function d.arguments) f.deferred
   pub queue : Every (λ (q : Queued). Takes code types q.function (Value.Ref q.object ∷ [])) s.queue
 
-module _ (code : Code) (types : Types) (masks : HasMasks code) (b : Book) (s : State) (rising : IsRising s.goroutines) (bounded : KeysBelow s.next_goroutine s.goroutines) (fits : Fits code types b s) (choice g : ℕ) (r : GoroutineView) (found : find g s.goroutines ≡ Some r) (runs : r.mode ≡ Mode.Running) (passes : PassesOn code types s r.frames) where
+module _ (code : Code) (types : RunTypes) (masks : HasMasks code) (b : Book) (s : State) (rising : IsRising s.goroutines) (bounded : KeysBelow s.next_goroutine s.goroutines) (fits : Fits code types b s) (choice g : ℕ) (r : GoroutineView) (found : find g s.goroutines ≡ Some r) (runs : r.mode ≡ Mode.Running) (passes : PassesOn code types s r.frames) where
   fresh-number : find s.next_goroutine s.goroutines ≡ None
   fresh-number = find_above s.next_goroutine s.goroutines s.next_goroutine bounded (omega arith)
 
@@ -77,10 +77,11 @@ module _ (code : Code) (types : Types) (masks : HasMasks code) (b : Book) (s : S
         let o = here.0 in
         let fn = o.0 in
         let kk = settled_by k.asks f k in
-        let top : IsOnTop fn k f k.asks Mode.Running = subst (λ left. Top fn k f left Mode.Running) staying o.4 in
-        let x = settles types fn k f k.asks o.3.0 refl top in
+        let top : IsOnTop types fn k f k.asks Mode.Running = subst (λ left. Top types fn k f left Mode.Running) staying o.4 in
+        let fits = passes.stands f callers frames staying in
+        let x = settles types fn k f k.asks o.3.0 refl (subst (λ n. Shaped types n f.at (frame f.slots f.operands)) o.2 fits) top in
         let at : slice_get fn.body f.at ≡ Some l = sym (ap (λ (m : Option Function). option_and_then (λ fn. slice_get fn.body f.at) m) (ap (λ n. slice_get code.functions n) o.2 ∙ o.1)) ∙ e in
-        let lived = turns-are-lived code fn kk.arguments kk.shown kk.got (a l.line) choice s l at x.life (runs-awake s rising g r found runs) in
+        let lived = turns-are-lived code fn (shaping types kk.function) kk.arguments kk.shown kk.got (a l.line) choice s l at x.life (subst (λ n. Shaped types n f.at (frame f.slots f.operands)) (o.2 ∙ sym x.same) fits) (runs-awake s rising g r found runs) in
         let is : slice_get code.functions kk.function ≡ Some fn = ap (λ n. slice_get code.functions n) x.same ∙ o.1 in
         let became = by-life code types masks s fn (a l.line) l.instr kk ks is (o.2 ∙ sym x.same) x.given x.idle staying here.1 (shows l.instr f.operands) (changes code l.instr (a l.line) choice s) (passes.operands f callers l frames staying e) lived in
         (l.line, subst (λ m. Became code types s (a l.line) (with_shown (line_shows m f) kk) ks (operands_shown (line_shows m f)) (changes code l.instr (a l.line) choice s)) (sym e) became)

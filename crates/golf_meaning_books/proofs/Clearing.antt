@@ -11,14 +11,13 @@ use Rattle.golf_model.specs.Views.{FrameView, GoroutineView}
 use Rattle.golf_model.specs.State.{State}
 use Rattle.golf_model.specs.Changes.{become, apply_all}
 use Rattle.golf_model.specs.Clearing.{cleared, clears_in, clears, clearing}
-use Rattle.golf_model_typing.specs.Types.{Types}
-use Rattle.golf_meaning_books.specs.Books.{Book, begun_in, calls_after, frames_in, frames_at, started_with, HasLife, Matches, HasMasks}
+use Rattle.golf_meaning_books.specs.Books.{RunTypes, Book, begun_in, calls_after, frames_in, frames_at, started_with, HasLife, Matches, HasMasks}
 use Rattle.golf_meaning_books.proofs.Framing.{cleared-matches}
 use Rattle.golf_meaning_books.proofs.Others.{one-some}
 use Rattle.golf_meaning_books.proofs.Rebooking.{calls-cleared}
 use Rattle.golf_meaning_books.proofs.Turned.{own_calls, started_calls, Done}
 
-module _ (code : Code) (types : Types) (masks : HasMasks code) (s : State) (g : ℕ) (b : Book) (not_next : g ≡ s.next_goroutine → ⊥) (t : State) (d : Done code types s g b t) where
+module _ (code : Code) (types : RunTypes) (masks : HasMasks code) (s : State) (g : ℕ) (b : Book) (not_next : g ≡ s.next_goroutine → ⊥) (t : State) (d : Done code types s g b t) where
   module _ (q : GoroutineView) (found : find g t.goroutines ≡ Some q) (runs : q.mode ≡ Mode.Running) (f : FrameView) (fs : List FrameView) (frames : q.frames ≡ f ∷ fs) where
     abbrev now : GoroutineView
     now = record q { frames = cleared code f ∷ fs }

@@ -1,8 +1,8 @@
--- In a well-typed state a goroutine passes on as many arguments as the function has parameters, and of their types.
+-- In a well-typed state a goroutine stands at the shape of its place, and passes on as many arguments as the function has parameters, and of their types.
 -- For: `PassesOn`, Booking.antt.
 -- By: cases of the instruction; induction over lists of values, and over the number of operands.
 use Rattle.std.proofs.Common.{◌≡◌, ℕ, zero, suc, ◌+◌, List, [], ◌∷◌, ◌++◌, length, Option, Some, None, refl, ap, sym, ◌∙◌, subst, slice_get, arith, append-nil}
-use Rattle.std.specs.Prelude.{option_and_then}
+use Rattle.std.specs.Prelude.{option_and_then, unwrap_or}
 use Rattle.golf_theory.specs.Maps.{Entry}
 use Rattle.golf_theory.proofs.Lists.{Every-weaker}
 use Rattle.golf_data.specs.declared.value.Value.{Value}
@@ -17,12 +17,14 @@ use Rattle.golf_model.specs.Views.{FrameView, GoroutineView}
 use Rattle.golf_model.specs.State.{State}
 use Rattle.golf_model.specs.Turn.{line_at}
 use Rattle.golf_model_typing.specs.Types.{ValueType, Shape, Signature, FunctionTypes, signature, with_shapes, Types, Typing, ValuesFit}
+use Rattle.golf_model_typing.specs.Grows.{Grows}
 use Rattle.golf_model_typing.specs.Shapes.{pushed, InstructionFits, HasShapes}
 use Rattle.golf_model_typing.specs.WellTyped.{Stands, LeavingFits, CallFits, DeferredFits, FramesFit, ModeFits, FinaliserFits, WellTyped}
+use Rattle.golf_model_typing.proofs.Growing.{values-more}
 use Rattle.golf_meaning_flat.specs.Worlds.{Operation}
 use Rattle.golf_meaning_turns.specs.Showing.{split_from, CalledBy}
 use Rattle.golf_meaning_turns.specs.Turning.{operation, Asked, plain_shown, shows}
-use Rattle.golf_meaning_books.specs.Books.{Takes, HasParameters}
+use Rattle.golf_meaning_books.specs.Books.{RunTypes, Takes, HasParameters}
 use Rattle.golf_meaning_books.proofs.Others.{one-some}
 use Rattle.golf_meaning_books.proofs.Booking.{PassesOn}
 
@@ -64,18 +66,22 @@ shown-split : (i : Instr) (vs : List Value) (q : Asked) (m : Option (List Value 
 shown-split i vs q None e = cc
 shown-split i vs q (Some o) e = (o.1, ap (λ (us : List Value). Some (us, o.1)) (ap (λ (x : Operation × Asked). x.0.operands) (one-some _ (operation i vs, q) e)))
 
-module _ (code : Code) (types : Typing) (shapes : HasShapes code types) (parameters : HasParameters code types) (known : List (ℕ × ValueType)) where
+module _ (code : Code) (types : Typing) (shapes : HasShapes code types) (parameters : HasParameters code types) (known later : List (ℕ × ValueType)) (grows : Grows known later) where
+  -- what is known later
+  abbrev run_types : RunTypes
+  run_types = record { typing = types; known = later }
+
   -- a call that fits its types
-  pub call-takes : (n : ℕ) (vs : List Value) → CallFits types known n vs → Takes code types.of n vs
-  call-takes n vs h fn e = (values-length types.of known vs h.0.params h.2 ∙ sym (parameters n fn h.0 e h.1), (known, h.0, h.1, h.2))
+  pub call-takes : (n : ℕ) (vs : List Value) → CallFits types known n vs → Takes code run_types n vs
+  call-takes n vs h fn e = (values-length types.of known vs h.0.params h.2 ∙ sym (parameters n fn h.0 e h.1), (h.0, h.1, values-more types known later grows vs h.0.params h.2))
 
   -- so many operands of the types of the function's parameters
-  counted : (i : Instr) (f n : ℕ) (os vs : List Value) (q : Asked) (callee : Signature) (rest : List ValueType) → slice_get types.of.functions f ≡ Some callee → n ≡ length callee.params → ValuesFit types.of known os (pushed callee.params rest) → plain_shown i (split_from n [] os) ≡ Some (operation i vs, q) → (m : ℕ) → f ≡ m → Takes code types.of m vs
+  counted : (i : Instr) (f n : ℕ) (os vs : List Value) (q : Asked) (callee : Signature) (rest : List ValueType) → slice_get types.of.functions f ≡ Some callee → n ≡ length callee.params → ValuesFit types.of known os (pushed callee.params rest) → plain_shown i (split_from n [] os) ≡ Some (operation i vs, q) → (m : ℕ) → f ≡ m → Takes code run_types m vs
   counted i f n os vs q callee rest is count fit e m same =
       let split = shown-split i vs q (split_from n [] os) e in
       call-takes m vs (callee, ap (λ j. slice_get types.of.functions j) (sym same) ∙ is, arguments-fit types.of known callee.params rest n os vs split.0 count fit split.1)
 
-  instruction-takes : (ft : FunctionTypes) (k : ℕ) (sh : Shape) (os vs : List Value) (q : Asked) (i : Instr) → InstructionFits types.of ft k i sh → ValuesFit types.of known os sh.operands → shows i os ≡ Some (operation i vs, q) → (m : ℕ) → CalledBy i m → Takes code types.of m vs
+  instruction-takes : (ft : FunctionTypes) (k : ℕ) (sh : Shape) (os vs : List Value) (q : Asked) (i : Instr) → InstructionFits types.of ft k i sh → ValuesFit types.of known os sh.operands → shows i os ≡ Some (operation i vs, q) → (m : ℕ) → CalledBy i m → Takes code run_types m vs
   instruction-takes ft k sh os vs q (Instr.Call f n) h fit e m called = counted (Instr.Call f n) f n os vs q h.0 h.1 h.2 h.3 (subst (λ ts. ValuesFit types.of known os ts) h.4 fit) e m called
   instruction-takes ft k sh os vs q (Instr.Go f n) h fit e m called = counted (Instr.Go f n) f n os vs q h.0 h.1 h.2 h.3 (subst (λ ts. ValuesFit types.of known os ts) h.4 fit) e m called
   instruction-takes ft k sh os vs q i h fit e m called = absurd called
@@ -83,7 +89,7 @@ module _ (code : Code) (types : Typing) (shapes : HasShapes code types) (paramet
   module _ (s : State) (typed : WellTyped types known s) where
     -- a frame that stands at an instruction
     at-line : (ft : FunctionTypes) (f : FrameView) (l : CodeLine) → slice_get types.of.functions f.function ≡ Some (signature ft) → slice_get types.shapes f.function ≡ Some ft.shapes → Stands types known ft [] f.at f.operands f.slots → line_at code f.function f.at ≡ Some l
-        → (vs : List Value) (q : Asked) → shows l.instr f.operands ≡ Some (operation l.instr vs, q) → (n : ℕ) → CalledBy l.instr n → Takes code types.of n vs
+        → (vs : List Value) (q : Asked) → shows l.instr f.operands ≡ Some (operation l.instr vs, q) → (n : ℕ) → CalledBy l.instr n → Takes code run_types n vs
     at-line ft f l is shaped stands e vs q shown n called =
         let x = shapes.functions f.function (signature ft) is in
         let fn = x.1 in
@@ -96,12 +102,16 @@ module _ (code : Code) (types : Typing) (shapes : HasShapes code types) (paramet
       frames-fit : (f : FrameView) (callers : List FrameView) → r.frames ≡ f ∷ callers → FramesFit types known [] (f ∷ callers)
       frames-fit f callers e = subst (λ fs. FramesFit types known [] fs) e (subst (λ m. ModeFits types known r.frames m) runs (typed.goroutines g r entry).0)
 
-      pub passes-on : PassesOn code types.of s r.frames
+      pub passes-on : PassesOn code run_types s r.frames
       passes-on = record {
+        stands = λ f callers e staying.
+            let x = frames-fit f callers e in
+            let stands = subst (λ left. LeavingFits types known x.0 [] f.at f.operands f.slots left) staying x.1.1 in
+            (stands.shape, ap (λ (m : Option (List Shape)). slice_get (unwrap_or m []) f.at) x.1.0.shaped ∙ stands.here, values-more types known later grows f.operands stands.shape.operands (subst (λ ts. ValuesFit types.of known f.operands ts) (sym stands.lacks) stands.held));
         operands = λ f callers l e staying at vs q shown n called.
             let x = frames-fit f callers e in
             let ft = x.0 in
             at-line ft f l x.1.0.typed x.1.0.shaped (subst (λ left. LeavingFits types known ft [] f.at f.operands f.slots left) staying x.1.1) at vs q shown n called;
-        deferred = λ f callers e. Every-weaker (DeferredFits types known) (λ (d : Deferred). Takes code types.of d.function d.arguments) (λ d h. call-takes d.function d.arguments h) f.deferred (frames-fit f callers e).1.0.deferred_calls;
-        queue = Every-weaker (λ (q : Queued). FinaliserFits types known q.object.0 q.function) (λ (q : Queued). Takes code types.of q.function (Value.Ref q.object ∷ [])) (λ q h. call-takes q.function (Value.Ref q.object ∷ []) h) s.queue typed.queue;
+        deferred = λ f callers e. Every-weaker (DeferredFits types known) (λ (d : Deferred). Takes code run_types d.function d.arguments) (λ d h. call-takes d.function d.arguments h) f.deferred (frames-fit f callers e).1.0.deferred_calls;
+        queue = Every-weaker (λ (q : Queued). FinaliserFits types known q.object.0 q.function) (λ (q : Queued). Takes code run_types q.function (Value.Ref q.object ∷ [])) (λ q h. call-takes q.function (Value.Ref q.object ∷ []) h) s.queue typed.queue;
       }

@@ -18,13 +18,12 @@ use Rattle.golf_model.specs.State.{opened}
 use Rattle.golf_model.specs.Waking.{unwinding}
 use Rattle.golf_model.specs.Clearing.{mask_at, stays_in, cleared}
 use Rattle.golf_model.specs.Calls.{handed_back}
-use Rattle.golf_model_typing.specs.Types.{Types}
 use Rattle.golf_meaning_flat.specs.Worlds.{pushed}
 use Rattle.golf_meaning_flat.specs.Flat.{lower}
 use Rattle.golf_meaning_turns.specs.Laws.{AlikeAt}
 use Rattle.golf_meaning_turns.specs.Life.{frame, Now, Life, first_slots}
 use Rattle.golf_meaning_turns.specs.Turning.{answer, Asked}
-use Rattle.golf_meaning_books.specs.Books.{AreArguments, Call, fresh, popped, IsOnTop, Top, WaitsBelow, Below, Of, AllBelow, Matches, HasMasks}
+use Rattle.golf_meaning_books.specs.Books.{RunTypes, shaping, Shaped, AreArguments, Call, fresh, popped, IsOnTop, Top, WaitsBelow, Below, Of, AllBelow, Matches, HasMasks}
 
 -- ---- clearing
 
@@ -44,7 +43,7 @@ masked-alike fn at mask xs masks is = (
   λ i needed. sym (cleared-get (stays_under mask) 0 i i xs (omega arith) (subst (λ (m : Option ℕ). stays_under m i ≡ true) (sym (is ∙ ap (λ ms. slice_get ms at) masks)) (needed-stay fn.slots fn.body at i needed))),
 )
 
-module _ (code : Code) (types : Types) (masks : HasMasks code) where
+module _ (code : Code) (types : RunTypes) (masks : HasMasks code) where
   own-mask : (f : ℕ) (at : ℕ) (fn : Function) → slice_get code.functions f ≡ Some fn → mask_at code f at ≡ slice_get fn.live at
   own-mask f at fn is = ap (λ o. option_and_then (λ (g : Function). slice_get g.live at) o) is
 
@@ -52,11 +51,11 @@ module _ (code : Code) (types : Types) (masks : HasMasks code) where
     cleared-alike : AlikeAt fn.body f.at f.slots (cleared_slots (stays_under (mask_at code f.function f.at)) f.slots)
     cleared-alike = masked-alike fn f.at (mask_at code f.function f.at) f.slots (masks f.function fn is) (own-mask f.function f.at fn is)
 
-    cleared-asks : (o : Option Asked) → IsOnTop fn k f o Mode.Running → IsOnTop fn k (record f { slots = cleared_slots (stays_under (mask_at code f.function f.at)) f.slots }) o Mode.Running
+    cleared-asks : (o : Option Asked) → IsOnTop types fn k f o Mode.Running → IsOnTop types fn k (record f { slots = cleared_slots (stays_under (mask_at code f.function f.at)) f.slots }) o Mode.Running
     cleared-asks None h = Life.Clears (cleared_slots (stays_under (mask_at code f.function f.at)) f.slots) h cleared-alike
-    cleared-asks (Some q) h = (h.0, h.1, Life.Clears (cleared_slots (stays_under (mask_at code f.function f.at)) f.slots) h.2 cleared-alike)
+    cleared-asks (Some q) h = (h.0, h.1, λ fits. Life.Clears (cleared_slots (stays_under (mask_at code f.function f.at)) f.slots) (h.2 fits) cleared-alike)
 
-    cleared-top : (l : Leaving) → Top fn k f l Mode.Running → Top fn k (record f { slots = cleared_slots (stays_in l (mask_at code f.function f.at)) f.slots }) l Mode.Running
+    cleared-top : (l : Leaving) → Top types fn k f l Mode.Running → Top types fn k (record f { slots = cleared_slots (stays_in l (mask_at code f.function f.at)) f.slots }) l Mode.Running
     cleared-top Leaving.No h = cleared-asks k.asks h
     cleared-top (Leaving.Returning v) h = h
     cleared-top (Leaving.Unwinding x) h = h
@@ -67,7 +66,7 @@ module _ (code : Code) (types : Types) (masks : HasMasks code) where
   cleared-matches f fs (k ∷ ks) h = let o = h.0 in ((o.0, o.1, o.2, o.3, cleared-top o.0 k f (ap (λ n. slice_get code.functions n) o.2 ∙ o.1) f.leaving o.4), h.1)
 
   -- a call that is begun
-  pub fresh-top : (g : ℕ) (vs : List Value) (discards : Bool) (fn : Function) → slice_get code.functions g ≡ Some fn → (length vs ≡ fn.params) × AreArguments types g vs → Of code types (fresh g vs) (opened g vs discards fn) (λ z. Top z (fresh g vs) (opened g vs discards fn) Leaving.No Mode.Running)
+  pub fresh-top : (g : ℕ) (vs : List Value) (discards : Bool) (fn : Function) → slice_get code.functions g ≡ Some fn → (length vs ≡ fn.params) × AreArguments types g vs → Of code types (fresh g vs) (opened g vs discards fn) (λ z. Top types z (fresh g vs) (opened g vs discards fn) Leaving.No Mode.Running)
   fresh-top g vs discards fn is count =
       let begun = Life.Clears (cleared_slots (stays_under (slice_get fn.live 0)) (first_slots fn vs)) (Life.Begins count.0) (masked-alike fn 0 (slice_get fn.live 0) (first_slots fn vs) (masks g fn is) refl) in
       (fn, is, refl, (count.1, (Now.Stands 0 (frame (cleared_slots (stays_under (slice_get fn.live 0)) (first_slots fn vs)) []), begun)), begun)
@@ -86,17 +85,17 @@ answer-is : (vs rest : List Value) → popped (length (pushed vs rest) - length 
 answer-is vs rest = ap (λ m. popped m [] (pushed vs rest)) (let l = pushed-length vs rest in let e : length (pushed vs rest) - length rest ≡ length vs + 0 = omega (arith, l) in e) ∙ popped-pushed vs [] rest 0 ∙ append-nil vs
 
 -- once it is written down, the call stands at its frame
-pub settled-lives : (fn : Function) (k : Call) (f : FrameView) (q : Asked) → IsOnTop fn k f (Some q) Mode.Running
-    → Life fn k.arguments k.shown (k.got ++ answer (lower q.ranks f.at) (popped (length f.operands - length q.rest) [] f.operands) ∷ []) (Now.Stands f.at (frame f.slots f.operands))
-settled-lives fn k f q h =
-    subst (λ os. Life fn k.arguments k.shown (k.got ++ answer (lower q.ranks f.at) (popped (length os - length q.rest) [] os) ∷ []) (Now.Stands f.at (frame f.slots os))) (sym h.1)
-    (subst (λ vs. Life fn k.arguments k.shown (k.got ++ answer (lower q.ranks f.at) vs ∷ []) (Now.Stands f.at (frame f.slots (pushed h.0 q.rest)))) (sym (answer-is h.0 q.rest)) h.2)
+pub settled-lives : (types : RunTypes) (fn : Function) (k : Call) (f : FrameView) (q : Asked) → Shaped types k.function f.at (frame f.slots f.operands) → IsOnTop types fn k f (Some q) Mode.Running
+    → Life fn (shaping types k.function) k.arguments k.shown (k.got ++ answer (lower q.ranks f.at) (popped (length f.operands - length q.rest) [] f.operands) ∷ []) (Now.Stands f.at (frame f.slots f.operands))
+settled-lives types fn k f q fits h =
+    subst (λ os. Life fn (shaping types k.function) k.arguments k.shown (k.got ++ answer (lower q.ranks f.at) (popped (length os - length q.rest) [] os) ∷ []) (Now.Stands f.at (frame f.slots os))) (sym h.1)
+    (subst (λ vs. Life fn (shaping types k.function) k.arguments k.shown (k.got ++ answer (lower q.ranks f.at) vs ∷ []) (Now.Stands f.at (frame f.slots (pushed h.0 q.rest)))) (sym (answer-is h.0 q.rest)) (h.2 (subst (λ os. Shaped types k.function f.at (frame f.slots os)) h.1 fits)))
 
 -- ---- a frame that is returned to, or unwound
 
-module _ (code : Code) (types : Types) where
+module _ (code : Code) (types : RunTypes) where
   module _ (fn : Function) (k : Call) (f : FrameView) where
-    back-asks : (discards : Bool) (v : Option Value) (o : Option Asked) → WaitsBelow fn k f o → IsOnTop fn k (handed_back discards v f) o Mode.Running
+    back-asks : (discards : Bool) (v : Option Value) (o : Option Asked) → WaitsBelow types fn k f o → IsOnTop types fn k (handed_back discards v f) o Mode.Running
     back-asks discards v None h = absurd h
     back-asks true v (Some q) h = ([], h.0, h.1 [])
     back-asks false None (Some q) h = ([], h.0, h.1 [])
@@ -112,7 +111,7 @@ module _ (code : Code) (types : Types) where
     back-function false None = refl
     back-function false (Some v) = refl
 
-    back-top : (discards : Bool) (v : Option Value) (l : Leaving) → Below fn k f l → Top fn k (handed_back discards v f) l Mode.Running
+    back-top : (discards : Bool) (v : Option Value) (l : Leaving) → Below types fn k f l → Top types fn k (handed_back discards v f) l Mode.Running
     back-top discards v Leaving.No h = back-asks discards v k.asks h
     back-top discards v (Leaving.Returning r) h = h
     back-top discards v (Leaving.Unwinding x) h = h
@@ -122,7 +121,7 @@ module _ (code : Code) (types : Types) where
   returned-matches discards v f fs [] h = absurd h
   returned-matches discards v f fs (k ∷ ks) h =
       let o = h.0 in
-      ((o.0, o.1, back-function o.0 k f discards v ∙ o.2, o.3, subst (λ l. Top o.0 k (handed_back discards v f) l Mode.Running) (sym (back-leaving o.0 k f discards v)) (back-top o.0 k f discards v f.leaving o.4)), h.1)
+      ((o.0, o.1, back-function o.0 k f discards v ∙ o.2, o.3, subst (λ l. Top types o.0 k (handed_back discards v f) l Mode.Running) (sym (back-leaving o.0 k f discards v)) (back-top o.0 k f discards v f.leaving o.4)), h.1)
 
   -- or unwinds
   pub unwound-below : (x : Fault) (f : FrameView) (fs : List FrameView) (ks : List Call) → AllBelow code types (f ∷ fs) ks → Matches code types Mode.Running (unwinding x f ∷ fs) ks

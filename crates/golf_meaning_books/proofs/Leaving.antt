@@ -17,17 +17,16 @@ use Rattle.golf_model.specs.State.{State, opened}
 use Rattle.golf_model.specs.Changes.{Change}
 use Rattle.golf_model.specs.Acting.{Actor, with_frames, dies, on_some, choose}
 use Rattle.golf_model.specs.Calls.{is_full, enters, leaves_returning, leaves_unwinding}
-use Rattle.golf_model_typing.specs.Types.{Types}
-use Rattle.golf_meaning_books.specs.Books.{Call, first_arguments, Takes, Top, Below, AllBelow, Matches, HasMasks}
+use Rattle.golf_meaning_books.specs.Books.{RunTypes, Call, first_arguments, Takes, Top, Below, AllBelow, Matches, HasMasks}
 use Rattle.golf_meaning_books.proofs.Framing.{fresh-top}
 use Rattle.golf_meaning_books.proofs.Owning.{Became}
 
-module _ (code : Code) (types : Types) (masks : HasMasks code) (s : State) (a : Actor) (k : Call) (ks : List Call) (here : Matches code types Mode.Running (a.frame ∷ a.callers) (k ∷ ks)) where
+module _ (code : Code) (types : RunTypes) (masks : HasMasks code) (s : State) (a : Actor) (k : Call) (ks : List Call) (here : Matches code types Mode.Running (a.frame ∷ a.callers) (k ∷ ks)) where
   -- the frame as it is while a deferred call runs
   abbrev waiting : List Deferred → FrameView
   waiting ds = record a.frame { deferred = ds }
 
-  left-below : (l : Leaving) (fn : Function) (ds : List Deferred) → (l ≡ Leaving.No → ⊥) → Top fn k a.frame l Mode.Running → Below fn k (waiting ds) l
+  left-below : (l : Leaving) (fn : Function) (ds : List Deferred) → (l ≡ Leaving.No → ⊥) → Top types fn k a.frame l Mode.Running → Below types fn k (waiting ds) l
   left-below Leaving.No fn ds n h = absurd (n refl)
   left-below (Leaving.Returning v) fn ds n h = h
   left-below (Leaving.Unwinding x) fn ds n h = tt

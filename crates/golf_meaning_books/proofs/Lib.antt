@@ -8,4 +8,5 @@ pub mod Turned
 pub mod Clearing
 pub mod Booking
 pub mod Counting
+pub mod Answered
 pub mod Runs

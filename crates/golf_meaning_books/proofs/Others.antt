@@ -19,13 +19,12 @@ use Rattle.golf_model.specs.Waiting.{Waiter, waits_of, ticket_of, wait_for, wait
 use Rattle.golf_model.specs.Waking.{resumed, released, Waking, closed_for, closed_on, released_by, is_below, reads_next, woken_by}
 use Rattle.golf_model.specs.Changes.{Change, become, moved, pass_on, pass_on_at, pass_on_by, apply, apply_all}
 use Rattle.golf_model.proofs.Firsts.{waiters-sound}
-use Rattle.golf_model_typing.specs.Types.{Types}
 use Rattle.golf_meaning_turns.specs.Showing.{IsOfLock, GoesOnAs, Serves, WaitsOnCondition, IsOther, AreOthers, IsAwake}
-use Rattle.golf_meaning_books.specs.Books.{Call, Book, Matches}
+use Rattle.golf_meaning_books.specs.Books.{RunTypes, Call, Book, Matches}
 use Rattle.golf_meaning_books.proofs.Serving.{wait-for-in, of-lock, resumed-matches, released-matches, woken-matches, moved-matches}
 
 -- the frames of each goroutine match its calls
-abbrev pub Fits : Code → Types → Book → State → Type 0
+abbrev pub Fits : Code → RunTypes → Book → State → Type 0
 Fits code types b s = (h : ℕ) (r : GoroutineView) → find h s.goroutines ≡ Some r → Matches code types r.mode r.frames (b h)
 
 -- who waits for a lock, a group or a condition, or runs
@@ -94,7 +93,7 @@ woken-passes (Waking.ToReaders below) o r h = released-passes (reads_next below 
 
 -- ---- a waiter that is passed on
 
-module _ (code : Code) (types : Types) (frames : List FrameView) (ks : List Call) where
+module _ (code : Code) (types : RunTypes) (frames : List FrameView) (ks : List Call) where
   passed-runs : (mode : Mode) → MayPass mode → Matches code types mode frames ks → Matches code types Mode.Running frames ks
   passed-runs Mode.Running p h = h
   passed-runs (Mode.Blocked kind line waits ticket) p h = released-matches code types kind line waits ticket p.0 p.1 p.2 frames ks h
@@ -139,7 +138,7 @@ waiting-passes : (o : ℕ) (w : Wait) (mode : Mode) → wait_for o Side.Cond (wa
 waiting-passes o w Mode.Running e = tt
 waiting-passes o w (Mode.Blocked kind line waits ticket) e = let p = wait-for-in o Side.Cond waits w e in (w, p.0, of-lock w.side Side.Cond p.1 tt)
 
-module _ (code : Code) (types : Types) (o : ℕ) (side : Side) (w : Wait) (frames : List FrameView) (ks : List Call) where
+module _ (code : Code) (types : RunTypes) (o : ℕ) (side : Side) (w : Wait) (frames : List FrameView) (ks : List Call) where
   served-fits : (values : List Value) (mode : Mode) (started : ℕ) → wait_for o side (waits_of mode) ≡ Some w → Matches code types mode frames ks → Matches code types Mode.Running (resumed w values (record { frames = frames; mode = mode; started = started })).frames ks
   served-fits values Mode.Running started e h = absurd (none-some w e)
   served-fits values (Mode.Blocked kind line waits ticket) started e h = resumed-matches code types kind line waits ticket w values (wait-for-in o side waits w e).0 frames ks h
@@ -150,7 +149,7 @@ module _ (code : Code) (types : Types) (o : ℕ) (side : Side) (w : Wait) (frame
 
 -- ---- the goroutines after some changes of a turn
 
-module _ (code : Code) (types : Types) (b : Book) (s : State) (rising : IsRising s.goroutines) (fits : Fits code types b s) (g : ℕ) where
+module _ (code : Code) (types : RunTypes) (b : Book) (s : State) (rising : IsRising s.goroutines) (fits : Fits code types b s) (g : ℕ) where
   -- The goroutine of the turn is this one, the others match their calls, those that wait on a condition may be passed on, and no goroutine is new and no ending recorded.
   pub record Keeps (r : GoroutineView) (t : State) : Type 0 where
     pub own : find g t.goroutines ≡ Some r

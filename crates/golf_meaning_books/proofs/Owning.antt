@@ -21,7 +21,6 @@ use Rattle.golf_model.specs.State.{State, opened}
 use Rattle.golf_model.specs.Changes.{Change}
 use Rattle.golf_model.specs.Acting.{Actor, with_frames, stands, panics, dies, blocks}
 use Rattle.golf_model.specs.Calls.{returns_to, unwinds_to, returns_by}
-use Rattle.golf_model_typing.specs.Types.{Types}
 use Rattle.golf_meaning_flat.specs.Worlds.{Operation, Halt, pushed}
 use Rattle.golf_meaning_flat.specs.Doing.{Frame}
 use Rattle.golf_meaning_flat.specs.Flat.{targets, lower}
@@ -32,12 +31,12 @@ use Rattle.golf_meaning_turns.specs.Laws.{After, WaitsAfter, WaitsFor}
 use Rattle.golf_meaning_turns.specs.Life.{Now, Life}
 use Rattle.golf_meaning_turns.specs.Turning.{operation, choice_of, Asked, Asking}
 use Rattle.golf_meaning_turns.specs.Turning.{IsLived as L}
-use Rattle.golf_meaning_books.specs.Books.{AreArguments, Call, fresh, with_shown, operands_shown, Takes, HasLife, IsOnTop, LivesAt, MayServe, Top, Below, AllBelow, Matches, HasMasks}
+use Rattle.golf_meaning_books.specs.Books.{RunTypes, shaping, AreArguments, Call, fresh, with_shown, operands_shown, Takes, HasLife, IsOnTop, LivesAt, MayServe, Top, Below, AllBelow, Matches, HasMasks}
 use Rattle.golf_meaning_books.proofs.Framing.{fresh-top}
 
 -- What becomes of the goroutine of a turn, whose innermost call is this one after the turn, and which passes these arguments on. It stands with this frame in place of the one that was innermost; it starts a goroutine; it enters a call; its innermost
 -- frame is gone by returning or by unwinding; it blocks; it ends the program; or no rule fits.
-pub data Became (code : Code) (types : Types) (s : State) (a : Actor) (k : Call) (ks : List Call) (arguments : List Value) (cs : List Change) : Type 0 where
+pub data Became (code : Code) (types : RunTypes) (s : State) (a : Actor) (k : Call) (ks : List Call) (arguments : List Value) (cs : List Change) : Type 0 where
   Stays : (f : FrameView) (before later : List Change) → cs ≡ before ++ (stands a f ++ later) → AreOthers s a.number before → AreOthers s a.number later → Matches code types Mode.Running (f ∷ a.callers) (k ∷ ks) → Became code types s a k ks arguments cs
   Starts : (g : ℕ) (fn : Function) (f : FrameView) → (length arguments ≡ fn.params) × AreArguments types g arguments → cs ≡ Change.Spawn (started_on a (opened g arguments true fn)) ∷ stands a f → slice_get code.functions g ≡ Some fn → Matches code types Mode.Running (f ∷ a.callers) (k ∷ ks) → Became code types s a k ks arguments cs
   Enters : (x f : FrameView) → cs ≡ Change.Become a.number (with_frames a (x ∷ (f ∷ a.callers))) ∷ [] → Matches code types Mode.Running (x ∷ (f ∷ a.callers)) (fresh x.function arguments ∷ (k ∷ ks)) → Became code types s a k ks arguments cs
@@ -49,13 +48,13 @@ pub data Became (code : Code) (types : Types) (s : State) (a : Actor) (k : Call)
 
 -- ---- a frame that is not being left
 
-module _ (code : Code) (types : Types) (masks : HasMasks code) (s : State) (fn : Function) (a : Actor) (i : Instr) (k : Call) (ks : List Call) (is : slice_get code.functions k.function ≡ Some fn) (own : a.frame.function ≡ k.function) (given : AreArguments types k.function k.arguments) (idle : k.asks ≡ None) (staying : a.frame.leaving ≡ Leaving.No) (below : AllBelow code types a.callers ks) where
+module _ (code : Code) (types : RunTypes) (masks : HasMasks code) (s : State) (fn : Function) (a : Actor) (i : Instr) (k : Call) (ks : List Call) (is : slice_get code.functions k.function ≡ Some fn) (own : a.frame.function ≡ k.function) (given : AreArguments types k.function k.arguments) (idle : k.asks ≡ None) (staying : a.frame.leaving ≡ Leaving.No) (below : AllBelow code types a.callers ks) where
   -- what it is if this was shown, or nothing
   abbrev B : Option (Operation × Asked) → List Change → Type 0
   B m cs = Became code types s a (with_shown m k) ks (operands_shown m) cs
 
   -- it panics
-  unwinds : (m : Option (Operation × Asked)) (now : Now) → Life fn k.arguments (with_shown m k).shown k.got now → (kind : PanicKind) (cs : List Change) → cs ≡ panics a kind → B m cs
+  unwinds : (m : Option (Operation × Asked)) (now : Now) → Life fn (shaping types k.function) k.arguments (with_shown m k).shown k.got now → (kind : PanicKind) (cs : List Change) → cs ≡ panics a kind → B m cs
   unwinds None now life kind cs e = Became.Stays _ [] [] e tt tt ((fn, is, own, (given, (now, life)), tt), below)
   unwinds (Some x) now life kind cs e = Became.Stays _ [] [] e tt tt ((fn, is, own, (given, (now, life)), tt), below)
 
@@ -64,33 +63,33 @@ module _ (code : Code) (types : Types) (masks : HasMasks code) (s : State) (fn :
     abbrev k1 : Call
     k1 = with_shown (Some (o, q)) k
 
-    shown-top : (f : FrameView) (mode : Mode) → f.function ≡ k.function → (now : Now) → Life fn k.arguments (k.shown ++ o ∷ []) k.got now → Top fn k1 f f.leaving mode → Matches code types mode (f ∷ a.callers) (k1 ∷ ks)
+    shown-top : (f : FrameView) (mode : Mode) → f.function ≡ k.function → (now : Now) → Life fn (shaping types k.function) k.arguments (k.shown ++ o ∷ []) k.got now → Top types fn k1 f f.leaving mode → Matches code types mode (f ∷ a.callers) (k1 ∷ ks)
     shown-top f mode same now life top = ((fn, is, same, (given, (now, life)), top), below)
 
     -- it goes on, with this answer
-    goes-on : (f : FrameView) (values : List Value) (now : Now) → Life fn k.arguments (k.shown ++ o ∷ []) k.got now → f.function ≡ k.function → f.leaving ≡ Leaving.No → f.operands ≡ pushed values q.rest → LivesAt fn k1 q.ranks f.at f.slots values q.rest
+    goes-on : (f : FrameView) (values : List Value) (now : Now) → Life fn (shaping types k.function) k.arguments (k.shown ++ o ∷ []) k.got now → f.function ≡ k.function → f.leaving ≡ Leaving.No → f.operands ≡ pushed values q.rest → LivesAt types fn k1 q.ranks f.at f.slots values q.rest
         → Matches code types Mode.Running (f ∷ a.callers) (k1 ∷ ks)
-    goes-on f values now life same kept ops lives = shown-top f Mode.Running same now life (subst (λ z. Top fn k1 f z Mode.Running) (sym kept) (values, ops, lives))
+    goes-on f values now life same kept ops lives = shown-top f Mode.Running same now life (subst (λ z. Top types fn k1 f z Mode.Running) (sym kept) (values, ops, lives))
 
     -- a wait of a call that asks
-    module _ (f : FrameView) (Answering : ℕ → Type 0) (lives : (to : ℕ) (values : List Value) → Answering to → LivesAt fn k1 q.ranks to f.slots values q.rest) where
-      serves-there : (ws : List Wait) → Answering f.at → GoOn ws → Every (MayServe fn k1 q f) ws
+    module _ (f : FrameView) (Answering : ℕ → Type 0) (lives : (to : ℕ) (values : List Value) → Answering to → LivesAt types fn k1 q.ranks to f.slots values q.rest) where
+      serves-there : (ws : List Wait) → Answering f.at → GoOn ws → Every (MayServe types fn k1 q f) ws
       serves-there [] there h = tt
       serves-there (w ∷ ws) there h =
-          ((λ values. subst (λ t. LivesAt fn k1 q.ranks (unwrap_or t f.at) f.slots values q.rest) (sym h.0) (lives f.at values there), λ lock. lives f.at [] there), serves-there ws there h.1)
+          ((λ values. subst (λ t. LivesAt types fn k1 q.ranks (unwrap_or t f.at) f.slots values q.rest) (sym h.0) (lives f.at values there), λ lock. lives f.at [] there), serves-there ws there h.1)
 
       no-lock : (side : Side) → (side ≡ Side.Send) ⊎ (side ≡ Side.Receive) → IsOfLock side → ⊥
       no-lock side (inl e) lock = subst IsOfLock e lock
       no-lock side (inr e) lock = subst IsOfLock e lock
 
-      serves-chosen : (ts : List ℕ) → ((t : ℕ) → In t ts → Answering t) → (ws : List Wait) → Chooses ts ws → Every (MayServe fn k1 q f) ws
+      serves-chosen : (ts : List ℕ) → ((t : ℕ) → In t ts → Answering t) → (ws : List Wait) → Chooses ts ws → Every (MayServe types fn k1 q f) ws
       serves-chosen ts leads [] h = tt
       serves-chosen ts leads (w ∷ ws) h =
-          ((λ values. subst (λ t. LivesAt fn k1 q.ranks (unwrap_or t f.at) f.slots values q.rest) (sym h.0.1) (lives h.0.0 values (leads h.0.0 h.0.2)), λ lock. absurd (no-lock w.side h.0.3 lock)), serves-chosen ts leads ws h.1)
+          ((λ values. subst (λ t. LivesAt types fn k1 q.ranks (unwrap_or t f.at) f.slots values q.rest) (sym h.0.1) (lives h.0.0 values (leads h.0.0 h.0.2)), λ lock. absurd (no-lock w.side h.0.3 lock)), serves-chosen ts leads ws h.1)
 
     -- what an operation comes to
-    module _ (Answering : ℕ → Type 0) (Waiting : ℕ → List Wait → Type 0) (asking : Asking fn k.arguments k.shown k.got o a q.rest Answering (lower q.ranks))
-        (serves : (to : ℕ) (ws : List Wait) → Waiting to ws → Every (MayServe fn k1 q (stood a to q.rest)) ws) (passes : (n : ℕ) → CalledBy i n → Takes code types n o.operands) where
+    module _ (Answering : ℕ → Type 0) (Waiting : ℕ → List Wait → Type 0) (asking : Asking fn (shaping types k.function) k.arguments k.shown k.got o a q.rest Answering (lower q.ranks))
+        (serves : (to : ℕ) (ws : List Wait) → Waiting to ws → Every (MayServe types fn k1 q (stood a to q.rest)) ws) (passes : (n : ℕ) → CalledBy i n → Takes code types n o.operands) where
       abbrev asks : Now
       asks = Now.Asks a.frame.at (frame_of a.frame) k.shown
 
@@ -100,11 +99,11 @@ module _ (code : Code) (types : Types) (masks : HasMasks code) (s : State) (fn :
           Became.Stays (stood a to (pushed values q.rest)) before later e h j (goes-on (stood a to (pushed values q.rest)) values asks asking.asks own staying refl (asking.lives_on to values there))
       by-coming cs (C.Waits to kind waits before there e h) =
           Became.Blocks (stood a to q.rest) kind waits before e h (λ ticket. shown-top (stood a to q.rest) (Mode.Blocked kind a.line waits ticket) own asks asking.asks
-          (subst (λ y. Top fn k1 (stood a to q.rest) y (Mode.Blocked kind a.line waits ticket)) (sym staying) (refl, serves to waits there)))
+          (subst (λ y. Top types fn k1 (stood a to q.rest) y (Mode.Blocked kind a.line waits ticket)) (sym staying) (refl, serves to waits there)))
       by-coming cs (C.Calls to g fn1 there called found e) =
           Became.Enters (opened g o.operands false fn1) (stood a to q.rest) e (
             fresh-top code types masks g o.operands false fn1 found (passes g called fn1 found),
-            ((fn, is, own, (given, (asks, asking.asks)), subst (λ l. Below fn k1 (stood a to q.rest) l) (sym staying) (refl, λ values. asking.lives_on to values there)), below),
+            ((fn, is, own, (given, (asks, asking.asks)), subst (λ l. Below types fn k1 (stood a to q.rest) l) (sym staying) (refl, λ values. asking.lives_on to values there)), below),
           )
       by-coming cs (C.Starts to g fn1 there called found e) =
           Became.Starts g fn1 (stood a to q.rest) (passes g called fn1 found) e found (goes-on (stood a to q.rest) [] asks asking.asks own staying refl (asking.lives_on to [] there))
@@ -114,25 +113,25 @@ module _ (code : Code) (types : Types) (masks : HasMasks code) (s : State) (fn :
       by-coming cs (C.Panics kind e) = unwinds (Some (o, q)) asks asking.asks kind cs e
       by-coming cs (C.Dies kind e) = Became.Dies kind e (fn, is, (given, (asks, asking.asks)))
 
-  returned : (v : Option Value) (rest : List Value) → Life fn k.arguments k.shown k.got (Now.Halted (Halt.Returned v)) → (ds : List Deferred) (cs : List Change) → cs ≡ returns_by a v rest ds → B None cs
+  returned : (v : Option Value) (rest : List Value) → Life fn (shaping types k.function) k.arguments k.shown k.got (Now.Halted (Halt.Returned v)) → (ds : List Deferred) (cs : List Change) → cs ≡ returns_by a v rest ds → B None cs
   returned v rest life [] cs e = Became.Returns v e
   returned v rest life (d ∷ ds) cs e = Became.Stays _ [] [] e tt tt ((fn, is, own, (given, (Now.Halted (Halt.Returned v), life)), life), below)
 
   -- nothing was shown, and it stands there
-  silent : (to : ℕ) (d : Frame) → Life fn k.arguments k.shown k.got (Now.Stands to d) → (cs : List Change) → cs ≡ stands a (record a.frame { at = to; slots = d.slots; operands = d.operands }) → B None cs
+  silent : (to : ℕ) (d : Frame) → Life fn (shaping types k.function) k.arguments k.shown k.got (Now.Stands to d) → (cs : List Change) → cs ≡ stands a (record a.frame { at = to; slots = d.slots; operands = d.operands }) → B None cs
   silent to d life cs e =
       let f : FrameView = record a.frame { at = to; slots = d.slots; operands = d.operands } in
       Became.Stays f [] [] e tt tt
-      ((fn, is, own, (given, (Now.Stands to d, life)), subst (λ l. Top fn k f l Mode.Running) (sym staying) (subst (λ m. IsOnTop fn k f m Mode.Running) (sym idle) life)), below)
+      ((fn, is, own, (given, (Now.Stands to d, life)), subst (λ l. Top types fn k f l Mode.Running) (sym staying) (subst (λ m. IsOnTop types fn k f m Mode.Running) (sym idle) life)), below)
 
-  after-served : (o : Operation) (rest : List Value) → Asking fn k.arguments k.shown k.got o a rest (After a) (λ to. 0) → (to : ℕ) (ws : List Wait) → WaitsAfter a to ws → Every (MayServe fn (k1 o (record { ranks = []; rest = rest })) (record { ranks = []; rest = rest }) (stood a to rest)) ws
+  after-served : (o : Operation) (rest : List Value) → Asking fn (shaping types k.function) k.arguments k.shown k.got o a rest (After a) (λ to. 0) → (to : ℕ) (ws : List Wait) → WaitsAfter a to ws → Every (MayServe types fn (k1 o (record { ranks = []; rest = rest })) (record { ranks = []; rest = rest }) (stood a to rest)) ws
   after-served o rest asking to ws h = serves-there o (record { ranks = []; rest = rest }) (stood a to rest) (After a) asking.lives_on ws h.0 h.1
 
-  choice-served : (ts : List ℕ) (o : Operation) (rest : List Value) → Asking fn k.arguments k.shown k.got o a rest (λ to. In to ts) (lower ts) → (to : ℕ) (ws : List Wait) → WaitsFor ts to ws → Every (MayServe fn (k1 o (record { ranks = ts; rest = rest })) (record { ranks = ts; rest = rest }) (stood a to rest)) ws
+  choice-served : (ts : List ℕ) (o : Operation) (rest : List Value) → Asking fn (shaping types k.function) k.arguments k.shown k.got o a rest (λ to. In to ts) (lower ts) → (to : ℕ) (ws : List Wait) → WaitsFor ts to ws → Every (MayServe types fn (k1 o (record { ranks = ts; rest = rest })) (record { ranks = ts; rest = rest }) (stood a to rest)) ws
   choice-served ts o rest asking to ws (inl h) = serves-there o (record { ranks = ts; rest = rest }) (stood a to rest) (λ z. In z ts) asking.lives_on ws h.0 h.1
   choice-served ts o rest asking to ws (inr h) = serves-chosen o (record { ranks = ts; rest = rest }) (stood a to rest) (λ z. In z ts) asking.lives_on ts (λ t m. m) ws h
 
-  pub by-life : (m : Option (Operation × Asked)) (cs : List Change) → ((vs : List Value) (q : Asked) → m ≡ Some (operation i vs, q) → (n : ℕ) → CalledBy i n → Takes code types n vs) → L code s fn k.arguments k.shown k.got a i m cs → B m cs
+  pub by-life : (m : Option (Operation × Asked)) (cs : List Change) → ((vs : List Value) (q : Asked) → m ≡ Some (operation i vs, q) → (n : ℕ) → CalledBy i n → Takes code types n vs) → L code s fn (shaping types k.function) k.arguments k.shown k.got a i m cs → B m cs
   by-life m cs passes (L.Silent to d life none e) = subst (λ z. B z cs) (sym none) (silent to d life cs e)
   by-life m cs passes (L.Returns v rest life none e) = subst (λ z. B z cs) (sym none) (returned v rest life a.frame.deferred cs e)
   by-life m cs passes (L.Divides life none e) = subst (λ z. B z cs) (sym none) (unwinds None (Now.Halted Halt.Divided) life PanicKind.DivideByZero cs e)

@@ -8,8 +8,7 @@ use Rattle.golf_data.specs.declared.goroutine.Mode.{Mode}
 use Rattle.golf_data.specs.declared.goroutine.Queued.{Queued}
 use Rattle.golf_model.specs.Views.{FrameView}
 use Rattle.golf_model.specs.Clearing.{cleared}
-use Rattle.golf_model_typing.specs.Types.{Types}
-use Rattle.golf_meaning_books.specs.Books.{Call, fresh, turned_call, passed, is_longer, rebooked, calls_after, HasLife, AllBelow, Matches}
+use Rattle.golf_meaning_books.specs.Books.{RunTypes, Call, fresh, turned_call, passed, is_longer, rebooked, calls_after, HasLife, AllBelow, Matches}
 
 is-same : {X : Type 0} (xs : List X) → is_longer xs xs ≡ false
 is-same [] = refl
@@ -48,13 +47,13 @@ calls-cleared code queue (g ∷ callers) f fs (k ∷ ks) = refl
 
 -- calls that have frames have lives
 
-pub below-live : (code : Code) (types : Types) (fs : List FrameView) (ks : List Call) → AllBelow code types fs ks → Every (HasLife code types) ks
+pub below-live : (code : Code) (types : RunTypes) (fs : List FrameView) (ks : List Call) → AllBelow code types fs ks → Every (HasLife code types) ks
 below-live code types [] [] h = tt
 below-live code types [] (k ∷ ks) h = absurd h
 below-live code types (f ∷ fs) [] h = tt
 below-live code types (f ∷ fs) (k ∷ ks) h = let o = h.0 in ((o.0, o.1, o.3), below-live code types fs ks h.1)
 
-pub matches-live : (code : Code) (types : Types) (mode : Mode) (fs : List FrameView) (ks : List Call) → Matches code types mode fs ks → Every (HasLife code types) ks
+pub matches-live : (code : Code) (types : RunTypes) (mode : Mode) (fs : List FrameView) (ks : List Call) → Matches code types mode fs ks → Every (HasLife code types) ks
 matches-live code types mode [] [] h = tt
 matches-live code types mode [] (k ∷ ks) h = absurd h
 matches-live code types mode (f ∷ fs) [] h = tt
@@ -62,6 +61,6 @@ matches-live code types mode (f ∷ fs) (k ∷ ks) h = let o = h.0 in ((o.0, o.1
 
 -- without a frame there is no call
 
-pub none-below : (code : Code) (types : Types) (ks : List Call) → AllBelow code types [] ks → ks ≡ []
+pub none-below : (code : Code) (types : RunTypes) (ks : List Call) → AllBelow code types [] ks → ks ≡ []
 none-below code types [] h = refl
 none-below code types (k ∷ ks) h = absurd h

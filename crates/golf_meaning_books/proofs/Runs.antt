@@ -6,6 +6,7 @@ use Rattle.std.specs.Prelude.{is_some, option_map, option_to_list}
 use Rattle.std.proofs.lemmas.Bool.{eqb-true, eqb-false}
 use Rattle.golf_theory.specs.Membership.{Every}
 use Rattle.golf_theory.specs.Maps.{Entry, find}
+use Rattle.golf_theory.proofs.Lists.{Every-weaker}
 use Rattle.golf_theory.proofs.MapFinds.{find-Entry, Entry-below}
 use Rattle.golf_data.specs.declared.code.Code.{Code}
 use Rattle.golf_data.specs.declared.code.Function.{Function}
@@ -22,15 +23,16 @@ use Rattle.golf_model.specs.Futures.{Numbered}
 use Rattle.golf_model_futures.proofs.Staying.{turn-running}
 use Rattle.golf_model_futures.proofs.Leading.{numbered-start, numbered-turned, numbered-step, numbered-collect}
 use Rattle.golf_model_futures.proofs.Stopping.{run-kept}
-use Rattle.golf_model_typing.specs.Types.{Types, Typing, ValuesFit}
+use Rattle.golf_model_typing.specs.Types.{ValueType, Typing, ValuesFit}
 use Rattle.golf_model_typing.specs.Shapes.{HasShapes}
-use Rattle.golf_meaning_books.specs.Books.{Book, fresh, turned_book, booked_in, book_from, first_book, Takes, HasLife, HasParameters, Matches, HasMasks, RunsAreBooked}
+use Rattle.golf_meaning_books.specs.Books.{RunTypes, Book, fresh, turned_book, booked_in, book_from, first_book, book_of, IsAnswered, Takes, HasLife, HasParameters, Matches, HasMasks, TypedIn, TypedAlong, RunsAreBooked}
 use Rattle.golf_meaning_books.proofs.Framing.{fresh-top}
 use Rattle.golf_meaning_books.proofs.Others.{one-some, none-some}
 use Rattle.golf_meaning_books.proofs.Rebooking.{matches-live}
 use Rattle.golf_meaning_books.proofs.Turned.{own_calls, started_calls, Done}
 use Rattle.golf_meaning_books.proofs.Clearing.{after-clearing}
 use Rattle.golf_meaning_books.proofs.Booking.{Booked, PassesOn, turn-done}
+use Rattle.golf_meaning_books.proofs.Answered.{is-answered}
 use Rattle.golf_meaning_books.proofs.Counting.{call-takes, passes-on}
 
 -- ---- a turn
@@ -40,7 +42,7 @@ runs-so Mode.Running e = refl
 runs-so (Mode.Blocked kind line waits ticket) e = cc
 
 -- after a turn all calls are those that are written down
-from-done : (code : Code) (types : Types) (s : State) (c g : ℕ) (b : Book) → Booked code types s b → Done code types s g b (step code s c) → Booked code types (step code s c) (turned_book code s c (Some g) b)
+from-done : (code : Code) (types : RunTypes) (s : State) (c g : ℕ) (b : Book) → Booked code types s b → Done code types s g b (step code s c) → Booked code types (step code s c) (turned_book code s c (Some g) b)
 from-done code types s c g b booked d =
     let t = step code s c in record {
       lives = λ h. elim (h == g) as (λ z. Every (HasLife code types) (cond z (own_calls code s g b t) (cond (h == s.next_goroutine) (started_calls code s g t h) (b h)))) [
@@ -56,7 +58,7 @@ from-done code types s c g b booked d =
       ] refl;
     }
 
-module _ (code : Code) (types : Types) (masks : HasMasks code) (s : State) (c : ℕ) (b : Book) (numbered : Numbered s) (going : s.recorded ≡ None) (booked : Booked code types s b) (moves : MovesOn code s c) (passes : (g : ℕ) (r : GoroutineView) → Entry s.goroutines g r → r.mode ≡ Mode.Running → PassesOn code types s r.frames) where
+module _ (code : Code) (types : RunTypes) (masks : HasMasks code) (s : State) (c : ℕ) (b : Book) (numbered : Numbered s) (going : s.recorded ≡ None) (booked : Booked code types s b) (moves : MovesOn code s c) (passes : (g : ℕ) (r : GoroutineView) → Entry s.goroutines g r → r.mode ≡ Mode.Running → PassesOn code types s r.frames) where
   abbrev choice : ℕ
   choice = c / length (runnable s)
 
@@ -97,16 +99,16 @@ not-ended None e = refl
 not-ended (Some x) e = cc
 
 -- a collection touches no goroutine
-collected-booked : (code : Code) (types : Types) (collects : Bool) (s : State) (b : Book) → Booked code types s b → Booked code types (collected_if plain_collect code collects s) b
+collected-booked : (code : Code) (types : RunTypes) (collects : Bool) (s : State) (b : Book) → Booked code types s b → Booked code types (collected_if plain_collect code collects s) b
 collected-booked code types true s b h = record { lives = h.lives; fits = h.fits }
 collected-booked code types false s b h = h
 
 -- a state in which a rule fits each turn, and calls have their arguments
-record Well (code : Code) (types : Types) (s : State) : Type 0 where
+record Well (code : Code) (types : RunTypes) (s : State) : Type 0 where
   moves : (c : ℕ) → ending s ≡ None → MovesOn code s c
   passes : (g : ℕ) (r : GoroutineView) → Entry s.goroutines g r → r.mode ≡ Mode.Running → PassesOn code types s r.frames
 
-event-booked : (code : Code) (types : Types) → HasMasks code → (s : State) (b : Book) → Numbered s → Booked code types s b → Well code types s → (ended : Bool) → has_ended s ≡ ended → (e : Event) → Booked code types (happens_in plain_collect code ended s e) (booked_in ended code s e b)
+event-booked : (code : Code) (types : RunTypes) → HasMasks code → (s : State) (b : Book) → Numbered s → Booked code types s b → Well code types s → (ended : Bool) → has_ended s ≡ ended → (e : Event) → Booked code types (happens_in plain_collect code ended s e) (booked_in ended code s e b)
 event-booked code types masks s b n h well true i e = h
 event-booked code types masks s b n h well false i (Event.Turn c) =
     let open_end = not-ended (ending s) i in
@@ -118,10 +120,16 @@ event-booked code types masks s b n h well false i Event.Collect = collected-boo
 numbered-run : (code : Code) (es : List Event) (s : State) → Numbered s → Numbered (run code s es)
 numbered-run code es s n = run-kept code Numbered (λ t k m. numbered-step code t k m) (λ t m. numbered-collect t m) es s n
 
-run-booked : (code : Code) (types : Types) → HasMasks code → (es : List Event) (s : State) (b : Book) → Numbered s → Booked code types s b → ((later : List Event) → Well code types (run code s later)) → Booked code types (run code s es) (book_from code s es b)
+-- so is each state of a run from this one on
+WellAlong : Code → RunTypes → State → List Event → Type 0
+WellAlong code types s [] = Well code types s
+WellAlong code types s (e ∷ es) = Well code types s × WellAlong code types (happens code s e) es
+
+run-booked : (code : Code) (types : RunTypes) → HasMasks code → (es : List Event) (s : State) (b : Book) → Numbered s → Booked code types s b → WellAlong code types s es → Booked code types (run code s es) (book_from code s es b)
+unfolding WellAlong
 run-booked code types masks [] s b n h well = h
 run-booked code types masks (e ∷ es) s b n h well =
-    run-booked code types masks es (happens code s e) (booked_in (has_ended s) code s e b) (numbered-run code (e ∷ []) s n) (event-booked code types masks s b n h (well []) (has_ended s) refl e) (λ later. well (e ∷ later))
+    run-booked code types masks es (happens code s e) (booked_in (has_ended s) code s e b) (numbered-run code (e ∷ []) s n) (event-booked code types masks s b n h well.0 (has_ended s) refl e) well.1
 
 -- ---- the opening state
 
@@ -129,7 +137,7 @@ run-booked code types masks (e ∷ es) s b n h well =
 abbrev first_one : Code → Option Function → GoroutineView
 first_one code m = record { frames = option_to_list (option_map (opened 0 [] true) m); mode = Mode.Running; started = code.main_line }
 
-module _ (code : Code) (types : Types) (masks : HasMasks code) (moves : MovesOn code (start code) 0) (takes : Takes code types 0 []) where
+module _ (code : Code) (types : RunTypes) (masks : HasMasks code) (moves : MovesOn code (start code) 0) (takes : Takes code types 0 []) where
   -- without function 0 no rule fits its turn
   some-function : slice_get code.functions 0 ≡ None → ⊥
   some-function e = false-true (sym (ap (λ m. not_empty (goroutine_changes code 1 (first_one code m) 0 (start code) (first_one code m).frames)) e) ∙ moves)
@@ -164,16 +172,34 @@ module _ (code : Code) (types : Types) (masks : HasMasks code) (moves : MovesOn 
   start-booked : Booked code types (start code) first_book
   start-booked = start-with (slice_get code.functions 0) refl
 
--- function 0 takes no arguments
-none-taken : (code : Code) (types : Typing) → HasShapes code types → HasParameters code types → Takes code types.of 0 []
-none-taken code types shapes parameters =
-    let x = shapes.first in call-takes code types shapes parameters [] 0 [] (x.0, x.1, subst (λ ts. ValuesFit types.of [] [] ts) (sym x.2) tt)
+module _ (code : Code) (types : Typing) (shapes : HasShapes code types) (parameters : HasParameters code types) (later : List (ℕ × ValueType)) where
+  abbrev run_types : RunTypes
+  run_types = record { typing = types; known = later }
+
+  -- function 0 takes no arguments
+  none-taken : Takes code run_types 0 []
+  none-taken =
+      let x = shapes.first in
+      call-takes code types shapes parameters later later (λ o t h. h) 0 [] (x.0, x.1, subst (λ ts. ValuesFit types.of later [] ts) (sym x.2) tt)
+
+  well-in : (s : State) → TypedIn types later s → ((c : ℕ) → ending s ≡ None → MovesOn code s c) → Well code run_types s
+  well-in s h moves = record { moves = moves; passes = passes-on code types shapes parameters h.0 later h.2 s h.1 }
+
+  well-along : (es : List Event) (s : State) → TypedAlong code types later s es → ((events : List Event) (c : ℕ) → ending (run code s events) ≡ None → MovesOn code (run code s events) c) → WellAlong code run_types s es
+  unfolding WellAlong
+  well-along [] s h moves = well-in s h (moves [])
+  well-along (e ∷ es) s h moves = (well-in s h.0 (moves []), well-along es (happens code s e) h.1 (λ events. moves (e ∷ events)))
 
 pub runs-are-booked : RunsAreBooked
 runs-are-booked code types masks shapes parameters goes events =
     let n = numbered-run code events (start code) (numbered-start code) in
-    let well : (later : List Event) → Well code types.of (run code (start code) later) = λ later. record { moves = goes.1 later; passes = passes-on code types shapes parameters (goes.0 later).0 (run code (start code) later) (goes.0 later).1 } in
-    let h = run-booked code types.of masks events (start code) first_book (numbered-start code) (start-booked code types.of masks (goes.1 [] 0 refl) (none-taken code types shapes parameters)) well in record {
-      going = λ e g r entry. h.fits (not-recorded (run code (start code) events).recorded (not_empty (runnable (run code (start code) events))) e) g r (find-Entry (run code (start code) events).goroutines g r n.goroutines_rise entry);
-      always = h.lives;
-    }
+    let t = goes.0 events in
+    let all : RunTypes = record { typing = types; known = t.0 } in
+    let h = run-booked code all masks events (start code) first_book (numbered-start code) (start-booked code all masks (goes.1 [] 0 refl) (none-taken code types shapes parameters t.0)) (well-along code types shapes parameters t.0 events (start code) t.1 goes.1) in (
+      t.0,
+      record {
+        going = λ e g r entry. h.fits (not-recorded (run code (start code) events).recorded (not_empty (runnable (run code (start code) events))) e) g r (find-Entry (run code (start code) events).goroutines g r n.goroutines_rise entry);
+        always = h.lives;
+        answered = λ g. Every-weaker (HasLife code all) (IsAnswered all) (λ k l. is-answered code types shapes t.0 k l) (book_of code events g) (h.lives g);
+      },
+    )

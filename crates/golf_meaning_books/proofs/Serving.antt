@@ -18,11 +18,10 @@ use Rattle.golf_model.specs.Views.{FrameView, GoroutineView}
 use Rattle.golf_model.specs.Waiting.{wait_for, wait_on, same_side}
 use Rattle.golf_model.specs.Waking.{fault, unwinding, resumed_frame, on_top, received, Waking, closed_for, closed_on, released_by, is_below, reads_next, woken_by}
 use Rattle.golf_model.specs.Changes.{moved_waits}
-use Rattle.golf_model_typing.specs.Types.{Types}
 use Rattle.golf_meaning_flat.specs.Worlds.{pushed}
 use Rattle.golf_meaning_turns.specs.Showing.{IsOfLock}
 use Rattle.golf_meaning_turns.specs.Turning.{Asked}
-use Rattle.golf_meaning_books.specs.Books.{Call, LivesAt, MayServe, IsOnTop, Top, Matches}
+use Rattle.golf_meaning_books.specs.Books.{RunTypes, Call, LivesAt, MayServe, IsOnTop, Top, Matches}
 
 -- values from the top, in source order
 turned : List Value → List Value → List Value
@@ -81,25 +80,25 @@ of-lock Side.Send Side.Read e k = cc
 of-lock Side.Send Side.Write e k = cc
 of-lock Side.Send Side.Cond e k = cc
 
-module _ (code : Code) (types : Types) (kind : WaitKind) (line : ℕ) (waits : List Wait) (ticket : ℕ) where
+module _ (code : Code) (types : RunTypes) (kind : WaitKind) (line : ℕ) (waits : List Wait) (ticket : ℕ) where
   abbrev blocked : Mode
   blocked = Mode.Blocked kind line waits ticket
 
   module _ (fn : Function) (k : Call) (f : FrameView) where
-    resumed-asks : (w : Wait) (vs : List Value) → In w waits → (o : Option Asked) → IsOnTop fn k f o blocked → IsOnTop fn k (resumed_frame w vs f) o Mode.Running
+    resumed-asks : (w : Wait) (vs : List Value) → In w waits → (o : Option Asked) → IsOnTop types fn k f o blocked → IsOnTop types fn k (resumed_frame w vs f) o Mode.Running
     resumed-asks w vs m None h = absurd h
-    resumed-asks w vs m (Some q) h = (turned vs [], ap (λ os. vs ++ os) h.0 ∙ sym (pushed-turned vs [] q.rest), (Every-at (MayServe fn k q f) waits w m h.1).0 (turned vs []))
+    resumed-asks w vs m (Some q) h = (turned vs [], ap (λ os. vs ++ os) h.0 ∙ sym (pushed-turned vs [] q.rest), (Every-at (MayServe types fn k q f) waits w m h.1).0 (turned vs []))
 
-    released-asks : (w : Wait) → In w waits → IsOfLock w.side → (o : Option Asked) → IsOnTop fn k f o blocked → IsOnTop fn k f o Mode.Running
+    released-asks : (w : Wait) → In w waits → IsOfLock w.side → (o : Option Asked) → IsOnTop types fn k f o blocked → IsOnTop types fn k f o Mode.Running
     released-asks w m lock None h = absurd h
-    released-asks w m lock (Some q) h = ([], h.0, (Every-at (MayServe fn k q f) waits w m h.1).1 lock)
+    released-asks w m lock (Some q) h = ([], h.0, (Every-at (MayServe types fn k q f) waits w m h.1).1 lock)
 
-    resumed-top : (w : Wait) (vs : List Value) → In w waits → (l : Leaving) → Top fn k f l blocked → Top fn k (resumed_frame w vs f) l Mode.Running
+    resumed-top : (w : Wait) (vs : List Value) → In w waits → (l : Leaving) → Top types fn k f l blocked → Top types fn k (resumed_frame w vs f) l Mode.Running
     resumed-top w vs m Leaving.No h = resumed-asks w vs m k.asks h
     resumed-top w vs m (Leaving.Returning v) h = h
     resumed-top w vs m (Leaving.Unwinding x) h = h
 
-    released-top : (w : Wait) → In w waits → IsOfLock w.side → (l : Leaving) → Top fn k f l blocked → Top fn k f l Mode.Running
+    released-top : (w : Wait) → In w waits → IsOfLock w.side → (l : Leaving) → Top types fn k f l blocked → Top types fn k f l Mode.Running
     released-top w m lock Leaving.No h = released-asks w m lock k.asks h
     released-top w m lock (Leaving.Returning v) h = h
     released-top w m lock (Leaving.Unwinding x) h = h
@@ -127,10 +126,10 @@ module _ (code : Code) (types : Types) (kind : WaitKind) (line : ℕ) (waits : L
 
 -- ---- all who wait on an object are woken
 
-abbrev Fits : Code → Types → GoroutineView → List Call → Type 0
+abbrev Fits : Code → RunTypes → GoroutineView → List Call → Type 0
 Fits code types r ks = Matches code types r.mode r.frames ks
 
-module _ (code : Code) (types : Types) (ks : List Call) where
+module _ (code : Code) (types : RunTypes) (ks : List Call) where
   -- by a wait of its own
   closed-one : (z : Value) (fs : List FrameView) (kind : WaitKind) (line : ℕ) (waits : List Wait) (ticket started : ℕ) (w : Wait) → In w waits → (side : Side)
       → Fits code types (record { frames = fs; mode = Mode.Blocked kind line waits ticket; started = started }) ks → Fits code types (closed_for z w side (record { frames = fs; mode = Mode.Blocked kind line waits ticket; started = started })) ks
@@ -179,16 +178,16 @@ module _ (code : Code) (types : Types) (ks : List Call) where
 
 -- ---- passed on from a condition
 
-module _ (code : Code) (types : Types) (kind : WaitKind) (line : ℕ) (waits : List Wait) (ticket next m : ℕ) (w : Wait) (i : In w waits) (lock : IsOfLock w.side) where
-  moved-serve : (fn : Function) (k : Call) (q : Asked) (f : FrameView) (ws : List Wait) → LivesAt fn k q.ranks f.at f.slots [] q.rest → Every (MayServe fn k q f) ws → Every (MayServe fn k q f) (moved_waits m ws)
+module _ (code : Code) (types : RunTypes) (kind : WaitKind) (line : ℕ) (waits : List Wait) (ticket next m : ℕ) (w : Wait) (i : In w waits) (lock : IsOfLock w.side) where
+  moved-serve : (fn : Function) (k : Call) (q : Asked) (f : FrameView) (ws : List Wait) → LivesAt types fn k q.ranks f.at f.slots [] q.rest → Every (MayServe types fn k q f) ws → Every (MayServe types fn k q f) (moved_waits m ws)
   moved-serve fn k q f [] l h = tt
   moved-serve fn k q f (x ∷ ws) l h = ((h.0.0, λ z. l), tt)
 
-  moved-asks : (fn : Function) (k : Call) (f : FrameView) (o : Option Asked) → IsOnTop fn k f o (Mode.Blocked kind line waits ticket) → IsOnTop fn k f o (Mode.Blocked kind line (moved_waits m waits) next)
+  moved-asks : (fn : Function) (k : Call) (f : FrameView) (o : Option Asked) → IsOnTop types fn k f o (Mode.Blocked kind line waits ticket) → IsOnTop types fn k f o (Mode.Blocked kind line (moved_waits m waits) next)
   moved-asks fn k f None h = h
-  moved-asks fn k f (Some q) h = (h.0, moved-serve fn k q f waits ((Every-at (MayServe fn k q f) waits w i h.1).1 lock) h.1)
+  moved-asks fn k f (Some q) h = (h.0, moved-serve fn k q f waits ((Every-at (MayServe types fn k q f) waits w i h.1).1 lock) h.1)
 
-  moved-top : (fn : Function) (k : Call) (f : FrameView) (l : Leaving) → Top fn k f l (Mode.Blocked kind line waits ticket) → Top fn k f l (Mode.Blocked kind line (moved_waits m waits) next)
+  moved-top : (fn : Function) (k : Call) (f : FrameView) (l : Leaving) → Top types fn k f l (Mode.Blocked kind line waits ticket) → Top types fn k f l (Mode.Blocked kind line (moved_waits m waits) next)
   moved-top fn k f Leaving.No h = moved-asks fn k f k.asks h
   moved-top fn k f (Leaving.Returning v) h = h
   moved-top fn k f (Leaving.Unwinding x) h = h

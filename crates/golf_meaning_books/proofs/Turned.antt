@@ -22,9 +22,8 @@ use Rattle.golf_model.specs.Waking.{unwinding}
 use Rattle.golf_model.specs.Changes.{Change, become, block, spawn, finish, apply, apply_all}
 use Rattle.golf_model.specs.Acting.{Actor, with_frames, standing, stands, dies, blocks, choose}
 use Rattle.golf_model.specs.Calls.{ends, handed_back, returns_to, unwinds_to}
-use Rattle.golf_model_typing.specs.Types.{Types}
 use Rattle.golf_meaning_turns.specs.Showing.{AreOthers, started_on}
-use Rattle.golf_meaning_books.specs.Books.{AreArguments, Call, Book, fresh, turned_call, passed, begun_in, rebooked, calls_after, frames_in, frames_at, started_with, HasLife, AllBelow, Matches, HasMasks}
+use Rattle.golf_meaning_books.specs.Books.{RunTypes, AreArguments, Call, Book, fresh, turned_call, passed, begun_in, rebooked, calls_after, frames_in, frames_at, started_with, HasLife, AllBelow, Matches, HasMasks}
 use Rattle.golf_meaning_books.proofs.Framing.{fresh-top, returned-matches, unwound-below}
 use Rattle.golf_meaning_books.proofs.Others.{Fits, one-some, none-some, Keeps, keeps-start, keeps-all, keeps-become}
 use Rattle.golf_meaning_books.proofs.Owning.{Became}
@@ -39,7 +38,7 @@ abbrev pub started_calls : Code → State → ℕ → State → ℕ → List Cal
 started_calls code s g t h = begun_in (frames_at t h) (started_with code (frames_at s g))
 
 -- each goroutine matches its calls, unless the run has ended, and each call has a life
-pub record Done (code : Code) (types : Types) (s : State) (g : ℕ) (b : Book) (t : State) : Type 0 where
+pub record Done (code : Code) (types : RunTypes) (s : State) (g : ℕ) (b : Book) (t : State) : Type 0 where
   pub lives : Every (HasLife code types) (own_calls code s g b t)
   pub begun : Every (HasLife code types) (started_calls code s g t s.next_goroutine)
   pub fits : t.recorded ≡ None → (q : GoroutineView) → find g t.goroutines ≡ Some q → Matches code types q.mode q.frames (own_calls code s g b t)
@@ -51,7 +50,7 @@ apply-append [] ys s = refl
 apply-append (x ∷ xs) ys s = apply-append xs ys (apply x s)
 
 -- no goroutine is new
-module _ (code : Code) (types : Types) (b : Book) (s : State) (g : ℕ) (t : State) (absent : find s.next_goroutine t.goroutines ≡ None) where
+module _ (code : Code) (types : RunTypes) (b : Book) (s : State) (g : ℕ) (t : State) (absent : find s.next_goroutine t.goroutines ≡ None) where
   none-begun : Every (HasLife code types) (started_calls code s g t s.next_goroutine)
   none-begun = subst (λ (m : Option GoroutineView). Every (HasLife code types) (begun_in (frames_in m) (started_with code (frames_at s g)))) (sym absent) tt
 
@@ -81,7 +80,7 @@ module _ (code : Code) (types : Types) (b : Book) (s : State) (g : ℕ) (t : Sta
     others = λ none h x ne e. others-fit fit h x ne e;
   }
 
-module _ (code : Code) (types : Types) (masks : HasMasks code) (b : Book) (s : State) (rising : IsRising s.goroutines) (fits : Fits code types b s) (fresh_number : find s.next_goroutine s.goroutines ≡ None)
+module _ (code : Code) (types : RunTypes) (masks : HasMasks code) (b : Book) (s : State) (rising : IsRising s.goroutines) (fits : Fits code types b s) (fresh_number : find s.next_goroutine s.goroutines ≡ None)
     (a : Actor) (r : GoroutineView) (found : find a.number s.goroutines ≡ Some r) (runs : r.mode ≡ Mode.Running) (frames : r.frames ≡ a.frame ∷ a.callers) (k : Call) (ks : List Call) (calls : b a.number ≡ k ∷ ks) (below : AllBelow code types a.callers ks) where
   abbrev g : ℕ
   g = a.number

@@ -16,13 +16,17 @@ use Rattle.golf_model.specs.Views.{FrameView, GoroutineView}
 use Rattle.golf_model.specs.State.{State, start, ending}
 use Rattle.golf_model.specs.Turn.{line_at, whose_turn, step, MovesOn}
 use Rattle.golf_model.specs.Running.{Event, has_ended, happens, run}
-use Rattle.golf_model_typing.specs.Types.{ValueType, Signature, Types, Typing, ValuesFit}
+use Rattle.golf_model_typing.specs.Types.{ValueType, Signature, FunctionTypes, signature, Typing, ValuesFit}
+use Rattle.golf_model_typing.specs.Grows.{Grows}
 use Rattle.golf_model_typing.specs.Shapes.{HasShapes}
 use Rattle.golf_model_typing.specs.WellTyped.{WellTyped}
 use Rattle.golf_meaning_flat.specs.Worlds.{Operation, Answer, Halt, pushed}
+use Rattle.golf_meaning_flat.specs.Doing.{Frame}
 use Rattle.golf_meaning_flat.specs.Flat.{lower}
 use Rattle.golf_meaning_turns.specs.Showing.{IsOfLock}
+use Rattle.golf_meaning_turns.specs.Shaping.{Shaping, IsShaped}
 use Rattle.golf_meaning_turns.specs.Life.{frame, Now, Life}
+use Rattle.golf_meaning_turns.specs.Answering.{AnswerFits, Answers}
 use Rattle.golf_meaning_turns.specs.Turning.{answer, Asked, shows}
 
 -- ---- what is written down of a call
@@ -144,69 +148,82 @@ book_of code es = book_from code (start code) es first_book
 
 -- ---- what holds of them
 
--- the values are of the types of the function's parameters, by what was known of objects at some time
-abbrev pub AreArguments : Types → ℕ → List Value → Type 0
-AreArguments types f vs = (known : List (ℕ × ValueType)) × (sig : Signature) × (slice_get types.functions f ≡ Some sig) × ValuesFit types known vs sig.params
+-- the types of a code with the shapes of its functions, and the types of the objects of a run
+pub record RunTypes : Type 0 where
+  pub typing : Typing
+  pub known : List (ℕ × ValueType)
+
+-- the values are of the types of the function's parameters
+abbrev pub AreArguments : RunTypes → ℕ → List Value → Type 0
+AreArguments types f vs = (sig : Signature) × (slice_get types.typing.of.functions f ≡ Some sig) × ValuesFit types.typing.of types.known vs sig.params
+
+-- the shapes of a function
+abbrev pub shaping : RunTypes → ℕ → Option Shaping
+shaping types f = Some (record { types = types.typing.of; known = types.known; shapes = unwrap_or (slice_get types.typing.shapes f) [] })
+
+-- a frame of the function has the shape of this place
+abbrev pub Shaped : RunTypes → ℕ → ℕ → Frame → Type 0
+Shaped types f at c = IsShaped (shaping types f) at c
 
 -- the function of this number may be called with them
-abbrev pub Takes : Code → Types → ℕ → List Value → Type 0
+abbrev pub Takes : Code → RunTypes → ℕ → List Value → Type 0
 Takes code types f vs = (fn : Function) → slice_get code.functions f ≡ Some fn → (length vs ≡ fn.params) × AreArguments types f vs
 
--- the call of the function has arguments of its types, and a life
-abbrev pub Lives : Types → Function → Call → Type 0
-Lives types fn k = AreArguments types k.function k.arguments × ((now : Now) × Life fn k.arguments k.shown k.got now)
+-- the call of the function has arguments of its types, and a life whose frames have shapes
+abbrev pub Lives : RunTypes → Function → Call → Type 0
+Lives types fn k = AreArguments types k.function k.arguments × ((now : Now) × Life fn (shaping types k.function) k.arguments k.shown k.got now)
 
-abbrev pub HasLife : Code → Types → Call → Type 0
+abbrev pub HasLife : Code → RunTypes → Call → Type 0
 HasLife code types k = (fn : Function) × (slice_get code.functions k.function ≡ Some fn) × Lives types fn k
 
--- with this answer to its last operation it stands there
-abbrev pub LivesAt : Function → Call → List ℕ → ℕ → List Value → List Value → List Value → Type 0
-LivesAt fn k ranks to slots values rest = Life fn k.arguments k.shown (k.got ++ answer (lower ranks to) values ∷ []) (Now.Stands to (frame slots (pushed values rest)))
+-- with this answer to its last operation it stands there, if its frame has the shape of that place
+abbrev pub LivesAt : RunTypes → Function → Call → List ℕ → ℕ → List Value → List Value → List Value → Type 0
+LivesAt types fn k ranks to slots values rest = Shaped types k.function to (frame slots (pushed values rest)) → Life fn (shaping types k.function) k.arguments k.shown (k.got ++ answer (lower ranks to) values ∷ []) (Now.Stands to (frame slots (pushed values rest)))
 
 -- whatever it is served with by this wait, and if it is only woken, the call lives on
-abbrev pub MayServe : Function → Call → Asked → FrameView → Wait → Type 0
-MayServe fn k q f w = ((values : List Value) → LivesAt fn k q.ranks (unwrap_or w.target f.at) f.slots values q.rest) × (IsOfLock w.side → LivesAt fn k q.ranks f.at f.slots [] q.rest)
+abbrev pub MayServe : RunTypes → Function → Call → Asked → FrameView → Wait → Type 0
+MayServe types fn k q f w = ((values : List Value) → LivesAt types fn k q.ranks (unwrap_or w.target f.at) f.slots values q.rest) × (IsOfLock w.side → LivesAt types fn k q.ranks f.at f.slots [] q.rest)
 
 -- the innermost frame of a goroutine, and its call: it stands at its place; it was answered; it waits; or it is being left, and returns what its source returns
-abbrev pub IsOnTop : Function → Call → FrameView → Option Asked → Mode → Type 0
-IsOnTop fn k f None Mode.Running = Life fn k.arguments k.shown k.got (Now.Stands f.at (frame f.slots f.operands))
-IsOnTop fn k f None (Mode.Blocked kind line waits ticket) = ⊥
-IsOnTop fn k f (Some q) Mode.Running = (values : List Value) × (f.operands ≡ pushed values q.rest) × LivesAt fn k q.ranks f.at f.slots values q.rest
-IsOnTop fn k f (Some q) (Mode.Blocked kind line waits ticket) = (f.operands ≡ q.rest) × Every (MayServe fn k q f) waits
+abbrev pub IsOnTop : RunTypes → Function → Call → FrameView → Option Asked → Mode → Type 0
+IsOnTop types fn k f None Mode.Running = Life fn (shaping types k.function) k.arguments k.shown k.got (Now.Stands f.at (frame f.slots f.operands))
+IsOnTop types fn k f None (Mode.Blocked kind line waits ticket) = ⊥
+IsOnTop types fn k f (Some q) Mode.Running = (values : List Value) × (f.operands ≡ pushed values q.rest) × LivesAt types fn k q.ranks f.at f.slots values q.rest
+IsOnTop types fn k f (Some q) (Mode.Blocked kind line waits ticket) = (f.operands ≡ q.rest) × Every (MayServe types fn k q f) waits
 
-abbrev pub IsLeft : Function → Call → Leaving → Type 0
-IsLeft fn k Leaving.No = Unit {0}
-IsLeft fn k (Leaving.Returning v) = Life fn k.arguments k.shown k.got (Now.Halted (Halt.Returned v))
-IsLeft fn k (Leaving.Unwinding x) = Unit {0}
+abbrev pub IsLeft : RunTypes → Function → Call → Leaving → Type 0
+IsLeft types fn k Leaving.No = Unit {0}
+IsLeft types fn k (Leaving.Returning v) = Life fn (shaping types k.function) k.arguments k.shown k.got (Now.Halted (Halt.Returned v))
+IsLeft types fn k (Leaving.Unwinding x) = Unit {0}
 
-abbrev pub Top : Function → Call → FrameView → Leaving → Mode → Type 0
-Top fn k f Leaving.No mode = IsOnTop fn k f k.asks mode
-Top fn k f (Leaving.Returning v) mode = IsLeft fn k (Leaving.Returning v)
-Top fn k f (Leaving.Unwinding x) mode = Unit {0}
+abbrev pub Top : RunTypes → Function → Call → FrameView → Leaving → Mode → Type 0
+Top types fn k f Leaving.No mode = IsOnTop types fn k f k.asks mode
+Top types fn k f (Leaving.Returning v) mode = IsLeft types fn k (Leaving.Returning v)
+Top types fn k f (Leaving.Unwinding x) mode = Unit {0}
 
 -- a frame below: its call waits for what the one above gives
-abbrev pub WaitsBelow : Function → Call → FrameView → Option Asked → Type 0
-WaitsBelow fn k f None = ⊥
-WaitsBelow fn k f (Some q) = (f.operands ≡ q.rest) × ((values : List Value) → LivesAt fn k q.ranks f.at f.slots values q.rest)
+abbrev pub WaitsBelow : RunTypes → Function → Call → FrameView → Option Asked → Type 0
+WaitsBelow types fn k f None = ⊥
+WaitsBelow types fn k f (Some q) = (f.operands ≡ q.rest) × ((values : List Value) → LivesAt types fn k q.ranks f.at f.slots values q.rest)
 
-abbrev pub Below : Function → Call → FrameView → Leaving → Type 0
-Below fn k f Leaving.No = WaitsBelow fn k f k.asks
-Below fn k f (Leaving.Returning v) = IsLeft fn k (Leaving.Returning v)
-Below fn k f (Leaving.Unwinding x) = Unit {0}
+abbrev pub Below : RunTypes → Function → Call → FrameView → Leaving → Type 0
+Below types fn k f Leaving.No = WaitsBelow types fn k f k.asks
+Below types fn k f (Leaving.Returning v) = IsLeft types fn k (Leaving.Returning v)
+Below types fn k f (Leaving.Unwinding x) = Unit {0}
 
 -- a frame is of the function of its call
-abbrev pub Of : Code → Types → Call → FrameView → (Function → Type 0) → Type 0
+abbrev pub Of : Code → RunTypes → Call → FrameView → (Function → Type 0) → Type 0
 Of code types k f P = (fn : Function) × (slice_get code.functions k.function ≡ Some fn) × (f.function ≡ k.function) × Lives types fn k × P fn
 
-abbrev pub AllBelow : Code → Types → List FrameView → List Call → Type 0
+abbrev pub AllBelow : Code → RunTypes → List FrameView → List Call → Type 0
 AllBelow code types [] [] = Unit {0}
-AllBelow code types (f ∷ fs) (k ∷ ks) = Of code types k f (λ fn. Below fn k f f.leaving) × AllBelow code types fs ks
+AllBelow code types (f ∷ fs) (k ∷ ks) = Of code types k f (λ fn. Below types fn k f f.leaving) × AllBelow code types fs ks
 AllBelow code types _ _ = ⊥
 
 -- the frames of a goroutine and its calls
-abbrev pub Matches : Code → Types → Mode → List FrameView → List Call → Type 0
+abbrev pub Matches : Code → RunTypes → Mode → List FrameView → List Call → Type 0
 Matches code types mode [] [] = Unit {0}
-Matches code types mode (f ∷ fs) (k ∷ ks) = Of code types k f (λ fn. Top fn k f f.leaving mode) × AllBelow code types fs ks
+Matches code types mode (f ∷ fs) (k ∷ ks) = Of code types k f (λ fn. Top types fn k f f.leaving mode) × AllBelow code types fs ks
 Matches code types mode _ _ = ⊥
 
 -- the masks of each function are those of its body
@@ -217,16 +234,30 @@ HasMasks code = (k : ℕ) (fn : Function) → slice_get code.functions k ≡ Som
 abbrev pub HasParameters : Code → Typing → Type 0
 HasParameters code types = (k : ℕ) (fn : Function) (sig : Signature) → slice_get code.functions k ≡ Some fn → slice_get types.of.functions k ≡ Some sig → fn.params ≡ length sig.params
 
--- each state of the run is well typed, and none is stuck before its ending
+-- the state is well typed, by what is known of its objects then, and later still
+abbrev pub TypedIn : Typing → List (ℕ × ValueType) → State → Type 0
+TypedIn types later s = (known : List (ℕ × ValueType)) × WellTyped types known s × Grows known later
+
+-- so is each state of a run from this one on
+abbrev pub TypedAlong : Code → Typing → List (ℕ × ValueType) → State → List Event → Type 0
+TypedAlong code types later s [] = TypedIn types later s
+TypedAlong code types later s (e ∷ es) = TypedIn types later s × TypedAlong code types later (happens code s e) es
+
+-- the states of each run are well typed, and none is stuck before its ending
 abbrev pub GoesWell : Code → Typing → Type 0
 GoesWell code types =
-    ((events : List Event) → (known : List (ℕ × ValueType)) × WellTyped types known (run code (start code) events)) × ((events : List Event) (c : ℕ) → ending (run code (start code) events) ≡ None → MovesOn code (run code (start code) events) c)
+    ((events : List Event) → (known : List (ℕ × ValueType)) × TypedAlong code types known (start code) events) × ((events : List Event) (c : ℕ) → ending (run code (start code) events) ≡ None → MovesOn code (run code (start code) events) c)
 
--- In each state of a run without an ending the frames of each goroutine match its calls, with the operations that they have shown and the answers that they got in that run; and always each call has arguments of its types, and a life.
-pub record IsBooked (code : Code) (types : Types) (events : List Event) : Type 0 where
+-- each answer that the call got is of the types that its operation leaves, by those of a function with its signature
+abbrev pub IsAnswered : RunTypes → Call → Type 0
+IsAnswered types k = (ft : FunctionTypes) × (slice_get types.typing.of.functions k.function ≡ Some (signature ft)) × Answers (AnswerFits types.typing.of types.known ft) k.shown k.got
+
+-- In each state of a run without an ending the frames of each goroutine match its calls, with the operations that they have shown and the answers that they got in that run; and always each call has arguments of its types, a life, and answers of the types that its operations leave.
+pub record IsBooked (code : Code) (types : RunTypes) (events : List Event) : Type 0 where
   pub going : ending (run code (start code) events) ≡ None → (g : ℕ) (r : GoroutineView) → Entry (run code (start code) events).goroutines g r → Matches code types r.mode r.frames (book_of code events g)
   pub always : (g : ℕ) → Every (HasLife code types) (book_of code events g)
+  pub answered : (g : ℕ) → Every (IsAnswered types) (book_of code events g)
 
--- so it is for each code with shapes that goes well
+-- so it is for each code with shapes that goes well, by what is known of objects in the end
 abbrev pub RunsAreBooked : Type 0
-RunsAreBooked = (code : Code) (types : Typing) → HasMasks code → HasShapes code types → HasParameters code types → GoesWell code types → (events : List Event) → IsBooked code types.of events
+RunsAreBooked = (code : Code) (types : Typing) → HasMasks code → HasShapes code types → HasParameters code types → GoesWell code types → (events : List Event) → (known : List (ℕ × ValueType)) × IsBooked code (record { typing = types; known = known }) events

@@ -11,6 +11,7 @@ use Rattle.golf_meaning_flat.specs.Laws.{Within, Agree, NeverUnfit}
 use Rattle.golf_meaning_functions.specs.Functions.{CodeMeaning}
 use Rattle.golf_meaning_functions.specs.Files.{MeaningOf}
 use Rattle.golf_meaning_functions.proofs.WholeFiles.{files-agree}
+use Rattle.golf_meaning_turns.specs.Shaping.{Shaping}
 use Rattle.golf_meaning_turns.specs.Life.{Now, Life, HasShown}
 use Rattle.golf_meaning_turns.proofs.Living.{lives-mean}
 use Rattle.golf_meaning_lives.specs.Laws.{SourceMeans, LivesMeanSource}
@@ -22,20 +23,20 @@ module _ (file : File) (k : ℕ) (fn : Function) (arguments : List Value) (shown
   source-means (Now.Halted halt) h = let b = agree.back h.0 in (b.0, subst (λ (t : Told). Within t (MeaningOf file k arguments got b.0)) h.1 b.1)
 
 -- a call has as many arguments as its function has parameters
-counted : (fn : Function) (arguments : List Value) (shown : List Operation) (got : List Answer) (now : Now) → Life fn arguments shown got now → length arguments ≡ fn.params
-counted fn arguments shown got now (Life.Begins e) = e
-counted fn arguments shown got now (Life.Turns l to d life is step) = counted fn arguments _ _ _ life
-counted fn arguments shown got now (Life.Clears slots life alike) = counted fn arguments _ _ _ life
-counted fn arguments shown got now (Life.Shows l o life is step) = counted fn arguments _ _ _ life
-counted fn arguments shown got now (Life.Answered l a to d life is step) = counted fn arguments _ _ _ life
-counted fn arguments shown got now (Life.Halts l h life is step) = counted fn arguments _ _ _ life
+counted : (fn : Function) (shaping : Option Shaping) (arguments : List Value) (shown : List Operation) (got : List Answer) (now : Now) → Life fn shaping arguments shown got now → length arguments ≡ fn.params
+counted fn shaping arguments shown got now (Life.Begins e) = e
+counted fn shaping arguments shown got now (Life.Turns l to d life is step) = counted fn shaping arguments _ _ _ life
+counted fn shaping arguments shown got now (Life.Clears slots life alike) = counted fn shaping arguments _ _ _ life
+counted fn shaping arguments shown got now (Life.Shows l o life good is step) = counted fn shaping arguments _ _ _ life
+counted fn shaping arguments shown got now (Life.Answered l a to d life good is step) = counted fn shaping arguments _ _ _ life
+counted fn shaping arguments shown got now (Life.Halts l h life is step) = counted fn shaping arguments _ _ _ life
 
 same-function : (f g : Function) (m : Option Function) → m ≡ Some f → m ≡ Some g → f ≡ g
 same-function f g m a b = cc
 
 pub lives-mean-source : LivesMeanSource
-lives-mean-source file k fn arguments shown got now lt le is never life =
+lives-mean-source file k fn shaping arguments shown got now lt le is never life =
     let r = files-agree file k lt le in
     let same : r.0 ≡ fn = same-function r.0 fn (slice_get (CodeOf file).functions k) r.1 is in
-    let agree = subst (λ (f : Function). length arguments ≡ f.params → NeverUnfit (MeaningOf file k arguments got) → Agree (MeaningOf file k arguments got) (CodeMeaning f arguments got)) same (r.2 arguments got) (counted fn arguments shown got now life) never in
-    source-means file k fn arguments shown got agree now (lives-mean fn arguments shown got now life)
+    let agree = subst (λ (f : Function). length arguments ≡ f.params → NeverUnfit (MeaningOf file k arguments got) → Agree (MeaningOf file k arguments got) (CodeMeaning f arguments got)) same (r.2 arguments got) (counted fn shaping arguments shown got now life) never in
+    source-means file k fn arguments shown got agree now (lives-mean fn shaping arguments shown got now life)

@@ -1,5 +1,5 @@
 -- The law of calls and their sources, as a statement.
-use Rattle.std.specs.Prelude.{◌≡◌, ℕ, ◌<◌, ◌≤◌, List, Some, slice_get}
+use Rattle.std.specs.Prelude.{◌≡◌, ℕ, ◌<◌, ◌≤◌, List, Some, slice_get, Option}
 use Rattle.golf_syntax_trees.specs.declared.declarations.File.{File}
 use Rattle.golf_data.specs.declared.value.Value.{Value}
 use Rattle.golf_data.specs.declared.code.Function.{Function}
@@ -7,6 +7,7 @@ use Rattle.golf_code_of.specs.Files.{CodeOf}
 use Rattle.golf_meaning_flat.specs.Worlds.{Operation, Answer, Halt, End}
 use Rattle.golf_meaning_flat.specs.Laws.{BeginsWith, NeverUnfit}
 use Rattle.golf_meaning_functions.specs.Files.{function_count, MeaningOf}
+use Rattle.golf_meaning_turns.specs.Shaping.{Shaping}
 use Rattle.golf_meaning_turns.specs.Life.{Now, Life}
 
 -- With the answers that the call got, and for some number of turns of each loop: the operations that it has shown are a prefix of those that the source means; or they are these, and the source waits at the last one, or halts as the call has.
@@ -17,5 +18,5 @@ SourceMeans file k arguments shown got (Now.Halted h) = (n : ℕ) × (MeaningOf 
 
 -- for each call of a function or method of a file, unless the source is unfit
 abbrev pub LivesMeanSource : Type 0
-LivesMeanSource = (file : File) (k : ℕ) (fn : Function) (arguments : List Value) (shown : List Operation) (got : List Answer) (now : Now) → 0 < k → k ≤ function_count file.declarations → slice_get (CodeOf file).functions k ≡ Some fn
-    → NeverUnfit (MeaningOf file k arguments got) → Life fn arguments shown got now → SourceMeans file k arguments shown got now
+LivesMeanSource = (file : File) (k : ℕ) (fn : Function) (shaping : Option Shaping) (arguments : List Value) (shown : List Operation) (got : List Answer) (now : Now) → 0 < k → k ≤ function_count file.declarations → slice_get (CodeOf file).functions k ≡ Some fn
+    → NeverUnfit (MeaningOf file k arguments got) → Life fn shaping arguments shown got now → SourceMeans file k arguments shown got now

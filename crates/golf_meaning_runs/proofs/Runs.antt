@@ -1,18 +1,23 @@
 -- The sources of the functions of a program mean what its calls show in a run.
 -- For: `RunsMeanSources`, golf_meaning_runs/specs/Laws.antt; the law `runs_mean_their_sources`, src/lib.rt.
 -- By: cases of where a call stands; induction over lists of calls.
-use Rattle.std.proofs.Common.{ℕ, zero, suc, ◌<◌, ◌≤◌, List, [], map, ap, sym, ◌∙◌, subst, append-nil, arith}
+use Rattle.std.proofs.Common.{ℕ, zero, suc, ◌<◌, ◌≤◌, List, [], ◌∷◌, map, refl, ap, sym, ◌∙◌, subst, append-nil, arith}
 use Rattle.golf_theory.proofs.Lists.{Every-weaker}
 use Rattle.golf_syntax_trees.specs.declared.declarations.File.{File}
 use Rattle.golf_data.specs.declared.value.Value.{Value}
 use Rattle.golf_check_types.specs.Files.{outside}
-use Rattle.golf_model_typing.specs.Types.{Typing, ValuesFit}
+use Rattle.golf_data.specs.declared.code.Code.{Code}
+use Rattle.golf_model.specs.State.{State, start}
+use Rattle.golf_model.specs.Running.{Event, happens}
+use Rattle.golf_model_typing.specs.Types.{ValueType, Shape, Typing, ValuesFit}
+use Rattle.golf_model_typing.specs.Grows.{Grows}
+use Rattle.golf_model_typing.specs.Shapes.{HasShapes}
 use Rattle.golf_code_of.specs.Files.{tables_of, CodeOf}
 use Rattle.golf_code_shapes.specs.FunctionLaws.{made_signature}
 use Rattle.golf_code_shapes.specs.FileLaws.{made_in, scope_of, types_of_file}
 use Rattle.golf_code_shapes_globals.proofs.Globals.{names-fit}
 use Rattle.golf_code_never_stuck.specs.Reached.{IsProgram}
-use Rattle.golf_code_never_stuck.proofs.Plain.{sound-run, plain-runs-go-on}
+use Rattle.golf_code_never_stuck.proofs.Plain.{Sound, sound-start, sound-event, plain-runs-go-on}
 use Rattle.golf_code_never_stuck.proofs.Reaching.{files-have-shapes}
 use Rattle.golf_meaning_flat.specs.Worlds.{Operation, Answer, Misfit, Told}
 use Rattle.golf_meaning_flat.specs.Laws.{BeginsWith, NeverUnfit}
@@ -21,7 +26,7 @@ use Rattle.golf_meaning_typing.specs.Flowing.{EndSound}
 use Rattle.golf_meaning_typing.specs.FileLaws.{parameters_at}
 use Rattle.golf_meaning_typed_files.proofs.Files.{files-sound}
 use Rattle.golf_meaning_turns.specs.Life.{Now}
-use Rattle.golf_meaning_books.specs.Books.{AreArguments, Call, book_of, HasLife}
+use Rattle.golf_meaning_books.specs.Books.{AreArguments, RunTypes, shaping, Call, book_of, HasLife, TypedAlong}
 use Rattle.golf_meaning_books.proofs.Runs.{runs-are-booked}
 use Rattle.golf_meaning_lives.specs.Laws.{SourceMeans}
 use Rattle.golf_meaning_lives.proofs.Sources.{lives-mean-source}
@@ -40,11 +45,23 @@ never-unfit : (f : ℕ → Told) → ((n : ℕ) → EndSound (f n).end) → Answ
 never-unfit f sound fit n Misfit.OfAnswer e = fit n e
 never-unfit f sound fit n Misfit.OfRule e = subst EndSound e (sound n)
 
-module _ (file : File) (program : IsProgram file) where
+-- the states of a run are well typed, by what is known of objects in the end
+typed-along : (code : Code) (types : Typing) (shapes : HasShapes code types) (es : List Event) (s : State) (h : Sound code types shapes s) → (later : List (ℕ × ValueType)) × Grows h.known later × TypedAlong code types later s es
+typed-along code types shapes [] s h = (h.known, (λ o t known. known), (h.known, h.typed, λ o t known. known))
+typed-along code types shapes (e ∷ es) s h =
+    let u = sound-event code types shapes s e h in
+    let r = typed-along code types shapes es (happens code s e) u.0 in
+    let grows : Grows h.known r.0 = λ o t known. r.1 o t (u.1 o t known) in
+    (r.0, grows, ((h.known, h.typed, grows), r.2))
+
+module _ (file : File) (program : IsProgram file) (shapes : List (List Shape)) (known : List (ℕ × ValueType)) where
+  abbrev types : RunTypes
+  types = record { typing = record { of = types_of_file file; shapes = shapes }; known = known }
+
   -- with such arguments the source of a function is unfit by an answer alone
-  sound : (k : ℕ) (arguments : List Value) (got : List Answer) → 0 < k → k ≤ function_count file.declarations → AreArguments (types_of_file file) k arguments → (n : ℕ) → EndSound (MeaningOf file k arguments got n).end
+  sound : (k : ℕ) (arguments : List Value) (got : List Answer) → 0 < k → k ≤ function_count file.declarations → AreArguments types k arguments → (n : ℕ) → EndSound (MeaningOf file k arguments got n).end
   sound zero arguments got above in_file h n = absurd (omega (arith, above))
-  sound (suc k) arguments got above in_file (known, sig, is, fit) n =
+  sound (suc k) arguments got above in_file (sig, is, fit) n =
       let xs = file.declarations in
       let f = scope_of file in
       let less : k < function_count xs = omega (arith, in_file) in
@@ -53,16 +70,21 @@ module _ (file : File) (program : IsProgram file) where
       files-sound file program.typed program.good k arguments got n less
       (arguments-held (types_of_file file) known (parameters_at (outside f) xs k) arguments (parameters-known f 0 xs k names.declarations) (subst (λ ts. ValuesFit (types_of_file file) known arguments ts) same fit))
 
-  live-meant : (k : Call) → HasLife (CodeOf file) (types_of_file file) k → IsMeant file k
+  live-meant : (k : Call) → HasLife (CodeOf file) types k → IsMeant file k
   live-meant k (fn, is, (given, (now, life))) above in_file fit =
       begins-with file k.function k.arguments k.shown k.got now
-      (lives-mean-source file k.function fn k.arguments k.shown k.got now above in_file is (never-unfit (MeaningOf file k.function k.arguments k.got) (sound k.function k.arguments k.got above in_file given) fit) life)
+      (lives-mean-source file k.function fn (shaping types k.function) k.arguments k.shown k.got now above in_file is (never-unfit (MeaningOf file k.function k.arguments k.got) (sound k.function k.arguments k.got above in_file given) fit) life)
 
 pub runs-mean-sources : RunsMeanSources
 runs-mean-sources file program events =
     let x = files-have-shapes file program in
     let of_file : Typing = record { of = types_of_file file; shapes = x.0 } in
-    let booked = runs-are-booked (CodeOf file) of_file (files-have-masks file) x.1 (files-have-parameters file x.0) (λ es. let s = sound-run (CodeOf file) of_file x.1 es in (s.known, s.typed), (plain-runs-go-on file program).0) events in record {
-      booked = booked;
-      meant = λ g. Every-weaker (HasLife (CodeOf file) (types_of_file file)) (IsMeant file) (λ k h. live-meant file program k h) (book_of (CodeOf file) events g) (booked.always g);
+    let code = CodeOf file in
+    let typed : (es : List Event) → (known : List (ℕ × ValueType)) × TypedAlong code of_file known (start code) es = λ es. let t = typed-along code of_file x.1 es (start code) (sound-start code of_file x.1) in (t.0, t.2) in
+    let b = runs-are-booked code of_file (files-have-masks file) x.1 (files-have-parameters file x.0) (typed, (plain-runs-go-on file program).0) events in record {
+      types = record { typing = of_file; known = b.0 };
+      of_file = refl;
+      shaped = x.1;
+      booked = b.1;
+      meant = λ g. Every-weaker (HasLife code (types file program x.0 b.0)) (IsMeant file) (λ k h. live-meant file program x.0 b.0 k h) (book_of code events g) (b.1.always g);
     }

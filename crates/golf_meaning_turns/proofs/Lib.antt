@@ -3,3 +3,5 @@ pub mod Needing
 pub mod Showing
 pub mod Living
 pub mod Turning
+pub mod Answering
+pub mod AnswerCounts

@@ -1,13 +1,14 @@
 -- What a call has shown is what its code means with the answers that it got.
 -- For: `LivesMean`, golf_meaning_turns/specs/Life.antt; the law `lives_mean`, src/lib.rt.
 -- By: induction over the life of the call.
-use Rattle.std.proofs.Common.{◌≡◌, ℕ, suc, ◌+◌, List, [], ◌∷◌, ◌++◌, Some, refl, ap, sym, ◌∙◌, slice_get, arith, append_assoc, append-nil}
+use Rattle.std.proofs.Common.{◌≡◌, ℕ, suc, ◌+◌, List, [], ◌∷◌, ◌++◌, Some, refl, ap, sym, ◌∙◌, slice_get, arith, append_assoc, append-nil, Option}
 use Rattle.golf_data.specs.declared.value.Value.{Value}
 use Rattle.golf_data.specs.declared.code.CodeLine.{CodeLine}
 use Rattle.golf_data.specs.declared.code.Function.{Function}
 use Rattle.golf_meaning_flat.specs.Worlds.{Operation, Answer, Halt, Told, World, Part, halted}
 use Rattle.golf_meaning_flat.specs.Doing.{Frame, Doing, doing}
 use Rattle.golf_meaning_flat.specs.Flat.{targets, lower, picks, tests, Next, ended, does, at_line, exec}
+use Rattle.golf_meaning_turns.specs.Shaping.{Shaping}
 use Rattle.golf_meaning_turns.specs.Stepping.{Stepped, stepped_by, stepped, then_next}
 use Rattle.golf_meaning_turns.specs.Life.{world, frame, Now, first_slots, Life, HasShown, LivesMean}
 use Rattle.golf_meaning_turns.proofs.Needing.{needed-decide}
@@ -22,7 +23,7 @@ does-is (Doing.Jumps t) next at c w = refl
 does-is (Doing.Tests t) next at c w = ended-is (tests c w) _ _ next (λ r u. refl)
 does-is (Doing.Chooses cs o) next at c w = ended-is (picks (lower (targets cs o)) cs o c w) _ _ next (λ r u. refl)
 
-module _ (fn : Function) (arguments : List Value) where
+module _ (fn : Function) (shaping : Option Shaping) (arguments : List Value) where
   -- one instruction
   pub one : (at : ℕ) (l : CodeLine) (c : Frame) (w : World) (k : ℕ) → slice_get fn.body at ≡ Some l → exec fn.body (suc k) at c w ≡ then_next (stepped (doing l.instr) at c w) (exec fn.body k)
   one at l c w k is = ap (λ o. at_line o (exec fn.body k) at c w) is ∙ does-is (doing l.instr) (exec fn.body k) at c w
@@ -39,7 +40,7 @@ module _ (fn : Function) (arguments : List Value) where
   There os got (Now.Asks at c before) = Comes before got at c × ((l : CodeLine) × (slice_get fn.body at ≡ Some l) × (stepped (doing l.instr) at c (world [] before) ≡ Stepped.Halts Halt.Waits os))
   There os got (Now.Halted h) = (n : ℕ) × ((more : List Answer) → From (got ++ more) n ≡ halted h os)
 
-  there : {os : List Operation} {got : List Answer} {now : Now} → Life fn arguments os got now → There os got now
+  there : {os : List Operation} {got : List Answer} {now : Now} → Life fn shaping arguments os got now → There os got now
   there (Life.Begins e) = (0, λ k more. ap (λ n. From more n) (omega arith))
   there (Life.Turns {os} {got} {at} {c} l to d life is step) =
       let h = there life in (
@@ -50,8 +51,8 @@ module _ (fn : Function) (arguments : List Value) where
   there (Life.Clears {os} {got} {at} {c} slots life alike) =
       let h = there life in
       (h.0, λ k more. h.1 k more ∙ needed-decide fn.body k at c.slots slots c.operands (world more os) alike)
-  there (Life.Shows {os} {got} {at} {c} l o life is step) = (there life, (l, is, step))
-  there (Life.Answered {os} {before} {got} {at} {c} l a to d life is step) =
+  there (Life.Shows {os} {got} {at} {c} l o life good is step) = (there life, (l, is, step))
+  there (Life.Answered {os} {before} {got} {at} {c} l a to d life good is step) =
       let h = (there life).0 in (
         h.0 + 1,
         λ k more.
@@ -70,4 +71,4 @@ module _ (fn : Function) (arguments : List Value) where
   shown os got (Now.Halted h) r = (r.0, ap (λ xs. From xs r.0) (sym (append-nil got)) ∙ r.1 [])
 
 pub lives-mean : LivesMean
-lives-mean fn arguments os got now life = shown fn arguments os got now (there fn arguments life)
+lives-mean fn shaping arguments os got now life = shown fn shaping arguments os got now (there fn shaping arguments life)

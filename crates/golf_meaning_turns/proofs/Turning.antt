@@ -23,6 +23,7 @@ use Rattle.golf_meaning_flat.specs.Worlds.{Operation, Answer, Halt, World, Part,
 use Rattle.golf_meaning_flat.specs.Doing.{Frame, some_from, chosen_by, Doing, doing}
 use Rattle.golf_meaning_flat.specs.Doing as D
 use Rattle.golf_meaning_flat.specs.Flat.{on_clause, targets, lower, default_of, clause_of}
+use Rattle.golf_meaning_turns.specs.Shaping.{Shaping, IsShaped}
 use Rattle.golf_meaning_turns.specs.Stepping.{Stepped, stepped_by, stepped, frame_of, is_inner}
 use Rattle.golf_meaning_turns.specs.Stepping.{IsTurn as I}
 use Rattle.golf_meaning_turns.specs.Showing.{split_from, ComesBy, IsAwake}
@@ -34,17 +35,17 @@ use Rattle.golf_meaning_turns.proofs.Inner.{inner-turns}
 use Rattle.golf_meaning_turns.proofs.Showing.{visible-turns, choosing-turns}
 
 -- operands that are taken are those that are split off
-abbrev of_split : {A : Type 0} → World → (List Value → List Value → Part A) → Option (List Value × List Value) → Part A
+abbrev pub of_split : {A : Type 0} → World → (List Value → List Value → Part A) → Option (List Value × List Value) → Part A
 of_split w f None = D.unfit w
 of_split w f (Some o) = f o.0 o.1
 
-some-is : {A : Type 0} (w : World) (n : ℕ) (acc os : List Value) (f : List Value → List Value → Part A) → some_from w n acc f os ≡ of_split w f (split_from n acc os)
+pub some-is : {A : Type 0} (w : World) (n : ℕ) (acc os : List Value) (f : List Value → List Value → Part A) → some_from w n acc f os ≡ of_split w f (split_from n acc os)
 some-is w zero acc os f = refl
 some-is w (suc n) acc [] f = refl
 some-is w (suc n) acc (v ∷ os) f = some-is w n (v ∷ acc) os f
 
 -- a visible instruction without targets that has an answer
-shows-it : (i : Instr) → is_inner i ≡ false → ((cases : List SelectCase) (otherwise : Option ℕ) → i ≡ Instr.Select cases otherwise → ⊥) → (i ≡ Instr.Panic → ⊥) → doing i ≡ Doing.Acts (D.shows i)
+pub shows-it : (i : Instr) → is_inner i ≡ false → ((cases : List SelectCase) (otherwise : Option ℕ) → i ≡ Instr.Select cases otherwise → ⊥) → (i ≡ Instr.Panic → ⊥) → doing i ≡ Doing.Acts (D.shows i)
 shows-it (Instr.Int n) e ns np = cc
 shows-it (Instr.Bool b) e ns np = cc
 shows-it (Instr.Text k) e ns np = cc
@@ -141,7 +142,7 @@ module _ (ts : List ℕ) (to : ℕ) (m : In to ts) where
     ]
   ] refl
 
-module _ (code : Code) (fn : Function) (arguments : List Value) (shown : List Operation) (got : List Answer) (a : Actor) (choice : ℕ) (s : State) (l : CodeLine) (is : slice_get fn.body a.frame.at ≡ Some l) (life : Life fn arguments shown got (Now.Stands a.frame.at (frame_of a.frame))) (awake : IsAwake s a.number) where
+module _ (code : Code) (fn : Function) (shaping : Option Shaping) (arguments : List Value) (shown : List Operation) (got : List Answer) (a : Actor) (choice : ℕ) (s : State) (l : CodeLine) (is : slice_get fn.body a.frame.at ≡ Some l) (life : Life fn shaping arguments shown got (Now.Stands a.frame.at (frame_of a.frame))) (good : IsShaped shaping a.frame.at (frame_of a.frame)) (awake : IsAwake s a.number) where
   abbrev at : ℕ
   at = a.frame.at
 
@@ -149,7 +150,7 @@ module _ (code : Code) (fn : Function) (arguments : List Value) (shown : List Op
   c = frame_of a.frame
 
   abbrev L : List Change → Type 0
-  L cs = IsLived code s fn arguments shown got a l.instr (shows l.instr a.frame.operands) cs
+  L cs = IsLived code s fn shaping arguments shown got a l.instr (shows l.instr a.frame.operands) cs
 
   abbrev Line : Instr → Type 0
   Line i = (line : CodeLine) × (slice_get fn.body at ≡ Some line) × (line.instr ≡ i)
@@ -171,12 +172,12 @@ module _ (code : Code) (fn : Function) (arguments : List Value) (shown : List Op
         ap (λ d. stepped d at c w) same
         ∙ ap (λ p. stepped_by p (λ d u. Stepped.Goes (at + 1) d u)) (some-is w (taken i) [] a.frame.operands (λ vs rest. bind (asks i vs w) (λ x u. chosen_by (x.clause == 0) (D.goes c (pushed x.values rest) u) (D.misfit u))) ∙ ap (of_split w (λ vs rest. bind (asks i vs w) (λ x u. chosen_by (x.clause == 0) (D.goes c (pushed x.values rest) u) (D.misfit u)))) split)
 
-    asking : Asking fn arguments shown got (operation i o.0) a o.1 (After a) (λ to. 0)
+    asking : Asking fn shaping arguments shown got (operation i o.0) a o.1 (After a) (λ to. 0)
     asking =
-        let asks = Life.Shows l (operation i o.0) life is (acted (world [] shown)) in record {
+        let asks = Life.Shows l (operation i o.0) life good is (acted (world [] shown)) in record {
           asks = asks;
-          lives_on = λ to values e. subst (λ z. Life fn arguments (shown ++ operation i o.0 ∷ []) (got ++ answer 0 values ∷ []) (Now.Stands z (frame a.frame.slots (pushed values o.1)))) (sym e)
-              (Life.Answered l (answer 0 values) (at + 1) (frame a.frame.slots (pushed values o.1)) asks is (λ later. acted (world (answer 0 values ∷ later) shown)));
+          lives_on = λ to values e fits. subst (λ z. Life fn shaping arguments (shown ++ operation i o.0 ∷ []) (got ++ answer 0 values ∷ []) (Now.Stands z (frame a.frame.slots (pushed values o.1)))) (sym e)
+              (Life.Answered l (answer 0 values) (at + 1) (frame a.frame.slots (pushed values o.1)) asks (subst (λ z. IsShaped shaping z (frame a.frame.slots (pushed values o.1))) e fits) is (λ later. acted (world (answer 0 values ∷ later) shown)));
         }
 
   -- a choice
@@ -196,12 +197,12 @@ module _ (code : Code) (fn : Function) (arguments : List Value) (shown : List Op
         ap (λ i. stepped (doing i) at c w) same
         ∙ ap (λ p. stepped_by p onward) (some-is w (cases_taken cases) [] a.frame.operands (λ vs rest. bind (asks (choice_of cases otherwise) vs w) (chosen rest)) ∙ ap (of_split w (λ vs rest. bind (asks (choice_of cases otherwise) vs w) (chosen rest))) split)
 
-    choosing : Asking fn arguments shown got (operation (choice_of cases otherwise) o.0) a o.1 (λ to. In to ts) (lower ts)
+    choosing : Asking fn shaping arguments shown got (operation (choice_of cases otherwise) o.0) a o.1 (λ to. In to ts) (lower ts)
     choosing =
-        let asks = Life.Shows l (operation (choice_of cases otherwise) o.0) life is (picked (world [] shown)) in record {
+        let asks = Life.Shows l (operation (choice_of cases otherwise) o.0) life good is (picked (world [] shown)) in record {
           asks = asks;
-          lives_on = λ to values m.
-              Life.Answered l (answer (lower ts to) values) to (frame a.frame.slots (pushed values o.1)) asks is (λ later. picked (world (answer (lower ts to) values ∷ later) shown)
+          lives_on = λ to values m fits.
+              Life.Answered l (answer (lower ts to) values) to (frame a.frame.slots (pushed values o.1)) asks fits is (λ later. picked (world (answer (lower ts to) values ∷ later) shown)
               ∙ ap (λ z. stepped_by (on_clause (λ t. Part.Gives (t, frame a.frame.slots (pushed values o.1)) (world later (shown ++ operation (choice_of cases otherwise) o.0 ∷ []))) (world later (shown ++ operation (choice_of cases otherwise) o.0 ∷ [])) z) onward) (leads-clause ts to m cases otherwise (λ t n. n) m));
         }
 
@@ -224,7 +225,7 @@ module _ (code : Code) (fn : Function) (arguments : List Value) (shown : List Op
     where
       go : (m : Option ℕ) → L (M.on_some (λ k. M.panics a (PanicKind.Custom k)) m)
       go None = NoRule refl
-      go (Some k) = Throws x k (Life.Shows l (operation Instr.Panic (x ∷ [])) life is (ap (λ i. stepped (doing i) at c (world [] shown)) same ∙ ap (thrown (world [] shown)) e)) rest (ap (λ i. shows i a.frame.operands) same ∙ ap (λ os. shows Instr.Panic os) e) refl
+      go (Some k) = Throws x k (Life.Shows l (operation Instr.Panic (x ∷ [])) life good is (ap (λ i. stepped (doing i) at c (world [] shown)) same ∙ ap (thrown (world [] shown)) e)) rest (ap (λ i. shows i a.frame.operands) same ∙ ap (λ os. shows Instr.Panic os) e) refl
 
   plain : (b : Bool) → is_inner l.instr ≡ b → ((cases : List SelectCase) (otherwise : Option ℕ) → l.instr ≡ Instr.Select cases otherwise → ⊥) → (l.instr ≡ Instr.Panic → ⊥) → L (changes code l.instr a choice s)
   plain true e ns np = from-inner (shows-plain l.instr a.frame.operands ns ∙ ap (λ b. cond b None (plain_shown l.instr (split_from (taken l.instr) [] a.frame.operands))) e) _ (inner-turns code l.instr a choice s e)
@@ -244,4 +245,4 @@ module _ (code : Code) (fn : Function) (arguments : List Value) (shown : List Op
       not-panic q = cc
 
 pub turns-are-lived : TurnsAreLived
-turns-are-lived code fn arguments shown got a choice s l is life awake = by-instr code fn arguments shown got a choice s l is life awake l.instr refl
+turns-are-lived code fn shaping arguments shown got a choice s l is life good awake = by-instr code fn shaping arguments shown got a choice s l is life good awake l.instr refl

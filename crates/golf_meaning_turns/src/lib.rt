@@ -4,6 +4,7 @@
 //! Each function here has one law as its contract.
 #![tactic(auto)]
 
+ghost use Rattle.golf_meaning_turns.specs.Answering.{AnswersAreCounted, AnswersAreTyped};
 ghost use Rattle.golf_meaning_turns.specs.Laws.{ChoosingTurns, InnerTurns, NeededDecide, VisibleTurns};
 ghost use Rattle.golf_meaning_turns.specs.Life.{LivesMean};
 ghost use Rattle.golf_meaning_turns.specs.Turning.{TurnsAreLived};
@@ -38,4 +39,15 @@ pub fn lives_mean()
 /// A turn of the machine on the frame of a call is one step of the call's life.
 pub fn turns_are_lived()
     ensures { TurnsAreLived }
+{}
+
+/// Each answer that a call got has the types that its operation leaves, if the function fits its types:
+/// those of the shape of the place to which the answer leads.
+pub fn answers_are_typed()
+    ensures { AnswersAreTyped }
+{}
+
+/// An answer that fits its operation has as many values as the operation leaves.
+pub fn answers_are_counted()
+    ensures { AnswersAreCounted }
 {}

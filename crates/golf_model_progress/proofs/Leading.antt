@@ -50,7 +50,10 @@ module _ (types : Typing) (known : List (ℕ × ValueType)) (s : State) (w : Wel
 
 pub leads-typed : (code : Code) (types : Typing) → HasShapes code types → (s : State) → Leads code s → (known : List (ℕ × ValueType)) × WellTyped types known s
 leads-typed code types shapes s Leads.Start = ([], start-is-typed code types shapes)
-leads-typed code types shapes s (Leads.Turn t c l e) = let f = leads-typed code types shapes t l in turns-keep-types code types f.0 t c shapes f.1 (leads-whole code t l) (leads-numbered code t l) (leads-orderly code t l)
+leads-typed code types shapes s (Leads.Turn t c l e) =
+    let f = leads-typed code types shapes t l in
+    let u = turns-keep-types code types f.0 t c shapes f.1 (leads-whole code t l) (leads-numbered code t l) (leads-orderly code t l) in
+    (u.0, u.1)
 leads-typed code types shapes s (Leads.Collection t recover l e) = let f = leads-typed code types shapes t l in (f.0, typed-real types f.0 t f.1 (leads-numbered code t l) recover (sets_finalisers code))
 leads-typed code types shapes s (Leads.Emptied t l) = let f = leads-typed code types shapes t l in (f.0, typed-emptied types f.0 t f.1)
 

@@ -29,6 +29,7 @@ use Rattle.golf_model_futures.proofs.RefLaws.{Vals, frames-head, goroutine-frame
 use Rattle.golf_model.specs.Finalising.{begins_queued}
 use Rattle.golf_model_order.specs.Orderly.{IsOrderly}
 use Rattle.golf_model_typing.specs.Types.{ValueType, Shape, FunctionTypes, Typing, signature, with_shapes, ValuesFit}
+use Rattle.golf_model_typing.specs.Grows.{Grows}
 use Rattle.golf_model_typing.specs.Shapes.{FunctionFits, InstructionFits, HasShapes}
 use Rattle.golf_model_typing.specs.WellTyped.{Stands, LeavingFits, FramesFit, ModeFits, GoroutineFits, WellTyped}
 use Rattle.golf_model_progress.specs.Laws.{TypedStatesMoveOn, TurnsKeepTypes, StartIsTyped}
@@ -193,17 +194,18 @@ move-on code types known s c shapes w whole n o h =
       | inr f ↦ f.moves
     ]
 
-turned-typed : (code : Code) (types : Typing) (known : List (ℕ × ValueType)) (s : State) (c : ℕ) → HasShapes code types → WellTyped types known s → IsWhole s → Numbered s → IsOrderly s → (later : List (ℕ × ValueType)) × WellTyped types later (turned code s c)
+turned-typed : (code : Code) (types : Typing) (known : List (ℕ × ValueType)) (s : State) (c : ℕ) → HasShapes code types → WellTyped types known s → IsWhole s → Numbered s → IsOrderly s → (later : List (ℕ × ValueType)) × WellTyped types later (turned code s c) × Grows known later
 turned-typed code types known s c shapes w whole n o =
     elim (proceeds-whose code types shapes known s w whole n o (c / length (runnable s)) c (whose_turn s c) refl) [
-      | inl e ↦ (known, subst (λ m. WellTyped types known (apply_all (turn_changes code (c / length (runnable s)) s m) s)) (sym e) w)
+      | inl e ↦ (known, subst (λ m. WellTyped types known (apply_all (turn_changes code (c / length (runnable s)) s m) s)) (sym e) w, λ o t h. h)
       | inr f ↦ typed-changes types known (turn_changes code (c / length (runnable s)) s (whose_turn s c)) s w f.keeps
     ]
 
 pub turns-keep-types : TurnsKeepTypes
 turns-keep-types code types known s c shapes w whole n o =
     let t = turned-typed code types known s c shapes w whole n o in
-    typed-changes types t.0 (cleared_after code s c) (turned code s c) t.1 (fits-clearing code types shapes t.0 (clears_nothing code s c) (whose_turn s c) (turned code s c) t.1)
+    let u = typed-changes types t.0 (cleared_after code s c) (turned code s c) t.1 (fits-clearing code types shapes t.0 (clears_nothing code s c) (whose_turn s c) (turned code s c) t.1) in
+    (u.0, u.1, λ o t1 h. u.2 o t1 (t.2 o t1 h))
 
 pub start-is-typed : StartIsTyped
 start-is-typed code types shapes =

@@ -8,6 +8,7 @@ use Rattle.golf_model.specs.Futures.{Numbered, Leads}
 use Rattle.golf_model.specs.Presence.{IsWhole}
 use Rattle.golf_model_order.specs.Orderly.{IsOrderly}
 use Rattle.golf_model_typing.specs.Types.{ValueType, Typing}
+use Rattle.golf_model_typing.specs.Grows.{Grows}
 use Rattle.golf_model_typing.specs.Shapes.{HasShapes}
 use Rattle.golf_model_typing.specs.WellTyped.{WellTyped}
 
@@ -16,10 +17,10 @@ abbrev pub TypedStatesMoveOn : Type 0
 TypedStatesMoveOn = (code : Code) (types : Typing) (known : List (ℕ × ValueType)) (s : State) (c : ℕ)
     → HasShapes code types → WellTyped types known s → IsWhole s → Numbered s → IsOrderly s → ending s ≡ None → MovesOn code s c
 
--- a turn keeps types
+-- a turn keeps types, and what is known stays known
 abbrev pub TurnsKeepTypes : Type 0
 TurnsKeepTypes = (code : Code) (types : Typing) (known : List (ℕ × ValueType)) (s : State) (c : ℕ)
-    → HasShapes code types → WellTyped types known s → IsWhole s → Numbered s → IsOrderly s → (later : List (ℕ × ValueType)) × WellTyped types later (step code s c)
+    → HasShapes code types → WellTyped types known s → IsWhole s → Numbered s → IsOrderly s → (later : List (ℕ × ValueType)) × WellTyped types later (step code s c) × Grows known later
 
 -- a collection keeps types, whether it removes goroutines or not
 abbrev pub CollectionsKeepTypes : Type 0

@@ -20,6 +20,7 @@ use Rattle.golf_model.specs.State.{State, not_empty}
 use Rattle.golf_model.specs.Waking.{woken_by, released}
 use Rattle.golf_model.specs.Changes.{Change, apply, apply_all, behind_first, become, moved, moved_waits, pass_on_by, pass_on}
 use Rattle.golf_model_typing.specs.Types.{ValueType, Typing, HasType, ValuesFit, ObjectFits}
+use Rattle.golf_model_typing.specs.Grows.{Grows}
 use Rattle.golf_model_typing.specs.WellTyped.{BlockedFits, ModeFits, GoroutineFits, LacksNothing, FinaliserFits, WellTyped, ChangeFits, ChangesFit}
 use Rattle.golf_model_typing.proofs.Growing.{values-more, object-more, goroutine-more, call-more}
 use Rattle.golf_model_typing.proofs.Changing.{values-set, or_true, released-at, lacks_none}
@@ -167,9 +168,12 @@ module _ (types : Typing) (known : List (ℕ × ValueType)) (s : State) (w : Wel
   typed-change (Change.PassOn g m) a = typed-pass_on g m a.0 (find g s.goroutines) (find m s.objects) refl a.1
 
 -- changes one after another
-pub typed-changes : (types : Typing) (known : List (ℕ × ValueType)) (cs : List Change) (s : State) → WellTyped types known s → ChangesFit types known s cs → (later : List (ℕ × ValueType)) × WellTyped types later (apply_all cs s)
-typed-changes types known [] s w a = (known, w)
-typed-changes types known (Change.Make x ∷ cs) s w a = typed-changes types (add (s.last_object + 1) a.0 known) cs (apply (Change.Make x) s) (typed-make types known s w x a.0 a.1) a.2
+pub typed-changes : (types : Typing) (known : List (ℕ × ValueType)) (cs : List Change) (s : State) → WellTyped types known s → ChangesFit types known s cs → (later : List (ℕ × ValueType)) × WellTyped types later (apply_all cs s) × Grows known later
+typed-changes types known [] s w a = (known, w, λ o t h. h)
+typed-changes types known (Change.Make x ∷ cs) s w a =
+    let more = known-more types known s w a.0 in
+    let r = typed-changes types (add (s.last_object + 1) a.0 known) cs (apply (Change.Make x) s) (typed-make types known s w x a.0 a.1) a.2 in
+    (r.0, r.1, λ o t h. r.2 o t (more.0 o t h))
 typed-changes types known (Change.Replace o x ∷ cs) s w a = typed-changes types known cs (apply (Change.Replace o x) s) (typed-change types known s w (Change.Replace o x) a.0) a.1
 typed-changes types known (Change.SetGlobal i v ∷ cs) s w a = typed-changes types known cs (apply (Change.SetGlobal i v) s) (typed-change types known s w (Change.SetGlobal i v) a.0) a.1
 typed-changes types known (Change.Become g r ∷ cs) s w a = typed-changes types known cs (apply (Change.Become g r) s) (typed-change types known s w (Change.Become g r) a.0) a.1

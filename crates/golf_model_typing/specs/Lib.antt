@@ -1,4 +1,5 @@
 pub mod Types
+pub mod Grows
 pub mod Shapes
 pub mod WellTyped
 pub mod NeededSlots

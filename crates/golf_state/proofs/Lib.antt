@@ -16,3 +16,4 @@ pub mod FirstLaws
 mod Leaving
 mod ClearingLaws
 mod Comparisons
+pub mod References

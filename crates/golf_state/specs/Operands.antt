@@ -4,6 +4,7 @@ use Rattle.golf_data.specs.declared.value.Value.{Value}
 use Rattle.golf_model.specs.Views.{FrameView}
 use Rattle.golf_model.specs.State.{State}
 use Rattle.golf_state.specs.Looked.{frames_of}
+use Rattle.golf_state.specs.declared.operands.Reference.{Reference}
 
 abbrev pub top_operands : List FrameView → List Value
 top_operands [] = []
@@ -25,3 +26,9 @@ three_of [] = None
 three_of (z ∷ []) = None
 three_of (z ∷ y ∷ []) = None
 three_of (z ∷ y ∷ x ∷ rest) = Some (x, y, z)
+
+-- a reference to an object, nil, or no reference
+abbrev pub reference_of : Value → Reference
+reference_of Value.Nil = Reference.Nil
+reference_of (Value.Ref o) = Reference.To o
+reference_of _ = Reference.Misfit

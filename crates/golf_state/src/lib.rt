@@ -26,7 +26,10 @@ mod waking;
 pub use acting::Acting;
 pub use calls::{enter, enter_deferred, return_frame, unwind_caller};
 pub use frames::{Given, Wakening, advance, advance_with, begin_return, defer, exchange, unwind};
-pub use operands::{last_operand, last_operands, last_three_operands};
+pub use operands::{
+    Reference, bool_in, int_in, last_operand, last_operands, last_three_operands, reference_in,
+    text_in,
+};
 pub use outcome::{
     Outcome, block_at, block_on, carry_out, fault, make_onto, make_over, one_wait, proceed,
     proceed_with,

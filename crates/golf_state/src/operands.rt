@@ -1,10 +1,11 @@
-//! The last operands of a goroutine's innermost frame.
+//! The last operands of a goroutine's innermost frame, and what operands are.
 
 ghost use Rattle.std.specs.Prelude.{◌≡◌, slice_get, reverse};
-ghost use Rattle.golf_state.specs.Operands.{operands_of, two_of, three_of};
+ghost use Rattle.golf_model.specs.Values.{int_of, bool_of, text_of};
+ghost use Rattle.golf_state.specs.Operands.{operands_of, two_of, three_of, reference_of};
 
 use crate::state::State;
-use golf_base::GoroutineId;
+use golf_base::{GoroutineId, ObjectId};
 use golf_data::Value;
 
 // The last item.
@@ -61,4 +62,59 @@ pub fn last_three_operands(state: &State, g: GoroutineId) -> Option<(Value, Valu
 {
     let frame = state.frame(g)?;
     last_three(frame.operands.as_slice())
+}
+
+/// What an operation on an object finds in its operand.
+#[derive(Clone, Copy, Debug, PartialEq, Eq)]
+pub enum Reference {
+    /// A reference to this object.
+    To(ObjectId),
+    Nil,
+    /// No reference: no rule fits.
+    Misfit,
+}
+
+/// The reference that a value is.
+#[inline(always)]
+pub fn reference_in(value: Value) -> Reference
+    ensures { result ≡ reference_of value }
+{
+    match value {
+        Value::Ref(object) => Reference::To(object),
+        Value::Nil => Reference::Nil,
+        Value::Int(_) | Value::Bool(_) | Value::Text(_) | Value::Unit => Reference::Misfit,
+    }
+}
+
+/// The integer that a value is.
+#[inline(always)]
+pub fn int_in(value: Value) -> Option<i64>
+    ensures { result ≡ int_of value }
+{
+    match value {
+        Value::Int(n) => Some(n),
+        _ => None,
+    }
+}
+
+/// The truth value that a value is.
+#[inline(always)]
+pub fn bool_in(value: Value) -> Option<bool>
+    ensures { result ≡ bool_of value }
+{
+    match value {
+        Value::Bool(b) => Some(b),
+        _ => None,
+    }
+}
+
+/// The number of the text that a value is.
+#[inline(always)]
+pub fn text_in(value: Value) -> Option<u32>
+    ensures { result ≡ text_of value }
+{
+    match value {
+        Value::Text(text) => Some(text),
+        _ => None,
+    }
 }

@@ -16,7 +16,9 @@ use crate::mutexes::hand_over;
 use crate::objects::{condition_at, mutex_at};
 use golf_base::{Memory, ObjectId};
 use golf_data::{PanicKind, Side, Value, WaitKind};
-use golf_state::{Acting, Outcome, State, block_on, last_operand, proceed};
+use golf_state::{
+    Acting, Outcome, Reference, State, block_on, last_operand, proceed, reference_in,
+};
 use std::alloc::Global;
 
 // Unlocks the mutex of a condition, and blocks on the condition.
@@ -65,13 +67,10 @@ fn await_at(
     let Some(mutex) = condition_at(state, condition) else {
         return Ok(Outcome::Stuck);
     };
-    match mutex {
-        Value::Ref(mutex) => await_with(alloc, state, acting, condition, mutex),
-        Value::Nil => Ok(Outcome::Panic(PanicKind::NilPointer)),
-        Value::Int(_) => Ok(Outcome::Stuck),
-        Value::Bool(_) => Ok(Outcome::Stuck),
-        Value::Text(_) => Ok(Outcome::Stuck),
-        Value::Unit => Ok(Outcome::Stuck),
+    match reference_in(mutex) {
+        Reference::To(mutex) => await_with(alloc, state, acting, condition, mutex),
+        Reference::Nil => Ok(Outcome::Panic(PanicKind::NilPointer)),
+        Reference::Misfit => Ok(Outcome::Stuck),
     }
 }
 
@@ -86,13 +85,10 @@ pub fn cond_wait(alloc: Global, state: &mut State, acting: Acting) -> Result<Out
     let Some(condition) = last_operand(state, acting.goroutine) else {
         return Ok(Outcome::Stuck);
     };
-    match condition {
-        Value::Ref(object) => await_at(alloc, state, acting, object),
-        Value::Nil => Ok(Outcome::Panic(PanicKind::NilPointer)),
-        Value::Int(_) => Ok(Outcome::Stuck),
-        Value::Bool(_) => Ok(Outcome::Stuck),
-        Value::Text(_) => Ok(Outcome::Stuck),
-        Value::Unit => Ok(Outcome::Stuck),
+    match reference_in(condition) {
+        Reference::To(object) => await_at(alloc, state, acting, object),
+        Reference::Nil => Ok(Outcome::Panic(PanicKind::NilPointer)),
+        Reference::Misfit => Ok(Outcome::Stuck),
     }
 }
 
@@ -160,13 +156,10 @@ fn notify_by(
         proceed(state, acting, acting.after, 1);
         return Outcome::Done;
     }
-    match mutex {
-        Value::Ref(mutex) => notify_with(state, acting, condition, mutex, all),
-        Value::Nil => Outcome::Stuck,
-        Value::Int(_) => Outcome::Stuck,
-        Value::Bool(_) => Outcome::Stuck,
-        Value::Text(_) => Outcome::Stuck,
-        Value::Unit => Outcome::Stuck,
+    match reference_in(mutex) {
+        Reference::To(mutex) => notify_with(state, acting, condition, mutex, all),
+        Reference::Nil => Outcome::Stuck,
+        Reference::Misfit => Outcome::Stuck,
     }
 }
 
@@ -191,13 +184,10 @@ fn notify(state: &mut State, acting: Acting, all: bool) -> Outcome
     let Some(condition) = last_operand(state, acting.goroutine) else {
         return Outcome::Stuck;
     };
-    match condition {
-        Value::Ref(object) => notify_at(state, acting, object, all),
-        Value::Nil => Outcome::Panic(PanicKind::NilPointer),
-        Value::Int(_) => Outcome::Stuck,
-        Value::Bool(_) => Outcome::Stuck,
-        Value::Text(_) => Outcome::Stuck,
-        Value::Unit => Outcome::Stuck,
+    match reference_in(condition) {
+        Reference::To(object) => notify_at(state, acting, object, all),
+        Reference::Nil => Outcome::Panic(PanicKind::NilPointer),
+        Reference::Misfit => Outcome::Stuck,
     }
 }
 

@@ -11,7 +11,10 @@ ghost use Rattle.golf_state.specs.Outcomes.{Comes};
 use crate::objects::group_at;
 use golf_base::{Memory, ObjectId};
 use golf_data::{Object, PanicKind, Side, Value, WaitKind};
-use golf_state::{Acting, Outcome, State, Waking, block_on, last_operand, last_operands, proceed};
+use golf_state::{
+    Acting, Outcome, Reference, State, Waking, block_on, int_in, last_operand, last_operands,
+    proceed, reference_in,
+};
 use std::alloc::Global;
 
 // Adds to the counter of a wait group.
@@ -39,13 +42,10 @@ fn add_to(state: &mut State, acting: Acting, group: Value, delta: i64) -> Outcom
     requires { Stands acting.goroutine.0 acting.after state.old }
     ensures { Comes result (λ a. at_reference a (λ o. at_group (λ n. counts a (drop 2 a.frame.operands) o (sum n delta)) (find o state.old.objects)) group) acting.goroutine.0 acting.line state.old state.new }
 {
-    match group {
-        Value::Ref(object) => add_at(state, acting, object, delta),
-        Value::Nil => Outcome::Panic(PanicKind::NilPointer),
-        Value::Int(_) => Outcome::Stuck,
-        Value::Bool(_) => Outcome::Stuck,
-        Value::Text(_) => Outcome::Stuck,
-        Value::Unit => Outcome::Stuck,
+    match reference_in(group) {
+        Reference::To(object) => add_at(state, acting, object, delta),
+        Reference::Nil => Outcome::Panic(PanicKind::NilPointer),
+        Reference::Misfit => Outcome::Stuck,
     }
 }
 
@@ -59,13 +59,9 @@ pub fn group_add(state: &mut State, acting: Acting) -> Outcome
     let Some((group, delta)) = last_operands(state, acting.goroutine) else {
         return Outcome::Stuck;
     };
-    match delta {
-        Value::Int(delta) => add_to(state, acting, group, delta),
-        Value::Bool(_) => Outcome::Stuck,
-        Value::Text(_) => Outcome::Stuck,
-        Value::Unit => Outcome::Stuck,
-        Value::Nil => Outcome::Stuck,
-        Value::Ref(_) => Outcome::Stuck,
+    match int_in(delta) {
+        Some(delta) => add_to(state, acting, group, delta),
+        None => Outcome::Stuck,
     }
 }
 
@@ -101,12 +97,9 @@ pub fn group_wait(alloc: Global, state: &mut State, acting: Acting) -> Result<Ou
     let Some(group) = last_operand(state, acting.goroutine) else {
         return Ok(Outcome::Stuck);
     };
-    match group {
-        Value::Ref(object) => wait_at(alloc, state, acting, object),
-        Value::Nil => Ok(Outcome::Panic(PanicKind::NilPointer)),
-        Value::Int(_) => Ok(Outcome::Stuck),
-        Value::Bool(_) => Ok(Outcome::Stuck),
-        Value::Text(_) => Ok(Outcome::Stuck),
-        Value::Unit => Ok(Outcome::Stuck),
+    match reference_in(group) {
+        Reference::To(object) => wait_at(alloc, state, acting, object),
+        Reference::Nil => Ok(Outcome::Panic(PanicKind::NilPointer)),
+        Reference::Misfit => Ok(Outcome::Stuck),
     }
 }

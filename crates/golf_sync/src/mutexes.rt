@@ -10,8 +10,11 @@ ghost use Rattle.golf_state.specs.Handing.{is_blocked_where, handed_over};
 
 use crate::objects::{mutex_at, put_mutex};
 use golf_base::{Memory, ObjectId};
-use golf_data::{PanicKind, Side, Value, WaitKind};
-use golf_state::{Acting, Outcome, State, Waiting, Wakening, block_on, last_operand, proceed};
+use golf_data::{PanicKind, Side, WaitKind};
+use golf_state::{
+    Acting, Outcome, Reference, State, Waiting, Wakening, block_on, last_operand, proceed,
+    reference_in,
+};
 use std::alloc::Global;
 
 // Locks a mutex, or blocks on it.
@@ -49,13 +52,10 @@ pub fn lock(alloc: Global, state: &mut State, acting: Acting) -> Result<Outcome,
     let Some(mutex) = last_operand(state, acting.goroutine) else {
         return Ok(Outcome::Stuck);
     };
-    match mutex {
-        Value::Ref(object) => lock_at(alloc, state, acting, object),
-        Value::Nil => Ok(Outcome::Panic(PanicKind::NilPointer)),
-        Value::Int(_) => Ok(Outcome::Stuck),
-        Value::Bool(_) => Ok(Outcome::Stuck),
-        Value::Text(_) => Ok(Outcome::Stuck),
-        Value::Unit => Ok(Outcome::Stuck),
+    match reference_in(mutex) {
+        Reference::To(object) => lock_at(alloc, state, acting, object),
+        Reference::Nil => Ok(Outcome::Panic(PanicKind::NilPointer)),
+        Reference::Misfit => Ok(Outcome::Stuck),
     }
 }
 
@@ -100,12 +100,9 @@ pub fn unlock(state: &mut State, acting: Acting) -> Outcome
     let Some(mutex) = last_operand(state, acting.goroutine) else {
         return Outcome::Stuck;
     };
-    match mutex {
-        Value::Ref(object) => unlock_at(state, acting, object),
-        Value::Nil => Outcome::Panic(PanicKind::NilPointer),
-        Value::Int(_) => Outcome::Stuck,
-        Value::Bool(_) => Outcome::Stuck,
-        Value::Text(_) => Outcome::Stuck,
-        Value::Unit => Outcome::Stuck,
+    match reference_in(mutex) {
+        Reference::To(object) => unlock_at(state, acting, object),
+        Reference::Nil => Outcome::Panic(PanicKind::NilPointer),
+        Reference::Misfit => Outcome::Stuck,
     }
 }

@@ -14,9 +14,10 @@ ghost use Rattle.golf_sync.specs.Served.{readers_of, next_in, served_by, is_read
 
 use crate::objects::rw_at;
 use golf_base::{Memory, ObjectId};
-use golf_data::{Object, PanicKind, Side, Value, WaitKind};
+use golf_data::{Object, PanicKind, Side, WaitKind};
 use golf_state::{
-    Acting, Outcome, State, Waiting, Wakening, Waking, block_on, last_operand, proceed,
+    Acting, Outcome, Reference, State, Waiting, Wakening, Waking, block_on, last_operand, proceed,
+    reference_in,
 };
 use std::alloc::Global;
 
@@ -116,13 +117,10 @@ pub fn rw_lock(alloc: Global, state: &mut State, acting: Acting) -> Result<Outco
     let Some(rw) = last_operand(state, acting.goroutine) else {
         return Ok(Outcome::Stuck);
     };
-    match rw {
-        Value::Ref(object) => write_lock_at(alloc, state, acting, object),
-        Value::Nil => Ok(Outcome::Panic(PanicKind::NilPointer)),
-        Value::Int(_) => Ok(Outcome::Stuck),
-        Value::Bool(_) => Ok(Outcome::Stuck),
-        Value::Text(_) => Ok(Outcome::Stuck),
-        Value::Unit => Ok(Outcome::Stuck),
+    match reference_in(rw) {
+        Reference::To(object) => write_lock_at(alloc, state, acting, object),
+        Reference::Nil => Ok(Outcome::Panic(PanicKind::NilPointer)),
+        Reference::Misfit => Ok(Outcome::Stuck),
     }
 }
 
@@ -153,13 +151,10 @@ pub fn rw_unlock(state: &mut State, acting: Acting) -> Outcome
     let Some(rw) = last_operand(state, acting.goroutine) else {
         return Outcome::Stuck;
     };
-    match rw {
-        Value::Ref(object) => write_unlock_at(state, acting, object),
-        Value::Nil => Outcome::Panic(PanicKind::NilPointer),
-        Value::Int(_) => Outcome::Stuck,
-        Value::Bool(_) => Outcome::Stuck,
-        Value::Text(_) => Outcome::Stuck,
-        Value::Unit => Outcome::Stuck,
+    match reference_in(rw) {
+        Reference::To(object) => write_unlock_at(state, acting, object),
+        Reference::Nil => Outcome::Panic(PanicKind::NilPointer),
+        Reference::Misfit => Outcome::Stuck,
     }
 }
 
@@ -207,13 +202,10 @@ pub fn read_lock(alloc: Global, state: &mut State, acting: Acting) -> Result<Out
     let Some(rw) = last_operand(state, acting.goroutine) else {
         return Ok(Outcome::Stuck);
     };
-    match rw {
-        Value::Ref(object) => read_lock_at(alloc, state, acting, object),
-        Value::Nil => Ok(Outcome::Panic(PanicKind::NilPointer)),
-        Value::Int(_) => Ok(Outcome::Stuck),
-        Value::Bool(_) => Ok(Outcome::Stuck),
-        Value::Text(_) => Ok(Outcome::Stuck),
-        Value::Unit => Ok(Outcome::Stuck),
+    match reference_in(rw) {
+        Reference::To(object) => read_lock_at(alloc, state, acting, object),
+        Reference::Nil => Ok(Outcome::Panic(PanicKind::NilPointer)),
+        Reference::Misfit => Ok(Outcome::Stuck),
     }
 }
 
@@ -250,12 +242,9 @@ pub fn read_unlock(state: &mut State, acting: Acting) -> Outcome
     let Some(rw) = last_operand(state, acting.goroutine) else {
         return Outcome::Stuck;
     };
-    match rw {
-        Value::Ref(object) => read_unlock_at(state, acting, object),
-        Value::Nil => Outcome::Panic(PanicKind::NilPointer),
-        Value::Int(_) => Outcome::Stuck,
-        Value::Bool(_) => Outcome::Stuck,
-        Value::Text(_) => Outcome::Stuck,
-        Value::Unit => Outcome::Stuck,
+    match reference_in(rw) {
+        Reference::To(object) => read_unlock_at(state, acting, object),
+        Reference::Nil => Outcome::Panic(PanicKind::NilPointer),
+        Reference::Misfit => Outcome::Stuck,
     }
 }

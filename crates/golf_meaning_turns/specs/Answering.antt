@@ -1,0 +1,70 @@
+-- The answers that a call got are of the types that its operations leave.
+use Rattle.std.specs.Prelude.{◌≡◌, ℕ, ◌+◌, ◌==◌, Bool, false, is_some, cond, List, [], ◌∷◌, length, map, Option, Some, None, slice_get}
+use Rattle.golf_data.specs.declared.value.Value.{Value}
+use Rattle.golf_data.specs.declared.code.Function.{Function}
+use Rattle.golf_data.specs.declared.code.Instr.{Instr}
+use Rattle.golf_data.specs.declared.code.SelectCase.{SelectCase}
+use Rattle.golf_data.specs.Effects.{taken, left, cases_taken, case_left}
+use Rattle.golf_model_typing.specs.Types.{ValueType, Shape, Signature, FunctionTypes, Types, ValuesFit}
+use Rattle.golf_model_typing.specs.Shapes.{InstructionFits, FunctionFits}
+use Rattle.golf_meaning_flat.specs.Worlds.{Operation, Answer, pushed}
+use Rattle.golf_meaning_flat.specs.Flat.{targets, lower, clause_of}
+use Rattle.golf_meaning_turns.specs.Stepping.{is_inner}
+use Rattle.golf_meaning_turns.specs.Life.{Now, Life}
+use Rattle.golf_meaning_turns.specs.Turning.{choice_of}
+
+-- how many operands an operation takes, a choice those of all its cases
+abbrev pub operands_taken : Instr → ℕ
+operands_taken (Instr.Select cases otherwise) = cases_taken cases
+operands_taken i = taken i
+
+-- the instruction at a place shows this operation, and an answer with this clause leads to that place
+abbrev pub LeadsTo : Instr → ℕ → Instr → ℕ → ℕ → Type 0
+LeadsTo (Instr.Select cases otherwise) at shown clause to = (shown ≡ choice_of cases otherwise) × (clause_of (lower (targets cases otherwise)) clause cases otherwise ≡ Some to)
+LeadsTo Instr.Panic at shown clause to = ⊥
+LeadsTo i at shown clause to = (is_inner i ≡ false) × (shown ≡ i) × (clause ≡ 0) × (to ≡ at + 1)
+
+-- how many values the answer to an operation has, if these functions give a value; of a choice, those of the clause that it names
+abbrev pub clause_left : ℕ → List SelectCase → Option ℕ → Option ℕ
+clause_left k [] None = None
+clause_left k [] (Some t) = cond (t == k) (Some 0) None
+clause_left k (c ∷ cs) o = cond (c.target == k) (Some (case_left c.kind)) (clause_left k cs o)
+
+abbrev pub answer_left : List Bool → Instr → ℕ → Option ℕ
+answer_left gives (Instr.Select cases otherwise) k = clause_left k cases otherwise
+answer_left gives i k = cond (k == 0) (Some (left gives i)) None
+
+-- the functions that give a value
+abbrev pub giving : Types → List Bool
+giving types = map (λ (sig : Signature). is_some sig.result) types.functions
+
+-- An operation and its answer, by these types and by what is known of objects: an instruction fits the shape of its place, which has the types of the operands, of which there are as many as it takes; the answer leads to a place whose shape has the types of its values, and below both are the same values.
+pub record AnswerFits (types : Types) (known : List (ℕ × ValueType)) (ft : FunctionTypes) (o : Operation) (a : Answer) : Type 0 where
+  pub at : ℕ
+  pub instr : Instr
+  pub before : Shape
+  pub here : slice_get ft.shapes at ≡ Some before
+  pub fits : InstructionFits types ft at instr before
+  pub to : ℕ
+  pub leads : LeadsTo instr at o.instr a.clause to
+  pub later : Shape
+  pub there : slice_get ft.shapes to ≡ Some later
+  pub rest : List Value
+  pub count : length o.operands ≡ operands_taken instr
+  pub operands : ValuesFit types known (pushed o.operands rest) before.operands
+  pub values : ValuesFit types known (pushed a.values rest) later.operands
+
+-- each answer, with its operation; at most as many answers as operations
+abbrev pub Answers : (Operation → Answer → Type 0) → List Operation → List Answer → Type 0
+Answers P os [] = Unit {0}
+Answers P [] (a ∷ got) = ⊥
+Answers P (o ∷ os) (a ∷ got) = P o a × Answers P os got
+
+-- so it is of each answer that a call got whose function fits its types
+abbrev pub AnswersAreTyped : Type 0
+AnswersAreTyped = (types : Types) (known : List (ℕ × ValueType)) (fn : Function) (ft : FunctionTypes) (arguments : List Value) (os : List Operation) (got : List Answer) (now : Now) → FunctionFits types fn ft
+    → Life fn (Some (record { types = types; known = known; shapes = ft.shapes })) arguments os got now → Answers (AnswerFits types known ft) os got
+
+-- an answer that fits has as many values as its operation leaves
+abbrev pub AnswersAreCounted : Type 0
+AnswersAreCounted = (types : Types) (known : List (ℕ × ValueType)) (ft : FunctionTypes) (o : Operation) (a : Answer) → AnswerFits types known ft o a → answer_left (giving types) o.instr a.clause ≡ Some (length a.values)
