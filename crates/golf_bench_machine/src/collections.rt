@@ -126,7 +126,9 @@ pub(crate) fn time_whole<R: Clock + Threads + Sync>(
     let mut state = blocked_state(alloc, pairs)?;
     let mut book = Ledger::new(alloc);
     let begin = Instant::now(rt)?;
-    let report = collect(rt, alloc, &mut state, &mut book, options, &OpenGate)?;
+    let report = collect(
+        rt, alloc, &mut state, &mut book, options, &OpenGate, &OpenGate,
+    )?;
     let took = begin.elapsed(rt)?.as_micros();
     Ok((report, took))
 }

@@ -63,7 +63,7 @@ moves-always bytes file options a =
 means-its-source : (bytes : List ℕ) (file : File) → Accepts bytes file → MeansItsSource file
 means-its-source bytes file a = record {
   agrees = file-agrees file;
-  unfit_by_answers = files-sound file a.typed.keeps a.typed.tree.reads.form.good;
+  lacks_no_rule = files-sound file a.typed.keeps a.typed.tree.reads.form.good;
   runs = runs-mean-sources file (record { good = a.typed.tree.reads.form.good; typed = a.typed.keeps });
 }
 

@@ -72,11 +72,11 @@ pub record MovesAlways (code : Code) (options : RunOptions) : Type 0 where
   pub continuations : (p : State) → In p (stops code (events_of options)) → GoesOnFrom code p
   pub moves : (s : State) (c : ℕ) → Leads code s → ending s ≡ None → MovesOn code s c
 
--- The code of each function and method of the file does what its source says: for all arguments of the types of its receiver and parameters, and all answers that fit, the same visible operations, in the same order, with the same end. For each bound of one there is a bound of the other; and the source is unfit only if an answer does not fit its operation.
--- And so it is in each run of the plain machine, after each turn: each call of a goroutine has shown operations that its source means, with the answers that it got, if these fit.
+-- The code of each function and method of the file does what its source says: for as many arguments as it has parameters, and for all answers, the same visible operations, in the same order, with the same end. For each bound of one there is a bound of the other; and no rule is lacking to the source.
+-- And so it is in each run of the plain machine, after each turn. With the answers that a call got, its source means operations that begin with those that it has shown. If the call waits, they are exactly these, and the source waits at the last one; if it has ended, they are exactly these, with the same end. Its code means the same.
 pub record MeansItsSource (file : File) : Type 0 where
   pub agrees : FileAgrees file
-  pub unfit_by_answers : MeaningsSound file
+  pub lacks_no_rule : MeaningsSound file
   pub runs : (events : List Event) → RunMeansSource file events
 
 -- the line with which a file is refused

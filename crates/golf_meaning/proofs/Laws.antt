@@ -23,29 +23,29 @@ use Rattle.golf_meaning_flat.specs.Worlds.{Answer, Told}
 use Rattle.golf_meaning_flat.specs.Flat.{exec}
 use Rattle.golf_meaning_flat.specs.Laws.{Agree}
 use Rattle.golf_meaning_functions.specs.Functions.{CodeMeaning, begins}
-use Rattle.golf_meaning_functions.specs.Files.{function_count, MeaningOf}
+use Rattle.golf_meaning_functions.specs.Files.{function_count, giving_in, MeaningOf}
 use Rattle.golf_meaning_functions.proofs.WholeFiles.{files-agree}
 use Rattle.golf_code.proofs.Laws.{code_is}
 use Rattle.golf_meaning.specs.Judged.{AreSame, IsCodeOf, IsNumbered, FunctionAgrees, Agrees, AllAreCodeOf, AllAgree}
 
 -- what code means goes by its slots and its body
-means : ℕ → List CodeLine → List Value → List Answer → ℕ → Told
-means slots body arguments answers n =
+means : List Bool → ℕ → List CodeLine → List Value → List Answer → ℕ → Told
+means gives slots body arguments answers n =
     let filled = arguments ++ replicate (slots - length arguments) (Value.Int (pos 0)) in
-    exec body n 0 (record { slots = filled; operands = [] }) (begins answers)
+    exec gives body n 0 (record { slots = filled; operands = [] }) (begins answers)
 
-same-means : (f g : Function) → HasSameBody f g → (arguments : List Value) (answers : List Answer)
-    → CodeMeaning g arguments answers ≡ CodeMeaning f arguments answers
+same-means : (gives : List Bool) (f g : Function) → HasSameBody f g → (arguments : List Value) (answers : List Answer)
+    → CodeMeaning gives g arguments answers ≡ CodeMeaning gives f arguments answers
 unfolding means
-same-means f g s arguments answers =
-    ap (λ k. means k g.body arguments answers) (sym s.slots)
-    ∙ ap (λ ls. means f.slots ls arguments answers) (sym s.body)
+same-means gives f g s arguments answers =
+    ap (λ k. means gives k g.body arguments answers) (sym s.slots)
+    ∙ ap (λ ls. means gives f.slots ls arguments answers) (sym s.body)
 
 same-agrees : (file : File) (k : ℕ) (x y : Option Function) → AreSame x y → FunctionAgrees file k y → FunctionAgrees file k x
 same-agrees file k (Some f) (Some g) s h =
-    λ arguments answers enough never.
+    λ arguments answers enough ruled.
     subst (λ (t : ℕ → Told). Agree (MeaningOf file k arguments answers) t)
-    (same-means f g s arguments answers) (h arguments answers (enough ∙ s.params) never)
+    (same-means (giving_in file) f g s arguments answers) (h arguments answers (enough ∙ s.params) ruled)
 same-agrees file k (Some f) None s h = absurd s
 same-agrees file k None y s h = absurd s
 

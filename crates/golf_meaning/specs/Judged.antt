@@ -7,9 +7,9 @@ use Rattle.golf_data.specs.declared.code.Function.{Function}
 use Rattle.golf_code_of.specs.Files.{CodeOf}
 use Rattle.golf_code_files.specs.Comparing.{HasSameBody}
 use Rattle.golf_meaning_flat.specs.Worlds.{Answer}
-use Rattle.golf_meaning_flat.specs.Laws.{Agree, NeverUnfit}
+use Rattle.golf_meaning_flat.specs.Laws.{Agree, HasRules}
 use Rattle.golf_meaning_functions.specs.Functions.{CodeMeaning}
-use Rattle.golf_meaning_functions.specs.Files.{function_count, MeaningOf}
+use Rattle.golf_meaning_functions.specs.Files.{function_count, giving_in, MeaningOf}
 
 -- both are there, and have the same body
 abbrev pub AreSame : Option Function → Option Function → Type 0
@@ -25,13 +25,12 @@ IsCodeOf file code k = AreSame (slice_get code.functions k) (slice_get (CodeOf f
 abbrev pub IsNumbered : File → ℕ → Type 0
 IsNumbered file k = (0 < k) × (k ≤ function_count file.declarations)
 
--- with as many arguments as it has parameters, and answers for which the source is unfit for no bound, the meaning of the source of this
--- number and that of the function agree: for each bound of one there is a bound of the other
+-- With as many arguments as it has parameters, and whatever the answers, the meaning of the source of this number and that of the function agree, unless the source lacks a rule: for each bound of one there is a bound of the other.
 abbrev pub FunctionAgrees : File → ℕ → Option Function → Type 0
 FunctionAgrees file k None = ⊥
 FunctionAgrees file k (Some fn) =
-    (arguments : List Value) (answers : List Answer) → length arguments ≡ fn.params → NeverUnfit (MeaningOf file k arguments answers)
-    → Agree (MeaningOf file k arguments answers) (CodeMeaning fn arguments answers)
+    (arguments : List Value) (answers : List Answer) → length arguments ≡ fn.params → HasRules (MeaningOf file k arguments answers)
+    → Agree (MeaningOf file k arguments answers) (CodeMeaning (giving_in file) fn arguments answers)
 
 -- the code has a function of this number, which agrees with its source
 abbrev pub Agrees : File → Code → ℕ → Type 0

@@ -31,10 +31,10 @@ fn are_same(code: &Code, other: &Code, number: usize) -> bool
 /// each line of it with its place in the source, that the function has in the code of the file.
 ///
 /// If it has, and the number is that of a function or method of the file, source and code agree,
-/// both ways: for as many arguments as the function has parameters, and all answers for which the
-/// meaning of the source is unfit for no bound, each bound of one has a bound of the other with
-/// which the operations and the end are the same, or if it is short its operations are a prefix of
-/// the other's. With arguments of the parameters' types the meaning is unfit by an answer alone
+/// both ways: for as many arguments as the function has parameters, and all answers, each bound of
+/// one has a bound of the other with which the operations and the end are the same, or if it is
+/// short its operations are a prefix of the other's. This holds unless the source lacks a rule,
+/// which it never does in a file that breaks no rule, with as many arguments
 /// (`golf_meaning_typed_files`).
 pub fn check_body(
     alloc: Global,

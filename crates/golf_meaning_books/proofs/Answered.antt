@@ -13,7 +13,7 @@ use Rattle.golf_meaning_books.specs.Books.{Call, HasLife, IsAnswered}
 use Rattle.golf_meaning_books.proofs.Others.{one-some}
 
 pub is-answered : (code : Code) (types : Typing) → HasShapes code types → (known : List (ℕ × ValueType)) (k : Call) → HasLife code (record { typing = types; known = known }) k → IsAnswered (record { typing = types; known = known }) k
-is-answered code types shapes known k (fn, is, (given, (now, life))) =
+is-answered code types shapes known k (fn, is, (given, (now, life, stands))) =
     let sig = given.0 in
     let x = shapes.functions k.function sig given.1 in
     let own = x.0 in

@@ -22,16 +22,17 @@ use Rattle.golf_model.specs.Changes.{Change, apply_all}
 use Rattle.golf_model.specs.Acting.{Actor, on_some}
 use Rattle.golf_model.specs.Finalising.{begins_queued}
 use Rattle.golf_model.specs.Turn.{changes, line_at, return_line, acting, performs, frame_changes, goroutine_changes, turn_of}
+use Rattle.golf_meaning_turns.specs.Shaping.{FitsShaping}
 use Rattle.golf_meaning_turns.specs.Showing.{CalledBy}
 use Rattle.golf_meaning_turns.specs.Life.{frame, Now, Life}
-use Rattle.golf_meaning_turns.specs.Turning.{operation, Asked, shows}
+use Rattle.golf_meaning_turns.specs.Turning.{operation, Asked, shows, ends_with}
 use Rattle.golf_meaning_turns.proofs.Turning.{turns-are-lived}
-use Rattle.golf_meaning_books.specs.Books.{RunTypes, shaping, Shaped, AreArguments, Call, Book, fresh, settled_by, with_shown, line_shows, turned_call, operands_shown, passed, calls_after, frames_in, frames_at, Takes, HasLife, IsOnTop, Top, Matches, HasMasks}
+use Rattle.golf_meaning_books.specs.Books.{RunTypes, shaping, Shaped, AreArguments, Standing, Call, Book, fresh, settled_by, with_turn, line_shows, line_ends, turned_call, operands_shown, passed, calls_after, frames_in, frames_at, left_by, Takes, HasLife, IsOnTop, Top, Matches, HasMasks}
 use Rattle.golf_meaning_books.proofs.Framing.{fresh-top, settled-lives}
 use Rattle.golf_meaning_books.proofs.Others.{Fits, runs-awake}
 use Rattle.golf_meaning_books.proofs.Owning.{Became, by-life}
 use Rattle.golf_meaning_books.proofs.Leaving.{by-returning, by-unwinding}
-use Rattle.golf_meaning_books.proofs.Turned.{Done, done-going, done}
+use Rattle.golf_meaning_books.proofs.Turned.{HasLeft, Done, done-going, done}
 
 -- each call has a life, and unless the run has ended each goroutine matches its calls
 pub record Booked (code : Code) (types : RunTypes) (s : State) (b : Book) : Type 0 where
@@ -42,16 +43,18 @@ pub record Booked (code : Code) (types : RunTypes) (s : State) (b : Book) : Type
 record Settled (types : RunTypes) (fn : Function) (k : Call) (f : FrameView) (settled : Call) : Type 0 where
   same : settled.function ≡ k.function
   given : AreArguments types settled.function settled.arguments
-  idle : settled.asks ≡ None
+  idle : settled.standing ≡ Standing.Goes
   life : Life fn (shaping types settled.function) settled.arguments settled.shown settled.got (Now.Stands f.at (frame f.slots f.operands))
 
-settles : (types : RunTypes) (fn : Function) (k : Call) (f : FrameView) (m : Option Asked) → AreArguments types k.function k.arguments → k.asks ≡ m → Shaped types k.function f.at (frame f.slots f.operands) → IsOnTop types fn k f m Mode.Running → Settled types fn k f (settled_by m f k)
-settles types fn k f None given e fits h = record { same = refl; given = given; idle = e; life = h }
-settles types fn k f (Some q) given e fits h = record { same = refl; given = given; idle = refl; life = settled-lives types fn k f q fits h }
+settles : (types : RunTypes) (fn : Function) (k : Call) (f : FrameView) (m : Standing) → AreArguments types k.function k.arguments → k.standing ≡ m → Shaped types k.function f.at (frame f.slots f.operands) → IsOnTop types fn k f m Mode.Running → Settled types fn k f (settled_by m f k)
+settles types fn k f (Standing.Ended i) given e fits h = absurd h
+settles types fn k f Standing.Goes given e fits h = record { same = refl; given = given; idle = e; life = h }
+settles types fn k f (Standing.Asks q) given e fits h = record { same = refl; given = given; idle = refl; life = settled-lives types fn k f q fits h }
 
--- the innermost frame has the shape of its place; and what a goroutine with these frames passes on in its turn, and the entries of the queue, have as many values as the functions have parameters
+-- the innermost frame has the shape of its place, and its function fits its shapes; and what a goroutine with these frames passes on in its turn, and the entries of the queue, have as many values as the functions have parameters
 pub record PassesOn (code : Code) (types : RunTypes) (s : State) (frames : List FrameView) : Type 0 where
   pub stands : (f : FrameView) (callers : List FrameView) → frames ≡ f ∷ callers → f.leaving ≡ Leaving.No → Shaped types f.function f.at (frame f.slots f.operands)
+  pub fitting : (f : FrameView) (callers : List FrameView) → frames ≡ f ∷ callers → f.leaving ≡ Leaving.No → (fn : Function) → slice_get code.functions f.function ≡ Some fn → FitsShaping fn (shaping types f.function)
   pub operands : (f : FrameView) (callers : List FrameView) (l : CodeLine) → frames ≡ f ∷ callers → f.leaving ≡ Leaving.No → line_at code f.function f.at ≡ Some l
       → (vs : List Value) (q : Asked) → shows l.instr f.operands ≡ Some (operation l.instr vs, q) → (n : ℕ) → CalledBy l.instr n → Takes code types n vs
   pub deferred : (f : FrameView) (callers : List FrameView) → frames ≡ f ∷ callers → Every (λ (d : Deferred). Takes code types d.function d.arguments) f.deferred
@@ -76,15 +79,15 @@ module _ (code : Code) (types : RunTypes) (masks : HasMasks code) (b : Book) (s 
     by-line staying (Some l) e fit =
         let o = here.0 in
         let fn = o.0 in
-        let kk = settled_by k.asks f k in
-        let top : IsOnTop types fn k f k.asks Mode.Running = subst (λ left. Top types fn k f left Mode.Running) staying o.4 in
+        let kk = settled_by k.standing f k in
+        let top : IsOnTop types fn k f k.standing Mode.Running = subst (λ left. Top types fn k f left Mode.Running) staying o.4 in
         let fits = passes.stands f callers frames staying in
-        let x = settles types fn k f k.asks o.3.0 refl (subst (λ n. Shaped types n f.at (frame f.slots f.operands)) o.2 fits) top in
+        let x = settles types fn k f k.standing o.3.0 refl (subst (λ n. Shaped types n f.at (frame f.slots f.operands)) o.2 fits) top in
         let at : slice_get fn.body f.at ≡ Some l = sym (ap (λ (m : Option Function). option_and_then (λ fn. slice_get fn.body f.at) m) (ap (λ n. slice_get code.functions n) o.2 ∙ o.1)) ∙ e in
-        let lived = turns-are-lived code fn (shaping types kk.function) kk.arguments kk.shown kk.got (a l.line) choice s l at x.life (subst (λ n. Shaped types n f.at (frame f.slots f.operands)) (o.2 ∙ sym x.same) fits) (runs-awake s rising g r found runs) in
+        let lived = turns-are-lived code fn (shaping types kk.function) kk.arguments kk.shown kk.got (a l.line) choice s l at (subst (λ n. FitsShaping fn (shaping types n)) (o.2 ∙ sym x.same) (passes.fitting f callers frames staying fn (ap (λ n. slice_get code.functions n) o.2 ∙ o.1))) x.life (subst (λ n. Shaped types n f.at (frame f.slots f.operands)) (o.2 ∙ sym x.same) fits) (runs-awake s rising g r found runs) in
         let is : slice_get code.functions kk.function ≡ Some fn = ap (λ n. slice_get code.functions n) x.same ∙ o.1 in
-        let became = by-life code types masks s fn (a l.line) l.instr kk ks is (o.2 ∙ sym x.same) x.given x.idle staying here.1 (shows l.instr f.operands) (changes code l.instr (a l.line) choice s) (passes.operands f callers l frames staying e) lived in
-        (l.line, subst (λ m. Became code types s (a l.line) (with_shown (line_shows m f) kk) ks (operands_shown (line_shows m f)) (changes code l.instr (a l.line) choice s)) (sym e) became)
+        let became = by-life code types masks s fn (a l.line) l.instr kk ks is (o.2 ∙ sym x.same) x.given x.idle staying here.1 (shows l.instr f.operands) (ends_with l.instr f.at (frame f.slots f.operands)) (changes code l.instr (a l.line) choice s) (passes.operands f callers l frames staying e) lived in
+        (l.line, subst (λ m. Became code types s (a l.line) (with_turn (line_shows m f) (line_ends m f) kk) ks (operands_shown (line_shows m f)) (changes code l.instr (a l.line) choice s)) (sym e) became)
 
     by-leaving : (left : Leaving) → f.leaving ≡ left → (frame_changes code g r f callers choice s left ≡ [] → ⊥) → (line : ℕ) × Becomes line left (frame_changes code g r f callers choice s left)
     by-leaving Leaving.No e fit = by-line e (line_at code f.function f.at) refl fit
@@ -114,6 +117,7 @@ module _ (code : Code) (types : RunTypes) (masks : HasMasks code) (b : Book) (s 
         done-going code types b s g t (find_above t.next_goroutine t.goroutines s.next_goroutine above (omega (arith, next))) begun (fresh q.function (Value.Ref q.object ∷ []) ∷ []) own
         (ap (λ z. calls_after code z (frames_at s g) (frames_at t g) (b g)) first ∙ ap (λ z. calls_after code (q ∷ queue) z (frames_at t g) (b g)) before ∙ ap (λ z. calls_after code (q ∷ queue) [] z (b g)) (ap frames_in own))
         (subst (λ mode. Matches code types mode (x ∷ []) (fresh q.function (Value.Ref q.object ∷ []) ∷ [])) (sym runs) (fresh-top code types masks q.function (Value.Ref q.object ∷ []) true fn is (takes fn is), tt))
+        (subst (λ z. Every (HasLeft code types) (left_by code z (frames_at t g) (b g))) (sym before) tt)
         (λ h y ne i. fits h y (sym (find-put_other 0 begun s.goroutines h (λ same. ne (same ∙ sym is_first))) ∙ ap (λ (v : State). find h v.goroutines) (sym e) ∙ i))
 
   by-function : g ≡ 0 → r.frames ≡ [] → (q : Queued) (queue : List Queued) → s.queue ≡ q ∷ queue → Takes code types q.function (Value.Ref q.object ∷ []) → (m : Option Function) → slice_get code.functions q.function ≡ m → (cs : List Change) → cs ≡ on_some (λ y. Change.TakeQueued ∷ (Change.Become 0 (record r { frames = y ∷ [] }) ∷ [])) (option_map (opened q.function (Value.Ref q.object ∷ []) true) m)

@@ -11,11 +11,11 @@ use Rattle.golf_model.specs.Views.{FrameView, GoroutineView}
 use Rattle.golf_model.specs.State.{State}
 use Rattle.golf_model.specs.Changes.{become, apply_all}
 use Rattle.golf_model.specs.Clearing.{cleared, clears_in, clears, clearing}
-use Rattle.golf_meaning_books.specs.Books.{RunTypes, Book, begun_in, calls_after, frames_in, frames_at, started_with, HasLife, Matches, HasMasks}
+use Rattle.golf_meaning_books.specs.Books.{RunTypes, Book, begun_in, calls_after, frames_in, frames_at, started_with, left_by, HasLife, Matches, HasMasks}
 use Rattle.golf_meaning_books.proofs.Framing.{cleared-matches}
 use Rattle.golf_meaning_books.proofs.Others.{one-some}
-use Rattle.golf_meaning_books.proofs.Rebooking.{calls-cleared}
-use Rattle.golf_meaning_books.proofs.Turned.{own_calls, started_calls, Done}
+use Rattle.golf_meaning_books.proofs.Rebooking.{calls-cleared, left-cleared}
+use Rattle.golf_meaning_books.proofs.Turned.{own_calls, started_calls, calls_left, HasLeft, Done}
 
 module _ (code : Code) (types : RunTypes) (masks : HasMasks code) (s : State) (g : ℕ) (b : Book) (not_next : g ≡ s.next_goroutine → ⊥) (t : State) (d : Done code types s g b t) where
   module _ (q : GoroutineView) (found : find g t.goroutines ≡ Some q) (runs : q.mode ≡ Mode.Running) (f : FrameView) (fs : List FrameView) (frames : q.frames ≡ f ∷ fs) where
@@ -37,6 +37,12 @@ module _ (code : Code) (types : RunTypes) (masks : HasMasks code) (s : State) (g
         ∙ sym (calls-cleared code s.queue (frames_at s g) f fs (b g))
         ∙ ap (λ z. calls_after code s.queue (frames_at s g) z (b g)) (sym (ap frames_in now-found))
 
+    same-left : calls_left code s g b t ≡ calls_left code s g b u
+    same-left =
+        ap (λ z. left_by code (frames_at s g) z (b g)) (ap frames_in found ∙ frames)
+        ∙ sym (left-cleared code (frames_at s g) f fs (b g))
+        ∙ ap (λ z. left_by code (frames_at s g) z (b g)) (sym (ap frames_in now-found))
+
     same-started : (h : ℕ) → (h ≡ g → ⊥) → started_calls code s g t h ≡ started_calls code s g u h
     same-started h ne = ap (λ m. begun_in (frames_in m) (started_with code (frames_at s g))) (sym (other h ne))
 
@@ -49,6 +55,7 @@ module _ (code : Code) (types : RunTypes) (masks : HasMasks code) (s : State) (g
     cleared-done = record {
       lives = subst (Every (HasLife code types)) same-calls d.lives;
       begun = subst (Every (HasLife code types)) (same-started s.next_goroutine (λ e. not_next (sym e))) d.begun;
+      left = subst (Every (HasLeft code types)) same-left d.left;
       fits = λ none x e. subst (λ (z : GoroutineView). Matches code types z.mode z.frames (own_calls code s g b u)) (one-some now x (sym now-found ∙ e)) (now-fits (d.fits none q found));
       others = λ none h x ne e. subst (λ z. Matches code types x.mode x.frames (cond (h == s.next_goroutine) z (b h))) (same-started h ne) (d.others none h x ne (sym (other h ne) ∙ e));
     }

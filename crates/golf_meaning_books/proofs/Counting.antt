@@ -18,7 +18,7 @@ use Rattle.golf_model.specs.State.{State}
 use Rattle.golf_model.specs.Turn.{line_at}
 use Rattle.golf_model_typing.specs.Types.{ValueType, Shape, Signature, FunctionTypes, signature, with_shapes, Types, Typing, ValuesFit}
 use Rattle.golf_model_typing.specs.Grows.{Grows}
-use Rattle.golf_model_typing.specs.Shapes.{pushed, InstructionFits, HasShapes}
+use Rattle.golf_model_typing.specs.Shapes.{pushed, InstructionFits, FunctionFits, HasShapes}
 use Rattle.golf_model_typing.specs.WellTyped.{Stands, LeavingFits, CallFits, DeferredFits, FramesFit, ModeFits, FinaliserFits, WellTyped}
 use Rattle.golf_model_typing.proofs.Growing.{values-more}
 use Rattle.golf_meaning_flat.specs.Worlds.{Operation}
@@ -108,6 +108,11 @@ module _ (code : Code) (types : Typing) (shapes : HasShapes code types) (paramet
             let x = frames-fit f callers e in
             let stands = subst (λ left. LeavingFits types known x.0 [] f.at f.operands f.slots left) staying x.1.1 in
             (stands.shape, ap (λ (m : Option (List Shape)). slice_get (unwrap_or m []) f.at) x.1.0.shaped ∙ stands.here, values-more types known later grows f.operands stands.shape.operands (subst (λ ts. ValuesFit types.of known f.operands ts) (sym stands.lacks) stands.held));
+        fitting = λ f callers e staying fn is.
+            let x = frames-fit f callers e in
+            let y = shapes.functions f.function (signature x.0) x.1.0.typed in
+            let ft = with_shapes (signature x.0) y.0 in
+            (ft, sym (ap (λ (m : Option (List Shape)). unwrap_or m []) y.2), subst (λ (z : Function). FunctionFits types.of z ft) (one-some y.1 fn (sym y.3 ∙ is)) y.4);
         operands = λ f callers l e staying at vs q shown n called.
             let x = frames-fit f callers e in
             let ft = x.0 in

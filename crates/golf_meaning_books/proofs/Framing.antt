@@ -23,7 +23,7 @@ use Rattle.golf_meaning_flat.specs.Flat.{lower}
 use Rattle.golf_meaning_turns.specs.Laws.{AlikeAt}
 use Rattle.golf_meaning_turns.specs.Life.{frame, Now, Life, first_slots}
 use Rattle.golf_meaning_turns.specs.Turning.{answer, Asked}
-use Rattle.golf_meaning_books.specs.Books.{RunTypes, shaping, Shaped, AreArguments, Call, fresh, popped, IsOnTop, Top, WaitsBelow, Below, Of, AllBelow, Matches, HasMasks}
+use Rattle.golf_meaning_books.specs.Books.{RunTypes, shaping, Shaped, AreArguments, Standing, Call, fresh, popped, IsOnTop, GoesNoMore, Top, WaitsBelow, Below, Of, AllBelow, Matches, HasMasks}
 
 -- ---- clearing
 
@@ -51,12 +51,13 @@ module _ (code : Code) (types : RunTypes) (masks : HasMasks code) where
     cleared-alike : AlikeAt fn.body f.at f.slots (cleared_slots (stays_under (mask_at code f.function f.at)) f.slots)
     cleared-alike = masked-alike fn f.at (mask_at code f.function f.at) f.slots (masks f.function fn is) (own-mask f.function f.at fn is)
 
-    cleared-asks : (o : Option Asked) → IsOnTop types fn k f o Mode.Running → IsOnTop types fn k (record f { slots = cleared_slots (stays_under (mask_at code f.function f.at)) f.slots }) o Mode.Running
-    cleared-asks None h = Life.Clears (cleared_slots (stays_under (mask_at code f.function f.at)) f.slots) h cleared-alike
-    cleared-asks (Some q) h = (h.0, h.1, λ fits. Life.Clears (cleared_slots (stays_under (mask_at code f.function f.at)) f.slots) (h.2 fits) cleared-alike)
+    cleared-asks : (o : Standing) → IsOnTop types fn k f o Mode.Running → IsOnTop types fn k (record f { slots = cleared_slots (stays_under (mask_at code f.function f.at)) f.slots }) o Mode.Running
+    cleared-asks Standing.Goes h = Life.Clears (cleared_slots (stays_under (mask_at code f.function f.at)) f.slots) h cleared-alike
+    cleared-asks (Standing.Ended i) h = absurd h
+    cleared-asks (Standing.Asks q) h = (h.0, h.1, λ fits. Life.Clears (cleared_slots (stays_under (mask_at code f.function f.at)) f.slots) (h.2 fits) cleared-alike)
 
     cleared-top : (l : Leaving) → Top types fn k f l Mode.Running → Top types fn k (record f { slots = cleared_slots (stays_in l (mask_at code f.function f.at)) f.slots }) l Mode.Running
-    cleared-top Leaving.No h = cleared-asks k.asks h
+    cleared-top Leaving.No h = cleared-asks k.standing h
     cleared-top (Leaving.Returning v) h = h
     cleared-top (Leaving.Unwinding x) h = h
 
@@ -69,7 +70,7 @@ module _ (code : Code) (types : RunTypes) (masks : HasMasks code) where
   pub fresh-top : (g : ℕ) (vs : List Value) (discards : Bool) (fn : Function) → slice_get code.functions g ≡ Some fn → (length vs ≡ fn.params) × AreArguments types g vs → Of code types (fresh g vs) (opened g vs discards fn) (λ z. Top types z (fresh g vs) (opened g vs discards fn) Leaving.No Mode.Running)
   fresh-top g vs discards fn is count =
       let begun = Life.Clears (cleared_slots (stays_under (slice_get fn.live 0)) (first_slots fn vs)) (Life.Begins count.0) (masked-alike fn 0 (slice_get fn.live 0) (first_slots fn vs) (masks g fn is) refl) in
-      (fn, is, refl, (count.1, (Now.Stands 0 (frame (cleared_slots (stays_under (slice_get fn.live 0)) (first_slots fn vs)) []), begun)), begun)
+      (fn, is, refl, (count.1, (Now.Stands 0 (frame (cleared_slots (stays_under (slice_get fn.live 0)) (first_slots fn vs)) []), begun, tt)), begun)
 
 -- ---- the answer that is written down
 
@@ -85,7 +86,7 @@ answer-is : (vs rest : List Value) → popped (length (pushed vs rest) - length 
 answer-is vs rest = ap (λ m. popped m [] (pushed vs rest)) (let l = pushed-length vs rest in let e : length (pushed vs rest) - length rest ≡ length vs + 0 = omega (arith, l) in e) ∙ popped-pushed vs [] rest 0 ∙ append-nil vs
 
 -- once it is written down, the call stands at its frame
-pub settled-lives : (types : RunTypes) (fn : Function) (k : Call) (f : FrameView) (q : Asked) → Shaped types k.function f.at (frame f.slots f.operands) → IsOnTop types fn k f (Some q) Mode.Running
+pub settled-lives : (types : RunTypes) (fn : Function) (k : Call) (f : FrameView) (q : Asked) → Shaped types k.function f.at (frame f.slots f.operands) → IsOnTop types fn k f (Standing.Asks q) Mode.Running
     → Life fn (shaping types k.function) k.arguments k.shown (k.got ++ answer (lower q.ranks f.at) (popped (length f.operands - length q.rest) [] f.operands) ∷ []) (Now.Stands f.at (frame f.slots f.operands))
 settled-lives types fn k f q fits h =
     subst (λ os. Life fn (shaping types k.function) k.arguments k.shown (k.got ++ answer (lower q.ranks f.at) (popped (length os - length q.rest) [] os) ∷ []) (Now.Stands f.at (frame f.slots os))) (sym h.1)
@@ -95,11 +96,12 @@ settled-lives types fn k f q fits h =
 
 module _ (code : Code) (types : RunTypes) where
   module _ (fn : Function) (k : Call) (f : FrameView) where
-    back-asks : (discards : Bool) (v : Option Value) (o : Option Asked) → WaitsBelow types fn k f o → IsOnTop types fn k (handed_back discards v f) o Mode.Running
-    back-asks discards v None h = absurd h
-    back-asks true v (Some q) h = ([], h.0, h.1 [])
-    back-asks false None (Some q) h = ([], h.0, h.1 [])
-    back-asks false (Some v) (Some q) h = (v ∷ [], ap (λ os. v ∷ os) h.0, h.1 (v ∷ []))
+    back-asks : (discards : Bool) (v : Option Value) (o : Standing) → WaitsBelow types fn k f o → IsOnTop types fn k (handed_back discards v f) o Mode.Running
+    back-asks discards v Standing.Goes h = absurd h
+    back-asks discards v (Standing.Ended i) h = absurd h
+    back-asks true v (Standing.Asks q) h = ([], h.0, h.1 [])
+    back-asks false None (Standing.Asks q) h = ([], h.0, h.1 [])
+    back-asks false (Some v) (Standing.Asks q) h = (v ∷ [], ap (λ os. v ∷ os) h.0, h.1 (v ∷ []))
 
     back-leaving : (discards : Bool) (v : Option Value) → (handed_back discards v f).leaving ≡ f.leaving
     back-leaving true v = refl
@@ -112,7 +114,7 @@ module _ (code : Code) (types : RunTypes) where
     back-function false (Some v) = refl
 
     back-top : (discards : Bool) (v : Option Value) (l : Leaving) → Below types fn k f l → Top types fn k (handed_back discards v f) l Mode.Running
-    back-top discards v Leaving.No h = back-asks discards v k.asks h
+    back-top discards v Leaving.No h = back-asks discards v k.standing h
     back-top discards v (Leaving.Returning r) h = h
     back-top discards v (Leaving.Unwinding x) h = h
 
@@ -124,6 +126,16 @@ module _ (code : Code) (types : RunTypes) where
       ((o.0, o.1, back-function o.0 k f discards v ∙ o.2, o.3, subst (λ l. Top types o.0 k (handed_back discards v f) l Mode.Running) (sym (back-leaving o.0 k f discards v)) (back-top o.0 k f discards v f.leaving o.4)), h.1)
 
   -- or unwinds
+  waiting-ends : (fn : Function) (k : Call) (f : FrameView) (o : Standing) → WaitsBelow types fn k f o → GoesNoMore o
+  waiting-ends fn k f Standing.Goes h = absurd h
+  waiting-ends fn k f (Standing.Asks q) h = tt
+  waiting-ends fn k f (Standing.Ended i) h = tt
+
+  below-ends : (fn : Function) (k : Call) (f : FrameView) (l : Leaving) → Below types fn k f l → GoesNoMore k.standing
+  below-ends fn k f Leaving.No h = waiting-ends fn k f k.standing h
+  below-ends fn k f (Leaving.Returning v) h = subst GoesNoMore (sym h) tt
+  below-ends fn k f (Leaving.Unwinding x) h = h
+
   pub unwound-below : (x : Fault) (f : FrameView) (fs : List FrameView) (ks : List Call) → AllBelow code types (f ∷ fs) ks → Matches code types Mode.Running (unwinding x f ∷ fs) ks
   unwound-below x f fs [] h = absurd h
-  unwound-below x f fs (k ∷ ks) h = let o = h.0 in ((o.0, o.1, o.2, o.3, tt), h.1)
+  unwound-below x f fs (k ∷ ks) h = let o = h.0 in ((o.0, o.1, o.2, o.3, below-ends o.0 k f f.leaving o.4), h.1)

@@ -1,7 +1,7 @@
 -- What becomes of a goroutine whose innermost frame is being left.
 -- For: `Matches`, golf_meaning_books/specs/Books.antt.
 -- By: cases of how the frame is left, and of its deferred calls; no induction.
-use Rattle.std.proofs.Common.{◌≡◌, Bool, true, false, List, [], ◌∷◌, Option, Some, None, refl, slice_get}
+use Rattle.std.proofs.Common.{◌≡◌, Bool, true, false, List, [], ◌∷◌, Option, Some, None, refl, sym, subst, slice_get}
 use Rattle.std.specs.Prelude.{option_map}
 use Rattle.golf_theory.specs.Membership.{Every}
 use Rattle.golf_data.specs.declared.value.Value.{Value}
@@ -17,7 +17,8 @@ use Rattle.golf_model.specs.State.{State, opened}
 use Rattle.golf_model.specs.Changes.{Change}
 use Rattle.golf_model.specs.Acting.{Actor, with_frames, dies, on_some, choose}
 use Rattle.golf_model.specs.Calls.{is_full, enters, leaves_returning, leaves_unwinding}
-use Rattle.golf_meaning_books.specs.Books.{RunTypes, Call, first_arguments, Takes, Top, Below, AllBelow, Matches, HasMasks}
+use Rattle.golf_meaning_flat.specs.Worlds.{Halt}
+use Rattle.golf_meaning_books.specs.Books.{RunTypes, Standing, Call, first_arguments, Takes, GoesNoMore, Top, Below, AllBelow, Matches, HasMasks}
 use Rattle.golf_meaning_books.proofs.Framing.{fresh-top}
 use Rattle.golf_meaning_books.proofs.Owning.{Became}
 
@@ -29,7 +30,7 @@ module _ (code : Code) (types : RunTypes) (masks : HasMasks code) (s : State) (a
   left-below : (l : Leaving) (fn : Function) (ds : List Deferred) → (l ≡ Leaving.No → ⊥) → Top types fn k a.frame l Mode.Running → Below types fn k (waiting ds) l
   left-below Leaving.No fn ds n h = absurd (n refl)
   left-below (Leaving.Returning v) fn ds n h = h
-  left-below (Leaving.Unwinding x) fn ds n h = tt
+  left-below (Leaving.Unwinding x) fn ds n h = h
 
   module _ (left : a.frame.leaving ≡ Leaving.No → ⊥) (d : Deferred) (ds : List Deferred) where
     all-below : AllBelow code types (waiting ds ∷ a.callers) (k ∷ ks)
@@ -45,9 +46,12 @@ module _ (code : Code) (types : RunTypes) (masks : HasMasks code) (s : State) (a
     begins takes (Some fn) e = enters-it fn e takes (is_full (waiting ds ∷ a.callers))
 
   pub by-returning : (v : Option Value) → a.frame.leaving ≡ Leaving.Returning v → (ds : List Deferred) → Every (λ (d : Deferred). Takes code types d.function d.arguments) ds → Became code types s a k ks (first_arguments ds) (leaves_returning code a v ds)
-  by-returning v e [] takes = Became.Returns v refl
+  by-returning v e [] takes =
+      let o = here.0 in
+      let ended : k.standing ≡ Standing.Ended (Halt.Returned v) = subst (λ left. Top types o.0 k a.frame left Mode.Running) e o.4 in
+      Became.Returns v refl (o.0, o.1, o.3) (subst GoesNoMore (sym ended) tt)
   by-returning v e (d ∷ ds) takes = begins (λ n. cc) d ds takes.0 (slice_get code.functions d.function) refl
 
   pub by-unwinding : (x : Fault) → a.frame.leaving ≡ Leaving.Unwinding x → (ds : List Deferred) → Every (λ (d : Deferred). Takes code types d.function d.arguments) ds → Became code types s a k ks (first_arguments ds) (leaves_unwinding code a x ds)
-  by-unwinding x e [] takes = Became.Unwinds x refl
+  by-unwinding x e [] takes = let o = here.0 in Became.Unwinds x refl (o.0, o.1, o.3) (subst (λ left. Top types o.0 k a.frame left Mode.Running) e o.4)
   by-unwinding x e (d ∷ ds) takes = begins (λ n. cc) d ds takes.0 (slice_get code.functions d.function) refl

@@ -10,3 +10,4 @@ pub mod Booking
 pub mod Counting
 pub mod Answered
 pub mod Runs
+pub mod Examples

@@ -31,7 +31,7 @@ use Rattle.golf_meaning_turns.specs.Laws.{After, WaitsAfter, WaitsFor}
 use Rattle.golf_meaning_turns.specs.Life.{Now, Life}
 use Rattle.golf_meaning_turns.specs.Turning.{operation, choice_of, Asked, Asking}
 use Rattle.golf_meaning_turns.specs.Turning.{IsLived as L}
-use Rattle.golf_meaning_books.specs.Books.{RunTypes, shaping, AreArguments, Call, fresh, with_shown, operands_shown, Takes, HasLife, IsOnTop, LivesAt, MayServe, Top, Below, AllBelow, Matches, HasMasks}
+use Rattle.golf_meaning_books.specs.Books.{RunTypes, shaping, AreArguments, Standing, Call, fresh, with_turn, operands_shown, Takes, StandsSo, HasLife, IsOnTop, LivesAt, MayServe, GoesNoMore, Top, Below, AllBelow, Matches, HasMasks}
 use Rattle.golf_meaning_books.proofs.Framing.{fresh-top}
 
 -- What becomes of the goroutine of a turn, whose innermost call is this one after the turn, and which passes these arguments on. It stands with this frame in place of the one that was innermost; it starts a goroutine; it enters a call; its innermost
@@ -40,36 +40,45 @@ pub data Became (code : Code) (types : RunTypes) (s : State) (a : Actor) (k : Ca
   Stays : (f : FrameView) (before later : List Change) → cs ≡ before ++ (stands a f ++ later) → AreOthers s a.number before → AreOthers s a.number later → Matches code types Mode.Running (f ∷ a.callers) (k ∷ ks) → Became code types s a k ks arguments cs
   Starts : (g : ℕ) (fn : Function) (f : FrameView) → (length arguments ≡ fn.params) × AreArguments types g arguments → cs ≡ Change.Spawn (started_on a (opened g arguments true fn)) ∷ stands a f → slice_get code.functions g ≡ Some fn → Matches code types Mode.Running (f ∷ a.callers) (k ∷ ks) → Became code types s a k ks arguments cs
   Enters : (x f : FrameView) → cs ≡ Change.Become a.number (with_frames a (x ∷ (f ∷ a.callers))) ∷ [] → Matches code types Mode.Running (x ∷ (f ∷ a.callers)) (fresh x.function arguments ∷ (k ∷ ks)) → Became code types s a k ks arguments cs
-  Returns : (v : Option Value) → cs ≡ returns_to a v a.callers → Became code types s a k ks arguments cs
-  Unwinds : (x : Fault) → cs ≡ unwinds_to a x a.callers → Became code types s a k ks arguments cs
+  Returns : (v : Option Value) → cs ≡ returns_to a v a.callers → HasLife code types k → GoesNoMore k.standing → Became code types s a k ks arguments cs
+  Unwinds : (x : Fault) → cs ≡ unwinds_to a x a.callers → HasLife code types k → GoesNoMore k.standing → Became code types s a k ks arguments cs
   Blocks : (f : FrameView) (kind : WaitKind) (waits : List Wait) (before : List Change) → cs ≡ before ++ blocks a f kind waits → AreOthers s a.number before → ((ticket : ℕ) → Matches code types (Mode.Blocked kind a.line waits ticket) (f ∷ a.callers) (k ∷ ks)) → Became code types s a k ks arguments cs
   Dies : (kind : PanicKind) → cs ≡ dies a kind → HasLife code types k → Became code types s a k ks arguments cs
   Stuck : cs ≡ [] → Became code types s a k ks arguments cs
 
 -- ---- a frame that is not being left
 
-module _ (code : Code) (types : RunTypes) (masks : HasMasks code) (s : State) (fn : Function) (a : Actor) (i : Instr) (k : Call) (ks : List Call) (is : slice_get code.functions k.function ≡ Some fn) (own : a.frame.function ≡ k.function) (given : AreArguments types k.function k.arguments) (idle : k.asks ≡ None) (staying : a.frame.leaving ≡ Leaving.No) (below : AllBelow code types a.callers ks) where
-  -- what it is if this was shown, or nothing
-  abbrev B : Option (Operation × Asked) → List Change → Type 0
-  B m cs = Became code types s a (with_shown m k) ks (operands_shown m) cs
+module _ (code : Code) (types : RunTypes) (masks : HasMasks code) (s : State) (fn : Function) (a : Actor) (i : Instr) (k : Call) (ks : List Call) (is : slice_get code.functions k.function ≡ Some fn) (own : a.frame.function ≡ k.function) (given : AreArguments types k.function k.arguments) (idle : k.standing ≡ Standing.Goes) (staying : a.frame.leaving ≡ Leaving.No) (below : AllBelow code types a.callers ks) where
+  -- what it is if this was shown, or nothing, and if it ends so
+  abbrev B : Option (Operation × Asked) → Option Halt → List Change → Type 0
+  B m end cs = Became code types s a (with_turn m end k) ks (operands_shown m) cs
 
-  -- it panics
-  unwinds : (m : Option (Operation × Asked)) (now : Now) → Life fn (shaping types k.function) k.arguments (with_shown m k).shown k.got now → (kind : PanicKind) (cs : List Change) → cs ≡ panics a kind → B m cs
-  unwinds None now life kind cs e = Became.Stays _ [] [] e tt tt ((fn, is, own, (given, (now, life)), tt), below)
-  unwinds (Some x) now life kind cs e = Became.Stays _ [] [] e tt tt ((fn, is, own, (given, (now, life)), tt), below)
+  -- it divides by zero
+  divides : Life fn (shaping types k.function) k.arguments k.shown k.got (Now.Halted Halt.Divided) → (cs : List Change) → cs ≡ panics a PanicKind.DivideByZero → B None (Some Halt.Divided) cs
+  divides life cs e = Became.Stays _ [] [] e tt tt ((fn, is, own, (given, (Now.Halted Halt.Divided, life, refl)), tt), below)
 
   -- it has shown one operation more
   module _ (o : Operation) (q : Asked) where
     abbrev k1 : Call
-    k1 = with_shown (Some (o, q)) k
+    k1 = with_turn (Some (o, q)) None k
 
-    shown-top : (f : FrameView) (mode : Mode) → f.function ≡ k.function → (now : Now) → Life fn (shaping types k.function) k.arguments (k.shown ++ o ∷ []) k.got now → Top types fn k1 f f.leaving mode → Matches code types mode (f ∷ a.callers) (k1 ∷ ks)
-    shown-top f mode same now life top = ((fn, is, same, (given, (now, life)), top), below)
+    abbrev asked : Now
+    asked = Now.Asks a.frame.at (frame_of a.frame) k.shown
+
+    abbrev AsksIt : Type 0
+    AsksIt = Life fn (shaping types k.function) k.arguments (k.shown ++ o ∷ []) k.got asked
+
+    shown-top : (f : FrameView) (mode : Mode) → f.function ≡ k.function → AsksIt → Top types fn k1 f f.leaving mode → Matches code types mode (f ∷ a.callers) (k1 ∷ ks)
+    shown-top f mode same life top = ((fn, is, same, (given, (asked, life, tt)), top), below)
+
+    -- it panics
+    unwinds : (end : Option Halt) → AsksIt → (kind : PanicKind) (cs : List Change) → cs ≡ panics a kind → B (Some (o, q)) end cs
+    unwinds end life kind cs e = Became.Stays _ [] [] e tt tt ((fn, is, own, (given, (asked, life, tt)), tt), below)
 
     -- it goes on, with this answer
-    goes-on : (f : FrameView) (values : List Value) (now : Now) → Life fn (shaping types k.function) k.arguments (k.shown ++ o ∷ []) k.got now → f.function ≡ k.function → f.leaving ≡ Leaving.No → f.operands ≡ pushed values q.rest → LivesAt types fn k1 q.ranks f.at f.slots values q.rest
+    goes-on : (f : FrameView) (values : List Value) → AsksIt → f.function ≡ k.function → f.leaving ≡ Leaving.No → f.operands ≡ pushed values q.rest → LivesAt types fn k1 q.ranks f.at f.slots values q.rest
         → Matches code types Mode.Running (f ∷ a.callers) (k1 ∷ ks)
-    goes-on f values now life same kept ops lives = shown-top f Mode.Running same now life (subst (λ z. Top types fn k1 f z Mode.Running) (sym kept) (values, ops, lives))
+    goes-on f values life same kept ops lives = shown-top f Mode.Running same life (subst (λ z. Top types fn k1 f z Mode.Running) (sym kept) (values, ops, lives))
 
     -- a wait of a call that asks
     module _ (f : FrameView) (Answering : ℕ → Type 0) (lives : (to : ℕ) (values : List Value) → Answering to → LivesAt types fn k1 q.ranks to f.slots values q.rest) where
@@ -90,39 +99,36 @@ module _ (code : Code) (types : RunTypes) (masks : HasMasks code) (s : State) (f
     -- what an operation comes to
     module _ (Answering : ℕ → Type 0) (Waiting : ℕ → List Wait → Type 0) (asking : Asking fn (shaping types k.function) k.arguments k.shown k.got o a q.rest Answering (lower q.ranks))
         (serves : (to : ℕ) (ws : List Wait) → Waiting to ws → Every (MayServe types fn k1 q (stood a to q.rest)) ws) (passes : (n : ℕ) → CalledBy i n → Takes code types n o.operands) where
-      abbrev asks : Now
-      asks = Now.Asks a.frame.at (frame_of a.frame) k.shown
-
-      by-coming : (cs : List Change) → C code s a i o.operands q.rest Answering Waiting cs → B (Some (o, q)) cs
-      by-coming cs (C.NoRule e) = Became.Stuck e
-      by-coming cs (C.Answered to values before later there e h j) =
-          Became.Stays (stood a to (pushed values q.rest)) before later e h j (goes-on (stood a to (pushed values q.rest)) values asks asking.asks own staying refl (asking.lives_on to values there))
-      by-coming cs (C.Waits to kind waits before there e h) =
-          Became.Blocks (stood a to q.rest) kind waits before e h (λ ticket. shown-top (stood a to q.rest) (Mode.Blocked kind a.line waits ticket) own asks asking.asks
+      by-coming : (end : Option Halt) (cs : List Change) → C code s a i o.operands q.rest Answering Waiting cs → B (Some (o, q)) end cs
+      by-coming end cs (C.NoRule e) = Became.Stuck e
+      by-coming end cs (C.Answered to values before later there e h j) =
+          Became.Stays (stood a to (pushed values q.rest)) before later e h j (goes-on (stood a to (pushed values q.rest)) values asking.asks own staying refl (asking.lives_on to values there))
+      by-coming end cs (C.Waits to kind waits before there e h) =
+          Became.Blocks (stood a to q.rest) kind waits before e h (λ ticket. shown-top (stood a to q.rest) (Mode.Blocked kind a.line waits ticket) own asking.asks
           (subst (λ y. Top types fn k1 (stood a to q.rest) y (Mode.Blocked kind a.line waits ticket)) (sym staying) (refl, serves to waits there)))
-      by-coming cs (C.Calls to g fn1 there called found e) =
+      by-coming end cs (C.Calls to g fn1 there called found e) =
           Became.Enters (opened g o.operands false fn1) (stood a to q.rest) e (
             fresh-top code types masks g o.operands false fn1 found (passes g called fn1 found),
-            ((fn, is, own, (given, (asks, asking.asks)), subst (λ l. Below types fn k1 (stood a to q.rest) l) (sym staying) (refl, λ values. asking.lives_on to values there)), below),
+            ((fn, is, own, (given, (asked, asking.asks, tt)), subst (λ l. Below types fn k1 (stood a to q.rest) l) (sym staying) (refl, λ values. asking.lives_on to values there)), below),
           )
-      by-coming cs (C.Starts to g fn1 there called found e) =
-          Became.Starts g fn1 (stood a to q.rest) (passes g called fn1 found) e found (goes-on (stood a to q.rest) [] asks asking.asks own staying refl (asking.lives_on to [] there))
-      by-coming cs (C.Defers to d there e) =
+      by-coming end cs (C.Starts to g fn1 there called found e) =
+          Became.Starts g fn1 (stood a to q.rest) (passes g called fn1 found) e found (goes-on (stood a to q.rest) [] asking.asks own staying refl (asking.lives_on to [] there))
+      by-coming end cs (C.Defers to d there e) =
           Became.Stays (record a.frame { at = to; operands = q.rest; deferred = d ∷ a.frame.deferred }) [] [] e tt tt
-          (goes-on (record a.frame { at = to; operands = q.rest; deferred = d ∷ a.frame.deferred }) [] asks asking.asks own staying refl (asking.lives_on to [] there))
-      by-coming cs (C.Panics kind e) = unwinds (Some (o, q)) asks asking.asks kind cs e
-      by-coming cs (C.Dies kind e) = Became.Dies kind e (fn, is, (given, (asks, asking.asks)))
+          (goes-on (record a.frame { at = to; operands = q.rest; deferred = d ∷ a.frame.deferred }) [] asking.asks own staying refl (asking.lives_on to [] there))
+      by-coming end cs (C.Panics kind e) = unwinds end asking.asks kind cs e
+      by-coming end cs (C.Dies kind e) = Became.Dies kind e (fn, is, (given, (asked, asking.asks, tt)))
 
-  returned : (v : Option Value) (rest : List Value) → Life fn (shaping types k.function) k.arguments k.shown k.got (Now.Halted (Halt.Returned v)) → (ds : List Deferred) (cs : List Change) → cs ≡ returns_by a v rest ds → B None cs
-  returned v rest life [] cs e = Became.Returns v e
-  returned v rest life (d ∷ ds) cs e = Became.Stays _ [] [] e tt tt ((fn, is, own, (given, (Now.Halted (Halt.Returned v), life)), life), below)
+  returned : (v : Option Value) (rest : List Value) → Life fn (shaping types k.function) k.arguments k.shown k.got (Now.Halted (Halt.Returned v)) → (ds : List Deferred) (cs : List Change) → cs ≡ returns_by a v rest ds → B None (Some (Halt.Returned v)) cs
+  returned v rest life [] cs e = Became.Returns v e (fn, is, (given, (Now.Halted (Halt.Returned v), life, refl))) tt
+  returned v rest life (d ∷ ds) cs e = Became.Stays _ [] [] e tt tt ((fn, is, own, (given, (Now.Halted (Halt.Returned v), life, refl)), refl), below)
 
   -- nothing was shown, and it stands there
-  silent : (to : ℕ) (d : Frame) → Life fn (shaping types k.function) k.arguments k.shown k.got (Now.Stands to d) → (cs : List Change) → cs ≡ stands a (record a.frame { at = to; slots = d.slots; operands = d.operands }) → B None cs
+  silent : (to : ℕ) (d : Frame) → Life fn (shaping types k.function) k.arguments k.shown k.got (Now.Stands to d) → (cs : List Change) → cs ≡ stands a (record a.frame { at = to; slots = d.slots; operands = d.operands }) → B None None cs
   silent to d life cs e =
       let f : FrameView = record a.frame { at = to; slots = d.slots; operands = d.operands } in
       Became.Stays f [] [] e tt tt
-      ((fn, is, own, (given, (Now.Stands to d, life)), subst (λ l. Top types fn k f l Mode.Running) (sym staying) (subst (λ m. IsOnTop types fn k f m Mode.Running) (sym idle) life)), below)
+      ((fn, is, own, (given, (Now.Stands to d, life, subst (λ z. StandsSo z (Now.Stands to d)) (sym idle) tt)), subst (λ l. Top types fn k f l Mode.Running) (sym staying) (subst (λ m. IsOnTop types fn k f m Mode.Running) (sym idle) life)), below)
 
   after-served : (o : Operation) (rest : List Value) → Asking fn (shaping types k.function) k.arguments k.shown k.got o a rest (After a) (λ to. 0) → (to : ℕ) (ws : List Wait) → WaitsAfter a to ws → Every (MayServe types fn (k1 o (record { ranks = []; rest = rest })) (record { ranks = []; rest = rest }) (stood a to rest)) ws
   after-served o rest asking to ws h = serves-there o (record { ranks = []; rest = rest }) (stood a to rest) (After a) asking.lives_on ws h.0 h.1
@@ -131,15 +137,15 @@ module _ (code : Code) (types : RunTypes) (masks : HasMasks code) (s : State) (f
   choice-served ts o rest asking to ws (inl h) = serves-there o (record { ranks = ts; rest = rest }) (stood a to rest) (λ z. In z ts) asking.lives_on ws h.0 h.1
   choice-served ts o rest asking to ws (inr h) = serves-chosen o (record { ranks = ts; rest = rest }) (stood a to rest) (λ z. In z ts) asking.lives_on ts (λ t m. m) ws h
 
-  pub by-life : (m : Option (Operation × Asked)) (cs : List Change) → ((vs : List Value) (q : Asked) → m ≡ Some (operation i vs, q) → (n : ℕ) → CalledBy i n → Takes code types n vs) → L code s fn (shaping types k.function) k.arguments k.shown k.got a i m cs → B m cs
-  by-life m cs passes (L.Silent to d life none e) = subst (λ z. B z cs) (sym none) (silent to d life cs e)
-  by-life m cs passes (L.Returns v rest life none e) = subst (λ z. B z cs) (sym none) (returned v rest life a.frame.deferred cs e)
-  by-life m cs passes (L.Divides life none e) = subst (λ z. B z cs) (sym none) (unwinds None (Now.Halted Halt.Divided) life PanicKind.DivideByZero cs e)
-  by-life m cs passes (L.NoRule e) = Became.Stuck e
-  by-life m cs passes (L.Shows vs rest asking some h) =
-      subst (λ z. B z cs) (sym some) (by-coming (operation i vs) (record { ranks = []; rest = rest }) (After a) (WaitsAfter a) asking (after-served (operation i vs) rest asking) (passes vs (record { ranks = []; rest = rest }) some) cs h)
-  by-life m cs passes (L.Chooses cases otherwise vs rest same asking some h) =
+  pub by-life : (m : Option (Operation × Asked)) (end : Option Halt) (cs : List Change) → ((vs : List Value) (q : Asked) → m ≡ Some (operation i vs, q) → (n : ℕ) → CalledBy i n → Takes code types n vs) → L code s fn (shaping types k.function) k.arguments k.shown k.got a i m end cs → B m end cs
+  by-life m end cs passes (L.Silent to d life none goes e) = subst (λ z. B z end cs) (sym none) (subst (λ z. B None z cs) (sym goes) (silent to d life cs e))
+  by-life m end cs passes (L.Returns v rest life none ends e) = subst (λ z. B z end cs) (sym none) (subst (λ z. B None z cs) (sym ends) (returned v rest life a.frame.deferred cs e))
+  by-life m end cs passes (L.Divides life none ends e) = subst (λ z. B z end cs) (sym none) (subst (λ z. B None z cs) (sym ends) (divides life cs e))
+  by-life m end cs passes (L.NoRule e) = Became.Stuck e
+  by-life m end cs passes (L.Shows vs rest asking some h) =
+      subst (λ z. B z end cs) (sym some) (by-coming (operation i vs) (record { ranks = []; rest = rest }) (After a) (WaitsAfter a) asking (after-served (operation i vs) rest asking) (passes vs (record { ranks = []; rest = rest }) some) end cs h)
+  by-life m end cs passes (L.Chooses cases otherwise vs rest same asking some h) =
       let ts = targets cases otherwise in
-      subst (λ z. B z cs) (sym some)
-      (by-coming (operation (choice_of cases otherwise) vs) (record { ranks = ts; rest = rest }) (λ to. In to ts) (WaitsFor ts) asking (choice-served ts (operation (choice_of cases otherwise) vs) rest asking) (λ n called. absurd (subst (λ z. CalledBy z n) same called)) cs h)
-  by-life m cs passes (L.Throws v n asks rest some e) = subst (λ z. B z cs) (sym some) (unwinds (Some _) (Now.Asks a.frame.at (frame_of a.frame) k.shown) asks (PanicKind.Custom n) cs e)
+      subst (λ z. B z end cs) (sym some)
+      (by-coming (operation (choice_of cases otherwise) vs) (record { ranks = ts; rest = rest }) (λ to. In to ts) (WaitsFor ts) asking (choice-served ts (operation (choice_of cases otherwise) vs) rest asking) (λ n called. absurd (subst (λ z. CalledBy z n) same called)) end cs h)
+  by-life m end cs passes (L.Throws v n asks rest some e) = subst (λ z. B z end cs) (sym some) (unwinds (operation Instr.Panic (v ∷ [])) (record { ranks = []; rest = rest }) end asks (PanicKind.Custom n) cs e)

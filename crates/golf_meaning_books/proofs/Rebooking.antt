@@ -8,7 +8,7 @@ use Rattle.golf_data.specs.declared.goroutine.Mode.{Mode}
 use Rattle.golf_data.specs.declared.goroutine.Queued.{Queued}
 use Rattle.golf_model.specs.Views.{FrameView}
 use Rattle.golf_model.specs.Clearing.{cleared}
-use Rattle.golf_meaning_books.specs.Books.{RunTypes, Call, fresh, turned_call, passed, is_longer, rebooked, calls_after, HasLife, AllBelow, Matches}
+use Rattle.golf_meaning_books.specs.Books.{RunTypes, Call, fresh, turned_call, passed, is_longer, rebooked, calls_after, left_by, HasLife, AllBelow, Matches}
 
 is-same : {X : Type 0} (xs : List X) → is_longer xs xs ≡ false
 is-same [] = refl
@@ -39,7 +39,23 @@ module _ (code : Code) (f : FrameView) (k : Call) (ks : List Call) where
   rebooked-fewer g h callers =
       ap (λ b. cond b (fresh h.function (passed code f f.leaving) ∷ kept) (cond (is_longer (g ∷ callers) callers) ks kept)) (one-shorter g callers) ∙ ap (λ b. cond b ks kept) (one-longer g callers)
 
+  -- only with a frame fewer the innermost call has left
+
+  pub left-same : (g : FrameView) (callers : List FrameView) → left_by code (f ∷ callers) (g ∷ callers) (k ∷ ks) ≡ []
+  left-same g callers = ap (λ b. cond b (turned_call code f f.leaving k ∷ []) []) (is-same callers)
+
+  pub left-more : (x g : FrameView) (callers : List FrameView) → left_by code (f ∷ callers) (x ∷ (g ∷ callers)) (k ∷ ks) ≡ []
+  left-more x g callers = ap (λ b. cond b (turned_call code f f.leaving k ∷ []) []) (one-shorter g callers)
+
+  pub left-fewer : (g h : FrameView) (callers : List FrameView) → left_by code (f ∷ (g ∷ callers)) (h ∷ callers) (k ∷ ks) ≡ turned_call code f f.leaving k ∷ []
+  left-fewer g h callers = ap (λ b. cond b (turned_call code f f.leaving k ∷ []) []) (one-longer g callers)
+
 -- a frame that is cleared counts as it did
+pub left-cleared : (code : Code) (frames : List FrameView) (f : FrameView) (fs : List FrameView) (ks : List Call) → left_by code frames (cleared code f ∷ fs) ks ≡ left_by code frames (f ∷ fs) ks
+left-cleared code [] f fs ks = refl
+left-cleared code (g ∷ callers) f fs [] = refl
+left-cleared code (g ∷ callers) f fs (k ∷ ks) = refl
+
 pub calls-cleared : (code : Code) (queue : List Queued) (frames : List FrameView) (f : FrameView) (fs : List FrameView) (ks : List Call) → calls_after code queue frames (cleared code f ∷ fs) ks ≡ calls_after code queue frames (f ∷ fs) ks
 calls-cleared code queue [] f fs ks = refl
 calls-cleared code queue (g ∷ callers) f fs [] = refl

@@ -6,7 +6,7 @@ use Rattle.std.specs.Prelude.{is_some, option_map, option_to_list}
 use Rattle.std.proofs.lemmas.Bool.{eqb-true, eqb-false}
 use Rattle.golf_theory.specs.Membership.{Every}
 use Rattle.golf_theory.specs.Maps.{Entry, find}
-use Rattle.golf_theory.proofs.Lists.{Every-weaker}
+use Rattle.golf_theory.proofs.Lists.{Every-append, Every-weaker}
 use Rattle.golf_theory.proofs.MapFinds.{find-Entry, Entry-below}
 use Rattle.golf_data.specs.declared.code.Code.{Code}
 use Rattle.golf_data.specs.declared.code.Function.{Function}
@@ -25,11 +25,11 @@ use Rattle.golf_model_futures.proofs.Leading.{numbered-start, numbered-turned, n
 use Rattle.golf_model_futures.proofs.Stopping.{run-kept}
 use Rattle.golf_model_typing.specs.Types.{ValueType, Typing, ValuesFit}
 use Rattle.golf_model_typing.specs.Shapes.{HasShapes}
-use Rattle.golf_meaning_books.specs.Books.{RunTypes, Book, fresh, turned_book, booked_in, book_from, first_book, book_of, IsAnswered, Takes, HasLife, HasParameters, Matches, HasMasks, TypedIn, TypedAlong, RunsAreBooked}
+use Rattle.golf_meaning_books.specs.Books.{RunTypes, Book, fresh, turned_book, booked_in, book_from, first_book, book_of, left_at_turn, left_in, left_from, left_of, IsAnswered, Takes, HasLife, HasParameters, Matches, HasMasks, TypedIn, TypedAlong, RunsAreBooked}
 use Rattle.golf_meaning_books.proofs.Framing.{fresh-top}
 use Rattle.golf_meaning_books.proofs.Others.{one-some, none-some}
 use Rattle.golf_meaning_books.proofs.Rebooking.{matches-live}
-use Rattle.golf_meaning_books.proofs.Turned.{own_calls, started_calls, Done}
+use Rattle.golf_meaning_books.proofs.Turned.{own_calls, started_calls, HasLeft, Done}
 use Rattle.golf_meaning_books.proofs.Clearing.{after-clearing}
 use Rattle.golf_meaning_books.proofs.Booking.{Booked, PassesOn, turn-done}
 use Rattle.golf_meaning_books.proofs.Answered.{is-answered}
@@ -88,6 +88,13 @@ module _ (code : Code) (types : RunTypes) (masks : HasMasks code) (s : State) (c
   turn-booked : Booked code types (step code s c) (turned_book code s c (whose_turn s c) b)
   turn-booked = turn-by (whose_turn s c) refl
 
+  left-by : (m : Option ℕ) → whose_turn s c ≡ m → Every (HasLeft code types) (left_at_turn code s c m b)
+  left-by None e = tt
+  left-by (Some g) e = (of-goroutine g e).left
+
+  turn-left : Every (HasLeft code types) (left_at_turn code s c (whose_turn s c) b)
+  turn-left = left-by (whose_turn s c) refl
+
 -- ---- an event
 
 not-recorded : (m : Option Ending) (awake : Bool) → ending_of m awake ≡ None → m ≡ None
@@ -115,6 +122,13 @@ event-booked code types masks s b n h well false i (Event.Turn c) =
     collected-booked code types (wants_collection code s c) (step code s c) (turned_book code s c (whose_turn s c) b) (turn-booked code types masks s c b n (not-recorded s.recorded (not_empty (runnable s)) open_end) h (well.moves c open_end) well.passes)
 event-booked code types masks s b n h well false i Event.Collect = collected-booked code types true s b h
 
+event-left : (code : Code) (types : RunTypes) → HasMasks code → (s : State) (b : Book) → Numbered s → Booked code types s b → Well code types s → (ended : Bool) → has_ended s ≡ ended → (e : Event) → Every (HasLeft code types) (left_in ended code s e b)
+event-left code types masks s b n h well true i e = tt
+event-left code types masks s b n h well false i (Event.Turn c) =
+    let open_end = not-ended (ending s) i in
+    turn-left code types masks s c b n (not-recorded s.recorded (not_empty (runnable s)) open_end) h (well.moves c open_end) well.passes
+event-left code types masks s b n h well false i Event.Collect = tt
+
 -- ---- a run
 
 numbered-run : (code : Code) (es : List Event) (s : State) → Numbered s → Numbered (run code s es)
@@ -130,6 +144,13 @@ unfolding WellAlong
 run-booked code types masks [] s b n h well = h
 run-booked code types masks (e ∷ es) s b n h well =
     run-booked code types masks es (happens code s e) (booked_in (has_ended s) code s e b) (numbered-run code (e ∷ []) s n) (event-booked code types masks s b n h well.0 (has_ended s) refl e) well.1
+
+run-left : (code : Code) (types : RunTypes) → HasMasks code → (es : List Event) (s : State) (b : Book) → Numbered s → Booked code types s b → WellAlong code types s es → Every (HasLeft code types) (left_from code s es b)
+unfolding WellAlong
+run-left code types masks [] s b n h well = tt
+run-left code types masks (e ∷ es) s b n h well =
+    Every-append (HasLeft code types) (left_in (has_ended s) code s e b) (left_from code (happens code s e) es (booked_in (has_ended s) code s e b)) (event-left code types masks s b n h well.0 (has_ended s) refl e)
+    (run-left code types masks es (happens code s e) (booked_in (has_ended s) code s e b) (numbered-run code (e ∷ []) s n) (event-booked code types masks s b n h well.0 (has_ended s) refl e) well.1)
 
 -- ---- the opening state
 
@@ -195,11 +216,16 @@ runs-are-booked code types masks shapes parameters goes events =
     let n = numbered-run code events (start code) (numbered-start code) in
     let t = goes.0 events in
     let all : RunTypes = record { typing = types; known = t.0 } in
-    let h = run-booked code all masks events (start code) first_book (numbered-start code) (start-booked code all masks (goes.1 [] 0 refl) (none-taken code types shapes parameters t.0)) (well-along code types shapes parameters t.0 events (start code) t.1 goes.1) in (
+    let first = start-booked code all masks (goes.1 [] 0 refl) (none-taken code types shapes parameters t.0) in
+    let well = well-along code types shapes parameters t.0 events (start code) t.1 goes.1 in
+    let h = run-booked code all masks events (start code) first_book (numbered-start code) first well in
+    let left = run-left code all masks events (start code) first_book (numbered-start code) first well in (
       t.0,
       record {
         going = λ e g r entry. h.fits (not-recorded (run code (start code) events).recorded (not_empty (runnable (run code (start code) events))) e) g r (find-Entry (run code (start code) events).goroutines g r n.goroutines_rise entry);
         always = h.lives;
+        left = left;
         answered = λ g. Every-weaker (HasLife code all) (IsAnswered all) (λ k l. is-answered code types shapes t.0 k l) (book_of code events g) (h.lives g);
+        left_answered = Every-weaker (HasLeft code all) (IsAnswered all) (λ k l. is-answered code types shapes t.0 k l.0) (left_of code events) left;
       },
     )

@@ -21,7 +21,7 @@ use Rattle.golf_model.specs.Changes.{moved_waits}
 use Rattle.golf_meaning_flat.specs.Worlds.{pushed}
 use Rattle.golf_meaning_turns.specs.Showing.{IsOfLock}
 use Rattle.golf_meaning_turns.specs.Turning.{Asked}
-use Rattle.golf_meaning_books.specs.Books.{RunTypes, Call, LivesAt, MayServe, IsOnTop, Top, Matches}
+use Rattle.golf_meaning_books.specs.Books.{RunTypes, Standing, Call, LivesAt, MayServe, IsOnTop, GoesNoMore, Top, Matches}
 
 -- values from the top, in source order
 turned : List Value → List Value → List Value
@@ -85,21 +85,33 @@ module _ (code : Code) (types : RunTypes) (kind : WaitKind) (line : ℕ) (waits 
   blocked = Mode.Blocked kind line waits ticket
 
   module _ (fn : Function) (k : Call) (f : FrameView) where
-    resumed-asks : (w : Wait) (vs : List Value) → In w waits → (o : Option Asked) → IsOnTop types fn k f o blocked → IsOnTop types fn k (resumed_frame w vs f) o Mode.Running
-    resumed-asks w vs m None h = absurd h
-    resumed-asks w vs m (Some q) h = (turned vs [], ap (λ os. vs ++ os) h.0 ∙ sym (pushed-turned vs [] q.rest), (Every-at (MayServe types fn k q f) waits w m h.1).0 (turned vs []))
+    resumed-asks : (w : Wait) (vs : List Value) → In w waits → (o : Standing) → IsOnTop types fn k f o blocked → IsOnTop types fn k (resumed_frame w vs f) o Mode.Running
+    resumed-asks w vs m Standing.Goes h = absurd h
+    resumed-asks w vs m (Standing.Ended i) h = absurd h
+    resumed-asks w vs m (Standing.Asks q) h = (turned vs [], ap (λ os. vs ++ os) h.0 ∙ sym (pushed-turned vs [] q.rest), (Every-at (MayServe types fn k q f) waits w m h.1).0 (turned vs []))
 
-    released-asks : (w : Wait) → In w waits → IsOfLock w.side → (o : Option Asked) → IsOnTop types fn k f o blocked → IsOnTop types fn k f o Mode.Running
-    released-asks w m lock None h = absurd h
-    released-asks w m lock (Some q) h = ([], h.0, (Every-at (MayServe types fn k q f) waits w m h.1).1 lock)
+    released-asks : (w : Wait) → In w waits → IsOfLock w.side → (o : Standing) → IsOnTop types fn k f o blocked → IsOnTop types fn k f o Mode.Running
+    released-asks w m lock Standing.Goes h = absurd h
+    released-asks w m lock (Standing.Ended i) h = absurd h
+    released-asks w m lock (Standing.Asks q) h = ([], h.0, (Every-at (MayServe types fn k q f) waits w m h.1).1 lock)
 
     resumed-top : (w : Wait) (vs : List Value) → In w waits → (l : Leaving) → Top types fn k f l blocked → Top types fn k (resumed_frame w vs f) l Mode.Running
-    resumed-top w vs m Leaving.No h = resumed-asks w vs m k.asks h
+    resumed-top w vs m Leaving.No h = resumed-asks w vs m k.standing h
     resumed-top w vs m (Leaving.Returning v) h = h
     resumed-top w vs m (Leaving.Unwinding x) h = h
 
+    blocked-ends : (o : Standing) → IsOnTop types fn k f o blocked → GoesNoMore o
+    blocked-ends Standing.Goes h = absurd h
+    blocked-ends (Standing.Asks q) h = tt
+    blocked-ends (Standing.Ended i) h = tt
+
+    top-ends : (l : Leaving) → Top types fn k f l blocked → GoesNoMore k.standing
+    top-ends Leaving.No h = blocked-ends k.standing h
+    top-ends (Leaving.Returning v) h = subst GoesNoMore (sym h) tt
+    top-ends (Leaving.Unwinding x) h = h
+
     released-top : (w : Wait) → In w waits → IsOfLock w.side → (l : Leaving) → Top types fn k f l blocked → Top types fn k f l Mode.Running
-    released-top w m lock Leaving.No h = released-asks w m lock k.asks h
+    released-top w m lock Leaving.No h = released-asks w m lock k.standing h
     released-top w m lock (Leaving.Returning v) h = h
     released-top w m lock (Leaving.Unwinding x) h = h
 
@@ -122,7 +134,7 @@ module _ (code : Code) (types : RunTypes) (kind : WaitKind) (line : ℕ) (waits 
   unwound-matches x [] [] h = tt
   unwound-matches x [] (k ∷ ks) h = absurd h
   unwound-matches x (f ∷ fs) [] h = absurd h
-  unwound-matches x (f ∷ fs) (k ∷ ks) h = let o = h.0 in ((o.0, o.1, o.2, o.3, tt), h.1)
+  unwound-matches x (f ∷ fs) (k ∷ ks) h = let o = h.0 in ((o.0, o.1, o.2, o.3, top-ends o.0 k f f.leaving o.4), h.1)
 
 -- ---- all who wait on an object are woken
 
@@ -183,12 +195,13 @@ module _ (code : Code) (types : RunTypes) (kind : WaitKind) (line : ℕ) (waits 
   moved-serve fn k q f [] l h = tt
   moved-serve fn k q f (x ∷ ws) l h = ((h.0.0, λ z. l), tt)
 
-  moved-asks : (fn : Function) (k : Call) (f : FrameView) (o : Option Asked) → IsOnTop types fn k f o (Mode.Blocked kind line waits ticket) → IsOnTop types fn k f o (Mode.Blocked kind line (moved_waits m waits) next)
-  moved-asks fn k f None h = h
-  moved-asks fn k f (Some q) h = (h.0, moved-serve fn k q f waits ((Every-at (MayServe types fn k q f) waits w i h.1).1 lock) h.1)
+  moved-asks : (fn : Function) (k : Call) (f : FrameView) (o : Standing) → IsOnTop types fn k f o (Mode.Blocked kind line waits ticket) → IsOnTop types fn k f o (Mode.Blocked kind line (moved_waits m waits) next)
+  moved-asks fn k f Standing.Goes h = h
+  moved-asks fn k f (Standing.Ended i) h = h
+  moved-asks fn k f (Standing.Asks q) h = (h.0, moved-serve fn k q f waits ((Every-at (MayServe types fn k q f) waits w i h.1).1 lock) h.1)
 
   moved-top : (fn : Function) (k : Call) (f : FrameView) (l : Leaving) → Top types fn k f l (Mode.Blocked kind line waits ticket) → Top types fn k f l (Mode.Blocked kind line (moved_waits m waits) next)
-  moved-top fn k f Leaving.No h = moved-asks fn k f k.asks h
+  moved-top fn k f Leaving.No h = moved-asks fn k f k.standing h
   moved-top fn k f (Leaving.Returning v) h = h
   moved-top fn k f (Leaving.Unwinding x) h = h
 

@@ -27,20 +27,26 @@ use Rattle.golf_meaning_turns.specs.Showing.{IsOfLock}
 use Rattle.golf_meaning_turns.specs.Shaping.{Shaping, IsShaped}
 use Rattle.golf_meaning_turns.specs.Life.{frame, Now, Life}
 use Rattle.golf_meaning_turns.specs.Answering.{AnswerFits, Answers}
-use Rattle.golf_meaning_turns.specs.Turning.{answer, Asked, shows}
+use Rattle.golf_meaning_turns.specs.Turning.{answer, Asked, shows, ends_with}
 
 -- ---- what is written down of a call
 
--- the function with the arguments, the operations that it has shown, the answers that it got, and whether the last operation waits for its answer
+-- a call goes on; or its last operation waits for its answer; or it has returned or divided by zero
+pub data Standing : Type 0 where
+  Goes : Standing
+  Asks : (q : Asked) → Standing
+  Ended : (h : Halt) → Standing
+
+-- the function with the arguments, the operations that it has shown, the answers that it got, and how it stands
 pub record Call : Type 0 where
   pub function : ℕ
   pub arguments : List Value
   pub shown : List Operation
   pub got : List Answer
-  pub asks : Option Asked
+  pub standing : Standing
 
 abbrev pub fresh : ℕ → List Value → Call
-fresh f vs = record { function = f; arguments = vs; shown = []; got = []; asks = None }
+fresh f vs = record { function = f; arguments = vs; shown = []; got = []; standing = Standing.Goes }
 
 -- so many operands in source order
 abbrev pub popped : ℕ → List Value → List Value → List Value
@@ -49,13 +55,16 @@ popped (suc n) vs [] = vs
 popped (suc n) vs (v ∷ os) = popped n (v ∷ vs) os
 
 -- before the next turn of a call the answer to its last operation is written down: the clause whose place it stands at, and what lies on top of the operands that were left
-abbrev pub settled_by : Option Asked → FrameView → Call → Call
-settled_by None f k = k
-settled_by (Some q) f k = record k { got = k.got ++ answer (lower q.ranks f.at) (popped (length f.operands - length q.rest) [] f.operands) ∷ []; asks = None }
+abbrev pub settled_by : Standing → FrameView → Call → Call
+settled_by Standing.Goes f k = k
+settled_by (Standing.Asks q) f k = record k { got = k.got ++ answer (lower q.ranks f.at) (popped (length f.operands - length q.rest) [] f.operands) ∷ []; standing = Standing.Goes }
+settled_by (Standing.Ended h) f k = k
 
-abbrev pub with_shown : Option (Operation × Asked) → Call → Call
-with_shown None k = k
-with_shown (Some x) k = record k { shown = k.shown ++ x.0 ∷ []; asks = Some x.1 }
+-- with its turn a call shows an operation, or it ends, or it does neither
+abbrev pub with_turn : Option (Operation × Asked) → Option Halt → Call → Call
+with_turn (Some x) e k = record k { shown = k.shown ++ x.0 ∷ []; standing = Standing.Asks x.1 }
+with_turn None None k = k
+with_turn None (Some h) k = record k { standing = Standing.Ended h }
 
 -- ---- the calls of a goroutine after its turn
 
@@ -63,9 +72,13 @@ abbrev pub line_shows : Option CodeLine → FrameView → Option (Operation × A
 line_shows None f = None
 line_shows (Some l) f = shows l.instr f.operands
 
+abbrev pub line_ends : Option CodeLine → FrameView → Option Halt
+line_ends None f = None
+line_ends (Some l) f = ends_with l.instr f.at (frame f.slots f.operands)
+
 -- the innermost call, by how its frame is left
 abbrev pub turned_call : Code → FrameView → Leaving → Call → Call
-turned_call code f Leaving.No k = with_shown (line_shows (line_at code f.function f.at) f) (settled_by k.asks f k)
+turned_call code f Leaving.No k = with_turn (line_shows (line_at code f.function f.at) f) (line_ends (line_at code f.function f.at) f) (settled_by k.standing f k)
 turned_call code f (Leaving.Returning v) k = k
 turned_call code f (Leaving.Unwinding x) k = k
 
@@ -146,6 +159,30 @@ first_book g = cond (g == 1) (fresh 0 [] ∷ []) []
 abbrev pub book_of : Code → List Event → Book
 book_of code es = book_from code (start code) es first_book
 
+-- ---- the calls that have left the book, since their frames are gone
+
+-- with a frame fewer the innermost call has left
+abbrev pub left_by : Code → List FrameView → List FrameView → List Call → List Call
+left_by code (f ∷ callers) after (k ∷ ks) = cond (is_longer (f ∷ callers) after) (turned_call code f f.leaving k ∷ []) []
+left_by code _ after _ = []
+
+abbrev pub left_at_turn : Code → State → ℕ → Option ℕ → Book → List Call
+left_at_turn code s c None b = []
+left_at_turn code s c (Some g) b = left_by code (frames_at s g) (frames_at (step code s c) g) (b g)
+
+abbrev pub left_in : Bool → Code → State → Event → Book → List Call
+left_in true code s e b = []
+left_in false code s (Event.Turn c) b = left_at_turn code s c (whose_turn s c) b
+left_in false code s Event.Collect b = []
+
+abbrev pub left_from : Code → State → List Event → Book → List Call
+left_from code s [] b = []
+left_from code s (e ∷ es) b = left_in (has_ended s) code s e b ++ left_from code (happens code s e) es (booked_in (has_ended s) code s e b)
+
+-- those of the run from the opening state, in the order in which they left
+abbrev pub left_of : Code → List Event → List Call
+left_of code es = left_from code (start code) es first_book
+
 -- ---- what holds of them
 
 -- the types of a code with the shapes of its functions, and the types of the objects of a run
@@ -169,9 +206,16 @@ Shaped types f at c = IsShaped (shaping types f) at c
 abbrev pub Takes : Code → RunTypes → ℕ → List Value → Type 0
 Takes code types f vs = (fn : Function) → slice_get code.functions f ≡ Some fn → (length vs ≡ fn.params) × AreArguments types f vs
 
--- the call of the function has arguments of its types, and a life whose frames have shapes
+-- a life that has come to this is that of a call that stands so
+abbrev pub StandsSo : Standing → Now → Type 0
+StandsSo Standing.Goes (Now.Stands at c) = Unit {0}
+StandsSo (Standing.Asks q) (Now.Asks at c before) = Unit {0}
+StandsSo (Standing.Ended h) (Now.Halted i) = h ≡ i
+StandsSo _ _ = ⊥
+
+-- the call of the function has arguments of its types, and a life whose frames have shapes, and which has come to where the call stands
 abbrev pub Lives : RunTypes → Function → Call → Type 0
-Lives types fn k = AreArguments types k.function k.arguments × ((now : Now) × Life fn (shaping types k.function) k.arguments k.shown k.got now)
+Lives types fn k = AreArguments types k.function k.arguments × ((now : Now) × Life fn (shaping types k.function) k.arguments k.shown k.got now × StandsSo k.standing now)
 
 abbrev pub HasLife : Code → RunTypes → Call → Type 0
 HasLife code types k = (fn : Function) × (slice_get code.functions k.function ≡ Some fn) × Lives types fn k
@@ -184,32 +228,41 @@ LivesAt types fn k ranks to slots values rest = Shaped types k.function to (fram
 abbrev pub MayServe : RunTypes → Function → Call → Asked → FrameView → Wait → Type 0
 MayServe types fn k q f w = ((values : List Value) → LivesAt types fn k q.ranks (unwrap_or w.target f.at) f.slots values q.rest) × (IsOfLock w.side → LivesAt types fn k q.ranks f.at f.slots [] q.rest)
 
--- the innermost frame of a goroutine, and its call: it stands at its place; it was answered; it waits; or it is being left, and returns what its source returns
-abbrev pub IsOnTop : RunTypes → Function → Call → FrameView → Option Asked → Mode → Type 0
-IsOnTop types fn k f None Mode.Running = Life fn (shaping types k.function) k.arguments k.shown k.got (Now.Stands f.at (frame f.slots f.operands))
-IsOnTop types fn k f None (Mode.Blocked kind line waits ticket) = ⊥
-IsOnTop types fn k f (Some q) Mode.Running = (values : List Value) × (f.operands ≡ pushed values q.rest) × LivesAt types fn k q.ranks f.at f.slots values q.rest
-IsOnTop types fn k f (Some q) (Mode.Blocked kind line waits ticket) = (f.operands ≡ q.rest) × Every (MayServe types fn k q f) waits
+-- the innermost frame of a goroutine, and its call: it stands at its place; it was answered; or it waits
+abbrev pub IsOnTop : RunTypes → Function → Call → FrameView → Standing → Mode → Type 0
+IsOnTop types fn k f Standing.Goes Mode.Running = Life fn (shaping types k.function) k.arguments k.shown k.got (Now.Stands f.at (frame f.slots f.operands))
+IsOnTop types fn k f Standing.Goes (Mode.Blocked kind line waits ticket) = ⊥
+IsOnTop types fn k f (Standing.Asks q) Mode.Running = (values : List Value) × (f.operands ≡ pushed values q.rest) × LivesAt types fn k q.ranks f.at f.slots values q.rest
+IsOnTop types fn k f (Standing.Asks q) (Mode.Blocked kind line waits ticket) = (f.operands ≡ q.rest) × Every (MayServe types fn k q f) waits
+IsOnTop types fn k f (Standing.Ended h) mode = ⊥
 
-abbrev pub IsLeft : RunTypes → Function → Call → Leaving → Type 0
-IsLeft types fn k Leaving.No = Unit {0}
-IsLeft types fn k (Leaving.Returning v) = Life fn (shaping types k.function) k.arguments k.shown k.got (Now.Halted (Halt.Returned v))
-IsLeft types fn k (Leaving.Unwinding x) = Unit {0}
+-- a call whose frame unwinds has divided by zero or returned, or its last operation is never answered
+abbrev pub GoesNoMore : Standing → Type 0
+GoesNoMore Standing.Goes = ⊥
+GoesNoMore (Standing.Asks q) = Unit {0}
+GoesNoMore (Standing.Ended h) = Unit {0}
+
+-- a call whose frame is being left: it has returned this; or it unwinds
+abbrev pub IsLeft : Call → Leaving → Type 0
+IsLeft k Leaving.No = Unit {0}
+IsLeft k (Leaving.Returning v) = k.standing ≡ Standing.Ended (Halt.Returned v)
+IsLeft k (Leaving.Unwinding x) = GoesNoMore k.standing
 
 abbrev pub Top : RunTypes → Function → Call → FrameView → Leaving → Mode → Type 0
-Top types fn k f Leaving.No mode = IsOnTop types fn k f k.asks mode
-Top types fn k f (Leaving.Returning v) mode = IsLeft types fn k (Leaving.Returning v)
-Top types fn k f (Leaving.Unwinding x) mode = Unit {0}
+Top types fn k f Leaving.No mode = IsOnTop types fn k f k.standing mode
+Top types fn k f (Leaving.Returning v) mode = IsLeft k (Leaving.Returning v)
+Top types fn k f (Leaving.Unwinding x) mode = IsLeft k (Leaving.Unwinding x)
 
 -- a frame below: its call waits for what the one above gives
-abbrev pub WaitsBelow : RunTypes → Function → Call → FrameView → Option Asked → Type 0
-WaitsBelow types fn k f None = ⊥
-WaitsBelow types fn k f (Some q) = (f.operands ≡ q.rest) × ((values : List Value) → LivesAt types fn k q.ranks f.at f.slots values q.rest)
+abbrev pub WaitsBelow : RunTypes → Function → Call → FrameView → Standing → Type 0
+WaitsBelow types fn k f Standing.Goes = ⊥
+WaitsBelow types fn k f (Standing.Asks q) = (f.operands ≡ q.rest) × ((values : List Value) → LivesAt types fn k q.ranks f.at f.slots values q.rest)
+WaitsBelow types fn k f (Standing.Ended h) = ⊥
 
 abbrev pub Below : RunTypes → Function → Call → FrameView → Leaving → Type 0
-Below types fn k f Leaving.No = WaitsBelow types fn k f k.asks
-Below types fn k f (Leaving.Returning v) = IsLeft types fn k (Leaving.Returning v)
-Below types fn k f (Leaving.Unwinding x) = Unit {0}
+Below types fn k f Leaving.No = WaitsBelow types fn k f k.standing
+Below types fn k f (Leaving.Returning v) = IsLeft k (Leaving.Returning v)
+Below types fn k f (Leaving.Unwinding x) = IsLeft k (Leaving.Unwinding x)
 
 -- a frame is of the function of its call
 abbrev pub Of : Code → RunTypes → Call → FrameView → (Function → Type 0) → Type 0
@@ -252,11 +305,13 @@ GoesWell code types =
 abbrev pub IsAnswered : RunTypes → Call → Type 0
 IsAnswered types k = (ft : FunctionTypes) × (slice_get types.typing.of.functions k.function ≡ Some (signature ft)) × Answers (AnswerFits types.typing.of types.known ft) k.shown k.got
 
--- In each state of a run without an ending the frames of each goroutine match its calls, with the operations that they have shown and the answers that they got in that run; and always each call has arguments of its types, a life, and answers of the types that its operations leave.
+-- In each state of a run without an ending the frames of each goroutine match its calls, with the operations that they have shown and the answers that they got in that run. Always each call, also one that has left, has arguments of its types, a life, and answers of the types that its operations leave; and one that has left goes on no more.
 pub record IsBooked (code : Code) (types : RunTypes) (events : List Event) : Type 0 where
   pub going : ending (run code (start code) events) ≡ None → (g : ℕ) (r : GoroutineView) → Entry (run code (start code) events).goroutines g r → Matches code types r.mode r.frames (book_of code events g)
   pub always : (g : ℕ) → Every (HasLife code types) (book_of code events g)
+  pub left : Every (λ (k : Call). HasLife code types k × GoesNoMore k.standing) (left_of code events)
   pub answered : (g : ℕ) → Every (IsAnswered types) (book_of code events g)
+  pub left_answered : Every (IsAnswered types) (left_of code events)
 
 -- so it is for each code with shapes that goes well, by what is known of objects in the end
 abbrev pub RunsAreBooked : Type 0

@@ -1,7 +1,7 @@
 -- If the code does at each bound what is meant, the two agree, whichever way they are bounded.
 -- For: `exec`, golf_meaning_flat/specs/Flat.antt; the law `both_ways`, src/lib.rt.
 -- By: induction over n, the instructions that may still be done.
-use Rattle.std.proofs.Common.{◌≡◌, ℕ, zero, suc, ◌+◌, ◌≤◌, ◌==◌, Bool, true, false, cond, List, [], ◌∷◌, ◌++◌, Option, Some, None, refl, ap, sym, ◌∙◌, subst, ⊎_elim, slice_get, arith, append_assoc, append-nil, ℤ, int_lt, int_le}
+use Rattle.std.proofs.Common.{◌≡◌, ℕ, zero, suc, ◌+◌, ◌≤◌, Bool, true, false, cond, List, [], ◌∷◌, ◌++◌, Option, Some, None, refl, ap, sym, ◌∙◌, subst, ⊎_elim, slice_get, arith, append_assoc, append-nil, ℤ, int_lt, int_le}
 use Rattle.std.proofs.lemmas.Bool.{cases_lt}
 use Rattle.golf_data.specs.declared.value.Value.{Value}
 use Rattle.golf_data.specs.declared.code.Instr.{Instr}
@@ -10,10 +10,11 @@ use Rattle.golf_data.specs.declared.code.SelectCase.{SelectCase}
 use Rattle.golf_model.specs.Values.{int_of, bool_of, equality, is_zero}
 use Rattle.golf_model.specs.Calculating.{sum, difference, product, quotient, remainder}
 use Rattle.golf_meaning_flat.specs.Worlds.{Misfit, Operation, Answer, Halt, End, Told, World, Part, bind, asks, asked, done}
-use Rattle.golf_meaning_flat.specs.Doing.{Frame, Act, on_some, one, two, some_from, chosen_by, negated, inverted, ints, computed, divided, compared, equated, Doing, doing}
+use Rattle.golf_meaning_flat.specs.Counts.{is_counted}
+use Rattle.golf_meaning_flat.specs.Doing.{Frame, Act, on_some, on_kind, gets, one, two, some_from, chosen_by, negated, inverted, ints, computed, divided, compared, equated, Doing, doing}
 use Rattle.golf_meaning_flat.specs.Doing as D
 use Rattle.golf_meaning_flat.specs.Flat.{on_clause, targets, lower, clause_of, picks, tests, Next, ended, does, at_line, exec}
-use Rattle.golf_meaning_flat.specs.Laws.{BeginsWith, IsPrefix, Within, Done, BothWays}
+use Rattle.golf_meaning_flat.specs.Laws.{BeginsWith, IsPrefix, Within, Said, Done, IsRuled, BothWays}
 
 begins-self : (os : List Operation) → BeginsWith os os
 begins-self os = ([], sym (append-nil os))
@@ -30,6 +31,10 @@ Keeps os (Part.Stops h done) = BeginsWith done os
 keeps-some : {A X : Type 0} (w : World) (f : X → Part A) (m : Option X) → ((x : X) → Keeps w.operations (f x)) → Keeps w.operations (on_some f w m)
 keeps-some w f None h = begins-self w.operations
 keeps-some w f (Some x) h = h x
+
+keeps-kind : {A X : Type 0} (w : World) (f : X → Part A) (m : Option X) → ((x : X) → Keeps w.operations (f x)) → Keeps w.operations (on_kind f w m)
+keeps-kind w f None h = begins-self w.operations
+keeps-kind w f (Some x) h = h x
 
 keeps-one : {A : Type 0} (w : World) (f : Value → List Value → Part A) (vs : List Value) → ((x : Value) (rest : List Value) → Keeps w.operations (f x rest)) → Keeps w.operations (one w f vs)
 keeps-one w f [] h = begins-self w.operations
@@ -81,7 +86,7 @@ keeps-on-two : (f : World → Value → Value → Part Value) → ((w : World) (
 keeps-on-two f h c w = keeps-two w _ c.operands (λ x y rest. keeps-bind w.operations (f w x y) _ (h w x y) (λ v u. begins-self u.operations))
 
 keeps-ints : {A : Type 0} (w : World) (f : ℤ → ℤ → Part A) (x y : Value) → ((m n : ℤ) → Keeps w.operations (f m n)) → Keeps w.operations (ints w f x y)
-keeps-ints w f x y h = keeps-some w _ (int_of x) (λ m. keeps-some w _ (int_of y) (λ n. h m n))
+keeps-ints w f x y h = keeps-kind w _ (int_of x) (λ m. keeps-kind w _ (int_of y) (λ n. h m n))
 
 keeps-computed : (f : ℤ → ℤ → ℤ) → KeepsAct (D.acts_on_two (computed f))
 keeps-computed f = keeps-on-two (computed f) (λ w x y. keeps-ints w _ x y (λ m n. begins-self w.operations))
@@ -92,47 +97,50 @@ keeps-divided f = keeps-on-two (divided f) (λ w x y. keeps-ints w _ x y (λ m n
 keeps-compared : (f : ℤ → ℤ → Bool) → KeepsAct (D.acts_on_two (compared f))
 keeps-compared f = keeps-on-two (compared f) (λ w x y. keeps-ints w _ x y (λ m n. begins-self w.operations))
 
-keeps-shows : (i : Instr) → KeepsAct (D.shows i)
-keeps-shows i c w = keeps-from w _ [] c.operands _ (λ vs rest. keeps-bind w.operations (asks i vs w) _ (keeps-asks i vs w) (λ a u. keeps-chosen u.operations (a.clause == 0) _ _ (begins-self u.operations) (begins-self u.operations)))
+keeps-gets : (gives : List Bool) (i : Instr) (vs : List Value) (w : World) → Keeps w.operations (gets gives i vs w)
+keeps-gets gives i vs w = keeps-bind w.operations (asks i vs w) _ (keeps-asks i vs w) (λ a u. keeps-chosen u.operations (is_counted gives i a) _ _ (begins-self u.operations) (begins-self u.operations))
 
-keeps-doing : (i : Instr) → KeepsDoing (doing i)
-keeps-doing (Instr.Int n) = keeps-push (Value.Int n)
-keeps-doing (Instr.Bool b) = keeps-push (Value.Bool b)
-keeps-doing (Instr.Text k) = keeps-push (Value.Text k)
-keeps-doing Instr.Unit = keeps-push Value.Unit
-keeps-doing Instr.Nil = keeps-push Value.Nil
-keeps-doing (Instr.Load i) = λ c w. keeps-some w _ (slice_get c.slots i) (λ v. begins-self w.operations)
-keeps-doing (Instr.Store i) = λ c w. keeps-one w _ c.operands (λ v rest. keeps-some w _ (slice_get c.slots i) (λ old. begins-self w.operations))
-keeps-doing Instr.Drop = λ c w. keeps-one w _ c.operands (λ v rest. begins-self w.operations)
-keeps-doing Instr.Dup = λ c w. keeps-one w _ c.operands (λ v rest. begins-self w.operations)
-keeps-doing Instr.Dup2 = λ c w. keeps-two w _ c.operands (λ x y rest. begins-self w.operations)
-keeps-doing Instr.Neg = keeps-on-one negated (λ w x. keeps-some w _ (int_of x) (λ n. begins-self w.operations))
-keeps-doing Instr.Not = keeps-on-one inverted (λ w x. keeps-some w _ (bool_of x) (λ b. begins-self w.operations))
-keeps-doing Instr.Add = keeps-computed sum
-keeps-doing Instr.Sub = keeps-computed difference
-keeps-doing Instr.Mul = keeps-computed product
-keeps-doing Instr.Div = keeps-divided quotient
-keeps-doing Instr.Rem = keeps-divided remainder
-keeps-doing Instr.Eq = keeps-on-two equated (λ w x y. keeps-some w _ (equality x y) (λ b. begins-self w.operations))
-keeps-doing Instr.Less = keeps-compared int_lt
-keeps-doing Instr.AtMost = keeps-compared int_le
-keeps-doing (Instr.Jump t) = tt
-keeps-doing (Instr.JumpIfNot t) = tt
-keeps-doing (Instr.Select cases otherwise) = tt
-keeps-doing Instr.Return = λ c w. begins-self w.operations
-keeps-doing Instr.ReturnValue = λ c w. keeps-one w _ c.operands (λ v rest. begins-self w.operations)
-keeps-doing Instr.Panic = λ c w. keeps-from w 1 [] c.operands _ (λ vs rest. keeps-bind w.operations (asks Instr.Panic vs w) (λ a u. D.misfit u) (keeps-asks Instr.Panic vs w) (λ a u. begins-self u.operations))
-keeps-doing i = keeps-shows i
+keeps-shows : (gives : List Bool) (i : Instr) → KeepsAct (D.shows gives i)
+keeps-shows gives i c w = keeps-from w _ [] c.operands _ (λ vs rest. keeps-bind w.operations (gets gives i vs w) _ (keeps-gets gives i vs w) (λ a u. begins-self u.operations))
+
+keeps-doing : (gives : List Bool) (i : Instr) → KeepsDoing (doing gives i)
+keeps-doing gives (Instr.Int n) = keeps-push (Value.Int n)
+keeps-doing gives (Instr.Bool b) = keeps-push (Value.Bool b)
+keeps-doing gives (Instr.Text k) = keeps-push (Value.Text k)
+keeps-doing gives Instr.Unit = keeps-push Value.Unit
+keeps-doing gives Instr.Nil = keeps-push Value.Nil
+keeps-doing gives (Instr.Load i) = λ c w. keeps-some w _ (slice_get c.slots i) (λ v. begins-self w.operations)
+keeps-doing gives (Instr.Store i) = λ c w. keeps-one w _ c.operands (λ v rest. keeps-some w _ (slice_get c.slots i) (λ old. begins-self w.operations))
+keeps-doing gives Instr.Drop = λ c w. keeps-one w _ c.operands (λ v rest. begins-self w.operations)
+keeps-doing gives Instr.Dup = λ c w. keeps-one w _ c.operands (λ v rest. begins-self w.operations)
+keeps-doing gives Instr.Dup2 = λ c w. keeps-two w _ c.operands (λ x y rest. begins-self w.operations)
+keeps-doing gives Instr.Neg = keeps-on-one negated (λ w x. keeps-kind w _ (int_of x) (λ n. begins-self w.operations))
+keeps-doing gives Instr.Not = keeps-on-one inverted (λ w x. keeps-kind w _ (bool_of x) (λ b. begins-self w.operations))
+keeps-doing gives Instr.Add = keeps-computed sum
+keeps-doing gives Instr.Sub = keeps-computed difference
+keeps-doing gives Instr.Mul = keeps-computed product
+keeps-doing gives Instr.Div = keeps-divided quotient
+keeps-doing gives Instr.Rem = keeps-divided remainder
+keeps-doing gives Instr.Eq = keeps-on-two equated (λ w x y. keeps-kind w _ (equality x y) (λ b. begins-self w.operations))
+keeps-doing gives Instr.Less = keeps-compared int_lt
+keeps-doing gives Instr.AtMost = keeps-compared int_le
+keeps-doing gives (Instr.Jump t) = tt
+keeps-doing gives (Instr.JumpIfNot t) = tt
+keeps-doing gives (Instr.Select cases otherwise) = tt
+keeps-doing gives Instr.Return = λ c w. begins-self w.operations
+keeps-doing gives Instr.ReturnValue = λ c w. keeps-one w _ c.operands (λ v rest. begins-self w.operations)
+keeps-doing gives Instr.Panic = λ c w. keeps-from w 1 [] c.operands _ (λ vs rest. keeps-bind w.operations (asks Instr.Panic vs w) (λ a u. D.miscount u) (keeps-asks Instr.Panic vs w) (λ a u. begins-self u.operations))
+keeps-doing gives i = keeps-shows gives i
 
 keeps-tests : (c : Frame) (w : World) → Keeps w.operations (tests c w)
-keeps-tests c w = keeps-one w _ c.operands (λ x rest. keeps-some w _ (bool_of x) (λ b. begins-self w.operations))
+keeps-tests c w = keeps-one w _ c.operands (λ x rest. keeps-kind w _ (bool_of x) (λ b. begins-self w.operations))
 
 keeps-clause : {A X : Type 0} (w : World) (f : X → Part A) (m : Option X) → ((x : X) → Keeps w.operations (f x)) → Keeps w.operations (on_clause f w m)
 keeps-clause w f None h = begins-self w.operations
 keeps-clause w f (Some x) h = h x
 
-keeps-picks : (label : ℕ → ℕ) (cs : List SelectCase) (o : Option ℕ) (c : Frame) (w : World) → Keeps w.operations (picks label cs o c w)
-keeps-picks label cs o c w = keeps-from w _ [] c.operands _ (λ vs rest. keeps-bind w.operations (asks _ vs w) _ (keeps-asks _ vs w) (λ a u. keeps-clause u _ (clause_of label a.clause cs o) (λ t. begins-self u.operations)))
+keeps-picks : (gives : List Bool) (label : ℕ → ℕ) (cs : List SelectCase) (o : Option ℕ) (c : Frame) (w : World) → Keeps w.operations (picks gives label cs o c w)
+keeps-picks gives label cs o c w = keeps-from w _ [] c.operands _ (λ vs rest. keeps-bind w.operations (gets gives _ vs w) _ (keeps-gets gives _ vs w) (λ a u. keeps-clause u _ (clause_of label a.clause cs o) (λ t. begins-self u.operations)))
 
 abbrev KeepsNext : Next → Type 0
 KeepsNext f = (at : ℕ) (c : Frame) (w : World) → BeginsWith (f at c w).operations w.operations
@@ -141,19 +149,19 @@ ended-keeps : {A : Type 0} (os : List Operation) (p : Part A) (f : A → World �
 ended-keeps os (Part.Gives a u) f h k = begins-then os u.operations (f a u).operations h (k a u)
 ended-keeps os (Part.Stops s done) f h k = h
 
-does-keeps : (d : Doing) (f : Next) → KeepsDoing d → KeepsNext f → KeepsNext (does d f)
-does-keeps (Doing.Acts g) f h k at c w = ended-keeps w.operations (g c w) _ (h c w) (λ d u. k (at + 1) d u)
-does-keeps (Doing.Jumps t) f h k at c w = k t c w
-does-keeps (Doing.Tests t) f h k at c w = ended-keeps w.operations (tests c w) _ (keeps-tests c w) (λ r u. k (cond r.0 (at + 1) t) r.1 u)
-does-keeps (Doing.Chooses cs o) f h k at c w = ended-keeps w.operations (picks (lower (targets cs o)) cs o c w) _ (keeps-picks (lower (targets cs o)) cs o c w) (λ r u. k r.0 r.1 u)
+does-keeps : (gives : List Bool) (d : Doing) (f : Next) → KeepsDoing d → KeepsNext f → KeepsNext (does gives d f)
+does-keeps gives (Doing.Acts g) f h k at c w = ended-keeps w.operations (g c w) _ (h c w) (λ d u. k (at + 1) d u)
+does-keeps gives (Doing.Jumps t) f h k at c w = k t c w
+does-keeps gives (Doing.Tests t) f h k at c w = ended-keeps w.operations (tests c w) _ (keeps-tests c w) (λ r u. k (cond r.0 (at + 1) t) r.1 u)
+does-keeps gives (Doing.Chooses cs o) f h k at c w = ended-keeps w.operations (picks gives (lower (targets cs o)) cs o c w) _ (keeps-picks gives (lower (targets cs o)) cs o c w) (λ r u. k r.0 r.1 u)
 
-line-keeps : (o : Option CodeLine) (f : Next) → KeepsNext f → KeepsNext (at_line o f)
-line-keeps None f k at c w = begins-self w.operations
-line-keeps (Some l) f k at c w = does-keeps (doing l.instr) f (keeps-doing l.instr) k at c w
+line-keeps : (gives : List Bool) (o : Option CodeLine) (f : Next) → KeepsNext f → KeepsNext (at_line gives o f)
+line-keeps gives None f k at c w = begins-self w.operations
+line-keeps gives (Some l) f k at c w = does-keeps gives (doing gives l.instr) f (keeps-doing gives l.instr) k at c w
 
-exec-keeps : (code : List CodeLine) (n : ℕ) → KeepsNext (exec code n)
-exec-keeps code zero at c w = begins-self w.operations
-exec-keeps code (suc n) at c w = line-keeps (slice_get code at) (exec code n) (exec-keeps code n) at c w
+exec-keeps : (gives : List Bool) (code : List CodeLine) (n : ℕ) → KeepsNext (exec gives code n)
+exec-keeps gives code zero at c w = begins-self w.operations
+exec-keeps gives code (suc n) at c w = line-keeps gives (slice_get code at) (exec gives code n) (exec-keeps gives code n) at c w
 
 -- more instructions change nothing of what has ended
 
@@ -164,20 +172,20 @@ ended-grows : {A : Type 0} (p : Part A) (f g : A → World → Told) → ((a : A
 ended-grows (Part.Gives a u) f g h = h a u
 ended-grows (Part.Stops s done) f g h = refl
 
-does-grows : (d : Doing) (f g : Next) → Grows f g → Grows (does d f) (does d g)
-does-grows (Doing.Acts a) f g h at c w = ended-grows (a c w) _ _ (λ d u. h (at + 1) d u)
-does-grows (Doing.Jumps t) f g h at c w = h t c w
-does-grows (Doing.Tests t) f g h at c w = ended-grows (tests c w) _ _ (λ r u. h (cond r.0 (at + 1) t) r.1 u)
-does-grows (Doing.Chooses cs o) f g h at c w = ended-grows (picks (lower (targets cs o)) cs o c w) _ _ (λ r u. h r.0 r.1 u)
+does-grows : (gives : List Bool) (d : Doing) (f g : Next) → Grows f g → Grows (does gives d f) (does gives d g)
+does-grows gives (Doing.Acts a) f g h at c w = ended-grows (a c w) _ _ (λ d u. h (at + 1) d u)
+does-grows gives (Doing.Jumps t) f g h at c w = h t c w
+does-grows gives (Doing.Tests t) f g h at c w = ended-grows (tests c w) _ _ (λ r u. h (cond r.0 (at + 1) t) r.1 u)
+does-grows gives (Doing.Chooses cs o) f g h at c w = ended-grows (picks gives (lower (targets cs o)) cs o c w) _ _ (λ r u. h r.0 r.1 u)
 
-line-grows : (o : Option CodeLine) (f g : Next) → Grows f g → Grows (at_line o f) (at_line o g)
-line-grows None f g h at c w = refl
-line-grows (Some l) f g h at c w = does-grows (doing l.instr) f g h at c w
+line-grows : (gives : List Bool) (o : Option CodeLine) (f g : Next) → Grows f g → Grows (at_line gives o f) (at_line gives o g)
+line-grows gives None f g h at c w = refl
+line-grows gives (Some l) f g h at c w = does-grows gives (doing gives l.instr) f g h at c w
 
-exec-grows : (code : List CodeLine) (m n : ℕ) → m ≤ n → Grows (exec code m) (exec code n)
-exec-grows code zero n le at c w = exec-keeps code n at c w
-exec-grows code (suc m) zero le at c w = absurd (omega (arith, le))
-exec-grows code (suc m) (suc n) le at c w = line-grows (slice_get code at) (exec code m) (exec code n) (exec-grows code m n (omega (arith, le))) at c w
+exec-grows : (gives : List Bool) (code : List CodeLine) (m n : ℕ) → m ≤ n → Grows (exec gives code m) (exec gives code n)
+exec-grows gives code zero n le at c w = exec-keeps gives code n at c w
+exec-grows gives code (suc m) zero le at c w = absurd (omega (arith, le))
+exec-grows gives code (suc m) (suc n) le at c w = line-grows gives (slice_get code at) (exec gives code m) (exec gives code n) (exec-grows gives code m n (omega (arith, le))) at c w
 
 -- both ways
 
@@ -185,42 +193,46 @@ within-self : (os : List Operation) (e : End) → IsPrefix e (record { operation
 within-self os (End.Halts h) = refl
 within-self os End.Short = begins-self os
 
-module _ (code : List CodeLine) (c : Frame) (w : World) where
-  abbrev G : ℕ → Told
-  G m = exec code m 0 c w
+-- a halt that is ruled is said
+halts : (h : Halt) {P : Type 0} → IsRuled (End.Halts h) → Said h P → P
+halts (Halt.Unfit Misfit.OfAnswer) ruled d = absurd ruled
+halts (Halt.Unfit Misfit.OfRule) ruled d = absurd ruled
+halts (Halt.Unfit Misfit.OfCount) ruled d = d
+halts (Halt.Unfit Misfit.OfKind) ruled d = d
+halts (Halt.Returned v) ruled d = d
+halts Halt.Divided ruled d = d
+halts Halt.Waits ruled d = d
 
-  ahead : (os : List Operation) (e : End) → (j : ℕ) × (G j ≡ record { operations = os; end = e }) → (m : ℕ) × Within (record { operations = os; end = e }) (G m)
-  ahead os e d = (d.0, subst (λ t. IsPrefix e (record { operations = os; end = e }) t) (sym d.1) (within-self os e))
+module _ (gives : List Bool) (code : List CodeLine) (c : Frame) (w : World) where
+  abbrev G : ℕ → Told
+  G m = exec gives code m 0 c w
 
   abbrev T : List Operation → End → Told
   T os e = record { operations = os; end = e }
 
-  forth-from : (n : ℕ) (os : List Operation) (e : End) → Done code c w n (T os e) e → ((of : Misfit) → e ≡ End.Halts (Halt.Unfit of) → ⊥) → (m : ℕ) × Within (T os e) (G m)
-  forth-from n os (End.Halts (Halt.Unfit why)) d never = absurd (never why refl)
-  forth-from n os (End.Halts (Halt.Returned v)) d never = ahead os (End.Halts (Halt.Returned v)) (d.0, d.2)
-  forth-from n os (End.Halts Halt.Divided) d never = ahead os (End.Halts Halt.Divided) (d.0, d.2)
-  forth-from n os (End.Halts Halt.Waits) d never = ahead os (End.Halts Halt.Waits) (d.0, d.2)
-  forth-from n os End.Short d never = ahead os End.Short (d.0, d.2)
+  ahead : (os : List Operation) (e : End) → (j : ℕ) × (G j ≡ T os e) → (m : ℕ) × Within (T os e) (G m)
+  ahead os e d = (d.0, subst (λ t. IsPrefix e (T os e) t) (sym d.1) (within-self os e))
+
+  forth-from : (n : ℕ) (os : List Operation) (e : End) → Done gives code c w n (T os e) e → IsRuled e → (m : ℕ) × Within (T os e) (G m)
+  forth-from n os (End.Halts h) d ruled = ahead os (End.Halts h) (halts h ruled d)
+  forth-from n os End.Short d ruled = ahead os End.Short (d.0, d.2)
 
   -- what has ended after j instructions has ended so after m
   ended-same : (m j : ℕ) (os : List Operation) (h : Halt) → G j ≡ T os (End.Halts h) → Within (G m) (T os (End.Halts h))
   ended-same m j os h e =
       ⊎_elim
-      (λ lt. subst (λ t. Within (G m) t) e (exec-grows code m j (omega (arith, lt)) 0 c w))
+      (λ lt. subst (λ t. Within (G m) t) e (exec-grows gives code m j (omega (arith, lt)) 0 c w))
       (λ le.
-      let same : G m ≡ T os (End.Halts h) = subst (λ t. Within t (G m)) e (exec-grows code j m le 0 c w) in
+      let same : G m ≡ T os (End.Halts h) = subst (λ t. Within t (G m)) e (exec-grows gives code j m le 0 c w) in
       subst (λ t. Within t (T os (End.Halts h))) (sym same) refl)
       (cases_lt m j)
 
-  back-from : (m : ℕ) (os : List Operation) (e : End) → Done code c w m (T os e) e → ((of : Misfit) → e ≡ End.Halts (Halt.Unfit of) → ⊥) → Within (G m) (T os e)
-  back-from m os (End.Halts (Halt.Unfit why)) d never = absurd (never why refl)
-  back-from m os (End.Halts (Halt.Returned v)) d never = ended-same m d.0 os (Halt.Returned v) d.2
-  back-from m os (End.Halts Halt.Divided) d never = ended-same m d.0 os Halt.Divided d.2
-  back-from m os (End.Halts Halt.Waits) d never = ended-same m d.0 os Halt.Waits d.2
-  back-from m os End.Short d never = subst (λ t. Within (G m) t) d.2 (exec-grows code m d.0 d.1 0 c w)
+  back-from : (m : ℕ) (os : List Operation) (e : End) → Done gives code c w m (T os e) e → IsRuled e → Within (G m) (T os e)
+  back-from m os (End.Halts h) d ruled = let j = halts h ruled d in ended-same m j.0 os h j.1
+  back-from m os End.Short d ruled = subst (λ t. Within (G m) t) d.2 (exec-grows gives code m d.0 d.1 0 c w)
 
 pub both-ways : BothWays
-both-ways code c w f d never = record {
-  forth = λ n. forth-from code c w n (f n).operations (f n).end (d n) (never n);
-  back = λ m. (m, back-from code c w m (f m).operations (f m).end (d m) (never m));
+both-ways gives code c w f d ruled = record {
+  forth = λ n. forth-from gives code c w n (f n).operations (f n).end (d n) (ruled n);
+  back = λ m. (m, back-from gives code c w m (f m).operations (f m).end (d m) (ruled m));
 }

@@ -1,5 +1,5 @@
 -- What an instruction does in a frame.
-use Rattle.std.specs.Prelude.{ℕ, zero, suc, ◌==◌, Bool, true, false, not, List, [], ◌∷◌, Option, Some, None, slice_get, slice_set, ℤ, int_lt, int_le}
+use Rattle.std.specs.Prelude.{ℕ, zero, suc, Bool, true, false, not, List, [], ◌∷◌, Option, Some, None, slice_get, slice_set, ℤ, int_lt, int_le}
 use Rattle.golf_data.specs.declared.value.Value.{Value}
 use Rattle.golf_data.specs.declared.code.Instr.{Instr}
 use Rattle.golf_data.specs.declared.code.SelectCase.{SelectCase}
@@ -7,7 +7,8 @@ use Rattle.golf_model.specs.Values.{int_of, bool_of, equality, is_zero}
 use Rattle.golf_model.specs.Calculating.{sum, difference, product, quotient, remainder}
 use Rattle.std.specs.Int.{w64, int_wrapping_neg}
 use Rattle.golf_data.specs.Effects.{taken}
-use Rattle.golf_meaning_flat.specs.Worlds.{Misfit, Halt, World, Part, bind, asks, pushed}
+use Rattle.golf_meaning_flat.specs.Worlds.{Answer, Misfit, Halt, World, Part, bind, asks, pushed}
+use Rattle.golf_meaning_flat.specs.Counts.{is_counted}
 
 -- a frame, without its place
 pub record Frame : Type 0 where
@@ -21,8 +22,11 @@ Act = Frame → World → Part Frame
 abbrev pub unfit : {A : Type 0} → World → Part A
 unfit w = Part.Stops (Halt.Unfit Misfit.OfRule) w.operations
 
-abbrev pub misfit : {A : Type 0} → World → Part A
-misfit w = Part.Stops (Halt.Unfit Misfit.OfAnswer) w.operations
+abbrev pub miscount : {A : Type 0} → World → Part A
+miscount w = Part.Stops (Halt.Unfit Misfit.OfCount) w.operations
+
+abbrev pub wrong_kind : {A : Type 0} → World → Part A
+wrong_kind w = Part.Stops (Halt.Unfit Misfit.OfKind) w.operations
 
 abbrev pub goes : Frame → List Value → World → Part Frame
 goes c os w = Part.Gives (record { slots = c.slots; operands = os }) w
@@ -30,6 +34,11 @@ goes c os w = Part.Gives (record { slots = c.slots; operands = os }) w
 abbrev pub on_some : {A X : Type 0} → (X → Part A) → World → Option X → Part A
 on_some act w None = unfit w
 on_some act w (Some x) = act x
+
+-- a value that is used as of a kind is of this kind
+abbrev pub on_kind : {A X : Type 0} → (X → Part A) → World → Option X → Part A
+on_kind act w None = wrong_kind w
+on_kind act w (Some x) = act x
 
 abbrev pub one : {A : Type 0} → World → (Value → List Value → Part A) → List Value → Part A
 one w act [] = unfit w
@@ -53,13 +62,13 @@ chosen_by false a b = b
 -- Calculating: of a value, or of two.
 
 abbrev pub negated : World → Value → Part Value
-negated w x = on_some (λ n. Part.Gives (Value.Int (int_wrapping_neg w64 n)) w) w (int_of x)
+negated w x = on_kind (λ n. Part.Gives (Value.Int (int_wrapping_neg w64 n)) w) w (int_of x)
 
 abbrev pub inverted : World → Value → Part Value
-inverted w x = on_some (λ b. Part.Gives (Value.Bool (not b)) w) w (bool_of x)
+inverted w x = on_kind (λ b. Part.Gives (Value.Bool (not b)) w) w (bool_of x)
 
 abbrev pub ints : {A : Type 0} → World → (ℤ → ℤ → Part A) → Value → Value → Part A
-ints w act x y = on_some (λ m. on_some (λ n. act m n) w (int_of y)) w (int_of x)
+ints w act x y = on_kind (λ m. on_kind (λ n. act m n) w (int_of y)) w (int_of x)
 
 abbrev pub computed : (ℤ → ℤ → ℤ) → World → Value → Value → Part Value
 computed f w x y = ints w (λ m n. Part.Gives (Value.Int (f m n)) w) x y
@@ -71,7 +80,7 @@ abbrev pub compared : (ℤ → ℤ → Bool) → World → Value → Value → P
 compared f w x y = ints w (λ m n. Part.Gives (Value.Bool (f m n)) w) x y
 
 abbrev pub equated : World → Value → Value → Part Value
-equated w x y = on_some (λ b. Part.Gives (Value.Bool b) w) w (equality x y)
+equated w x y = on_kind (λ b. Part.Gives (Value.Bool b) w) w (equality x y)
 
 -- Acts.
 
@@ -105,13 +114,9 @@ returns c w = Part.Stops (Halt.Returned None) w.operations
 abbrev pub returns_value : Act
 returns_value c w = one w (λ v rest. Part.Stops (Halt.Returned (Some v)) w.operations) c.operands
 
--- a visible operation: its answer is taken as it stands
-abbrev pub shows : Instr → Act
-shows i c w = some_from w (taken i) [] (λ vs rest. bind (asks i vs w) (λ a u. chosen_by (a.clause == 0) (goes c (pushed a.values rest) u) (misfit u))) c.operands
-
--- one that has no answer
+-- a visible operation that has no answer
 abbrev pub panics : Act
-panics c w = some_from w 1 [] (λ vs rest. bind (asks Instr.Panic vs w) (λ a u. misfit u)) c.operands
+panics c w = some_from w 1 [] (λ vs rest. bind (asks Instr.Panic vs w) (λ a u. miscount u)) c.operands
 
 -- what an instruction does: it acts, or it has targets
 pub data Doing : Type 0 where
@@ -120,31 +125,39 @@ pub data Doing : Type 0 where
   Tests : (t : ℕ) → Doing
   Chooses : (cases : List SelectCase) (otherwise : Option ℕ) → Doing
 
-abbrev pub doing : Instr → Doing
-doing (Instr.Int n) = Doing.Acts (pushes (Value.Int n))
-doing (Instr.Bool b) = Doing.Acts (pushes (Value.Bool b))
-doing (Instr.Text k) = Doing.Acts (pushes (Value.Text k))
-doing Instr.Unit = Doing.Acts (pushes Value.Unit)
-doing Instr.Nil = Doing.Acts (pushes Value.Nil)
-doing (Instr.Load i) = Doing.Acts (loads i)
-doing (Instr.Store i) = Doing.Acts (stores i)
-doing Instr.Drop = Doing.Acts drops
-doing Instr.Dup = Doing.Acts doubles
-doing Instr.Dup2 = Doing.Acts doubles_two
-doing Instr.Neg = Doing.Acts (acts_on_one negated)
-doing Instr.Not = Doing.Acts (acts_on_one inverted)
-doing Instr.Add = Doing.Acts (acts_on_two (computed sum))
-doing Instr.Sub = Doing.Acts (acts_on_two (computed difference))
-doing Instr.Mul = Doing.Acts (acts_on_two (computed product))
-doing Instr.Div = Doing.Acts (acts_on_two (divided quotient))
-doing Instr.Rem = Doing.Acts (acts_on_two (divided remainder))
-doing Instr.Eq = Doing.Acts (acts_on_two equated)
-doing Instr.Less = Doing.Acts (acts_on_two (compared int_lt))
-doing Instr.AtMost = Doing.Acts (acts_on_two (compared int_le))
-doing (Instr.Jump t) = Doing.Jumps t
-doing (Instr.JumpIfNot t) = Doing.Tests t
-doing (Instr.Select cases otherwise) = Doing.Chooses cases otherwise
-doing Instr.Return = Doing.Acts returns
-doing Instr.ReturnValue = Doing.Acts returns_value
-doing Instr.Panic = Doing.Acts panics
-doing i = Doing.Acts (shows i)
+-- an operation is added, and takes the next answer, if this has as many values as the operation leaves where these functions give a value
+abbrev pub gets : List Bool → Instr → List Value → World → Part Answer
+gets gives i vs w = bind (asks i vs w) (λ a u. chosen_by (is_counted gives i a) (Part.Gives a u) (miscount u))
+
+-- a visible operation: its answer is taken as it stands
+abbrev pub shows : List Bool → Instr → Act
+shows gives i c w = some_from w (taken i) [] (λ vs rest. bind (gets gives i vs w) (λ a u. goes c (pushed a.values rest) u)) c.operands
+
+abbrev pub doing : List Bool → Instr → Doing
+doing gives (Instr.Int n) = Doing.Acts (pushes (Value.Int n))
+doing gives (Instr.Bool b) = Doing.Acts (pushes (Value.Bool b))
+doing gives (Instr.Text k) = Doing.Acts (pushes (Value.Text k))
+doing gives Instr.Unit = Doing.Acts (pushes Value.Unit)
+doing gives Instr.Nil = Doing.Acts (pushes Value.Nil)
+doing gives (Instr.Load i) = Doing.Acts (loads i)
+doing gives (Instr.Store i) = Doing.Acts (stores i)
+doing gives Instr.Drop = Doing.Acts drops
+doing gives Instr.Dup = Doing.Acts doubles
+doing gives Instr.Dup2 = Doing.Acts doubles_two
+doing gives Instr.Neg = Doing.Acts (acts_on_one negated)
+doing gives Instr.Not = Doing.Acts (acts_on_one inverted)
+doing gives Instr.Add = Doing.Acts (acts_on_two (computed sum))
+doing gives Instr.Sub = Doing.Acts (acts_on_two (computed difference))
+doing gives Instr.Mul = Doing.Acts (acts_on_two (computed product))
+doing gives Instr.Div = Doing.Acts (acts_on_two (divided quotient))
+doing gives Instr.Rem = Doing.Acts (acts_on_two (divided remainder))
+doing gives Instr.Eq = Doing.Acts (acts_on_two equated)
+doing gives Instr.Less = Doing.Acts (acts_on_two (compared int_lt))
+doing gives Instr.AtMost = Doing.Acts (acts_on_two (compared int_le))
+doing gives (Instr.Jump t) = Doing.Jumps t
+doing gives (Instr.JumpIfNot t) = Doing.Tests t
+doing gives (Instr.Select cases otherwise) = Doing.Chooses cases otherwise
+doing gives Instr.Return = Doing.Acts returns
+doing gives Instr.ReturnValue = Doing.Acts returns_value
+doing gives Instr.Panic = Doing.Acts panics
+doing gives i = Doing.Acts (shows gives i)

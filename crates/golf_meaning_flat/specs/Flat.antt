@@ -6,8 +6,8 @@ use Rattle.golf_data.specs.declared.code.CodeLine.{CodeLine}
 use Rattle.golf_data.specs.declared.code.SelectCase.{SelectCase}
 use Rattle.golf_model.specs.Values.{bool_of}
 use Rattle.golf_data.specs.Effects.{cases_taken}
-use Rattle.golf_meaning_flat.specs.Worlds.{Misfit, Halt, Told, World, Part, halted, cut_short, bind, asks, pushed}
-use Rattle.golf_meaning_flat.specs.Doing.{Frame, misfit, on_some, one, some_from, Doing, doing}
+use Rattle.golf_meaning_flat.specs.Worlds.{Misfit, Halt, Told, World, Part, halted, cut_short, bind, pushed}
+use Rattle.golf_meaning_flat.specs.Doing.{Frame, miscount, on_kind, one, some_from, gets, Doing, doing}
 
 -- Clauses of a `select`: the place of the clause that begins at a target is how many of the targets are lower.
 
@@ -32,21 +32,21 @@ abbrev pub clause_of : (ℕ → ℕ) → ℕ → List SelectCase → Option ℕ 
 clause_of label clause [] o = default_of label clause o
 clause_of label clause (c ∷ cs) o = cond (label c.target == clause) (Some c.target) (clause_of label clause cs o)
 
--- an answer that names no clause does not fit
+-- an answer names a clause
 abbrev pub on_clause : {A X : Type 0} → (X → Part A) → World → Option X → Part A
-on_clause act w None = misfit w
+on_clause act w None = miscount w
 on_clause act w (Some x) = act x
 
 -- the operands of all cases are taken; the answer tells the clause, and what stands at its target
-abbrev pub picks : (ℕ → ℕ) → List SelectCase → Option ℕ → Frame → World → Part (ℕ × Frame)
-picks label cs o c w =
+abbrev pub picks : List Bool → (ℕ → ℕ) → List SelectCase → Option ℕ → Frame → World → Part (ℕ × Frame)
+picks gives label cs o c w =
     some_from w (cases_taken cs) [] (λ vs rest.
-    bind (asks (Instr.Select (map (relabelled label) cs) (option_map label o)) vs w) (λ a u.
+    bind (gets gives (Instr.Select (map (relabelled label) cs) (option_map label o)) vs w) (λ a u.
     on_clause (λ t. Part.Gives (t, record { slots = c.slots; operands = pushed a.values rest }) u) u (clause_of label a.clause cs o))) c.operands
 
 -- a truth value on top
 abbrev pub tests : Frame → World → Part (Bool × Frame)
-tests c w = one w (λ x rest. on_some (λ b. Part.Gives (b, record { slots = c.slots; operands = rest }) w) w (bool_of x)) c.operands
+tests c w = one w (λ x rest. on_kind (λ b. Part.Gives (b, record { slots = c.slots; operands = rest }) w) w (bool_of x)) c.operands
 
 -- what comes next, from this place
 abbrev pub Next : Type 0
@@ -56,17 +56,17 @@ abbrev pub ended : {A : Type 0} → Part A → (A → World → Told) → Told
 ended (Part.Gives a w) next = next a w
 ended (Part.Stops h os) next = halted h os
 
-abbrev pub does : Doing → Next → Next
-does (Doing.Acts f) next at c w = ended (f c w) (next (at + 1))
-does (Doing.Jumps t) next at c w = next t c w
-does (Doing.Tests t) next at c w = ended (tests c w) (λ r u. next (cond r.0 (at + 1) t) r.1 u)
-does (Doing.Chooses cs o) next at c w = ended (picks (lower (targets cs o)) cs o c w) (λ r u. next r.0 r.1 u)
+abbrev pub does : List Bool → Doing → Next → Next
+does gives (Doing.Acts f) next at c w = ended (f c w) (next (at + 1))
+does gives (Doing.Jumps t) next at c w = next t c w
+does gives (Doing.Tests t) next at c w = ended (tests c w) (λ r u. next (cond r.0 (at + 1) t) r.1 u)
+does gives (Doing.Chooses cs o) next at c w = ended (picks gives (lower (targets cs o)) cs o c w) (λ r u. next r.0 r.1 u)
 
-abbrev pub at_line : Option CodeLine → Next → Next
-at_line None next at c w = halted (Halt.Unfit Misfit.OfRule) w.operations
-at_line (Some l) next at c w = does (doing l.instr) next at c w
+abbrev pub at_line : List Bool → Option CodeLine → Next → Next
+at_line gives None next at c w = halted (Halt.Unfit Misfit.OfRule) w.operations
+at_line gives (Some l) next at c w = does gives (doing gives l.instr) next at c w
 
--- at most n instructions of these, from a place
-abbrev pub exec : List CodeLine → ℕ → Next
-exec code zero at c w = cut_short w
-exec code (suc n) at c w = at_line (slice_get code at) (exec code n) at c w
+-- at most n instructions of these, from a place, if these functions give a value
+abbrev pub exec : List Bool → List CodeLine → ℕ → Next
+exec gives code zero at c w = cut_short w
+exec gives code (suc n) at c w = at_line gives (slice_get code at) (exec gives code n) at c w

@@ -1,5 +1,5 @@
 -- The laws of flat and of structured code, as statements.
-use Rattle.std.specs.Prelude.{◌≡◌, ℕ, ◌+◌, ◌<◌, ◌≤◌, List, [], ◌∷◌, ◌++◌, Some, slice_get}
+use Rattle.std.specs.Prelude.{◌≡◌, ℕ, ◌+◌, ◌<◌, ◌≤◌, Bool, List, [], ◌∷◌, ◌++◌, Some, slice_get}
 use Rattle.golf_data.specs.declared.code.CodeLine.{CodeLine}
 use Rattle.golf_code_layout.specs.Piece.{Piece, size, target, placed}
 use Rattle.golf_meaning_flat.specs.Worlds.{Operation, Misfit, Halt, End, Told, World}
@@ -12,28 +12,29 @@ abbrev pub Stand : List CodeLine → ℕ → List CodeLine → Type 0
 Stand code at [] = Unit {0}
 Stand code at (l ∷ ls) = (slice_get code at ≡ Some l) × Stand code (at + 1) ls
 
--- the code goes from one place to another, by one instruction or more; or by any number
-pub record Leads (code : List CodeLine) (at : ℕ) (c : Frame) (w : World) (to : ℕ) (d : Frame) (u : World) : Type 0 where
-  pub by : (k : ℕ) → (j : ℕ) × (k < j) × (exec code j at c w ≡ exec code k to d u)
-
-pub record Comes (code : List CodeLine) (at : ℕ) (c : Frame) (w : World) (to : ℕ) (d : Frame) (u : World) : Type 0 where
-  pub by : (k : ℕ) → (j : ℕ) × (k ≤ j) × (exec code j at c w ≡ exec code k to d u)
-
 -- what is short needs as many instructions
 abbrev pub Enough : End → ℕ → ℕ → Type 0
 Enough End.Short n j = n ≤ j
 Enough (End.Halts h) n j = Unit {0}
 
--- the code at a place does what the piece does
-abbrev pub Follows : List CodeLine → ℕ → ℕ → List ℕ → ℕ → Frame → World → Way → Type 0
-Follows code n at ts to c w (Way.Through d u) = Comes code at c w to d u
-Follows code n at ts to c w (Way.Leaves k d u) = Leads code at c w (target ts k) d u
-Follows code n at ts to c w (Way.Ends t) = (j : ℕ) × Enough t.end n j × (exec code j at c w ≡ t)
-Follows code n at ts to c w Way.Lost = Unit {0}
+module _ (gives : List Bool) where
+  -- the code goes from one place to another, by one instruction or more; or by any number
+  pub record Leads (code : List CodeLine) (at : ℕ) (c : Frame) (w : World) (to : ℕ) (d : Frame) (u : World) : Type 0 where
+    pub by : (k : ℕ) → (j : ℕ) × (k < j) × (exec gives code j at c w ≡ exec gives code k to d u)
+
+  pub record Comes (code : List CodeLine) (at : ℕ) (c : Frame) (w : World) (to : ℕ) (d : Frame) (u : World) : Type 0 where
+    pub by : (k : ℕ) → (j : ℕ) × (k ≤ j) × (exec gives code j at c w ≡ exec gives code k to d u)
+
+  -- the code at a place does what the piece does
+  abbrev pub Follows : List CodeLine → ℕ → ℕ → List ℕ → ℕ → Frame → World → Way → Type 0
+  Follows code n at ts to c w (Way.Through d u) = Comes code at c w to d u
+  Follows code n at ts to c w (Way.Leaves k d u) = Leads code at c w (target ts k) d u
+  Follows code n at ts to c w (Way.Ends t) = (j : ℕ) × Enough t.end n j × (exec gives code j at c w ≡ t)
+  Follows code n at ts to c w Way.Lost = Unit {0}
 
 -- placed code does what its piece does, wherever it is placed
 abbrev pub PlacedFollows : Type 0
-PlacedFollows = (code : List CodeLine) (n : ℕ) (p : Piece) (at : ℕ) (ts : List ℕ) (c : Frame) (w : World) → Stand code at (placed p at ts) → Follows code n at ts (at + size p) c w (run n p at ts c w)
+PlacedFollows = (gives : List Bool) (code : List CodeLine) (n : ℕ) (p : Piece) (at : ℕ) (ts : List ℕ) (c : Frame) (w : World) → Stand code at (placed p at ts) → Follows gives code n at ts (at + size p) c w (run gives n p at ts c w)
 
 -- Two meanings by bounds: each bound of one has a bound of the other.
 
@@ -52,13 +53,25 @@ pub record Agree (f g : ℕ → Told) : Type 0 where
   pub forth : (n : ℕ) → (m : ℕ) × Within (f n) (g m)
   pub back : (m : ℕ) → (n : ℕ) × Within (g m) (f n)
 
--- unless it is unfit, what is meant is what the code does, with as many instructions if it is short
-abbrev pub Done : List CodeLine → Frame → World → ℕ → Told → End → Type 0
-Done code c w n t (End.Halts (Halt.Unfit of)) = Unit {0}
-Done code c w n t e = (j : ℕ) × Enough e n j × (exec code j 0 c w ≡ t)
+-- Of these halts it is said that the code halts alike: not if no rule fits, and not if the source alone has looked at the kinds of an answer.
+abbrev pub Said : Halt → Type 0 → Type 0
+Said (Halt.Unfit Misfit.OfAnswer) P = Unit {0}
+Said (Halt.Unfit Misfit.OfRule) P = Unit {0}
+Said h P = P
 
-abbrev pub NeverUnfit : (ℕ → Told) → Type 0
-NeverUnfit f = (n : ℕ) (of : Misfit) → (f n).end ≡ End.Halts (Halt.Unfit of) → ⊥
+-- what is meant is what the code does, with as many instructions if it is short
+abbrev pub Done : List Bool → List CodeLine → Frame → World → ℕ → Told → End → Type 0
+Done gives code c w n t (End.Halts h) = Said h ((j : ℕ) × (exec gives code j 0 c w ≡ t))
+Done gives code c w n t End.Short = (j : ℕ) × (n ≤ j) × (exec gives code j 0 c w ≡ t)
+
+-- a rule fits, and the kinds of answers were not looked at
+abbrev pub IsRuled : End → Type 0
+IsRuled (End.Halts (Halt.Unfit Misfit.OfAnswer)) = ⊥
+IsRuled (End.Halts (Halt.Unfit Misfit.OfRule)) = ⊥
+IsRuled e = Unit {0}
+
+abbrev pub HasRules : (ℕ → Told) → Type 0
+HasRules f = (n : ℕ) → IsRuled (f n).end
 
 abbrev pub BothWays : Type 0
-BothWays = (code : List CodeLine) (c : Frame) (w : World) (f : ℕ → Told) → ((n : ℕ) → Done code c w n (f n) (f n).end) → NeverUnfit f → Agree f (λ m. exec code m 0 c w)
+BothWays = (gives : List Bool) (code : List CodeLine) (c : Frame) (w : World) (f : ℕ → Told) → ((n : ℕ) → Done gives code c w n (f n) (f n).end) → HasRules f → Agree f (λ m. exec gives code m 0 c w)

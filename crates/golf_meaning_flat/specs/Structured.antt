@@ -1,5 +1,5 @@
 -- The meaning of structured code, by recursion over it: each block that is begun anew is gone through at most n times. The places are looked at by `select` alone.
-use Rattle.std.specs.Prelude.{ℕ, zero, suc, ◌+◌, Bool, true, false, List, [], ◌∷◌, map, Option}
+use Rattle.std.specs.Prelude.{ℕ, zero, suc, ◌+◌, Bool, true, false, List, ◌∷◌, map, Option}
 use Rattle.std.specs.Option.{option_map}
 use Rattle.golf_data.specs.declared.code.SelectCase.{SelectCase}
 use Rattle.golf_code_layout.specs.Piece.{Piece, size, target, case_at}
@@ -61,12 +61,12 @@ rounds (suc m) f c w = once_more (f c w) (rounds m f)
 abbrev pub placed_targets : List SelectCase → Option ℕ → List ℕ → List ℕ
 placed_targets cs o ts = targets (map (case_at ts) cs) (option_map (target ts) o)
 
-abbrev pub run : ℕ → Piece → ℕ → List ℕ → Frame → World → Way
-run n Piece.Empty at ts c w = Way.Through c w
-run n (Piece.Op i line) at ts c w = acted (doing i) c w
-run n (Piece.Then p q) at ts c w = then_way (run n p at ts c w) (run n q (at + size p) ts)
-run n (Piece.Exit line k) at ts c w = Way.Leaves k c w
-run n (Piece.Unless line k) at ts c w = unless_true (tests c w) k
-run n (Piece.Choose line cs o) at ts c w = picked (picks (λ k. lower (placed_targets cs o ts) (target ts k)) cs o c w)
-run n (Piece.Block p) at ts c w = out_of (run n p at ((at + size p) ∷ ts) c w)
-run n (Piece.Again p) at ts c w = rounds n (run n p at (at ∷ ts)) c w
+abbrev pub run : List Bool → ℕ → Piece → ℕ → List ℕ → Frame → World → Way
+run gives n Piece.Empty at ts c w = Way.Through c w
+run gives n (Piece.Op i line) at ts c w = acted (doing gives i) c w
+run gives n (Piece.Then p q) at ts c w = then_way (run gives n p at ts c w) (run gives n q (at + size p) ts)
+run gives n (Piece.Exit line k) at ts c w = Way.Leaves k c w
+run gives n (Piece.Unless line k) at ts c w = unless_true (tests c w) k
+run gives n (Piece.Choose line cs o) at ts c w = picked (picks gives (λ k. lower (placed_targets cs o ts) (target ts k)) cs o c w)
+run gives n (Piece.Block p) at ts c w = out_of (run gives n p at ((at + size p) ∷ ts) c w)
+run gives n (Piece.Again p) at ts c w = rounds n (run gives n p at (at ∷ ts)) c w

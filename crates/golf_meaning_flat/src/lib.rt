@@ -8,7 +8,7 @@ pub fn placed_code_follows()
     ensures { PlacedFollows }
 {}
 
-/// If the code does a meaning by bounds, each agrees with the other.
+/// If the code does a meaning by bounds that lacks no rule, each agrees with the other.
 pub fn both_ways()
     ensures { BothWays }
 {}

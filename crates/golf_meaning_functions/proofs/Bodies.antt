@@ -24,7 +24,7 @@ use Rattle.golf_meaning_statements.specs.Steps.{Step, in_order}
 use Rattle.golf_meaning_statements.specs.Statements.{step}
 use Rattle.golf_meaning_functions.specs.Functions.{named, begins, told_by}
 use Rattle.golf_meaning_functions.proofs.Samples as s
-use Rattle.golf_meaning_functions.proofs.Samples.{Sample, StmtSample, trees, values, all-same, name, integer, index, unary_of, binary_of, does, returns}
+use Rattle.golf_meaning_functions.proofs.Samples.{strictly, Sample, StmtSample, trees, values, all-same, name, integer, index, unary_of, binary_of, does, returns}
 
 abbrev pub ref : ℕ → Value
 ref k = Value.Ref (record { 0 = k })
@@ -41,7 +41,7 @@ abbrev told : List Step → List Answer → ℕ → Told
 told xs answers n = told_by (plain base.Int) (in_order xs outermost scope n (named scope.locals arguments) (begins answers))
 
 abbrev pub body : List StmtSample → List Answer → ℕ → Told
-body xs answers n = told (map (step tables) (trees xs)) answers n
+body xs answers n = told (map (step strictly tables) (trees xs)) answers n
 
 pub works_out : (xs : List StmtSample) (answers : List Answer) (n : ℕ) → body xs answers n ≡ told (values xs) answers n
 works_out xs answers n = ap (λ ys. told ys answers n) (all-same xs)
@@ -51,7 +51,7 @@ abbrev told_without_result : List Step → List Answer → ℕ → Told
 told_without_result xs answers n = told_by None (in_order xs outermost (record scope { result = None }) n (named scope.locals arguments) (begins answers))
 
 abbrev body_without_result : List StmtSample → List Answer → ℕ → Told
-body_without_result xs answers n = told_without_result (map (step tables) (trees xs)) answers n
+body_without_result xs answers n = told_without_result (map (step strictly tables) (trees xs)) answers n
 
 works_out_without_result : (xs : List StmtSample) (answers : List Answer) (n : ℕ) → body_without_result xs answers n ≡ told_without_result (values xs) answers n
 works_out_without_result xs answers n = ap (λ ys. told_without_result ys answers n) (all-same xs)
@@ -369,12 +369,12 @@ unfolding meaning type_name value_name call_name package_name text_number named_
 drops_what_a_clause_receives = works_out (s.selects (s.case_assign (codes "n") c [] ∷ s.case_define_received (codes "v") (codes "ok") c (s.if_then (name (codes "ok")) (does (s.update_by update.Add n (name (codes "v"))) ∷ []) ∷ []) ∷ s.case_receive c (does (s.assign n (integer (codes "0"))) ∷ []) ∷ []) ∷ returns n ∷ []) (record { clause = 2; values = int 7 ∷ [] } ∷ []) 1
 
 -- the same, with an answer for a clause that is not there
-pub refuses_a_clause : body (s.selects (s.case_assign (codes "n") c [] ∷ s.case_define_received (codes "v") (codes "ok") c (s.if_then (name (codes "ok")) (does (s.update_by update.Add n (name (codes "v"))) ∷ []) ∷ []) ∷ s.case_receive c (does (s.assign n (integer (codes "0"))) ∷ []) ∷ []) ∷ returns n ∷ []) (record { clause = 3; values = int 7 ∷ [] } ∷ []) 1 ≡ ends (shown (Instr.Select (case_to CaseKind.Take 0 ∷ case_to CaseKind.TakeOk 1 ∷ case_to CaseKind.Take 2 ∷ []) None) (ref 0 ∷ ref 0 ∷ ref 0 ∷ []) ∷ []) (End.Halts (Halt.Unfit Misfit.OfAnswer))
+pub refuses_a_clause : body (s.selects (s.case_assign (codes "n") c [] ∷ s.case_define_received (codes "v") (codes "ok") c (s.if_then (name (codes "ok")) (does (s.update_by update.Add n (name (codes "v"))) ∷ []) ∷ []) ∷ s.case_receive c (does (s.assign n (integer (codes "0"))) ∷ []) ∷ []) ∷ returns n ∷ []) (record { clause = 3; values = int 7 ∷ [] } ∷ []) 1 ≡ ends (shown (Instr.Select (case_to CaseKind.Take 0 ∷ case_to CaseKind.TakeOk 1 ∷ case_to CaseKind.Take 2 ∷ []) None) (ref 0 ∷ ref 0 ∷ ref 0 ∷ []) ∷ []) (End.Halts (Halt.Unfit Misfit.OfCount))
 unfolding meaning type_name value_name call_name package_name text_number named_base made_base sync_base member fmt_member runtime_member sync_member condition_member condition_method mutex_method group_method read_method write_method field_type is_here is_reserved may_be_declared assigned_name kept_faults pair_differs put_in_faults range_names_differ
 refuses_a_clause = works_out (s.selects (s.case_assign (codes "n") c [] ∷ s.case_define_received (codes "v") (codes "ok") c (s.if_then (name (codes "ok")) (does (s.update_by update.Add n (name (codes "v"))) ∷ []) ∷ []) ∷ s.case_receive c (does (s.assign n (integer (codes "0"))) ∷ []) ∷ []) ∷ returns n ∷ []) (record { clause = 3; values = int 7 ∷ [] } ∷ []) 1
 
 -- the same, with one value too few
-pub refuses_the_values_of_a_clause : body (s.selects (s.case_assign (codes "n") c [] ∷ s.case_define_received (codes "v") (codes "ok") c (s.if_then (name (codes "ok")) (does (s.update_by update.Add n (name (codes "v"))) ∷ []) ∷ []) ∷ s.case_receive c (does (s.assign n (integer (codes "0"))) ∷ []) ∷ []) ∷ returns n ∷ []) (record { clause = 1; values = int 7 ∷ [] } ∷ []) 1 ≡ ends (shown (Instr.Select (case_to CaseKind.Take 0 ∷ case_to CaseKind.TakeOk 1 ∷ case_to CaseKind.Take 2 ∷ []) None) (ref 0 ∷ ref 0 ∷ ref 0 ∷ []) ∷ []) (End.Halts (Halt.Unfit Misfit.OfAnswer))
+pub refuses_the_values_of_a_clause : body (s.selects (s.case_assign (codes "n") c [] ∷ s.case_define_received (codes "v") (codes "ok") c (s.if_then (name (codes "ok")) (does (s.update_by update.Add n (name (codes "v"))) ∷ []) ∷ []) ∷ s.case_receive c (does (s.assign n (integer (codes "0"))) ∷ []) ∷ []) ∷ returns n ∷ []) (record { clause = 1; values = int 7 ∷ [] } ∷ []) 1 ≡ ends (shown (Instr.Select (case_to CaseKind.Take 0 ∷ case_to CaseKind.TakeOk 1 ∷ case_to CaseKind.Take 2 ∷ []) None) (ref 0 ∷ ref 0 ∷ ref 0 ∷ []) ∷ []) (End.Halts (Halt.Unfit Misfit.OfCount))
 unfolding meaning type_name value_name call_name package_name text_number named_base made_base sync_base member fmt_member runtime_member sync_member condition_member condition_method mutex_method group_method read_method write_method field_type is_here is_reserved may_be_declared assigned_name kept_faults pair_differs put_in_faults range_names_differ
 refuses_the_values_of_a_clause = works_out (s.selects (s.case_assign (codes "n") c [] ∷ s.case_define_received (codes "v") (codes "ok") c (s.if_then (name (codes "ok")) (does (s.update_by update.Add n (name (codes "v"))) ∷ []) ∷ []) ∷ s.case_receive c (does (s.assign n (integer (codes "0"))) ∷ []) ∷ []) ∷ returns n ∷ []) (record { clause = 1; values = int 7 ∷ [] } ∷ []) 1
 

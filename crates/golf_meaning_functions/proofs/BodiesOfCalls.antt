@@ -104,7 +104,7 @@ unfolding meaning type_name value_name call_name package_name text_number named_
 panics = works_out (does (s.expression (s.call (name (codes "panic")) (s.text (codes "a") ∷ []))) ∷ does (s.increment n) ∷ returns n ∷ []) [] 1
 
 -- panic("a"), with an answer: it has none
-pub refuses_an_answer_of_panic : body (does (s.expression (s.call (name (codes "panic")) (s.text (codes "a") ∷ []))) ∷ []) (answer [] ∷ []) 1 ≡ ends (shown Instr.Panic (Value.Text 1 ∷ []) ∷ []) (End.Halts (Halt.Unfit Misfit.OfAnswer))
+pub refuses_an_answer_of_panic : body (does (s.expression (s.call (name (codes "panic")) (s.text (codes "a") ∷ []))) ∷ []) (answer [] ∷ []) 1 ≡ ends (shown Instr.Panic (Value.Text 1 ∷ []) ∷ []) (End.Halts (Halt.Unfit Misfit.OfCount))
 unfolding meaning type_name value_name call_name package_name text_number named_base made_base sync_base member fmt_member runtime_member sync_member condition_member condition_method mutex_method group_method read_method write_method field_type is_here is_reserved may_be_declared assigned_name kept_faults pair_differs put_in_faults range_names_differ
 refuses_an_answer_of_panic = works_out (does (s.expression (s.call (name (codes "panic")) (s.text (codes "a") ∷ []))) ∷ []) (answer [] ∷ []) 1
 
@@ -146,7 +146,7 @@ unfolding meaning type_name value_name call_name package_name text_number named_
 receives_before_it_goes = works_out (s.go m receive ∷ returns n ∷ []) (answer (int 8 ∷ []) ∷ answer [] ∷ []) 1
 
 -- go f(1), with a value for an answer: it leaves none
-pub refuses_an_answer_of_go : body (s.go f (integer (codes "1")) ∷ []) (answer (int 1 ∷ []) ∷ []) 1 ≡ ends (shown (Instr.Go 1 1) (int 1 ∷ []) ∷ []) (End.Halts (Halt.Unfit Misfit.OfAnswer))
+pub refuses_an_answer_of_go : body (s.go f (integer (codes "1")) ∷ []) (answer (int 1 ∷ []) ∷ []) 1 ≡ ends (shown (Instr.Go 1 1) (int 1 ∷ []) ∷ []) (End.Halts (Halt.Unfit Misfit.OfCount))
 unfolding meaning type_name value_name call_name package_name text_number named_base made_base sync_base member fmt_member runtime_member sync_member condition_member condition_method mutex_method group_method read_method write_method field_type is_here is_reserved may_be_declared assigned_name kept_faults pair_differs put_in_faults range_names_differ
 refuses_an_answer_of_go = works_out (s.go f (integer (codes "1")) ∷ []) (answer (int 1 ∷ []) ∷ []) 1
 

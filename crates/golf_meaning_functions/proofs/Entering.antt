@@ -1,7 +1,7 @@
 -- Arguments have the first slots.
 -- For: `functions_agree`, src/lib.rt; `named`, specs/Functions.antt
 -- By: induction over the list of locals, and over the list of parameters
-use Rattle.std.proofs.Common.{◌≡◌, ℕ, zero, suc, ◌+◌, ◌-◌, List, [], ◌∷◌, ◌++◌, length, map, Option, Some, None, refl, sym, ◌∙◌, subst, slice_get, arith, append_assoc, append-nil, length-append}
+use Rattle.std.proofs.Common.{◌≡◌, ℕ, zero, suc, ◌+◌, List, [], ◌∷◌, ◌++◌, length, map, Option, Some, None, refl, sym, ◌∙◌, subst, slice_get, arith, append_assoc, append-nil, length-append}
 use Rattle.golf_syntax_trees.specs.declared.declarations.Receiver.{Receiver}
 use Rattle.golf_syntax_trees.specs.declared.declarations.Func.{Func}
 use Rattle.golf_data.specs.declared.value.Value.{Value}

@@ -1,7 +1,7 @@
 -- The functions and methods of a file, by their numbers.
 -- For: `files_agree`, src/lib.rt
 -- By: induction over the list of declarations
-use Rattle.std.proofs.Common.{◌≡◌, ℕ, zero, suc, ◌+◌, ◌<◌, Bool, List, [], ◌∷◌, ◌++◌, length, map, Some, refl, sym, subst, slice_get, arith}
+use Rattle.std.proofs.Common.{◌≡◌, ℕ, zero, suc, ◌+◌, ◌<◌, Bool, false, List, [], ◌∷◌, ◌++◌, length, map, Some, refl, sym, subst, slice_get, arith}
 use Rattle.golf_syntax_trees.specs.declared.declarations.Func.{Func}
 use Rattle.golf_syntax_trees.specs.declared.declarations.Decl.{Decl}
 use Rattle.golf_syntax_trees.specs.declared.declarations.Decl.TheVariants as d
@@ -13,9 +13,10 @@ use Rattle.golf_check_types.specs.Files.{outside}
 use Rattle.golf_code_of.specs.declared.tables.Tables.{Tables}
 use Rattle.golf_code_of.specs.Files.{body_laid, function_of, functions_from, made_function, tables_of, giving, CodeOf}
 use Rattle.golf_meaning_flat.specs.Worlds.{Answer}
-use Rattle.golf_meaning_flat.specs.Laws.{NeverUnfit, Agree}
+use Rattle.golf_meaning_flat.specs.Laws.{HasRules, Agree}
+use Rattle.golf_meaning_source.specs.Operations.{Taking}
 use Rattle.golf_meaning_functions.specs.Functions.{Meaning, CodeMeaning}
-use Rattle.golf_meaning_functions.specs.Files.{function_count, meaning_at, names_of}
+use Rattle.golf_meaning_functions.specs.Files.{function_count, meaning_at, names_of, giving_in, taking_in}
 use Rattle.golf_meaning_functions.specs.Laws.{FilesAgree}
 use Rattle.golf_meaning_functions.proofs.Agreeing.{functions-agree}
 
@@ -25,14 +26,14 @@ module _ (t : Tables) (gives : List Bool) (file : Scope) where
     pub function : Func
     pub functions : ℕ
     pub code : slice_get (functions_from t gives file n xs).own k ≡ Some (function_of t gives file function (body_laid t file functions function).piece)
-    pub meaning : (arguments : List Value) (answers : List Answer) → Meaning t file functions function arguments answers ≡ meaning_at t file n xs k arguments answers
+    pub meaning : (taking : Taking) (arguments : List Value) (answers : List Answer) → Meaning taking t file functions function arguments answers ≡ meaning_at taking t file n xs k arguments answers
 
   is-placed : (xs : List Decl) (n k : ℕ) → k < function_count xs → Placed n xs k
   is-placed [] n k h = absurd (omega (arith, h))
   is-placed (d.Const l m c ∷ xs) n k h = let r = is-placed xs n k h in record { function = r.function; functions = r.functions; code = r.code; meaning = r.meaning }
   is-placed (d.Var v ∷ xs) n k h = let r = is-placed xs n k h in record { function = r.function; functions = r.functions; code = r.code; meaning = r.meaning }
   is-placed (d.Struct l m fs ∷ xs) n k h = let r = is-placed xs n k h in record { function = r.function; functions = r.functions; code = r.code; meaning = r.meaning }
-  is-placed (d.Func f ∷ xs) n zero h = record { function = f; functions = n; code = refl; meaning = λ arguments answers. refl }
+  is-placed (d.Func f ∷ xs) n zero h = record { function = f; functions = n; code = refl; meaning = λ taking arguments answers. refl }
   is-placed (d.Func f ∷ xs) n (suc k) h =
       let r = is-placed xs (n + length (body_laid t file n f).made) k (omega (arith, h)) in
       record { function = r.function; functions = r.functions; code = r.code; meaning = r.meaning }
@@ -53,14 +54,14 @@ files-agree file (suc k) lt le =
     let fs = functions_from t (giving names) out (length names.functions + 1) xs in
     let r = is-placed t (giving names) out xs (length names.functions + 1) k (omega (arith, le)) in
     let fn = function_of t (giving names) out r.function (body_laid t out r.functions r.function).piece in
-    (fn, first-ones fs.own (map (made_function (giving names)) fs.made) k fn r.code, λ arguments answers enough never. agreeing file k t (giving names) r arguments answers enough never)
+    (fn, first-ones fs.own (map (made_function (giving names)) fs.made) k fn r.code, λ arguments answers enough ruled. agreeing file k t (giving names) r arguments answers enough ruled)
   where
     agreeing : (file : File) (k : ℕ) (t : Tables) (gives : List Bool) (r : Placed t gives (outside (names_of file)) (length (names_of file).functions + 1) file.declarations k) (arguments : List Value) (answers : List Answer)
         → let fn = function_of t gives (outside (names_of file)) r.function (body_laid t (outside (names_of file)) r.functions r.function).piece in
-        let told = meaning_at t (outside (names_of file)) (length (names_of file).functions + 1) file.declarations k arguments answers in length arguments ≡ fn.params → NeverUnfit told → Agree told (CodeMeaning fn arguments answers)
-    agreeing file k t gives r arguments answers enough never =
+        let told = meaning_at (taking_in file false) t (outside (names_of file)) (length (names_of file).functions + 1) file.declarations k arguments answers in length arguments ≡ fn.params → HasRules told → Agree told (CodeMeaning (giving_in file) fn arguments answers)
+    agreeing file k t gives r arguments answers enough ruled =
         let fn = function_of t gives (outside (names_of file)) r.function (body_laid t (outside (names_of file)) r.functions r.function).piece in
-        let told = meaning_at t (outside (names_of file)) (length (names_of file).functions + 1) file.declarations k arguments answers in
-        let own = Meaning t (outside (names_of file)) r.functions r.function arguments answers in
-        let same : own ≡ told = r.meaning arguments answers in
-        subst (λ f. Agree f (CodeMeaning fn arguments answers)) same (functions-agree t gives (names_of file) r.functions r.function arguments answers enough (subst NeverUnfit (sym same) never))
+        let told = meaning_at (taking_in file false) t (outside (names_of file)) (length (names_of file).functions + 1) file.declarations k arguments answers in
+        let own = Meaning (taking_in file false) t (outside (names_of file)) r.functions r.function arguments answers in
+        let same : own ≡ told = r.meaning (taking_in file false) arguments answers in
+        subst (λ f. Agree f (CodeMeaning (giving_in file) fn arguments answers)) same (functions-agree (taking_in file false) t gives (names_of file) r.functions r.function arguments answers enough (subst HasRules (sym same) ruled))

@@ -31,7 +31,7 @@ use Rattle.golf_meaning_statements.specs.Statements.{step}
 use Rattle.golf_meaning_functions.specs.Functions.{named, begins, told_by, Meaning}
 use Rattle.golf_meaning_functions.specs.Files.{MeaningOf}
 use Rattle.golf_meaning_functions.proofs.Samples as s
-use Rattle.golf_meaning_functions.proofs.Samples.{Sample, StmtSample, trees, values, all-same, name, integer, binary_of, does, returns}
+use Rattle.golf_meaning_functions.proofs.Samples.{strictly, Sample, StmtSample, trees, values, all-same, name, integer, binary_of, does, returns}
 use Rattle.golf_meaning_functions.proofs.Bodies.{ref, int, shown, answer, ends, gives}
 
 -- How a function is written: with what its types are and its statements mean.
@@ -93,12 +93,12 @@ told_of r t ps xs arguments answers n =
 
 -- a function of the file, with three functions before the first one that is made
 abbrev means : FuncSample → List Value → List Answer → ℕ → Told
-means x arguments answers n = Meaning tables (outside file) 3 (func x) arguments answers n
+means x arguments answers n = Meaning strictly tables (outside file) 3 (func x) arguments answers n
 
 works_out : (x : FuncSample) (arguments : List Value) (answers : List Answer) (n : ℕ) → means x arguments answers n ≡ told_of x.receiver (result_of x.result) (typed x.parameters) (values x.body) arguments answers n
 works_out x arguments answers n =
-    ap (λ t. told_of x.receiver t (all_typed_names (outside file) (fields x.parameters)) (map (step tables) (trees x.body)) arguments answers n) (result-same x.result)
-    ∙ ap (λ ps. told_of x.receiver (result_of x.result) ps (map (step tables) (trees x.body)) arguments answers n) (typed-same x.parameters)
+    ap (λ t. told_of x.receiver t (all_typed_names (outside file) (fields x.parameters)) (map (step strictly tables) (trees x.body)) arguments answers n) (result-same x.result)
+    ∙ ap (λ ps. told_of x.receiver (result_of x.result) ps (map (step strictly tables) (trees x.body)) arguments answers n) (typed-same x.parameters)
     ∙ ap (λ ys. told_of x.receiver (result_of x.result) (typed x.parameters) ys arguments answers n) (all-same x.body)
 
 abbrev k : Sample

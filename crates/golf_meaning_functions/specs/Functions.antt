@@ -1,5 +1,5 @@
 -- What a function does with its arguments, as its source says, and as its flat code says.
-use Rattle.std.specs.Prelude.{ℕ, ◌-◌, pos, List, [], ◌∷◌, ◌++◌, length, replicate, map, Option, Some, None}
+use Rattle.std.specs.Prelude.{ℕ, ◌-◌, pos, Bool, List, [], ◌∷◌, ◌++◌, length, replicate, map, Option, Some, None}
 use Rattle.golf_syntax_trees.specs.declared.declarations.Func.{Func}
 use Rattle.golf_data.specs.declared.value.Value.{Value}
 use Rattle.golf_data.specs.declared.code.Function.{Function}
@@ -13,6 +13,7 @@ use Rattle.golf_code_of.specs.Values.{zero_value}
 use Rattle.golf_meaning_flat.specs.Worlds.{Answer, Misfit, Halt, Told, World, halted}
 use Rattle.golf_meaning_flat.specs.Flat.{exec}
 use Rattle.golf_meaning_source.specs.Names.{Env}
+use Rattle.golf_meaning_source.specs.Operations.{Taking}
 use Rattle.golf_meaning_statements.specs.Flows.{Course, Flow}
 use Rattle.golf_meaning_statements.specs.Steps.{in_order}
 use Rattle.golf_meaning_statements.specs.Statements.{step}
@@ -38,14 +39,14 @@ told_by r (Flow.Goes Course.Skips env w) = halted (Halt.Unfit Misfit.OfRule) w.o
 told_by r (Flow.Ends t) = t
 
 -- The meaning of a function of a file, with so many functions before the next one that is made: each loop begins at most n turns, and a look at which its condition is false is a turn.
-abbrev pub Meaning : Tables → Scope → ℕ → Func → List Value → List Answer → ℕ → Told
-Meaning t file functions f arguments answers n =
-    told_by (result_type file f.result) (in_order (map (step t) f.body) (record { breaks = 0; continues = 0; functions = functions }) (body_scope file f) n (named (body_scope file f).locals arguments) (begins answers))
+abbrev pub Meaning : Taking → Tables → Scope → ℕ → Func → List Value → List Answer → ℕ → Told
+Meaning taking t file functions f arguments answers n =
+    told_by (result_type file f.result) (in_order (map (step taking t) f.body) (record { breaks = 0; continues = 0; functions = functions }) (body_scope file f) n (named (body_scope file f).locals arguments) (begins answers))
 
 -- the arguments stand in the first slots, and the others hold 0 (profile); no slot is cleared
 abbrev pub filled : Function → List Value → List Value
 filled fn arguments = arguments ++ replicate (fn.slots - length arguments) (Value.Int (pos 0))
 
--- The meaning of flat code: at most n instructions of a function.
-abbrev pub CodeMeaning : Function → List Value → List Answer → ℕ → Told
-CodeMeaning fn arguments answers n = exec fn.body n 0 (record { slots = filled fn arguments; operands = [] }) (begins answers)
+-- The meaning of flat code: at most n instructions of a function, if these functions give a value.
+abbrev pub CodeMeaning : List Bool → Function → List Value → List Answer → ℕ → Told
+CodeMeaning gives fn arguments answers n = exec gives fn.body n 0 (record { slots = filled fn arguments; operands = [] }) (begins answers)

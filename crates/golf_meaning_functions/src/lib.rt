@@ -3,8 +3,8 @@
 
 ghost use Rattle.golf_meaning_functions.specs.Laws.{FilesAgree, FunctionsAgree};
 
-/// With as many arguments as it has parameters, and answers that fit, the code of a function and
-/// its source agree, both ways.
+/// With as many arguments as it has parameters, and for all answers, the code of a function and its
+/// source agree, both ways, unless the source lacks a rule.
 pub fn functions_agree()
     ensures { FunctionsAgree }
 {}

@@ -1,23 +1,23 @@
 -- What a call has shown is what its source means.
 -- For: `LivesMeanSource`, golf_meaning_lives/specs/Laws.antt; the law `lives_mean_the_source`, src/lib.rt.
 -- By: cases of where the call stands; induction over its life.
-use Rattle.std.proofs.Common.{◌≡◌, ℕ, List, length, Option, Some, subst, slice_get}
+use Rattle.std.proofs.Common.{◌≡◌, ℕ, Bool, List, length, Option, Some, subst, slice_get}
 use Rattle.golf_syntax_trees.specs.declared.declarations.File.{File}
 use Rattle.golf_data.specs.declared.value.Value.{Value}
 use Rattle.golf_data.specs.declared.code.Function.{Function}
 use Rattle.golf_code_of.specs.Files.{CodeOf}
 use Rattle.golf_meaning_flat.specs.Worlds.{Operation, Answer, Told}
-use Rattle.golf_meaning_flat.specs.Laws.{Within, Agree, NeverUnfit}
+use Rattle.golf_meaning_flat.specs.Laws.{Within, Agree, HasRules}
 use Rattle.golf_meaning_functions.specs.Functions.{CodeMeaning}
-use Rattle.golf_meaning_functions.specs.Files.{MeaningOf}
+use Rattle.golf_meaning_functions.specs.Files.{giving_in, MeaningOf}
 use Rattle.golf_meaning_functions.proofs.WholeFiles.{files-agree}
 use Rattle.golf_meaning_turns.specs.Shaping.{Shaping}
 use Rattle.golf_meaning_turns.specs.Life.{Now, Life, HasShown}
 use Rattle.golf_meaning_turns.proofs.Living.{lives-mean}
 use Rattle.golf_meaning_lives.specs.Laws.{SourceMeans, LivesMeanSource}
 
-module _ (file : File) (k : ℕ) (fn : Function) (arguments : List Value) (shown : List Operation) (got : List Answer) (agree : Agree (MeaningOf file k arguments got) (CodeMeaning fn arguments got)) where
-  source-means : (now : Now) → HasShown fn arguments shown got now → SourceMeans file k arguments shown got now
+module _ (file : File) (k : ℕ) (fn : Function) (arguments : List Value) (shown : List Operation) (got : List Answer) (agree : Agree (MeaningOf file k arguments got) (CodeMeaning (giving_in file) fn arguments got)) where
+  source-means : (now : Now) → HasShown (giving_in file) fn arguments shown got now → SourceMeans file k arguments shown got now
   source-means (Now.Stands at c) h = let b = agree.back h.0 in (b.0, subst (λ (t : Told). Within t (MeaningOf file k arguments got b.0)) h.1 b.1)
   source-means (Now.Asks at c before) h = let b = agree.back h.0 in (b.0, subst (λ (t : Told). Within t (MeaningOf file k arguments got b.0)) h.1 b.1)
   source-means (Now.Halted halt) h = let b = agree.back h.0 in (b.0, subst (λ (t : Told). Within t (MeaningOf file k arguments got b.0)) h.1 b.1)
@@ -35,8 +35,8 @@ same-function : (f g : Function) (m : Option Function) → m ≡ Some f → m �
 same-function f g m a b = cc
 
 pub lives-mean-source : LivesMeanSource
-lives-mean-source file k fn shaping arguments shown got now lt le is never life =
+lives-mean-source file k fn shaping arguments shown got now lt le is gives ruled life =
     let r = files-agree file k lt le in
     let same : r.0 ≡ fn = same-function r.0 fn (slice_get (CodeOf file).functions k) r.1 is in
-    let agree = subst (λ (f : Function). length arguments ≡ f.params → NeverUnfit (MeaningOf file k arguments got) → Agree (MeaningOf file k arguments got) (CodeMeaning f arguments got)) same (r.2 arguments got) (counted fn shaping arguments shown got now life) never in
-    source-means file k fn arguments shown got agree now (lives-mean fn shaping arguments shown got now life)
+    let agree = subst (λ (f : Function). length arguments ≡ f.params → HasRules (MeaningOf file k arguments got) → Agree (MeaningOf file k arguments got) (CodeMeaning (giving_in file) f arguments got)) same (r.2 arguments got) (counted fn shaping arguments shown got now life) ruled in
+    source-means file k fn arguments shown got agree now (subst (λ (bs : List Bool). HasShown bs fn arguments shown got now) gives (lives-mean fn shaping arguments shown got now life))

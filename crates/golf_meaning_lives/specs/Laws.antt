@@ -5,9 +5,9 @@ use Rattle.golf_data.specs.declared.value.Value.{Value}
 use Rattle.golf_data.specs.declared.code.Function.{Function}
 use Rattle.golf_code_of.specs.Files.{CodeOf}
 use Rattle.golf_meaning_flat.specs.Worlds.{Operation, Answer, Halt, End}
-use Rattle.golf_meaning_flat.specs.Laws.{BeginsWith, NeverUnfit}
-use Rattle.golf_meaning_functions.specs.Files.{function_count, MeaningOf}
-use Rattle.golf_meaning_turns.specs.Shaping.{Shaping}
+use Rattle.golf_meaning_flat.specs.Laws.{BeginsWith, HasRules}
+use Rattle.golf_meaning_functions.specs.Files.{function_count, giving_in, MeaningOf}
+use Rattle.golf_meaning_turns.specs.Shaping.{Shaping, giving_by}
 use Rattle.golf_meaning_turns.specs.Life.{Now, Life}
 
 -- With the answers that the call got, and for some number of turns of each loop: the operations that it has shown are a prefix of those that the source means; or they are these, and the source waits at the last one, or halts as the call has.
@@ -16,7 +16,7 @@ SourceMeans file k arguments shown got (Now.Stands at c) = (n : ℕ) × BeginsWi
 SourceMeans file k arguments shown got (Now.Asks at c before) = (n : ℕ) × (MeaningOf file k arguments got n ≡ record { operations = shown; end = End.Halts Halt.Waits })
 SourceMeans file k arguments shown got (Now.Halted h) = (n : ℕ) × (MeaningOf file k arguments got n ≡ record { operations = shown; end = End.Halts h })
 
--- for each call of a function or method of a file, unless the source is unfit
+-- for each call of a function or method of a file, if a rule fits wherever the source comes to, and answers are taken as those of the file's functions
 abbrev pub LivesMeanSource : Type 0
 LivesMeanSource = (file : File) (k : ℕ) (fn : Function) (shaping : Option Shaping) (arguments : List Value) (shown : List Operation) (got : List Answer) (now : Now) → 0 < k → k ≤ function_count file.declarations → slice_get (CodeOf file).functions k ≡ Some fn
-    → NeverUnfit (MeaningOf file k arguments got) → Life fn shaping arguments shown got now → SourceMeans file k arguments shown got now
+    → giving_by shaping ≡ giving_in file → HasRules (MeaningOf file k arguments got) → Life fn shaping arguments shown got now → SourceMeans file k arguments shown got now

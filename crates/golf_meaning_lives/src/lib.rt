@@ -5,7 +5,7 @@
 ghost use Rattle.golf_meaning_lives.specs.Laws.{LivesMeanSource};
 
 /// With the answers that a call got, the source of its function means the operations that the call
-/// has shown, with the same end, unless an answer does not fit.
+/// has shown, with the same end, unless the source lacks a rule.
 pub fn lives_mean_the_source()
     ensures { LivesMeanSource }
 {}

@@ -21,6 +21,7 @@ use Rattle.golf_code_shapes.specs.Sound.{IsKnown}
 use Rattle.golf_code_shapes.specs.FunctionLaws.{result_scope, function_signature}
 use Rattle.golf_code_shapes.specs.FileLaws.{own_signatures, ParametersAreKnown, DeclarationsAreKnown}
 use Rattle.golf_meaning_functions.specs.Files.{function_count}
+use Rattle.golf_meaning_source.specs.Operations.{Taking}
 use Rattle.golf_meaning_typing.specs.Sound.{is_of, Held}
 use Rattle.golf_meaning_typing.specs.Laws.{ArgumentsFit}
 use Rattle.golf_meaning_typing.specs.FileLaws.{parameters_at}
@@ -40,7 +41,7 @@ nilable-kind ValueType.Cond v h k = k
 nilable-kind (ValueType.Slice e) v h k = k
 nilable-kind (ValueType.Chan e) v h k = k
 
-module _ (types : Types) (known : List (ℕ × ValueType)) where
+module _ (taking : Taking) (types : Types) (known : List (ℕ × ValueType)) where
   value-kind : (t : ValueType) (v : Value) → ValueFits types known v t → is_of t v ≡ true
   value-kind t (Value.Int n) h = subst (λ u. is_of u (Value.Int n) ≡ true) (sym h) refl
   value-kind t (Value.Bool b) h = subst (λ u. is_of u (Value.Bool b) ≡ true) (sym h) refl
@@ -49,10 +50,10 @@ module _ (types : Types) (known : List (ℕ × ValueType)) where
   value-kind t Value.Nil h = nilable-kind t Value.Nil h refl
   value-kind t (Value.Ref o) h = nilable-kind t (Value.Ref o) h.1 refl
 
-  held : (o : Option GoType) (v : Value) → IsKnown o → ValueFits types known v (known_type o) → Held o v
-  held o v k h = subst (λ z. Held z v) (sym k.1) (value-kind (value_type k.0) v (subst (λ z. ValueFits types known v (known_type z)) k.1 h))
+  held : (o : Option GoType) (v : Value) → IsKnown o → ValueFits types known v (known_type o) → Held taking o v
+  held o v k h = subst (λ z. Held taking z v) (sym k.1) (λ strict. value-kind (value_type k.0) v (subst (λ z. ValueFits types known v (known_type z)) k.1 h))
 
-  pub arguments-held : (os : List (Option GoType)) (vs : List Value) → Every IsKnown os → ValuesFit types known vs (known_types os) → ArgumentsFit os vs
+  pub arguments-held : (os : List (Option GoType)) (vs : List Value) → Every IsKnown os → ValuesFit types known vs (known_types os) → ArgumentsFit taking os vs
   arguments-held [] [] k h = tt
   arguments-held [] (v ∷ vs) k h = absurd h
   arguments-held (o ∷ os) [] k h = absurd h

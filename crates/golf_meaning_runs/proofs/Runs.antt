@@ -1,12 +1,14 @@
 -- The sources of the functions of a program mean what its calls show in a run.
 -- For: `RunsMeanSources`, golf_meaning_runs/specs/Laws.antt; the law `runs_mean_their_sources`, src/lib.rt.
 -- By: cases of where a call stands; induction over lists of calls.
-use Rattle.std.proofs.Common.{ℕ, zero, suc, ◌<◌, ◌≤◌, List, [], ◌∷◌, map, refl, ap, sym, ◌∙◌, subst, append-nil, arith}
+use Rattle.std.proofs.Common.{◌≡◌, ℕ, zero, suc, Bool, false, ◌<◌, ◌≤◌, List, [], ◌∷◌, Some, map, slice_get, refl, ap, sym, ◌∙◌, subst, append-nil, arith}
+use Rattle.std.proofs.lemmas.Bool.{false≢true}
 use Rattle.golf_theory.proofs.Lists.{Every-weaker}
 use Rattle.golf_syntax_trees.specs.declared.declarations.File.{File}
 use Rattle.golf_data.specs.declared.value.Value.{Value}
 use Rattle.golf_check_types.specs.Files.{outside}
 use Rattle.golf_data.specs.declared.code.Code.{Code}
+use Rattle.golf_data.specs.declared.code.Function.{Function}
 use Rattle.golf_model.specs.State.{State, start}
 use Rattle.golf_model.specs.Running.{Event, happens}
 use Rattle.golf_model_typing.specs.Types.{ValueType, Shape, Typing, ValuesFit}
@@ -19,31 +21,70 @@ use Rattle.golf_code_shapes_globals.proofs.Globals.{names-fit}
 use Rattle.golf_code_never_stuck.specs.Reached.{IsProgram}
 use Rattle.golf_code_never_stuck.proofs.Plain.{Sound, sound-start, sound-event, plain-runs-go-on}
 use Rattle.golf_code_never_stuck.proofs.Reaching.{files-have-shapes}
-use Rattle.golf_meaning_flat.specs.Worlds.{Operation, Answer, Misfit, Told}
-use Rattle.golf_meaning_flat.specs.Laws.{BeginsWith, NeverUnfit}
-use Rattle.golf_meaning_functions.specs.Files.{function_count, MeaningOf}
+use Rattle.golf_meaning_flat.specs.Worlds.{Operation, Answer, Misfit, Halt, End, Told, halted}
+use Rattle.golf_meaning_flat.specs.Laws.{BeginsWith, IsRuled}
+use Rattle.golf_meaning_functions.specs.Functions.{CodeMeaning}
+use Rattle.golf_meaning_functions.specs.Files.{function_count, giving_in, taking_in, MeaningOf}
 use Rattle.golf_meaning_typing.specs.Flowing.{EndSound}
 use Rattle.golf_meaning_typing.specs.FileLaws.{parameters_at}
+use Rattle.golf_meaning_typing.proofs.Giving.{gives-are}
 use Rattle.golf_meaning_typed_files.proofs.Files.{files-sound}
-use Rattle.golf_meaning_turns.specs.Life.{Now}
-use Rattle.golf_meaning_books.specs.Books.{AreArguments, RunTypes, shaping, Call, book_of, HasLife, TypedAlong}
+use Rattle.golf_meaning_turns.specs.Shaping.{giving}
+use Rattle.golf_meaning_turns.specs.Life.{Now, HasShown}
+use Rattle.golf_meaning_turns.proofs.Living.{lives-mean}
+use Rattle.golf_meaning_books.specs.Books.{AreArguments, RunTypes, shaping, Standing, Call, book_of, left_of, StandsSo, HasLife, GoesNoMore, TypedAlong}
+use Rattle.golf_meaning_books.proofs.Others.{one-some}
 use Rattle.golf_meaning_books.proofs.Runs.{runs-are-booked}
 use Rattle.golf_meaning_lives.specs.Laws.{SourceMeans}
 use Rattle.golf_meaning_lives.proofs.Sources.{lives-mean-source}
-use Rattle.golf_meaning_runs.specs.Laws.{AnswersFit, IsMeant, RunsMeanSources}
+use Rattle.golf_meaning_runs.specs.Laws.{SaysOf, IsMeant, RunsMeanSources}
 use Rattle.golf_meaning_runs.proofs.Files.{files-have-masks, files-have-parameters}
 use Rattle.golf_meaning_runs.proofs.Arguments.{arguments-held, parameters-known, signature-at}
 
--- what a source means begins with what was shown
-begins-with : (file : File) (k : ℕ) (arguments : List Value) (shown : List Operation) (got : List Answer) (now : Now) → SourceMeans file k arguments shown got now → (n : ℕ) × BeginsWith (MeaningOf file k arguments got n).operations shown
-begins-with file k arguments shown got (Now.Stands at c) h = h
-begins-with file k arguments shown got (Now.Asks at c before) h = (h.0, ([], ap (λ (t : Told). t.operations) h.1 ∙ sym (append-nil shown)))
-begins-with file k arguments shown got (Now.Halted halt) h = (h.0, ([], ap (λ (t : Told). t.operations) h.1 ∙ sym (append-nil shown)))
+-- a life that has come to this has a meaning which says what is so of the call
+module _ (meaning : ℕ → Told) (shown : List Operation) where
+  MeansSo : Now → Type 0
+  MeansSo (Now.Stands at c) = (n : ℕ) × BeginsWith (meaning n).operations shown
+  MeansSo (Now.Asks at c before) = (n : ℕ) × (meaning n ≡ record { operations = shown; end = End.Halts Halt.Waits })
+  MeansSo (Now.Halted h) = (n : ℕ) × (meaning n ≡ record { operations = shown; end = End.Halts h })
 
--- if no answer is unfit, nothing is
-never-unfit : (f : ℕ → Told) → ((n : ℕ) → EndSound (f n).end) → AnswersFit f → NeverUnfit f
-never-unfit f sound fit n Misfit.OfAnswer e = fit n e
-never-unfit f sound fit n Misfit.OfRule e = subst EndSound e (sound n)
+  says : (standing : Standing) (now : Now) → StandsSo standing now → MeansSo now → SaysOf meaning shown standing
+  unfolding MeansSo
+  says Standing.Goes (Now.Stands at c) e h = h
+  says Standing.Goes (Now.Asks at c before) e h = absurd e
+  says Standing.Goes (Now.Halted i) e h = absurd e
+  says (Standing.Asks q) (Now.Stands at c) e h = absurd e
+  says (Standing.Asks q) (Now.Asks at c before) e h = h
+  says (Standing.Asks q) (Now.Halted i) e h = absurd e
+  says (Standing.Ended j) (Now.Stands at c) e h = absurd e
+  says (Standing.Ended j) (Now.Asks at c before) e h = absurd e
+  says (Standing.Ended j) (Now.Halted i) e h = (h.0, h.1 ∙ ap (λ z. halted z shown) (sym e))
+
+of-source : (file : File) (k : ℕ) (arguments : List Value) (shown : List Operation) (got : List Answer) (now : Now) → SourceMeans file k arguments shown got now → MeansSo (MeaningOf file k arguments got) shown now
+unfolding MeansSo
+of-source file k arguments shown got (Now.Stands at c) h = h
+of-source file k arguments shown got (Now.Asks at c before) h = h
+of-source file k arguments shown got (Now.Halted i) h = h
+
+of-code : (gives : List Bool) (fn : Function) (arguments : List Value) (shown : List Operation) (got : List Answer) (now : Now) → HasShown gives fn arguments shown got now → MeansSo (CodeMeaning gives fn arguments got) shown now
+unfolding MeansSo
+of-code gives fn arguments shown got (Now.Stands at c) h = (h.0, ([], ap (λ (t : Told). t.operations) h.1 ∙ sym (append-nil shown)))
+of-code gives fn arguments shown got (Now.Asks at c before) h = h
+of-code gives fn arguments shown got (Now.Halted i) h = h
+
+same-function : (code : Code) (k : ℕ) (f g : Function) → slice_get code.functions k ≡ Some f → slice_get code.functions k ≡ Some g → f ≡ g
+same-function code k f g a b = one-some f g (sym a ∙ b)
+
+-- if no rule is lacking and kinds are not looked at in answers, a rule fits
+ruled : (e : End) → EndSound false e → IsRuled e
+ruled (End.Halts (Halt.Unfit Misfit.OfAnswer)) h = false≢true h
+ruled (End.Halts (Halt.Unfit Misfit.OfRule)) h = h
+ruled (End.Halts (Halt.Unfit Misfit.OfCount)) h = tt
+ruled (End.Halts (Halt.Unfit Misfit.OfKind)) h = tt
+ruled (End.Halts (Halt.Returned v)) h = tt
+ruled (End.Halts Halt.Divided) h = tt
+ruled (End.Halts Halt.Waits) h = tt
+ruled End.Short h = tt
 
 -- the states of a run are well typed, by what is known of objects in the end
 typed-along : (code : Code) (types : Typing) (shapes : HasShapes code types) (es : List Event) (s : State) (h : Sound code types shapes s) → (later : List (ℕ × ValueType)) × Grows h.known later × TypedAlong code types later s es
@@ -58,8 +99,8 @@ module _ (file : File) (program : IsProgram file) (shapes : List (List Shape)) (
   abbrev types : RunTypes
   types = record { typing = record { of = types_of_file file; shapes = shapes }; known = known }
 
-  -- with such arguments the source of a function is unfit by an answer alone
-  sound : (k : ℕ) (arguments : List Value) (got : List Answer) → 0 < k → k ≤ function_count file.declarations → AreArguments types k arguments → (n : ℕ) → EndSound (MeaningOf file k arguments got n).end
+  -- with such arguments the source of a function lacks no rule
+  sound : (k : ℕ) (arguments : List Value) (got : List Answer) → 0 < k → k ≤ function_count file.declarations → AreArguments types k arguments → (n : ℕ) → EndSound false (MeaningOf file k arguments got n).end
   sound zero arguments got above in_file h n = absurd (omega (arith, above))
   sound (suc k) arguments got above in_file (sig, is, fit) n =
       let xs = file.declarations in
@@ -67,13 +108,21 @@ module _ (file : File) (program : IsProgram file) (shapes : List (List Shape)) (
       let less : k < function_count xs = omega (arith, in_file) in
       let names = names-fit file program.typed in
       let same = signature-at (tables_of xs) f xs (map made_signature (made_in (tables_of xs) f xs)) k sig less is in
-      files-sound file program.typed program.good k arguments got n less
-      (arguments-held (types_of_file file) known (parameters_at (outside f) xs k) arguments (parameters-known f 0 xs k names.declarations) (subst (λ ts. ValuesFit (types_of_file file) known arguments ts) same fit))
+      files-sound file program.typed program.good false k arguments got n less
+      (arguments-held (taking_in file false) (types_of_file file) known (parameters_at (outside f) xs k) arguments (parameters-known f 0 xs k names.declarations) (subst (λ ts. ValuesFit (types_of_file file) known arguments ts) same fit))
 
   live-meant : (k : Call) → HasLife (CodeOf file) types k → IsMeant file k
-  live-meant k (fn, is, (given, (now, life))) above in_file fit =
-      begins-with file k.function k.arguments k.shown k.got now
-      (lives-mean-source file k.function fn (shaping types k.function) k.arguments k.shown k.got now above in_file is (never-unfit (MeaningOf file k.function k.arguments k.got) (sound k.function k.arguments k.got above in_file given) fit) life)
+  live-meant k (fn, is, (given, (now, life, stands))) = (
+    λ above in_file.
+        let ruled_in = λ (n : ℕ). ruled (MeaningOf file k.function k.arguments k.got n).end (sound k.function k.arguments k.got above in_file given n) in
+        says (MeaningOf file k.function k.arguments k.got) k.shown k.standing now stands
+        (of-source file k.function k.arguments k.shown k.got now (lives-mean-source file k.function fn (shaping types k.function) k.arguments k.shown k.got now above in_file is (sym (gives-are file)) ruled_in life)),
+    λ other found.
+        let gives = giving (types_of_file file) in
+        subst (λ (f : Function). SaysOf (CodeMeaning (giving_in file) f k.arguments k.got) k.shown k.standing) (same-function (CodeOf file) k.function fn other is found)
+        (subst (λ bs. SaysOf (CodeMeaning bs fn k.arguments k.got) k.shown k.standing) (sym (gives-are file))
+        (says (CodeMeaning gives fn k.arguments k.got) k.shown k.standing now stands (of-code gives fn k.arguments k.shown k.got now (lives-mean fn (shaping types k.function) k.arguments k.shown k.got now life)))),
+  )
 
 pub runs-mean-sources : RunsMeanSources
 runs-mean-sources file program events =
@@ -87,4 +136,5 @@ runs-mean-sources file program events =
       shaped = x.1;
       booked = b.1;
       meant = λ g. Every-weaker (HasLife code (types file program x.0 b.0)) (IsMeant file) (λ k h. live-meant file program x.0 b.0 k h) (book_of code events g) (b.1.always g);
+      left_meant = Every-weaker (λ (k : Call). HasLife code (types file program x.0 b.0) k × GoesNoMore k.standing) (IsMeant file) (λ k h. live-meant file program x.0 b.0 k h.0) (left_of code events) b.1.left;
     }

@@ -1,33 +1,45 @@
 -- The law of the runs of a program and of its source, as a statement.
-use Rattle.std.specs.Prelude.{◌≡◌, ℕ, ◌<◌, ◌≤◌, List}
+use Rattle.std.specs.Prelude.{◌≡◌, ℕ, ◌<◌, ◌≤◌, List, Some, slice_get}
 use Rattle.golf_theory.specs.Membership.{Every}
 use Rattle.golf_syntax_trees.specs.declared.declarations.File.{File}
+use Rattle.golf_data.specs.declared.code.Function.{Function}
 use Rattle.golf_model.specs.Running.{Event}
 use Rattle.golf_model_typing.specs.Shapes.{HasShapes}
 use Rattle.golf_code_of.specs.Files.{CodeOf}
 use Rattle.golf_code_shapes.specs.FileLaws.{types_of_file}
 use Rattle.golf_code_never_stuck.specs.Reached.{IsProgram}
-use Rattle.golf_meaning_flat.specs.Worlds.{Misfit, Halt, End, Told}
+use Rattle.golf_meaning_flat.specs.Worlds.{Operation, Halt, End, Told}
 use Rattle.golf_meaning_flat.specs.Laws.{BeginsWith}
-use Rattle.golf_meaning_functions.specs.Files.{function_count, MeaningOf}
-use Rattle.golf_meaning_books.specs.Books.{RunTypes, Call, book_of, IsBooked}
+use Rattle.golf_meaning_functions.specs.Functions.{CodeMeaning}
+use Rattle.golf_meaning_functions.specs.Files.{function_count, giving_in, MeaningOf}
+use Rattle.golf_meaning_books.specs.Books.{RunTypes, Standing, Call, book_of, left_of, IsBooked}
 
--- no answer is unfit for its operation
-abbrev pub AnswersFit : (ℕ → Told) → Type 0
-AnswersFit f = (n : ℕ) → (f n).end ≡ End.Halts (Halt.Unfit Misfit.OfAnswer) → ⊥
+-- What a meaning says of a call that stands so, with the answers that it got, for some bound. While the call goes on, the operations that it has shown are a prefix of those that are meant. If it waits for an answer, they are exactly these, and the meaning waits at the last one. Once it has returned or divided by zero, they are exactly these, with the same end.
+abbrev pub SaysOf : (ℕ → Told) → List Operation → Standing → Type 0
+SaysOf meaning shown Standing.Goes = (n : ℕ) × BeginsWith (meaning n).operations shown
+SaysOf meaning shown (Standing.Asks q) = (n : ℕ) × (meaning n ≡ record { operations = shown; end = End.Halts Halt.Waits })
+SaysOf meaning shown (Standing.Ended h) = (n : ℕ) × (meaning n ≡ record { operations = shown; end = End.Halts h })
 
--- If the call is of a function or method of the file, and the answers that it got fit: for some number of turns of each loop, the operations that it has shown are a prefix of those that the source means.
+-- so does the source of a function or method of the file
+abbrev pub SourceSays : File → Call → Type 0
+SourceSays file k =
+    0 < k.function → k.function ≤ function_count file.declarations → SaysOf (MeaningOf file k.function k.arguments k.got) k.shown k.standing
+
+-- and so does the code of every function
+abbrev pub CodeSays : File → Call → Type 0
+CodeSays file k = (fn : Function) → slice_get (CodeOf file).functions k.function ≡ Some fn → SaysOf (CodeMeaning (giving_in file) fn k.arguments k.got) k.shown k.standing
+
 abbrev pub IsMeant : File → Call → Type 0
-IsMeant file k =
-    0 < k.function → k.function ≤ function_count file.declarations → AnswersFit (MeaningOf file k.function k.arguments k.got) → (n : ℕ) × BeginsWith (MeaningOf file k.function k.arguments k.got n).operations k.shown
+IsMeant file k = SourceSays file k × CodeSays file k
 
--- after these events the frames of each goroutine match its calls, whose frames have shapes of the code, and the source means what each call has shown
+-- After these events the frames of each goroutine match its calls, whose frames have shapes of the code; and each call, also one that has left, has done what its source and its code mean.
 pub record RunMeansSource (file : File) (events : List Event) : Type 0 where
   pub types : RunTypes
   pub of_file : types.typing.of ≡ types_of_file file
   pub shaped : HasShapes (CodeOf file) types.typing
   pub booked : IsBooked (CodeOf file) types events
   pub meant : (g : ℕ) → Every (IsMeant file) (book_of (CodeOf file) events g)
+  pub left_meant : Every (IsMeant file) (left_of (CodeOf file) events)
 
 -- so it is after all events, for each well-formed file that breaks no rule
 abbrev pub RunsMeanSources : Type 0

@@ -7,8 +7,8 @@
 ghost use Rattle.golf_meaning_runs.specs.Laws.{RunsMeanSources};
 
 /// In each run of a well-formed file that breaks no rule, the frames of every goroutine match its
-/// calls, and the operations that each call has shown are a prefix of those that the source of its
-/// function means with the answers that the call got, unless one of these does not fit.
+/// calls. With the answers that a call got, the source of its function means operations that begin with
+/// those that the call has shown; exactly these if it waits or has ended, with the same end.
 pub fn runs_mean_their_sources()
     ensures { RunsMeanSources }
 {}

@@ -10,26 +10,28 @@ use Rattle.golf_syntax_induction.proofs.Expressions.{fold-element, carried}
 use Rattle.golf_check_types.specs.Judging.{Judge, Put, judge, judge_step, element_step}
 use Rattle.golf_code_of.specs.declared.tables.Tables.{Tables}
 use Rattle.golf_meaning_source.specs.Meaning.{Meant, MeantPut, put_judge, meant, meant_step, element_meant_step}
+use Rattle.golf_meaning_source.specs.Operations.{Taking}
 
-pub agree : (t : Tables) (e : Expr) → (meant t e).judge ≡ judge e
-unfolding meant judge
-agree t = carried Meant MeantPut (meant_step t) element_meant_step Judge Put judge_step element_step (λ x. x.judge) put_judge (λ y. refl) (λ y. refl)
+module _ (taking : Taking) where
+  pub agree : (t : Tables) (e : Expr) → (meant taking t e).judge ≡ judge e
+  unfolding meant judge
+  agree t = carried Meant MeantPut (meant_step taking t) element_meant_step Judge Put judge_step element_step (λ x. x.judge) put_judge (λ y. refl) (λ y. refl)
 
--- an element of a struct literal
-abbrev pub meant_put : Tables → Element → MeantPut
-meant_put t x = record { name = x.field; value = meant t x.value }
+  -- an element of a struct literal
+  abbrev pub meant_put : Tables → Element → MeantPut
+  meant_put t x = record { name = x.field; value = meant taking t x.value }
 
-abbrev pub element_meant : Tables → Element → MeantPut
-element_meant t = fold-Element Meant MeantPut (meant_step t) element_meant_step
+  abbrev pub element_meant : Tables → Element → MeantPut
+  element_meant t = fold-Element Meant MeantPut (meant_step taking t) element_meant_step
 
-pub element-meant-is : (t : Tables) (x : Element) → element_meant t x ≡ meant_put t x
-unfolding meant
-element-meant-is t = fold-element Meant MeantPut (meant_step t) element_meant_step
+  pub element-meant-is : (t : Tables) (x : Element) → element_meant t x ≡ meant_put t x
+  unfolding meant
+  element-meant-is t = fold-element Meant MeantPut (meant_step taking t) element_meant_step
 
--- one layer of an expression
-abbrev pub meant_layer : Tables → Expr-F Expr Element → Meant
-meant_layer t y = meant_step t (map-Expr Expr Element Meant MeantPut (meant t) (element_meant t) y)
+  -- one layer of an expression
+  abbrev pub meant_layer : Tables → Expr-F Expr Element → Meant
+  meant_layer t y = meant_step taking t (map-Expr Expr Element Meant MeantPut (meant taking t) (element_meant t) y)
 
-pub meant-rolls : (t : Tables) (y : Expr-F Expr Element) → meant t (roll-Expr y) ≡ meant_layer t y
-unfolding meant
-meant-rolls t = fold-roll-Expr Meant MeantPut (meant_step t) element_meant_step
+  pub meant-rolls : (t : Tables) (y : Expr-F Expr Element) → meant taking t (roll-Expr y) ≡ meant_layer t y
+  unfolding meant
+  meant-rolls t = fold-roll-Expr Meant MeantPut (meant_step taking t) element_meant_step

@@ -4,31 +4,25 @@ use Rattle.golf_data.specs.declared.value.Value.{Value}
 use Rattle.golf_check_types.specs.declared.locals.Local.{Local}
 use Rattle.golf_code_layout.specs.Piece.{Piece}
 use Rattle.golf_code_of.specs.Expressions.{Made}
-use Rattle.golf_meaning_flat.specs.Worlds.{Halt, World, Part, halted, bind, pushed}
+use Rattle.golf_meaning_flat.specs.Worlds.{World, Part, halted, bind, pushed}
 use Rattle.golf_meaning_flat.specs.Doing.{Frame}
 use Rattle.golf_meaning_flat.specs.Structured.{Way, run}
+use Rattle.golf_meaning_flat.specs.Laws.{Said}
 use Rattle.golf_meaning_source.specs.Names.{Env}
-use Rattle.golf_meaning_source.specs.Operations.{Gives}
+use Rattle.golf_meaning_source.specs.Operations.{Taking, Gives}
 use Rattle.golf_meaning_source.specs.Exprs.{Place, read, store}
 
 abbrev pub frame : List Value → List Value → Frame
 frame slots operands = record { slots = slots; operands = operands }
 
--- a way does what a part says: it leads to if this holds, or ends alike; nothing is said if the part is unfit
+-- a way does what a part says: it leads to if this holds, or ends alike, if that is said of its halt
 abbrev pub Sim : {A : Type 0} → Part A → (A → World → Way → Type 0) → Way → Type 0
 Sim (Part.Gives a w) K o = K a w o
-Sim (Part.Stops (Halt.Returned v) os) K o = o ≡ Way.Ends (halted (Halt.Returned v) os)
-Sim (Part.Stops Halt.Divided os) K o = o ≡ Way.Ends (halted Halt.Divided os)
-Sim (Part.Stops Halt.Waits os) K o = o ≡ Way.Ends (halted Halt.Waits os)
-Sim (Part.Stops (Halt.Unfit of) os) K o = Unit {0}
+Sim (Part.Stops h os) K o = Said h (o ≡ Way.Ends (halted h os))
 
 -- it goes on with these operands on top
 abbrev pub OnTop : List Value → List Value → List Value → World → Way → Type 0
 OnTop slots rest vs u o = o ≡ Way.Through (frame slots (pushed vs rest)) u
-
--- the piece takes these operands, and gives what is said
-abbrev pub Turns : List Value → Piece → List Value → Gives → Type 0
-Turns slots p takes f = (n at : ℕ) (ts : List ℕ) (rest : List Value) (w : World) → Sim (f w) (OnTop slots rest) (run n p at ts (frame slots (pushed takes rest)) w)
 
 -- the names of the locals have their values, and these stand in their slots
 abbrev pub Stored : List Local → Env → List Value → Type 0
@@ -55,20 +49,25 @@ Kept ds next slots now = (i : ℕ) → i < next → Apart i ds → slice_get now
 abbrev pub Changed : List Local → List Value → List Value → Env → World → Way → Type 0
 Changed ds slots rest env u o = (now : List Value) × (o ≡ Way.Through (frame now rest) u) × Stored ds env now × (length now ≡ length slots) × ((i : ℕ) → Apart i ds → slice_get now i ≡ slice_get slots i)
 
--- what goes on after these operands
-abbrev pub Tail : {B : Type 0} → List Value → List Value → Piece → List Value → (World → Part B) → (B → World → Way → Type 0) → Type 0
-Tail slots rest q vs g L = (n at : ℕ) (ts : List ℕ) (w : World) → Sim (g w) L (run n q at ts (frame slots (pushed vs rest)) w)
-
--- What an expression does with these names and values is what its code does: its value, the place, and what tells it.
-pub record Matches (ds : List Local) (slots : List Value) (env : Env) (value : Gives) (place : Place) (parts : Gives) (m : Made) : Type 0 where
-  pub value_turns : Turns slots m.piece [] value
-  pub parts_turn : Turns slots m.parts [] parts
-  -- the place is read on top of what tells it
-  pub again : (rest vs : List Value) (q : Piece) (g : List Value → World → Part Env) → ((xs : List Value) → Tail slots rest q (vs ++ xs) (g xs) (Changed ds slots rest))
-      → Tail slots rest (Piece.Then m.twice (Piece.Then m.read q)) vs (λ w. bind (read env place vs w) g) (Changed ds slots rest)
-  pub stores : (vs : List Value) (n at : ℕ) (ts : List ℕ) (rest : List Value) (w : World) → Sim (store env place vs w) (Changed ds slots rest) (run n m.store at ts (frame slots (pushed vs rest)) w)
-
 -- the names that are known have their values
 pub record Known (ds : List Local) (next : ℕ) (env : Env) (slots : List Value) : Type 0 where
   pub stored : Stored ds env slots
   pub rising : Rising 0 next ds
+
+module _ (taking : Taking) where
+  -- the piece takes these operands, and gives what is said
+  abbrev pub Turns : List Value → Piece → List Value → Gives → Type 0
+  Turns slots p takes f = (n at : ℕ) (ts : List ℕ) (rest : List Value) (w : World) → Sim (f w) (OnTop slots rest) (run taking.gives n p at ts (frame slots (pushed takes rest)) w)
+
+  -- what goes on after these operands
+  abbrev pub Tail : {B : Type 0} → List Value → List Value → Piece → List Value → (World → Part B) → (B → World → Way → Type 0) → Type 0
+  Tail slots rest q vs g L = (n at : ℕ) (ts : List ℕ) (w : World) → Sim (g w) L (run taking.gives n q at ts (frame slots (pushed vs rest)) w)
+
+  -- What an expression does with these names and values is what its code does: its value, the place, and what tells it.
+  pub record Matches (ds : List Local) (slots : List Value) (env : Env) (value : Gives) (place : Place) (parts : Gives) (m : Made) : Type 0 where
+    pub value_turns : Turns slots m.piece [] value
+    pub parts_turn : Turns slots m.parts [] parts
+    -- the place is read on top of what tells it
+    pub again : (rest vs : List Value) (q : Piece) (g : List Value → World → Part Env) → ((xs : List Value) → Tail slots rest q (vs ++ xs) (g xs) (Changed ds slots rest))
+        → Tail slots rest (Piece.Then m.twice (Piece.Then m.read q)) vs (λ w. bind (read taking env place vs w) g) (Changed ds slots rest)
+    pub stores : (vs : List Value) (n at : ℕ) (ts : List ℕ) (rest : List Value) (w : World) → Sim (store taking env place vs w) (Changed ds slots rest) (run taking.gives n m.store at ts (frame slots (pushed vs rest)) w)

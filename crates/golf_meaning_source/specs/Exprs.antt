@@ -26,7 +26,7 @@ use Rattle.golf_code_of.specs.Values.{constant, makes}
 use Rattle.golf_meaning_flat.specs.Worlds.{World, Part, bind}
 use Rattle.golf_meaning_flat.specs.Doing.{unfit, negated, inverted, computed, divided, compared, equated}
 use Rattle.golf_meaning_source.specs.Names.{Env, find, assign}
-use Rattle.golf_meaning_source.specs.Operations.{Gives, gives, both, then_do, in_order, visible, panicking, on_one, on_two, if_true}
+use Rattle.golf_meaning_source.specs.Operations.{Taking, Gives, gives, both, then_do, in_order, visible, panicking, on_one, on_two, if_true}
 
 -- Left sides.
 
@@ -46,15 +46,6 @@ abbrev pub if_none : {A : Type 0} → List Value → World → Part A → Part A
 if_none [] w p = p
 if_none (v ∷ vs) w p = unfit w
 
--- a place that these operands tell is read
-abbrev pub read : Env → Place → List Value → Gives
-read env Place.Nowhere vs w = if_none vs w (Part.Gives [] w)
-read env Place.Blank vs w = if_none vs w (Part.Gives [] w)
-read env (Place.Local n) vs w = if_none vs w (found (find env n) w)
-read env (Place.Global g t) vs w = if_none vs w (visible (Instr.LoadGlobal g) (t ∷ []) [] w)
-read env (Place.Field i t) vs w = visible (Instr.Field i) (t ∷ []) vs w
-read env (Place.Element t) vs w = visible Instr.Index (t ∷ []) vs w
-
 abbrev pub assigned : Env → List ℕ → Option Value → Value → World → Part Env
 assigned env n None v w = unfit w
 assigned env n (Some old) v w = Part.Gives (assign env n v) w
@@ -67,15 +58,6 @@ abbrev pub dropped : Env → List Value → World → Part Env
 dropped env (v ∷ []) w = Part.Gives env w
 dropped env _ w = unfit w
 
--- a value is stored, on top of the operands that tell the place
-abbrev pub store : Env → Place → List Value → World → Part Env
-store env Place.Nowhere vs w = unfit w
-store env Place.Blank vs w = dropped env vs w
-store env (Place.Local n) vs w = assigned_one env n vs w
-store env (Place.Global g t) vs w = bind (visible (Instr.StoreGlobal g) [] vs w) (λ us u. if_none us u (Part.Gives env u))
-store env (Place.Field i t) vs w = bind (visible (Instr.SetField i) [] vs w) (λ us u. if_none us u (Part.Gives env u))
-store env (Place.Element t) vs w = bind (visible Instr.SetIndex [] vs w) (λ us u. if_none us u (Part.Gives env u))
-
 -- What an expression does with these names and values: its value, or the receiver of a method; as a left side the place, and what tells it.
 pub record Does : Type 0 where
   pub value : Env → Gives
@@ -85,13 +67,8 @@ pub record Does : Type 0 where
 abbrev pub only : (Env → Gives) → Does
 only f = record { value = f; place = λ env. Place.Nowhere; parts = λ env w. Part.Gives [] w }
 
-abbrev pub in_place : (Env → Place) → (Env → Gives) → Does
-in_place p f = record { value = λ env. then_do (f env) (read env (p env)); place = p; parts = f }
-
 abbrev pub constant_gives : List Value → Env → Gives
 constant_gives vs env w = Part.Gives vs w
-
--- Names that are no locals.
 
 abbrev pub outer_place : List ℕ → Option Operand → Place
 outer_place n (Some (operand.Variable (place.Global g) t)) = Place.Global g t
@@ -99,30 +76,9 @@ outer_place n (Some (operand.Variable (place.Slot i) t)) = Place.Local n
 outer_place n (Some operand.Blank) = Place.Blank
 outer_place n _ = Place.Nowhere
 
-abbrev pub outer_value : Tables → Option Operand → Gives
-outer_value t (Some (operand.Variable (place.Global g) e)) = visible (Instr.LoadGlobal g) (e ∷ []) []
-outer_value t (Some (operand.Variable (place.Slot i) e)) = unfit
-outer_value t (Some (operand.Constant k b)) = gives (zero_of (constant t k) ∷ [])
-outer_value t (Some (operand.Truth b)) = gives (Value.Bool b ∷ [])
-outer_value t (Some operand.Nil) = gives (Value.Nil ∷ [])
-outer_value t _ = gives []
-
 abbrev pub place_of_name : List ℕ → Option Value → Option Operand → Place
 place_of_name n (Some v) outer = Place.Local n
 place_of_name n None outer = outer_place n outer
-
-abbrev pub value_of_name : Tables → Option Value → Option Operand → Gives
-value_of_name t (Some v) outer = gives (v ∷ [])
-value_of_name t None outer = outer_value t outer
-
-abbrev pub name_does : Tables → Bool → List ℕ → Option Operand → Does
-name_does t blank n outer = record {
-  value = λ env. cond blank (gives []) (value_of_name t (find env n) outer);
-  place = λ env. cond blank Place.Blank (place_of_name n (find env n) outer);
-  parts = λ env. gives [];
-}
-
--- Literals, `make` and `new`.
 
 abbrev pub plain_type : Base → List (Option GoType)
 plain_type b = Some (plain b) ∷ []
@@ -131,56 +87,12 @@ abbrev pub pointer_type : Option Base → List (Option GoType)
 pointer_type None = None ∷ []
 pointer_type (Some b) = Some (plain b) ∷ []
 
-abbrev pub new_struct : Option Base → Gives
-new_struct b = visible (Instr.NewStruct (struct_of b)) (pointer_type b) []
-
--- what is put in leaves the reference
-abbrev pub puts_in : Instr → List Value → Gives → List Value → Gives
-puts_in i p e more w = bind (both (gives (p ++ more)) e w) (λ vs u. bind (visible i [] vs u) (λ us v. if_none us v (Part.Gives p v)))
-
 abbrev pub one_reference : List Value → Gives → Gives
 one_reference (p ∷ []) f w = f w
 one_reference _ f w = unfit w
 
-abbrev pub puts : FileScope → Option Base → List (List ℕ) → List Gives → List Value → Gives
-puts f b (n ∷ ns) (e ∷ es) p = then_do (one_reference p (puts_in (Instr.SetField (field_place f b n)) p e [])) (puts f b ns es)
-puts f b _ _ p = gives p
-
-abbrev pub struct_literal : FileScope → Option Base → List (List ℕ) → List Gives → Gives
-struct_literal f b names es = then_do (new_struct b) (puts f b names es)
-
-abbrev pub new_sync : Option Base → Gives
-new_sync (Some base.Mutex) = visible Instr.NewMutex (plain_type base.Mutex) []
-new_sync (Some base.Group) = visible Instr.NewGroup (plain_type base.Group) []
-new_sync (Some base.ReadWriteMutex) = visible Instr.NewRw (plain_type base.ReadWriteMutex) []
-new_sync _ = gives []
-
-abbrev pub container : Instr → Option GoType → List Value → Gives
-container (Instr.NewSlice z) t vs = visible (Instr.NewSlice z) (t ∷ []) vs
-container (Instr.NewChan z) t vs = visible (Instr.NewChan z) (t ∷ []) vs
-container _ t vs = unfit
-
-abbrev pub made : Option GoType → List Value → Gives
-made t vs = container (makes t) t vs
-
 abbrev pub int_value : ℕ → Value
 int_value n = Value.Int (pos n)
-
-abbrev pub elements : ℕ → List Gives → List Value → Gives
-elements i [] s = gives s
-elements i (e ∷ es) s = then_do (one_reference s (puts_in Instr.SetIndex s e (int_value i ∷ []))) (elements (i + 1) es)
-
-abbrev pub slice_literal : Option GoType → List Gives → Gives
-slice_literal t es = then_do (made t (int_value (length es) ∷ [])) (elements 0 es)
-
--- Selectors and indices.
-
-abbrev pub selector : Operand → (Env → Gives) → Does
-selector (operand.Field i t) e = in_place (λ env. Place.Field i t) e
-selector (operand.Value t) e = only (λ env. then_do (e env) (visible Instr.CondMutex (plain_type base.Mutex)))
-selector (operand.Method k) e = only e
-selector (operand.BuiltIn b) e = only e
-selector _ e = only (constant_gives [])
 
 -- the type of what is given
 abbrev pub left_types : Operand → List (Option GoType)
@@ -192,13 +104,6 @@ left_types _ = []
 abbrev pub element_type : Operand → Option GoType
 element_type (operand.Element t) = t
 element_type _ = None
-
--- Operators.
-
-abbrev pub unary_does : UnaryOperator → Operand → List Value → Gives
-unary_does unary.Negate m = on_one negated
-unary_does unary.Not m = on_one inverted
-unary_does unary.Receive m = visible Instr.Receive (left_types m)
 
 abbrev pub negating : (List Value → Gives) → List Value → Gives
 negating f vs = then_do (f vs) (on_one inverted)
@@ -223,36 +128,6 @@ binary_does binary.Or a b = then_do (then_do a (on_one inverted)) (λ vs. if_tru
 binary_does binary.And a b = then_do a (λ vs. if_true vs b (gives (Value.Bool false ∷ [])))
 binary_does o a b = then_do (both a b) (calculation o)
 
--- Calls.
-
--- what a built-in call does with its operands, of which there are so many
-abbrev pub operation : ℕ → BuiltIn → List (Option GoType) → List Value → Gives
-operation n built_in.Length ts = visible Instr.Len ts
-operation n built_in.Close ts = visible Instr.Close ts
-operation n built_in.Panic ts = panicking
-operation n built_in.Print ts = visible (Instr.Print n) ts
-operation n built_in.Collect ts = visible Instr.Collect ts
-operation n built_in.SetFinalizer ts = gives
-operation n built_in.NewCondition ts = visible Instr.NewCond ts
-operation n built_in.Lock ts = visible Instr.Lock ts
-operation n built_in.Unlock ts = visible Instr.Unlock ts
-operation n built_in.Add ts = visible Instr.GroupAdd ts
-operation n built_in.Done ts = λ vs. visible Instr.GroupAdd ts (vs ++ Value.Int (negsuc 0) ∷ [])
-operation n built_in.WaitGroup ts = visible Instr.GroupWait ts
-operation n built_in.WriteLock ts = visible Instr.RwLock ts
-operation n built_in.WriteUnlock ts = visible Instr.RwUnlock ts
-operation n built_in.ReadLock ts = visible Instr.ReadLock ts
-operation n built_in.ReadUnlock ts = visible Instr.ReadUnlock ts
-operation n built_in.WaitCondition ts = visible Instr.CondWait ts
-operation n built_in.Signal ts = visible Instr.CondSignal ts
-operation n built_in.Broadcast ts = visible Instr.CondBroadcast ts
-
-abbrev pub calling : ℕ → Operand → List (Option GoType) → List Value → Gives
-calling n (operand.Function k) ts = visible (Instr.Call (k + 1) n) ts
-calling n (operand.Method k) ts = visible (Instr.Call (k + 1) (n + 1)) ts
-calling n (operand.BuiltIn b) ts = operation n b ts
-calling n _ ts = gives
-
 -- an argument: what it is, and its value
 pub record Argument : Type 0 where
   pub meaning : Operand
@@ -261,14 +136,140 @@ pub record Argument : Type 0 where
 abbrev pub values_of : List Argument → Gives
 values_of xs = in_order (map (λ x. x.value) xs)
 
-abbrev pub finaliser : Operand → List Value → Gives
-finaliser (operand.Function k) = visible (Instr.SetFinalizer (k + 1)) []
-finaliser _ = visible Instr.ClearFinalizer []
+module _ (taking : Taking) where
+  -- a place that these operands tell is read
+  abbrev pub read : Env → Place → List Value → Gives
+  read env Place.Nowhere vs w = if_none vs w (Part.Gives [] w)
+  read env Place.Blank vs w = if_none vs w (Part.Gives [] w)
+  read env (Place.Local n) vs w = if_none vs w (found (find env n) w)
+  read env (Place.Global g t) vs w = if_none vs w (visible taking (Instr.LoadGlobal g) (t ∷ []) [] w)
+  read env (Place.Field i t) vs w = visible taking (Instr.Field i) (t ∷ []) vs w
+  read env (Place.Element t) vs w = visible taking Instr.Index (t ∷ []) vs w
 
-abbrev pub finalising : List Argument → Gives
-finalising (x ∷ (y ∷ ys)) = then_do x.value (finaliser y.meaning)
-finalising _ = gives []
+  -- a value is stored, on top of the operands that tell the place
+  abbrev pub store : Env → Place → List Value → World → Part Env
+  store env Place.Nowhere vs w = unfit w
+  store env Place.Blank vs w = dropped env vs w
+  store env (Place.Local n) vs w = assigned_one env n vs w
+  store env (Place.Global g t) vs w = bind (visible taking (Instr.StoreGlobal g) [] vs w) (λ us u. if_none us u (Part.Gives env u))
+  store env (Place.Field i t) vs w = bind (visible taking (Instr.SetField i) [] vs w) (λ us u. if_none us u (Part.Gives env u))
+  store env (Place.Element t) vs w = bind (visible taking Instr.SetIndex [] vs w) (λ us u. if_none us u (Part.Gives env u))
 
--- receiver, arguments, and the call
-abbrev pub call : Operand → Operand → Gives → List Argument → Gives
-call f result receiver xs = cond (sets_finaliser f) (finalising xs) (then_do (both receiver (values_of xs)) (calling (length xs) f (left_types result)))
+  abbrev pub in_place : (Env → Place) → (Env → Gives) → Does
+  in_place p f = record { value = λ env. then_do (f env) (read env (p env)); place = p; parts = f }
+
+  -- Names that are no locals.
+
+  abbrev pub outer_value : Tables → Option Operand → Gives
+  outer_value t (Some (operand.Variable (place.Global g) e)) = visible taking (Instr.LoadGlobal g) (e ∷ []) []
+  outer_value t (Some (operand.Variable (place.Slot i) e)) = unfit
+  outer_value t (Some (operand.Constant k b)) = gives (zero_of (constant t k) ∷ [])
+  outer_value t (Some (operand.Truth b)) = gives (Value.Bool b ∷ [])
+  outer_value t (Some operand.Nil) = gives (Value.Nil ∷ [])
+  outer_value t _ = gives []
+
+  abbrev pub value_of_name : Tables → Option Value → Option Operand → Gives
+  value_of_name t (Some v) outer = gives (v ∷ [])
+  value_of_name t None outer = outer_value t outer
+
+  abbrev pub name_does : Tables → Bool → List ℕ → Option Operand → Does
+  name_does t blank n outer = record {
+    value = λ env. cond blank (gives []) (value_of_name t (find env n) outer);
+    place = λ env. cond blank Place.Blank (place_of_name n (find env n) outer);
+    parts = λ env. gives [];
+  }
+
+  -- Literals, `make` and `new`.
+
+  abbrev pub new_struct : Option Base → Gives
+  new_struct b = visible taking (Instr.NewStruct (struct_of b)) (pointer_type b) []
+
+  -- what is put in leaves the reference
+  abbrev pub puts_in : Instr → List Value → Gives → List Value → Gives
+  puts_in i p e more w = bind (both (gives (p ++ more)) e w) (λ vs u. bind (visible taking i [] vs u) (λ us v. if_none us v (Part.Gives p v)))
+
+  abbrev pub puts : FileScope → Option Base → List (List ℕ) → List Gives → List Value → Gives
+  puts f b (n ∷ ns) (e ∷ es) p = then_do (one_reference p (puts_in (Instr.SetField (field_place f b n)) p e [])) (puts f b ns es)
+  puts f b _ _ p = gives p
+
+  abbrev pub struct_literal : FileScope → Option Base → List (List ℕ) → List Gives → Gives
+  struct_literal f b names es = then_do (new_struct b) (puts f b names es)
+
+  abbrev pub new_sync : Option Base → Gives
+  new_sync (Some base.Mutex) = visible taking Instr.NewMutex (plain_type base.Mutex) []
+  new_sync (Some base.Group) = visible taking Instr.NewGroup (plain_type base.Group) []
+  new_sync (Some base.ReadWriteMutex) = visible taking Instr.NewRw (plain_type base.ReadWriteMutex) []
+  new_sync _ = gives []
+
+  abbrev pub container : Instr → Option GoType → List Value → Gives
+  container (Instr.NewSlice z) t vs = visible taking (Instr.NewSlice z) (t ∷ []) vs
+  container (Instr.NewChan z) t vs = visible taking (Instr.NewChan z) (t ∷ []) vs
+  container _ t vs = unfit
+
+  abbrev pub made : Option GoType → List Value → Gives
+  made t vs = container (makes t) t vs
+
+  abbrev pub elements : ℕ → List Gives → List Value → Gives
+  elements i [] s = gives s
+  elements i (e ∷ es) s = then_do (one_reference s (puts_in Instr.SetIndex s e (int_value i ∷ []))) (elements (i + 1) es)
+
+  abbrev pub slice_literal : Option GoType → List Gives → Gives
+  slice_literal t es = then_do (made t (int_value (length es) ∷ [])) (elements 0 es)
+
+  -- Selectors and indices.
+
+  abbrev pub selector : Operand → (Env → Gives) → Does
+  selector (operand.Field i t) e = in_place (λ env. Place.Field i t) e
+  selector (operand.Value t) e = only (λ env. then_do (e env) (visible taking Instr.CondMutex (plain_type base.Mutex)))
+  selector (operand.Method k) e = only e
+  selector (operand.BuiltIn b) e = only e
+  selector _ e = only (constant_gives [])
+
+  -- Operators.
+
+  abbrev pub unary_does : UnaryOperator → Operand → List Value → Gives
+  unary_does unary.Negate m = on_one negated
+  unary_does unary.Not m = on_one inverted
+  unary_does unary.Receive m = visible taking Instr.Receive (left_types m)
+
+  -- Calls.
+
+  -- what a built-in call does with its operands, of which there are so many
+  abbrev pub operation : ℕ → BuiltIn → List (Option GoType) → List Value → Gives
+  operation n built_in.Length ts = visible taking Instr.Len ts
+  operation n built_in.Close ts = visible taking Instr.Close ts
+  operation n built_in.Panic ts = panicking
+  operation n built_in.Print ts = visible taking (Instr.Print n) ts
+  operation n built_in.Collect ts = visible taking Instr.Collect ts
+  operation n built_in.SetFinalizer ts = gives
+  operation n built_in.NewCondition ts = visible taking Instr.NewCond ts
+  operation n built_in.Lock ts = visible taking Instr.Lock ts
+  operation n built_in.Unlock ts = visible taking Instr.Unlock ts
+  operation n built_in.Add ts = visible taking Instr.GroupAdd ts
+  operation n built_in.Done ts = λ vs. visible taking Instr.GroupAdd ts (vs ++ Value.Int (negsuc 0) ∷ [])
+  operation n built_in.WaitGroup ts = visible taking Instr.GroupWait ts
+  operation n built_in.WriteLock ts = visible taking Instr.RwLock ts
+  operation n built_in.WriteUnlock ts = visible taking Instr.RwUnlock ts
+  operation n built_in.ReadLock ts = visible taking Instr.ReadLock ts
+  operation n built_in.ReadUnlock ts = visible taking Instr.ReadUnlock ts
+  operation n built_in.WaitCondition ts = visible taking Instr.CondWait ts
+  operation n built_in.Signal ts = visible taking Instr.CondSignal ts
+  operation n built_in.Broadcast ts = visible taking Instr.CondBroadcast ts
+
+  abbrev pub calling : ℕ → Operand → List (Option GoType) → List Value → Gives
+  calling n (operand.Function k) ts = visible taking (Instr.Call (k + 1) n) ts
+  calling n (operand.Method k) ts = visible taking (Instr.Call (k + 1) (n + 1)) ts
+  calling n (operand.BuiltIn b) ts = operation n b ts
+  calling n _ ts = gives
+
+  abbrev pub finaliser : Operand → List Value → Gives
+  finaliser (operand.Function k) = visible taking (Instr.SetFinalizer (k + 1)) []
+  finaliser _ = visible taking Instr.ClearFinalizer []
+
+  abbrev pub finalising : List Argument → Gives
+  finalising (x ∷ (y ∷ ys)) = then_do x.value (finaliser y.meaning)
+  finalising _ = gives []
+
+  -- receiver, arguments, and the call
+  abbrev pub call : Operand → Operand → Gives → List Argument → Gives
+  call f result receiver xs = cond (sets_finaliser f) (finalising xs) (then_do (both receiver (values_of xs)) (calling (length xs) f (left_types result)))

@@ -1,5 +1,5 @@
 -- Operations of a source, and their answers.
-use Rattle.std.specs.Prelude.{◌+◌, ◌==◌, ◌&&◌, Bool, true, false, is_some, List, [], ◌∷◌, ◌++◌, length, Option, Some, None}
+use Rattle.std.specs.Prelude.{◌==◌, ◌&&◌, ◌||◌, Bool, true, false, not, is_some, List, [], ◌∷◌, ◌++◌, length, Option, Some, None}
 use Rattle.golf_data.specs.declared.value.Value.{Value}
 use Rattle.golf_data.specs.declared.code.Instr.{Instr}
 use Rattle.golf_model.specs.Values.{int_of, bool_of, text_of}
@@ -8,8 +8,8 @@ use Rattle.golf_check_types.specs.declared.types.Base.{Base}
 use Rattle.golf_check_types.specs.declared.types.Base.TheVariants as base
 use Rattle.golf_check_types.specs.declared.types.GoType.{GoType}
 use Rattle.golf_data.specs.Effects.{taken}
-use Rattle.golf_meaning_flat.specs.Worlds.{World, Part, bind, asks}
-use Rattle.golf_meaning_flat.specs.Doing.{unfit, misfit, chosen_by}
+use Rattle.golf_meaning_flat.specs.Worlds.{Misfit, Halt, World, Part, bind, asks}
+use Rattle.golf_meaning_flat.specs.Doing.{unfit, miscount, wrong_kind, gets, chosen_by}
 
 -- Whether a value is of a type, by its kind.
 
@@ -60,18 +60,17 @@ abbrev pub in_order : List Gives → Gives
 in_order [] w = Part.Gives [] w
 in_order (f ∷ fs) w = both f (in_order fs) w
 
--- an operation with these operands, which leaves values of these types
-abbrev pub answered : Instr → List (Option GoType) → List Value → Gives
-answered i leaves vs w = bind (asks i vs w) (λ a u. chosen_by ((a.clause == 0) && all_fit leaves a.values) (Part.Gives a.values u) (misfit u))
+-- How answers are taken: as many values as operations leave if these functions give a value; and if it is strict, values of the types that the operations leave.
+pub record Taking : Type 0 where
+  pub gives : List Bool
+  pub strict : Bool
 
-abbrev pub visible : Instr → List (Option GoType) → List Value → Gives
-visible i leaves vs w = chosen_by (length vs == taken i) (answered i leaves vs w) (unfit w)
+abbrev pub misfit : {A : Type 0} → World → Part A
+misfit w = Part.Stops (Halt.Unfit Misfit.OfAnswer) w.operations
 
 -- one without an answer
 abbrev pub panicking : List Value → Gives
-panicking vs w = chosen_by (length vs == 1) (bind (asks Instr.Panic vs w) (λ a u. misfit u)) (unfit w)
-
--- Calculations on one value or two.
+panicking vs w = chosen_by (length vs == 1) (bind (asks Instr.Panic vs w) (λ a u. miscount u)) (unfit w)
 
 abbrev pub on_one : (World → Value → Part Value) → List Value → Gives
 on_one f (x ∷ []) w = bind (f w x) (λ v u. Part.Gives (v ∷ []) u)
@@ -83,9 +82,17 @@ on_two f _ w = unfit w
 
 -- a test of one truth value
 abbrev pub by_bool : Option Bool → {A : Type 0} → World → Part A → Part A → Part A
-by_bool None w p q = unfit w
+by_bool None w p q = wrong_kind w
 by_bool (Some b) w p q = chosen_by b p q
 
 abbrev pub if_true : List Value → Gives → Gives → Gives
 if_true (x ∷ []) f g w = by_bool (bool_of x) w (f w) (g w)
 if_true _ f g w = unfit w
+
+module _ (taking : Taking) where
+  -- an operation with these operands, which leaves values of these types
+  abbrev pub answered : Instr → List (Option GoType) → List Value → Gives
+  answered i leaves vs w = bind (gets taking.gives i vs w) (λ a u. chosen_by (not taking.strict || all_fit leaves a.values) (Part.Gives a.values u) (misfit u))
+
+  abbrev pub visible : Instr → List (Option GoType) → List Value → Gives
+  visible i leaves vs w = chosen_by (length vs == taken i) (answered i leaves vs w) (unfit w)

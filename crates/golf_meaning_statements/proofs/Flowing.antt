@@ -13,22 +13,21 @@ use Rattle.golf_code_of.specs.declared.making.Around.{Around}
 use Rattle.golf_code_of.specs.Statements.{Part, Lay, then_lay}
 use Rattle.golf_code_of.specs.Statements as L
 use Rattle.golf_meaning_flat.specs.Worlds as V
-use Rattle.golf_meaning_flat.specs.Worlds.{Halt, End, Told, World, Operation, halted}
-use Rattle.golf_meaning_flat.specs.Doing.{Frame, on_some}
+use Rattle.golf_meaning_flat.specs.Worlds.{Misfit, Halt, End, Told, World, Operation, halted}
+use Rattle.golf_meaning_flat.specs.Doing.{Frame, on_kind}
 use Rattle.golf_meaning_flat.specs.Structured.{Way, then_way, unless_true, run}
+use Rattle.golf_meaning_flat.proofs.Halting.{said-as}
 use Rattle.golf_meaning_source.specs.Names.{Env}
+use Rattle.golf_meaning_source.specs.Operations.{Taking}
 use Rattle.golf_meaning_source.specs.Does.{frame, Sim, Stored, Rising, Apart, Kept, Changed, Known}
-use Rattle.golf_meaning_statements.specs.Flows.{Course, Flow, unfit_flow, on, after, then_flow, cut, guarded, by_test}
+use Rattle.golf_meaning_statements.specs.Flows.{Course, Flow, unfit_flow, wrong_kind_flow, on, after, then_flow, cut, guarded, by_test}
 use Rattle.golf_meaning_statements.specs.Steps.{Deed, Step, nothing, in_order, in_block, parts}
 use Rattle.golf_meaning_statements.specs.Follows.{Stands, EndsAlike, Goes, StatementMeans}
 
 -- ends go through what lets them through
 
 pub ends-in : (t : Told) (e : End) (C : Way → Way) (o : Way) → C (Way.Ends t) ≡ Way.Ends t → EndsAlike t e o → EndsAlike t e (C o)
-ends-in t (End.Halts (Halt.Unfit why)) C o strict h = tt
-ends-in t (End.Halts (Halt.Returned v)) C o strict h = ap C h ∙ strict
-ends-in t (End.Halts Halt.Divided) C o strict h = ap C h ∙ strict
-ends-in t (End.Halts Halt.Waits) C o strict h = ap C h ∙ strict
+ends-in t (End.Halts s) C o strict h = said-as s _ _ h (λ e. ap C e ∙ strict)
 ends-in t End.Short C o strict h = ap C h ∙ strict
 
 -- names and slots
@@ -100,21 +99,19 @@ kept-trans ds next slots now1 now h k i lt a = k i lt a ∙ h i lt a
 pub goes-after : {A : Type 0} (R : Flow → Way → Type 0) → ((t : Told) (o : Way) → EndsAlike t t.end o → R (Flow.Ends t) o) → (p : V.Part A) (f : A → World → Flow) (K : A → World → Way → Type 0) (C : Way → Way) (o : Way)
     → ((h : Halt) (os : List Operation) → C (Way.Ends (halted h os)) ≡ Way.Ends (halted h os)) → Sim p K o → ((x : A) (u : World) (i : Way) → K x u i → R (f x u) (C i)) → R (after p f) (C o)
 goes-after R ends (V.Part.Gives x u) f K C o strict h k = k x u o h
-goes-after R ends (V.Part.Stops (Halt.Returned v) os) f K C o strict h k = ends (halted (Halt.Returned v) os) (C o) (ap C h ∙ strict (Halt.Returned v) os)
-goes-after R ends (V.Part.Stops Halt.Divided os) f K C o strict h k = ends (halted Halt.Divided os) (C o) (ap C h ∙ strict Halt.Divided os)
-goes-after R ends (V.Part.Stops Halt.Waits os) f K C o strict h k = ends (halted Halt.Waits os) (C o) (ap C h ∙ strict Halt.Waits os)
-goes-after R ends (V.Part.Stops (Halt.Unfit why) os) f K C o strict h k = ends (halted (Halt.Unfit why) os) (C o) tt
+goes-after R ends (V.Part.Stops s os) f K C o strict h k = ends (halted s os) (C o) (said-as s _ _ h (λ e. ap C e ∙ strict s os))
 
 -- What a test leads to, under a relation of flows to ways: a flow and a way if it is true, another flow and a target if it is false.
 pub record Branches (R : Flow → Way → Type 0) (c : Frame) (u : World) (k : ℕ) (f g : Flow) (to : Frame → World → Way) : Type 0 where
   pub if_true : R f (to c u)
   pub if_false : R g (Way.Leaves k c u)
+  pub if_wrong : R (wrong_kind_flow u) (Way.Ends (halted (Halt.Unfit Misfit.OfKind) u.operations))
   pub if_neither : (o : Way) → R (unfit_flow u) o
 
 -- a test of a truth value
 pub goes-test : {R : Flow → Way → Type 0} {c : Frame} {u : World} {k : ℕ} {f g : Flow} {to : Frame → World → Way} (m : Option Bool) → Branches R c u k f g to
-    → R (by_test m u f g) (then_way (unless_true (on_some (λ b. V.Part.Gives (b, c) u) u m) k) to)
-goes-test None h = h.if_neither _
+    → R (by_test m u f g) (then_way (unless_true (on_kind (λ b. V.Part.Gives (b, c) u) u m) k) to)
+goes-test None h = h.if_wrong
 goes-test (Some true) h = h.if_true
 goes-test (Some false) h = h.if_false
 
@@ -143,20 +140,14 @@ module _ (rest : List Value) (a : Around) where
   -- a part that changes names
   pub goes-on : (ds al : List Local) (next : ℕ) (slots : List Value) (p : V.Part Env) (o : Way) → Sim p (λ env u i. (now : List Value) × (i ≡ Way.Through (frame now rest) u) × Stands ds next slots al env now) o → Goes ds next slots rest al a (on p) o
   goes-on ds al next slots (V.Part.Gives env u) o h = h
-  goes-on ds al next slots (V.Part.Stops (Halt.Returned v) os) o h = h
-  goes-on ds al next slots (V.Part.Stops Halt.Divided os) o h = h
-  goes-on ds al next slots (V.Part.Stops Halt.Waits os) o h = h
-  goes-on ds al next slots (V.Part.Stops (Halt.Unfit why) os) o h = tt
+  goes-on ds al next slots (V.Part.Stops s os) o h = h
 
   pub goes-changed : (ds : List Local) (next : ℕ) (slots : List Value) (p : V.Part Env) (o : Way) → Sim p (Changed ds slots rest) o → Goes ds next slots rest (ds ++ []) a (on p) o
   goes-changed ds next slots p o h = goes-on ds (ds ++ []) next slots p o (by p h)
     where
       by : (q : V.Part Env) → Sim q (Changed ds slots rest) o → Sim q (λ env u i. (now : List Value) × (i ≡ Way.Through (frame now rest) u) × Stands ds next slots (ds ++ []) env now) o
       by (V.Part.Gives env u) k = (k.0, k.1, (subst (λ xs. Stored xs env k.0) (sym (append-nil ds)) k.2, k.3, λ i lt ap'. k.4 i ap'))
-      by (V.Part.Stops (Halt.Returned v) os) k = k
-      by (V.Part.Stops Halt.Divided os) k = k
-      by (V.Part.Stops Halt.Waits os) k = k
-      by (V.Part.Stops (Halt.Unfit why) os) k = tt
+      by (V.Part.Stops s os) k = k
 
   -- blocks: what is declared inside is forgotten
 
@@ -221,99 +212,100 @@ pub record MayBegin (s : Scope) (walked : W.Walked) (env : Env) (slots : List Va
   pub known : Known s.locals s.next env slots
   pub room : (behind s walked).next ≤ length slots
 
--- statements that mean what their code does
-
-pub means-nothing : StatementMeans (λ s. W.nothing) (λ b s. L.no_code) nothing
-means-nothing = record {
-  rises = λ s. omega arith;
-  goes = λ a s n env slots ok room at ts rest u. (slots, refl, (subst (λ xs. Stored xs env slots) (sym (append-nil s.locals)) ok.stored, refl, λ i lt q. refl));
-}
-
--- A first part went as it is told, where it stands: what it declares has slots of its own, and its code goes as this flow does.
-pub record Went (v : Walk) (x : Lay) (s : Scope) (slots : List Value) : Type 0 where
-  pub around : Around
-  pub turns : ℕ
-  pub at : ℕ
-  pub targets : List ℕ
-  pub rest : List Value
-  pub start : Frame
-  pub world : World
-  pub flow : Flow
-  pub rises : Rising s.next (behind s (v s)).next (v s).declares
-  pub goes : Goes s.locals s.next slots rest (behind s (v s)).locals around flow (run turns (x around s).piece at targets start world)
-
--- after it comes a statement
-pub goes-and : {w : Walk} {y : Lay} {e : Deed} (v : Walk) (x : Lay) (s : Scope) (slots : List Value) (first : Went v x s slots) → StatementMeans w y e → Rising 0 s.next s.locals → (behind s (W.then v w s)).next ≤ length slots
-    → Goes s.locals s.next slots first.rest (behind s (W.then v w s)).locals first.around (then_flow first.flow (e (L.past first.around (x first.around s)) (behind s (v s)) first.turns))
-    (run first.turns (then_lay x v y first.around s).piece first.at first.targets first.start first.world)
-goes-and {w} {y} {e} v x s slots first hy rising room =
-    let a = first.around in
-    let n = first.turns in
-    let at = first.at in
-    let ts = first.targets in
-    let rest = first.rest in
-    let s1 = behind s (v s) in
-    let b = L.past a (x a s) in
-    let l = length-append (v s).slots (w s1).slots in
-    let piece = (x a s).piece in
-    subst (λ xs. Goes s.locals s.next slots rest xs a (then_flow first.flow (e b s1 n)) (run n (then_lay x v y a s).piece at ts first.start first.world)) (append_assoc s.locals (v s).declares (w s1).declares)
-    (goes-then rest a s.locals s1.locals (behind s1 (w s1)).locals s.next slots first.flow (e b s1 n) (run n piece at ts first.start first.world) (run n (y b s1).piece (at + size piece) ts) first.goes
-    (λ env1 u1 now st.
-    let more : Declared s.locals (v s).declares s.next s1.next slots now = record { onward = omega arith; rising = first.rises; came = record { long = st.1; kept = st.2 } } in
-    goes-base rest a (behind s1 (w s1)).locals (e b s1 n env1 u1) _ more
-    (around-same s1.locals s1.next now rest (behind s1 (w s1)).locals (e b s1 n env1 u1) _ (past-alike a (x a s))
-    (hy.goes b s1 n env1 now (record { stored = st.0; rising = rising-append s.locals (v s).declares 0 s.next s1.next rising first.rises }) (let q = st.1 in omega (arith, room, l, q)) (at + size piece) ts rest u1))))
-
-pub means-then : (v w : Walk) (x y : Lay) (d e : Deed) → StatementMeans v x d → StatementMeans w y e
-    → StatementMeans (W.then v w) (then_lay x v y) (λ a s n env u. then_flow (d a s n env u) (e (L.past a (x a s)) (behind s (v s)) n))
-means-then v w x y d e hx hy = record {
-  rises = λ s.
-      let s1 = behind s (v s) in
-      let l = length-append (v s).slots (w s1).slots in
-      subst (λ k. Rising s.next k ((v s).declares ++ (w s1).declares)) (omega (arith, l)) (rising-append (v s).declares (w s1).declares s.next s1.next (behind s1 (w s1)).next (hx.rises s) (hy.rises s1));
-  goes = λ a s n env slots ok room at ts rest u.
-      let l = length-append (v s).slots (w (behind s (v s))).slots in
-      goes-and v x s slots (record {
-        around = a;
-        turns = n;
-        at = at;
-        targets = ts;
-        rest = rest;
-        start = frame slots rest;
-        world = u;
-        flow = d a s n env u;
-        rises = hx.rises s;
-        goes = hx.goes a s n env slots ok (omega (arith, room, l)) at ts rest u;
-      }) hy ok.rising room;
-}
-
-abbrev pub StepMeans : Step → Type 0
-StepMeans x = StatementMeans x.part.walk x.part.lay x.deed
-
-abbrev pub EachMeans : List Step → Type 0
-EachMeans [] = Unit {0}
-EachMeans (x ∷ xs) = StepMeans x × EachMeans xs
-
-pub means-order : (xs : List Step) → EachMeans xs → StatementMeans (L.in_order (parts xs)).walk (L.in_order (parts xs)).lay (in_order xs)
-means-order [] h = means-nothing
-means-order (x ∷ xs) h = means-then x.part.walk (L.in_order (parts xs)).walk x.part.lay (L.in_order (parts xs)).lay x.deed (in_order xs) h.0 (means-order xs h.1)
-
 -- in a block, all ways have the names of before
 pub exactly-prefix : {env : Env} {slots : List Value} (rest : List Value) (a : Around) (s : Scope) (f : Flow) (o : Way) → Known s.locals s.next env slots → GoesPrefix rest a s.locals s.next slots f o → Exactly rest a s.locals s.next slots (cut (length env) f) o
 exactly-prefix {env} {slots} rest a s f o ok h = subst (λ k. Exactly rest a s.locals s.next slots (cut k f) o) (sym (stored-length s.locals env slots ok.stored)) (cut-exactly rest a s.locals s.next slots f o h)
 
-pub exactly-block : {w : Walk} {x : Lay} {d : Deed} {s : Scope} {env : Env} {slots : List Value} → StatementMeans w x d → (a : Around) (n : ℕ) → MayBegin s (W.in_block w s) env slots → (at : ℕ) (ts : List ℕ) (rest : List Value) (u : World)
-    → Exactly rest a s.locals s.next slots (in_block d a s n env u) (run n (x a (begun s)).piece at ts (frame slots rest) u)
-exactly-block {w} {x} {d} {s} {env} {slots} h a n ready at ts rest u =
-    let f = d a (begun s) n env u in
-    let o = run n (x a (begun s)).piece at ts (frame slots rest) u in
-    exactly-prefix rest a s f o ready.known
-    (goes-prefix rest a s.locals (w (begun s)).declares s.next slots f o (h.goes a (begun s) n env slots (record { stored = ready.known.stored; rising = ready.known.rising }) ready.room at ts rest u))
+module _ (taking : Taking) where
+  -- statements that mean what their code does
 
-pub means-block : (w : Walk) (x : Lay) (d : Deed) → StatementMeans w x d → StatementMeans (W.in_block w) (λ a s. x a (begun s)) (in_block d)
-means-block w x d h = record {
-  rises = λ s. omega arith;
-  goes = λ a s n env slots ok room at ts rest u.
-      let ready : MayBegin s (W.in_block w s) env slots = record { known = ok; room = room } in
-      exactly-goes rest a s.locals s.next slots (in_block d a s n env u) (run n (x a (begun s)).piece at ts (frame slots rest) u) (exactly-block h a n ready at ts rest u);
-}
+  pub means-nothing : StatementMeans taking (λ s. W.nothing) (λ b s. L.no_code) nothing
+  means-nothing = record {
+    rises = λ s. omega arith;
+    goes = λ a s n env slots ok room at ts rest u. (slots, refl, (subst (λ xs. Stored xs env slots) (sym (append-nil s.locals)) ok.stored, refl, λ i lt q. refl));
+  }
+
+  -- A first part went as it is told, where it stands: what it declares has slots of its own, and its code goes as this flow does.
+  pub record Went (v : Walk) (x : Lay) (s : Scope) (slots : List Value) : Type 0 where
+    pub around : Around
+    pub turns : ℕ
+    pub at : ℕ
+    pub targets : List ℕ
+    pub rest : List Value
+    pub start : Frame
+    pub world : World
+    pub flow : Flow
+    pub rises : Rising s.next (behind s (v s)).next (v s).declares
+    pub goes : Goes s.locals s.next slots rest (behind s (v s)).locals around flow (run taking.gives turns (x around s).piece at targets start world)
+
+  -- after it comes a statement
+  pub goes-and : {w : Walk} {y : Lay} {e : Deed} (v : Walk) (x : Lay) (s : Scope) (slots : List Value) (first : Went v x s slots) → StatementMeans taking w y e → Rising 0 s.next s.locals → (behind s (W.then v w s)).next ≤ length slots
+      → Goes s.locals s.next slots first.rest (behind s (W.then v w s)).locals first.around (then_flow first.flow (e (L.past first.around (x first.around s)) (behind s (v s)) first.turns))
+      (run taking.gives first.turns (then_lay x v y first.around s).piece first.at first.targets first.start first.world)
+  goes-and {w} {y} {e} v x s slots first hy rising room =
+      let a = first.around in
+      let n = first.turns in
+      let at = first.at in
+      let ts = first.targets in
+      let rest = first.rest in
+      let s1 = behind s (v s) in
+      let b = L.past a (x a s) in
+      let l = length-append (v s).slots (w s1).slots in
+      let piece = (x a s).piece in
+      subst (λ xs. Goes s.locals s.next slots rest xs a (then_flow first.flow (e b s1 n)) (run taking.gives n (then_lay x v y a s).piece at ts first.start first.world)) (append_assoc s.locals (v s).declares (w s1).declares)
+      (goes-then rest a s.locals s1.locals (behind s1 (w s1)).locals s.next slots first.flow (e b s1 n) (run taking.gives n piece at ts first.start first.world) (run taking.gives n (y b s1).piece (at + size piece) ts) first.goes
+      (λ env1 u1 now st.
+      let more : Declared s.locals (v s).declares s.next s1.next slots now = record { onward = omega arith; rising = first.rises; came = record { long = st.1; kept = st.2 } } in
+      goes-base rest a (behind s1 (w s1)).locals (e b s1 n env1 u1) _ more
+      (around-same s1.locals s1.next now rest (behind s1 (w s1)).locals (e b s1 n env1 u1) _ (past-alike a (x a s))
+      (hy.goes b s1 n env1 now (record { stored = st.0; rising = rising-append s.locals (v s).declares 0 s.next s1.next rising first.rises }) (let q = st.1 in omega (arith, room, l, q)) (at + size piece) ts rest u1))))
+
+  pub means-then : (v w : Walk) (x y : Lay) (d e : Deed) → StatementMeans taking v x d → StatementMeans taking w y e
+      → StatementMeans taking (W.then v w) (then_lay x v y) (λ a s n env u. then_flow (d a s n env u) (e (L.past a (x a s)) (behind s (v s)) n))
+  means-then v w x y d e hx hy = record {
+    rises = λ s.
+        let s1 = behind s (v s) in
+        let l = length-append (v s).slots (w s1).slots in
+        subst (λ k. Rising s.next k ((v s).declares ++ (w s1).declares)) (omega (arith, l)) (rising-append (v s).declares (w s1).declares s.next s1.next (behind s1 (w s1)).next (hx.rises s) (hy.rises s1));
+    goes = λ a s n env slots ok room at ts rest u.
+        let l = length-append (v s).slots (w (behind s (v s))).slots in
+        goes-and v x s slots (record {
+          around = a;
+          turns = n;
+          at = at;
+          targets = ts;
+          rest = rest;
+          start = frame slots rest;
+          world = u;
+          flow = d a s n env u;
+          rises = hx.rises s;
+          goes = hx.goes a s n env slots ok (omega (arith, room, l)) at ts rest u;
+        }) hy ok.rising room;
+  }
+
+  abbrev pub StepMeans : Step → Type 0
+  StepMeans x = StatementMeans taking x.part.walk x.part.lay x.deed
+
+  abbrev pub EachMeans : List Step → Type 0
+  EachMeans [] = Unit {0}
+  EachMeans (x ∷ xs) = StepMeans x × EachMeans xs
+
+  pub means-order : (xs : List Step) → EachMeans xs → StatementMeans taking (L.in_order (parts xs)).walk (L.in_order (parts xs)).lay (in_order xs)
+  means-order [] h = means-nothing
+  means-order (x ∷ xs) h = means-then x.part.walk (L.in_order (parts xs)).walk x.part.lay (L.in_order (parts xs)).lay x.deed (in_order xs) h.0 (means-order xs h.1)
+
+  pub exactly-block : {w : Walk} {x : Lay} {d : Deed} {s : Scope} {env : Env} {slots : List Value} → StatementMeans taking w x d → (a : Around) (n : ℕ) → MayBegin s (W.in_block w s) env slots → (at : ℕ) (ts : List ℕ) (rest : List Value) (u : World)
+      → Exactly rest a s.locals s.next slots (in_block d a s n env u) (run taking.gives n (x a (begun s)).piece at ts (frame slots rest) u)
+  exactly-block {w} {x} {d} {s} {env} {slots} h a n ready at ts rest u =
+      let f = d a (begun s) n env u in
+      let o = run taking.gives n (x a (begun s)).piece at ts (frame slots rest) u in
+      exactly-prefix rest a s f o ready.known
+      (goes-prefix rest a s.locals (w (begun s)).declares s.next slots f o (h.goes a (begun s) n env slots (record { stored = ready.known.stored; rising = ready.known.rising }) ready.room at ts rest u))
+
+  pub means-block : (w : Walk) (x : Lay) (d : Deed) → StatementMeans taking w x d → StatementMeans taking (W.in_block w) (λ a s. x a (begun s)) (in_block d)
+  means-block w x d h = record {
+    rises = λ s. omega arith;
+    goes = λ a s n env slots ok room at ts rest u.
+        let ready : MayBegin s (W.in_block w s) env slots = record { known = ok; room = room } in
+        exactly-goes rest a s.locals s.next slots (in_block d a s n env u) (run taking.gives n (x a (begun s)).piece at ts (frame slots rest) u) (exactly-block h a n ready at ts rest u);
+  }

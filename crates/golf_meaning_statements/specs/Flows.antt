@@ -22,6 +22,9 @@ unfit_flow w = Flow.Ends (halted (Halt.Unfit Misfit.OfRule) w.operations)
 abbrev pub misfit_flow : World → Flow
 misfit_flow w = Flow.Ends (halted (Halt.Unfit Misfit.OfAnswer) w.operations)
 
+abbrev pub wrong_kind_flow : World → Flow
+wrong_kind_flow w = Flow.Ends (halted (Halt.Unfit Misfit.OfKind) w.operations)
+
 abbrev pub on : Part Env → Flow
 on (Part.Gives env w) = Flow.Goes Course.On env w
 on (Part.Stops h os) = Flow.Ends (halted h os)
@@ -73,7 +76,7 @@ if_fits true w f = f
 if_fits false w f = misfit_flow w
 
 abbrev pub by_test : Option Bool → World → Flow → Flow → Flow
-by_test None w f g = unfit_flow w
+by_test None w f g = wrong_kind_flow w
 by_test (Some true) w f g = f
 by_test (Some false) w f g = g
 

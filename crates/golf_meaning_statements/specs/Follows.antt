@@ -6,9 +6,11 @@ use Rattle.golf_check_types.specs.declared.scopes.Scope.{Scope}
 use Rattle.golf_check_types.specs.Statements.{Walk, behind}
 use Rattle.golf_code_of.specs.declared.making.Around.{Around}
 use Rattle.golf_code_of.specs.Statements.{Lay}
-use Rattle.golf_meaning_flat.specs.Worlds.{Halt, End, Told, World}
+use Rattle.golf_meaning_flat.specs.Worlds.{End, Told, World}
 use Rattle.golf_meaning_flat.specs.Structured.{Way, run}
+use Rattle.golf_meaning_flat.specs.Laws.{Said}
 use Rattle.golf_meaning_source.specs.Names.{Env}
+use Rattle.golf_meaning_source.specs.Operations.{Taking}
 use Rattle.golf_meaning_source.specs.Does.{frame, Stored, Rising, Kept, Known}
 use Rattle.golf_meaning_statements.specs.Flows.{Course, Flow}
 use Rattle.golf_meaning_statements.specs.Steps.{Deed}
@@ -17,12 +19,9 @@ use Rattle.golf_meaning_statements.specs.Steps.{Deed}
 abbrev pub Stands : List Local → ℕ → List Value → List Local → Env → List Value → Type 0
 Stands ds next slots after env now = Stored after env now × (length now ≡ length slots) × Kept ds next slots now
 
--- it ends alike, unless it is unfit
+-- it ends alike, if that is said of its halt
 abbrev pub EndsAlike : Told → End → Way → Type 0
-EndsAlike t (End.Halts (Halt.Unfit of)) o = Unit {0}
-EndsAlike t (End.Halts (Halt.Returned v)) o = o ≡ Way.Ends t
-EndsAlike t (End.Halts Halt.Divided) o = o ≡ Way.Ends t
-EndsAlike t (End.Halts Halt.Waits) o = o ≡ Way.Ends t
+EndsAlike t (End.Halts h) o = Said h (o ≡ Way.Ends t)
 EndsAlike t End.Short o = o ≡ Way.Ends t
 
 -- From a scope with these locals and a frame with these slots, the way goes as the flow does. `break` and `continue` lead to their targets,
@@ -34,8 +33,9 @@ Goes ds next slots rest after a (Flow.Goes Course.Breaks env u) o = (now : List 
 Goes ds next slots rest after a (Flow.Goes Course.Continues env u) o = (now : List Value) × (o ≡ Way.Leaves a.continues (frame now rest) u) × Stands ds next slots ds (take (length ds) env) now
 Goes ds next slots rest after a (Flow.Ends t) o = EndsAlike t t.end o
 
--- the code of a statement does what the statement does, wherever its slots are there; what it declares has slots of its own
-pub record StatementMeans (w : Walk) (x : Lay) (d : Deed) : Type 0 where
-  pub rises : (s : Scope) → Rising s.next (behind s (w s)).next (w s).declares
-  pub goes : (a : Around) (s : Scope) (n : ℕ) (env : Env) (slots : List Value) → Known s.locals s.next env slots → (behind s (w s)).next ≤ length slots
-      → (at : ℕ) (ts : List ℕ) (rest : List Value) (u : World) → Goes s.locals s.next slots rest (behind s (w s)).locals a (d a s n env u) (run n (x a s).piece at ts (frame slots rest) u)
+module _ (taking : Taking) where
+  -- the code of a statement does what the statement does, wherever its slots are there; what it declares has slots of its own
+  pub record StatementMeans (w : Walk) (x : Lay) (d : Deed) : Type 0 where
+    pub rises : (s : Scope) → Rising s.next (behind s (w s)).next (w s).declares
+    pub goes : (a : Around) (s : Scope) (n : ℕ) (env : Env) (slots : List Value) → Known s.locals s.next env slots → (behind s (w s)).next ≤ length slots
+        → (at : ℕ) (ts : List ℕ) (rest : List Value) (u : World) → Goes s.locals s.next slots rest (behind s (w s)).locals a (d a s n env u) (run taking.gives n (x a s).piece at ts (frame slots rest) u)

@@ -4,6 +4,8 @@ use Rattle.golf_code_of.specs.declared.tables.Tables.{Tables}
 use Rattle.golf_code_of.specs.Laying.{stmt_part}
 use Rattle.golf_meaning_statements.specs.Statements.{step}
 use Rattle.golf_meaning_statements.specs.Follows.{StatementMeans}
+use Rattle.golf_meaning_source.specs.Operations.{Taking}
 
-abbrev pub StatementsMean : Type 0
-StatementsMean = (t : Tables) (x : Stmt) → StatementMeans (stmt_part t x).walk (stmt_part t x).lay (step t x).deed
+module _ (taking : Taking) where
+  abbrev pub StatementsMean : Type 0
+  StatementsMean = (t : Tables) (x : Stmt) → StatementMeans taking (stmt_part t x).walk (stmt_part t x).lay (step taking t x).deed

@@ -12,9 +12,11 @@ use Rattle.golf_model_typing.specs.Types.{ValueType, Shape, Signature, FunctionT
 use Rattle.golf_model_typing.specs.Shapes as S
 use Rattle.golf_model_typing.specs.Shapes.{GoesOn, Takes, case_takes, case_leaves, CasesFit, DefaultFits, InstructionFits}
 use Rattle.golf_meaning_flat.specs.Worlds.{Operation, Answer, pushed}
+use Rattle.golf_meaning_flat.specs.Counts.{clause_left, answer_left}
 use Rattle.golf_meaning_flat.specs.Flat.{targets, lower, relabelled, default_of, clause_of}
+use Rattle.golf_meaning_turns.specs.Shaping.{giving}
 use Rattle.golf_meaning_turns.specs.Stepping.{is_inner}
-use Rattle.golf_meaning_turns.specs.Answering.{operands_taken, LeadsTo, clause_left, answer_left, giving, AnswerFits, AnswersAreCounted}
+use Rattle.golf_meaning_turns.specs.Answering.{operands_taken, LeadsTo, AnswerFits, AnswersAreCounted}
 
 -- ---- lengths
 
@@ -75,7 +77,7 @@ module _ (types : Types) (known : List (ℕ × ValueType)) (ft : FunctionTypes) 
     pushed-counted params leaves rest_types b h many =
         counted (length params) (length leaves) (length rest_types) (ap (λ (us : List ValueType). length us) b ∙ pushed-types params rest_types) (later-length (leaves ++ rest_types) before.assigned (at + 1) h there ∙ length-append leaves rest_types) many
 
-    plain-counted : (i : Instr) → is_inner i ≡ false → ((cases : List SelectCase) (otherwise : Option ℕ) → i ≡ Instr.Select cases otherwise → ⊥) → (i ≡ Instr.Panic → ⊥) → InstructionFits types ft at i before → length operands ≡ taken i → length values ≡ left (giving types) i
+    pub plain-counted : (i : Instr) → is_inner i ≡ false → ((cases : List SelectCase) (otherwise : Option ℕ) → i ≡ Instr.Select cases otherwise → ⊥) → (i ≡ Instr.Panic → ⊥) → InstructionFits types ft at i before → length operands ≡ taken i → length values ≡ left (giving types) i
     plain-counted (Instr.LoadGlobal g) v s p h many = takes-counted [] (h.0 ∷ []) h.2 many
     plain-counted (Instr.StoreGlobal g) v s p h many = takes-counted (h.0 ∷ []) [] h.2 many
     plain-counted (Instr.NewStruct k) v s p h many = takes-counted [] (ValueType.Struct k ∷ []) h.2 many
@@ -155,7 +157,7 @@ module _ (types : Types) (known : List (ℕ × ValueType)) (ft : FunctionTypes) 
           | false ↦ λ q. clause-counted cs o (case_takes c.kind h.0 ts) all h.2 d q
         ] e
 
-  choice-counted : (at clause to : ℕ) (cases : List SelectCase) (otherwise : Option ℕ) → InstructionFits types ft at (Instr.Select cases otherwise) before → length operands ≡ cases_taken cases → clause_of (lower (targets cases otherwise)) clause cases otherwise ≡ Some to → slice_get ft.shapes to ≡ Some later
+  pub choice-counted : (at clause to : ℕ) (cases : List SelectCase) (otherwise : Option ℕ) → InstructionFits types ft at (Instr.Select cases otherwise) before → length operands ≡ cases_taken cases → clause_of (lower (targets cases otherwise)) clause cases otherwise ≡ Some to → slice_get ft.shapes to ≡ Some later
       → clause_left clause (map (relabelled (lower (targets cases otherwise))) cases) (option_map (lower (targets cases otherwise)) otherwise) ≡ Some (length values)
   choice-counted at clause to cases otherwise h many leads there =
       let size = cases-size before.assigned h.0 cases h.0 before.operands h.1 in
@@ -167,7 +169,7 @@ module _ (types : Types) (known : List (ℕ × ValueType)) (ft : FunctionTypes) 
 
 -- ---- any operation
 
-plain-left : (gives : List Bool) (i : Instr) (k : ℕ) → ((cases : List SelectCase) (otherwise : Option ℕ) → i ≡ Instr.Select cases otherwise → ⊥) → answer_left gives i k ≡ cond (k == 0) (Some (left gives i)) None
+pub plain-left : (gives : List Bool) (i : Instr) (k : ℕ) → ((cases : List SelectCase) (otherwise : Option ℕ) → i ≡ Instr.Select cases otherwise → ⊥) → answer_left gives i k ≡ cond (k == 0) (Some (left gives i)) None
 plain-left gives (Instr.Select cases otherwise) k n = absurd (n cases otherwise refl)
 plain-left gives i k n = refl
 

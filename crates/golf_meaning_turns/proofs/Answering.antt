@@ -1,7 +1,7 @@
 -- Each answer that a call got is of the types that its operation leaves.
 -- For: `AnswersAreTyped`, golf_meaning_turns/specs/Answering.antt; the law `answers_are_typed`, src/lib.rt.
 -- By: induction over the life of the call; cases of the instruction.
-use Rattle.std.proofs.Common.{◌≡◌, ℕ, zero, suc, ◌+◌, ◌==◌, Bool, true, false, List, [], ◌∷◌, ◌++◌, length, Option, Some, None, refl, ap, sym, ◌∙◌, subst, slice_get, arith, length-append}
+use Rattle.std.proofs.Common.{◌≡◌, ℕ, ◌+◌, ◌==◌, Bool, true, false, cond, List, [], ◌∷◌, ◌++◌, length, Option, Some, None, refl, ap, sym, ◌∙◌, subst, slice_get, arith, length-append}
 use Rattle.std.proofs.lemmas.Bool.{eqb-true}
 use Rattle.std.proofs.lemmas.List.{append_cancel_left}
 use Rattle.golf_data.specs.declared.value.Value.{Value}
@@ -11,7 +11,7 @@ use Rattle.golf_data.specs.declared.code.Function.{Function}
 use Rattle.golf_data.specs.declared.code.Instr.{Instr}
 use Rattle.golf_data.specs.declared.code.SelectCase.{SelectCase}
 use Rattle.golf_data.specs.declared.goroutine.Leaving.{Leaving}
-use Rattle.golf_data.specs.Effects.{taken, cases_taken}
+use Rattle.golf_data.specs.Effects.{taken, left, cases_taken}
 use Rattle.golf_model.specs.State.{start}
 use Rattle.golf_model.specs.Changes.{Change}
 use Rattle.golf_model.specs.Acting.{Actor}
@@ -20,29 +20,16 @@ use Rattle.golf_model_typing.specs.Shapes.{InstructionFits, FunctionFits}
 use Rattle.golf_meaning_flat.specs.Worlds.{Operation, Answer, Halt, World, Part, bind, asks, pushed}
 use Rattle.golf_meaning_flat.specs.Doing.{Frame, some_from, chosen_by, Doing, doing}
 use Rattle.golf_meaning_flat.specs.Doing as D
+use Rattle.golf_meaning_flat.specs.Counts.{is_so_many, is_counted}
 use Rattle.golf_meaning_flat.specs.Flat.{on_clause, targets, lower, clause_of}
 use Rattle.golf_meaning_turns.specs.Stepping.{Stepped, stepped_by, stepped, is_inner, IsTurn}
 use Rattle.golf_meaning_turns.specs.Showing.{split_from}
-use Rattle.golf_meaning_turns.specs.Shaping.{Shaping, IsShaped}
-use Rattle.golf_meaning_turns.specs.Life.{world, frame, Now, Life}
+use Rattle.golf_meaning_turns.specs.Shaping.{Shaping, IsShaped, giving}
+use Rattle.golf_meaning_turns.specs.Life.{world, Now, Life}
 use Rattle.golf_meaning_turns.specs.Turning.{choice_of}
 use Rattle.golf_meaning_turns.specs.Answering.{operands_taken, LeadsTo, AnswerFits, Answers, AnswersAreTyped}
 use Rattle.golf_meaning_turns.proofs.Inner.{inner-turns}
-use Rattle.golf_meaning_turns.proofs.Turning.{of_split, some-is, shows-it}
-
-one-some : {A : Type 0} (x y : A) → Some x ≡ Some y → x ≡ y
-one-some x y e = cc
-
--- operands that are split off lie on the others
-split-pushed : (n : ℕ) (acc os vs rest : List Value) → split_from n acc os ≡ Some (vs, rest) → pushed acc os ≡ pushed vs rest
-split-pushed zero acc os vs rest e = ap (λ (x : List Value × List Value). pushed x.0 x.1) (one-some (acc, os) (vs, rest) e)
-split-pushed (suc n) acc [] vs rest e = cc
-split-pushed (suc n) acc (v ∷ os) vs rest e = split-pushed n (v ∷ acc) os vs rest e
-
-split-length : (n : ℕ) (acc os vs rest : List Value) → split_from n acc os ≡ Some (vs, rest) → length vs ≡ n + length acc
-split-length zero acc os vs rest e = let same = ap (λ (x : List Value × List Value). length x.0) (one-some (acc, os) (vs, rest) e) in omega (arith, same)
-split-length (suc n) acc [] vs rest e = cc
-split-length (suc n) acc (v ∷ os) vs rest e = let ih = split-length n (v ∷ acc) os vs rest e in omega (arith, ih)
+use Rattle.golf_meaning_turns.proofs.Turning.{of_split, some-is, split-pushed, split-length, shows-it}
 
 last-one : {A : Type 0} (xs : List A) (x y : A) → xs ++ x ∷ [] ≡ xs ++ y ∷ [] → x ≡ y
 last-one xs x y e = let same = append_cancel_left xs (x ∷ []) (y ∷ []) e in cc
@@ -60,7 +47,7 @@ record Answered (i : Instr) (at : ℕ) (c : Frame) (o : Operation) (a : Answer) 
   values : d.operands ≡ pushed a.values rest
   leads : LeadsTo i at o.instr a.clause to
 
-module _ (at : ℕ) (c : Frame) (before : List Operation) (o : Operation) (a : Answer) (to : ℕ) (d : Frame) (os : List Operation) where
+module _ (gives : List Bool) (at : ℕ) (c : Frame) (before : List Operation) (o : Operation) (a : Answer) (to : ℕ) (d : Frame) (os : List Operation) where
   -- an instruction shows the operation, and goes on with the answer
   abbrev Shows : Stepped → Type 0
   Shows step = step ≡ Stepped.Halts Halt.Waits (before ++ o ∷ [])
@@ -75,8 +62,8 @@ module _ (at : ℕ) (c : Frame) (before : List Operation) (o : Operation) (a : A
   having = world (a ∷ []) before
 
   -- an instruction that shows nothing
-  no-inner : (i : Instr) → is_inner i ≡ true → Shows (stepped (doing i) at c asking) → ⊥
-  no-inner i e h = by _ (inner-turns code i actor 0 (start code) e)
+  no-inner : (i : Instr) → is_inner i ≡ true → Shows (stepped gives (doing gives i) at c asking) → ⊥
+  no-inner i e h = by _ (inner-turns gives code i actor 0 (start code) e)
     where
       code : Code
       code = record { functions = []; globals = []; structs = []; texts = []; main_line = 0 }
@@ -84,24 +71,24 @@ module _ (at : ℕ) (c : Frame) (before : List Operation) (o : Operation) (a : A
       actor : Actor
       actor = record { number = 0; frame = record { function = 0; at = at; slots = c.slots; operands = c.operands; deferred = []; leaving = Leaving.No; discards = false }; callers = []; started = 0; line = 0 }
 
-      by : (cs : List Change) → IsTurn actor (λ w. stepped (doing i) at c w) cs → ⊥
+      by : (cs : List Change) → IsTurn actor (λ w. stepped gives (doing gives i) at c w) cs → ⊥
       by cs (IsTurn.GoesOn t f step q) = let s = step asking in cc
       by cs (IsTurn.Returns v rest step q) = let s = step asking in cc
       by cs (IsTurn.Divides step q) = let s = step asking in cc
-      by cs (IsTurn.NoRule step q) = let s = step asking in cc
+      by cs (IsTurn.NoRule of step q) = let s = step asking in cc
 
   -- one that panics
-  no-panic : GoesOn (stepped (doing Instr.Panic) at c having) → ⊥
+  no-panic : GoesOn (stepped gives (doing gives Instr.Panic) at c having) → ⊥
   no-panic k = by c.operands k
     where
-      by : (vs : List Value) → GoesOn (stepped_by {A = Frame} (some_from having 1 [] (λ us rest. bind (asks Instr.Panic us having) (λ x u. D.misfit u)) vs) (λ f u. Stepped.Goes (at + 1) f u)) → ⊥
+      by : (vs : List Value) → GoesOn (stepped_by {A = Frame} (some_from having 1 [] (λ us rest. bind (asks Instr.Panic us having) (λ x u. D.miscount u)) vs) (λ f u. Stepped.Goes (at + 1) f u)) → ⊥
       by [] e = cc
       by (v ∷ vs) e = cc
 
   -- one without targets
   module _ (i : Instr) (plain : (cases : List SelectCase) (otherwise : Option ℕ) → i ≡ Instr.Select cases otherwise → ⊥) (calm : i ≡ Instr.Panic → ⊥) (visible : is_inner i ≡ false) where
     abbrev answered : World → List Value → List Value → Part Frame
-    answered w vs rest = bind (asks i vs w) (λ x u. chosen_by (x.clause == 0) (D.goes c (pushed x.values rest) u) (D.misfit u))
+    answered w vs rest = bind (D.gets gives i vs w) (λ x u. D.goes c (pushed x.values rest) u)
 
     abbrev onward : Frame → World → Stepped
     onward f u = Stepped.Goes (at + 1) f u
@@ -115,26 +102,34 @@ module _ (at : ℕ) (c : Frame) (before : List Operation) (o : Operation) (a : A
     plain-taken (Instr.Select cases otherwise) n = absurd (n cases otherwise refl)
     plain-taken j n = refl
 
-    by-clause : (vs rest : List Value) → length vs ≡ taken i → c.operands ≡ pushed vs rest → o ≡ record { instr = i; operands = vs } → (b : Bool) → a.clause == 0 ≡ b
-        → GoesOn (stepped_by (chosen_by b (D.goes c (pushed a.values rest) (world [] (before ++ record { instr = i; operands = vs } ∷ []))) (D.misfit (world [] (before ++ record { instr = i; operands = vs } ∷ [])))) onward) → Answered i at c o a to d
-    by-clause vs rest many ops is true q k = record {
+    plain-clause : (j : Instr) → ((cases : List SelectCase) (otherwise : Option ℕ) → j ≡ Instr.Select cases otherwise → ⊥) → is_counted gives j a ≡ true → a.clause ≡ 0
+    plain-clause (Instr.Select cases otherwise) n e = absurd (n cases otherwise refl)
+    plain-clause j n e = named (left gives j) (a.clause == 0) refl e
+      where
+        named : (n : ℕ) (b : Bool) → (a.clause == 0) ≡ b → is_so_many (cond b (Some n) None) (length a.values) ≡ true → a.clause ≡ 0
+        named n true q e = eqb-true a.clause 0 q
+        named n false q e = cc
+
+    by-count : (vs rest : List Value) → length vs ≡ taken i → c.operands ≡ pushed vs rest → o ≡ record { instr = i; operands = vs } → (b : Bool) → is_counted gives i a ≡ b
+        → GoesOn (stepped_by (bind (chosen_by b (Part.Gives a (world [] (before ++ record { instr = i; operands = vs } ∷ []))) (D.miscount (world [] (before ++ record { instr = i; operands = vs } ∷ [])))) (λ x u. D.goes c (pushed x.values rest) u)) onward) → Answered i at c o a to d
+    by-count vs rest many ops is true q k = record {
       rest = rest;
       count = ap (λ (x : Operation). length x.operands) is ∙ many ∙ plain-taken i plain;
       operands = ops ∙ ap (λ (x : Operation). pushed x.operands rest) (sym is);
       values = (let same : d ≡ record { slots = c.slots; operands = pushed a.values rest } = cc in ap (λ (x : Frame). x.operands) same);
-      leads = (let there : to ≡ at + 1 = cc in plain-leads i o.instr a.clause plain calm visible (ap (λ (x : Operation). x.instr) is) (eqb-true a.clause 0 q) there);
+      leads = (let there : to ≡ at + 1 = cc in plain-leads i o.instr a.clause plain calm visible (ap (λ (x : Operation). x.instr) is) (plain-clause i plain q) there);
     }
-    by-clause vs rest many ops is false q k = cc
+    by-count vs rest many ops is false q k = cc
 
     by-split : (m : Option (List Value × List Value)) → split_from (taken i) [] c.operands ≡ m → Shows (stepped_by (of_split asking (answered asking) m) onward) → GoesOn (stepped_by (of_split having (answered having) m) onward) → Answered i at c o a to d
     by-split None e h k = cc
     by-split (Some x) e h k =
         let same = shown-one (before ++ record { instr = i; operands = x.0 } ∷ []) (before ++ o ∷ []) h in
-        by-clause x.0 x.1 (let l = split-length (taken i) [] c.operands x.0 x.1 e in omega (arith, l)) (split-pushed (taken i) [] c.operands x.0 x.1 e) (sym (last-one before (record { instr = i; operands = x.0 }) o same)) (a.clause == 0) refl k
+        by-count x.0 x.1 (let l = split-length (taken i) [] c.operands x.0 x.1 e in omega (arith, l)) (split-pushed (taken i) [] c.operands x.0 x.1 e) (sym (last-one before (record { instr = i; operands = x.0 }) o same)) (is_counted gives i a) refl k
 
-    by-plain : doing i ≡ Doing.Acts (D.shows i) → Shows (stepped (doing i) at c asking) → GoesOn (stepped (doing i) at c having) → Answered i at c o a to d
+    by-plain : doing gives i ≡ Doing.Acts (D.shows gives i) → Shows (stepped gives (doing gives i) at c asking) → GoesOn (stepped gives (doing gives i) at c having) → Answered i at c o a to d
     by-plain acts h k =
-        let step : (w : World) → stepped (doing i) at c w ≡ stepped_by (of_split w (answered w) (split_from (taken i) [] c.operands)) onward = λ w. ap (λ z. stepped z at c w) acts ∙ ap (λ p. stepped_by p onward) (some-is w (taken i) [] c.operands (answered w)) in
+        let step : (w : World) → stepped gives (doing gives i) at c w ≡ stepped_by (of_split w (answered w) (split_from (taken i) [] c.operands)) onward = λ w. ap (λ z. stepped gives z at c w) acts ∙ ap (λ p. stepped_by p onward) (some-is w (taken i) [] c.operands (answered w)) in
         by-split (split_from (taken i) [] c.operands) refl (sym (step asking) ∙ h) (sym (step having) ∙ k)
 
   -- a choice
@@ -143,7 +138,7 @@ module _ (at : ℕ) (c : Frame) (before : List Operation) (o : Operation) (a : A
     label = lower (targets cases otherwise)
 
     abbrev chosen : World → List Value → List Value → Part (ℕ × Frame)
-    chosen w vs rest = bind (asks (choice_of cases otherwise) vs w) (λ x u. on_clause (λ t. Part.Gives (t, record { slots = c.slots; operands = pushed x.values rest }) u) u (clause_of label x.clause cases otherwise))
+    chosen w vs rest = bind (D.gets gives (choice_of cases otherwise) vs w) (λ x u. on_clause (λ t. Part.Gives (t, record { slots = c.slots; operands = pushed x.values rest }) u) u (clause_of label x.clause cases otherwise))
 
     abbrev led : ℕ × Frame → World → Stepped
     led r u = Stepped.Goes r.0 r.1 u
@@ -159,22 +154,27 @@ module _ (at : ℕ) (c : Frame) (before : List Operation) (o : Operation) (a : A
       leads = (ap (λ (x : Operation). x.instr) is, (let there : t ≡ to = cc in q ∙ ap (λ z. Some z) there));
     }
 
+    by-number : (vs rest : List Value) → length vs ≡ cases_taken cases → c.operands ≡ pushed vs rest → o ≡ record { instr = choice_of cases otherwise; operands = vs } → (u : World) → (b : Bool)
+        → GoesOn (stepped_by (bind (chosen_by b (Part.Gives a u) (D.miscount u)) (λ x z. on_clause (λ t. Part.Gives (t, record { slots = c.slots; operands = pushed x.values rest }) z) z (clause_of label x.clause cases otherwise))) led) → Answered (Instr.Select cases otherwise) at c o a to d
+    by-number vs rest many ops is u true k = by-target vs rest many ops is u (clause_of label a.clause cases otherwise) refl k
+    by-number vs rest many ops is u false k = cc
+
     by-cases : (m : Option (List Value × List Value)) → split_from (cases_taken cases) [] c.operands ≡ m → Shows (stepped_by (of_split asking (chosen asking) m) led) → GoesOn (stepped_by (of_split having (chosen having) m) led) → Answered (Instr.Select cases otherwise) at c o a to d
     by-cases None e h k = cc
     by-cases (Some x) e h k =
         let same = shown-one (before ++ record { instr = choice_of cases otherwise; operands = x.0 } ∷ []) (before ++ o ∷ []) h in
-        by-target x.0 x.1 (let l = split-length (cases_taken cases) [] c.operands x.0 x.1 e in omega (arith, l)) (split-pushed (cases_taken cases) [] c.operands x.0 x.1 e) (sym (last-one before (record { instr = choice_of cases otherwise; operands = x.0 }) o same)) (world [] (before ++ record { instr = choice_of cases otherwise; operands = x.0 } ∷ [])) (clause_of label a.clause cases otherwise) refl k
+        by-number x.0 x.1 (let l = split-length (cases_taken cases) [] c.operands x.0 x.1 e in omega (arith, l)) (split-pushed (cases_taken cases) [] c.operands x.0 x.1 e) (sym (last-one before (record { instr = choice_of cases otherwise; operands = x.0 }) o same)) (world [] (before ++ record { instr = choice_of cases otherwise; operands = x.0 } ∷ [])) (is_counted gives (choice_of cases otherwise) a) k
 
-    by-choice : Shows (stepped (doing (Instr.Select cases otherwise)) at c asking) → GoesOn (stepped (doing (Instr.Select cases otherwise)) at c having) → Answered (Instr.Select cases otherwise) at c o a to d
+    by-choice : Shows (stepped gives (doing gives (Instr.Select cases otherwise)) at c asking) → GoesOn (stepped gives (doing gives (Instr.Select cases otherwise)) at c having) → Answered (Instr.Select cases otherwise) at c o a to d
     by-choice h k =
-        let step : (w : World) → stepped (doing (Instr.Select cases otherwise)) at c w ≡ stepped_by (of_split w (chosen w) (split_from (cases_taken cases) [] c.operands)) led = λ w. ap (λ p. stepped_by p led) (some-is w (cases_taken cases) [] c.operands (chosen w)) in
+        let step : (w : World) → stepped gives (doing gives (Instr.Select cases otherwise)) at c w ≡ stepped_by (of_split w (chosen w) (split_from (cases_taken cases) [] c.operands)) led = λ w. ap (λ p. stepped_by p led) (some-is w (cases_taken cases) [] c.operands (chosen w)) in
         by-cases (split_from (cases_taken cases) [] c.operands) refl (sym (step asking) ∙ h) (sym (step having) ∙ k)
 
-  by-inner : (i : Instr) → ((cases : List SelectCase) (otherwise : Option ℕ) → i ≡ Instr.Select cases otherwise → ⊥) → (i ≡ Instr.Panic → ⊥) → (b : Bool) → is_inner i ≡ b → Shows (stepped (doing i) at c asking) → GoesOn (stepped (doing i) at c having) → Answered i at c o a to d
+  by-inner : (i : Instr) → ((cases : List SelectCase) (otherwise : Option ℕ) → i ≡ Instr.Select cases otherwise → ⊥) → (i ≡ Instr.Panic → ⊥) → (b : Bool) → is_inner i ≡ b → Shows (stepped gives (doing gives i) at c asking) → GoesOn (stepped gives (doing gives i) at c having) → Answered i at c o a to d
   by-inner i plain np true e h k = absurd (no-inner i e h)
-  by-inner i plain np false e h k = by-plain i plain np e (shows-it i e plain np) h k
+  by-inner i plain np false e h k = by-plain i plain np e (shows-it gives i e plain np) h k
 
-  is-answered : (i : Instr) → Shows (stepped (doing i) at c asking) → GoesOn (stepped (doing i) at c having) → Answered i at c o a to d
+  is-answered : (i : Instr) → Shows (stepped gives (doing gives i) at c asking) → GoesOn (stepped gives (doing gives i) at c having) → Answered i at c o a to d
   is-answered (Instr.Select cases otherwise) h k = by-choice cases otherwise h k
   is-answered Instr.Panic h k = absurd (no-panic k)
   is-answered i h k = by-inner i (λ cases otherwise q. cc) (λ q. cc) (is_inner i) refl h k
@@ -210,7 +210,7 @@ module _ (types : Types) (known : List (ℕ × ValueType)) (fn : Function) (ft :
     shaped : IsShaped shaping at c
     operation : Operation
     is : os ≡ before ++ operation ∷ []
-    shows : stepped (doing line.instr) at c (world [] before) ≡ Stepped.Halts Halt.Waits (before ++ operation ∷ [])
+    shows : stepped (giving types) (doing (giving types) line.instr) at c (world [] before) ≡ Stepped.Halts Halt.Waits (before ++ operation ∷ [])
 
   abbrev There : List Operation → List Answer → Now → Type 0
   There os got (Now.Stands at c) = (length os ≡ length got) × Answers P os got
@@ -218,12 +218,12 @@ module _ (types : Types) (known : List (ℕ × ValueType)) (fn : Function) (ft :
   There os got (Now.Halted h) = Answers P os got
 
   -- the answer to an operation
-  module _ (os before : List Operation) (at : ℕ) (c : Frame) (asks : Asks os at c before) (l : CodeLine) (a : Answer) (to : ℕ) (d : Frame) (there : IsShaped shaping to d) (is : slice_get fn.body at ≡ Some l) (step : stepped (doing l.instr) at c (world (a ∷ []) before) ≡ Stepped.Goes to d (world [] os)) where
+  module _ (os before : List Operation) (at : ℕ) (c : Frame) (asks : Asks os at c before) (l : CodeLine) (a : Answer) (to : ℕ) (d : Frame) (there : IsShaped shaping to d) (is : slice_get fn.body at ≡ Some l) (step : stepped (giving types) (doing (giving types) l.instr) at c (world (a ∷ []) before) ≡ Stepped.Goes to d (world [] os)) where
     answer-fits : P asks.operation a
     answer-fits =
         let o = asks.operation in
-        let shows = subst (λ (z : CodeLine). stepped (doing z.instr) at c (world [] before) ≡ Stepped.Halts Halt.Waits (before ++ o ∷ [])) (same-line asks.line l (slice_get fn.body at) asks.here is) asks.shows in
-        let x = is-answered at c before o a to d os l.instr shows step in
+        let shows = subst (λ (z : CodeLine). stepped (giving types) (doing (giving types) z.instr) at c (world [] before) ≡ Stepped.Halts Halt.Waits (before ++ o ∷ [])) (same-line asks.line l (slice_get fn.body at) asks.here is) asks.shows in
+        let x = is-answered (giving types) at c before o a to d os l.instr shows step in
         let sh = asks.shaped.0 in
         let f = fits.each at sh asks.shaped.1 in record {
           at = at;

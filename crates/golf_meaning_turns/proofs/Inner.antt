@@ -15,14 +15,14 @@ use Rattle.golf_model.specs.Acting.{Actor, taking_one, taking_two, choose}
 use Rattle.golf_model.specs.Calculating.{sum, difference, product, quotient, remainder}
 use Rattle.golf_model.specs.Calls.{returns_by}
 use Rattle.golf_model.specs.Turn.{changes}
-use Rattle.golf_meaning_flat.specs.Worlds.{Halt, World, Part, bind}
-use Rattle.golf_meaning_flat.specs.Doing.{Frame, Act, on_some, one, two, chosen_by, Doing, doing}
+use Rattle.golf_meaning_flat.specs.Worlds.{Misfit, Halt, World, Part, bind}
+use Rattle.golf_meaning_flat.specs.Doing.{Frame, on_some, on_kind, one, two, chosen_by, doing}
 use Rattle.golf_meaning_flat.specs.Doing as D
 use Rattle.golf_meaning_turns.specs.Stepping.{Stepped, stepped_by, stepped, frame_of, is_inner, IsTurn}
 use Rattle.golf_meaning_turns.specs.Stepping.IsTurn.{GoesOn, Returns, Divides, NoRule}
 use Rattle.golf_meaning_turns.specs.Laws.{InnerTurns}
 
-module _ (code : Code) (a : Actor) (choice : ℕ) (s : State) where
+module _ (gives : List Bool) (code : Code) (a : Actor) (choice : ℕ) (s : State) where
   abbrev onward : Frame → World → Stepped
   onward d u = Stepped.Goes (a.frame.at + 1) d u
 
@@ -37,33 +37,33 @@ module _ (code : Code) (a : Actor) (choice : ℕ) (s : State) where
   by-goes slots os = GoesOn (a.frame.at + 1) (record { slots = slots; operands = os }) (λ w. refl) refl
 
   by-one : (f : World → Value → List Value → Part Frame) (g : Value → List Value → List Change) (os : List Value) → ((x : Value) (rest : List Value) → T (λ w. f w x rest) (g x rest)) → T (λ w. one w (f w) os) (taking_one g os)
-  by-one f g [] h = NoRule (λ w. refl) refl
+  by-one f g [] h = NoRule Misfit.OfRule (λ w. refl) refl
   by-one f g (x ∷ rest) h = h x rest
 
   by-two : (f : World → Value → Value → List Value → Part Frame) (g : Value → Value → List Value → List Change) (os : List Value) → ((x y : Value) (rest : List Value) → T (λ w. f w x y rest) (g x y rest)) → T (λ w. two w (f w) os) (taking_two g os)
-  by-two f g [] h = NoRule (λ w. refl) refl
-  by-two f g (y ∷ []) h = NoRule (λ w. refl) refl
+  by-two f g [] h = NoRule Misfit.OfRule (λ w. refl) refl
+  by-two f g (y ∷ []) h = NoRule Misfit.OfRule (λ w. refl) refl
   by-two f g (y ∷ (x ∷ rest)) h = h x y rest
 
   by-some : {X : Type 0} (f : World → X → Part Frame) (g : X → List Change) (m : Option X) → ((x : X) → T (λ w. f w x) (g x)) → T (λ w. on_some (f w) w m) (M.on_some g m)
-  by-some f g None h = NoRule (λ w. refl) refl
+  by-some f g None h = NoRule Misfit.OfRule (λ w. refl) refl
   by-some f g (Some x) h = h x
 
-  by-value : {X : Type 0} (f : World → X → Part Value) (k : Value → World → Part Frame) (g : X → List Change) (m : Option X) → ((x : X) → T (λ w. bind (f w x) k) (g x)) → T (λ w. bind (on_some (f w) w m) k) (M.on_some g m)
-  by-value f k g None h = NoRule (λ w. refl) refl
+  by-value : {X : Type 0} (f : World → X → Part Value) (k : Value → World → Part Frame) (g : X → List Change) (m : Option X) → ((x : X) → T (λ w. bind (f w x) k) (g x)) → T (λ w. bind (on_kind (f w) w m) k) (M.on_some g m)
+  by-value f k g None h = NoRule Misfit.OfKind (λ w. refl) refl
   by-value f k g (Some x) h = h x
 
   abbrev On : List Value → Value → World → Part Frame
   On rest v u = D.goes now (v ∷ rest) u
 
   by-load : (m : Option Value) → T (λ w. on_some (λ v. D.goes now (v ∷ a.frame.operands) w) w m) (M.leaves a a.frame.operands m)
-  by-load None = NoRule (λ w. refl) refl
+  by-load None = NoRule Misfit.OfRule (λ w. refl) refl
   by-load (Some v) = by-goes a.frame.slots (v ∷ a.frame.operands)
 
   by-ints : (f : World → ℤ → ℤ → Part Value) (g : ℤ → ℤ → List Value → List Change) → ((m n : ℤ) (rest : List Value) → T (λ w. bind (f w m n) (On rest)) (g m n rest))
       → (x y : Value) (rest : List Value) → T (λ w. bind (D.ints w (f w) x y) (On rest)) (M.on_some (λ m. M.on_some (λ n. g m n rest) (int_of y)) (int_of x))
   by-ints f g h x y rest =
-      by-value (λ w m. on_some (λ n. f w m n) w (int_of y)) (On rest) (λ m. M.on_some (λ n. g m n rest) (int_of y)) (int_of x)
+      by-value (λ w m. on_kind (λ n. f w m n) w (int_of y)) (On rest) (λ m. M.on_some (λ n. g m n rest) (int_of y)) (int_of x)
       (λ m. by-value (λ w n. f w m n) (On rest) (λ n. g m n rest) (int_of y) (λ n. h m n rest))
 
   abbrev computing : (ℤ → ℤ → List Value → List Change) → List Change
@@ -88,7 +88,7 @@ module _ (code : Code) (a : Actor) (choice : ℕ) (s : State) where
       (λ m n rest. by-zero f m n rest (is_zero n)))
 
   by-returned : (os : List Value) → T (λ w. one w (λ v rest. Part.Stops (Halt.Returned (Some v)) w.operations) os) (taking_one (λ v rest. returns_by a (Some v) rest a.frame.deferred) os)
-  by-returned [] = NoRule (λ w. refl) refl
+  by-returned [] = NoRule Misfit.OfRule (λ w. refl) refl
   by-returned (v ∷ rest) = Returns (Some v) rest (λ w. refl) refl
 
   module _ (t : ℕ) where
@@ -96,17 +96,17 @@ module _ (code : Code) (a : Actor) (choice : ℕ) (s : State) where
     tested w p = stepped_by {A = Bool × Frame} p (λ r u. Stepped.Goes (cond r.0 (a.frame.at + 1) t) r.1 u)
 
     by-truth : (rest : List Value) (m : Option Bool)
-        → IsTurn a (λ w. tested w (on_some (λ b. Part.Gives (b, record { slots = a.frame.slots; operands = rest }) w) w m)) (M.on_some (λ b. choose b (M.goes a rest) (M.jumps a t rest)) m)
-    by-truth rest None = NoRule (λ w. refl) refl
+        → IsTurn a (λ w. tested w (on_kind (λ b. Part.Gives (b, record { slots = a.frame.slots; operands = rest }) w) w m)) (M.on_some (λ b. choose b (M.goes a rest) (M.jumps a t rest)) m)
+    by-truth rest None = NoRule Misfit.OfKind (λ w. refl) refl
     by-truth rest (Some true) = GoesOn (a.frame.at + 1) (record { slots = a.frame.slots; operands = rest }) (λ w. refl) refl
     by-truth rest (Some false) = GoesOn t (record { slots = a.frame.slots; operands = rest }) (λ w. refl) refl
 
     by-test : (os : List Value)
-        → IsTurn a (λ w. tested w (one w (λ x rest. on_some (λ b. Part.Gives (b, record { slots = a.frame.slots; operands = rest }) w) w (bool_of x)) os)) (taking_one (λ x rest. M.on_some (λ b. choose b (M.goes a rest) (M.jumps a t rest)) (bool_of x)) os)
-    by-test [] = NoRule (λ w. refl) refl
+        → IsTurn a (λ w. tested w (one w (λ x rest. on_kind (λ b. Part.Gives (b, record { slots = a.frame.slots; operands = rest }) w) w (bool_of x)) os)) (taking_one (λ x rest. M.on_some (λ b. choose b (M.goes a rest) (M.jumps a t rest)) (bool_of x)) os)
+    by-test [] = NoRule Misfit.OfRule (λ w. refl) refl
     by-test (x ∷ rest) = by-truth rest (bool_of x)
 
-  inner : (i : Instr) → is_inner i ≡ true → IsTurn a (λ w. stepped (doing i) a.frame.at now w) (changes code i a choice s)
+  inner : (i : Instr) → is_inner i ≡ true → IsTurn a (λ w. stepped gives (doing gives i) a.frame.at now w) (changes code i a choice s)
   inner (Instr.Int n) e = by-goes a.frame.slots (Value.Int n ∷ a.frame.operands)
   inner (Instr.Bool b) e = by-goes a.frame.slots (Value.Bool b ∷ a.frame.operands)
   inner (Instr.Text k) e = by-goes a.frame.slots (Value.Text k ∷ a.frame.operands)
@@ -135,4 +135,4 @@ module _ (code : Code) (a : Actor) (choice : ℕ) (s : State) where
   inner i e = cc
 
 pub inner-turns : InnerTurns
-inner-turns code i a choice s e = inner code a choice s i e
+inner-turns gives code i a choice s e = inner gives code a choice s i e

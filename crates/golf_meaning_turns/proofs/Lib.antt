@@ -5,3 +5,4 @@ pub mod Living
 pub mod Turning
 pub mod Answering
 pub mod AnswerCounts
+pub mod Counted

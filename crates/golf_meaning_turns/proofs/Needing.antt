@@ -15,7 +15,7 @@ use Rattle.golf_live.specs.Paths.{successors, Needed}
 use Rattle.golf_model.specs.Values.{bool_of}
 use Rattle.golf_model.specs.Calculating.{sum, difference, product, quotient, remainder}
 use Rattle.golf_meaning_flat.specs.Worlds.{Answer, Told, World, Part, bind, asks, pushed}
-use Rattle.golf_meaning_flat.specs.Doing.{Frame, Act, on_some, one, two, some_from, chosen_by, Doing, doing}
+use Rattle.golf_meaning_flat.specs.Doing.{Frame, Act, on_some, on_kind, one, two, some_from, doing}
 use Rattle.golf_meaning_flat.specs.Doing as D
 use Rattle.golf_meaning_flat.specs.Flat.{on_clause, targets, lower, relabelled, default_of, clause_of, Next, ended, does, at_line, exec}
 use Rattle.golf_meaning_turns.specs.Laws.{AlikeAt, NeededDecide}
@@ -82,9 +82,9 @@ module _ {A : Type 0} (k : A → World → Told) where
   alike-bind (Part.Gives x u) f g h = h x u
   alike-bind (Part.Stops s os) f g h = refl
 
-  alike-chosen : (b : Bool) (p q r : Part A) → Alike p q → Alike (chosen_by b p r) (chosen_by b q r)
-  alike-chosen true p q r h = h
-  alike-chosen false p q r h = refl
+  alike-kind : {X : Type 0} (w : World) (f g : X → Part A) (m : Option X) → ((x : X) → Alike (f x) (g x)) → Alike (on_kind f w m) (on_kind g w m)
+  alike-kind w f g None h = refl
+  alike-kind w f g (Some x) h = h x
 
   alike-clause : {X : Type 0} (w : World) (f g : X → Part A) (m : Option X) → ((x : X) → m ≡ Some x → Alike (f x) (g x)) → Alike (on_clause f w m) (on_clause g w m)
   alike-clause w f g None h = refl
@@ -106,7 +106,7 @@ clause-in label clause (c ∷ cs) o t e = elim (label c.target == clause) as (λ
     same : Some c.target ≡ Some t → t ≡ c.target
     same q = cc
 
-module _ (body : List CodeLine) where
+module _ (gives : List Bool) (body : List CodeLine) where
   -- the same is told from a place on, whatever its slots hold that are not needed
   abbrev Same : Next → Type 0
   Same f = (at : ℕ) (xs ys os : List Value) (w : World) → AlikeAt body at xs ys → f at (record { slots = xs; operands = os }) w ≡ f at (record { slots = ys; operands = os }) w
@@ -130,10 +130,10 @@ module _ (body : List CodeLine) where
 
     -- an operation with these operands, and its answer
     abbrev answered-in : (List Value → Frame) → List Value → Answer → World → Part Frame
-    answered-in Z rest a u = chosen_by (a.clause == 0) (D.goes (Z []) (pushed a.values rest) u) (D.misfit u)
+    answered-in Z rest a u = D.goes (Z []) (pushed a.values rest) u
 
     abbrev shown-in : (List Value → Frame) → Instr → World → List Value → List Value → Part Frame
-    shown-in Z i w vs rest = bind (asks i vs w) (answered-in Z rest)
+    shown-in Z i w vs rest = bind (D.gets gives i vs w) (answered-in Z rest)
 
     module _ (r : AlikeAt body (at + 1) xs ys) where
       -- with these operands it goes on
@@ -149,9 +149,8 @@ module _ (body : List CodeLine) where
       on-two : (g : World → Value → Value → Part Value) → AlikeAct (D.acts_on_two g)
       on-two g os w = alike-two (f (at + 1)) w _ _ os (λ x y rest. alike-bind (f (at + 1)) (g w x y) _ _ (λ v u. go-on (v ∷ rest) u))
 
-      on-shows : (i : Instr) → AlikeAct (D.shows i)
-      on-shows i os w = alike-from (f (at + 1)) w (taken i) [] os (shown-in X i w) (shown-in Y i w) (λ vs rest. alike-bind (f (at + 1)) (asks i vs w) (answered-in X rest) (answered-in Y rest)
-          (λ a u. alike-chosen (f (at + 1)) (a.clause == 0) (D.goes (X os) (pushed a.values rest) u) (D.goes (Y os) (pushed a.values rest) u) (D.misfit u) (go-on (pushed a.values rest) u)))
+      on-shows : (i : Instr) → AlikeAct (D.shows gives i)
+      on-shows i os w = alike-from (f (at + 1)) w (taken i) [] os (shown-in X i w) (shown-in Y i w) (λ vs rest. alike-bind (f (at + 1)) (D.gets gives i vs w) (answered-in X rest) (answered-in Y rest) (λ a u. go-on (pushed a.values rest) u))
 
       load-from : (os : List Value) (w : World) (m n : Option Value) → m ≡ n → ended (on_some (λ v. D.goes (X os) (v ∷ os) w) w m) (f (at + 1)) ≡ ended (on_some (λ v. D.goes (Y os) (v ∷ os) w) w n) (f (at + 1))
       load-from os w m n e = subst (λ z. ended (on_some (λ v. D.goes (X os) (v ∷ os) w) w m) (f (at + 1)) ≡ ended (on_some (λ v. D.goes (Y os) (v ∷ os) w) w z) (f (at + 1))) e (alike-some (f (at + 1)) w _ _ m (λ v. go-on (v ∷ os) w))
@@ -189,10 +188,10 @@ module _ (body : List CodeLine) where
     chosen-in Z cs o rest a u = on_clause (λ t. Part.Gives (t, Z (pushed a.values rest)) u) u (clause_of (lower (targets cs o)) a.clause cs o)
 
     abbrev picked-in : (List Value → Frame) → List SelectCase → Option ℕ → World → List Value → List Value → Part (ℕ × Frame)
-    picked-in Z cs o w vs rest = bind (asks (chosen-instr cs o) vs w) (chosen-in Z cs o rest)
+    picked-in Z cs o w vs rest = bind (D.gets gives (chosen-instr cs o) vs w) (chosen-in Z cs o rest)
 
     abbrev Stepping : Instr → Type 0
-    Stepping i = (os : List Value) (w : World) → does (doing i) f at (X os) w ≡ does (doing i) f at (Y os) w
+    Stepping i = (os : List Value) (w : World) → does gives (doing gives i) f at (X os) w ≡ does gives (doing gives i) f at (Y os) w
 
     steps : (i : Instr) → l.instr ≡ i → Stepping i
     steps (Instr.Int n) e = on-push (on-to (Instr.Int n) e (λ slot q. cc) (at + 1) (inl refl)) (Value.Int n)
@@ -216,28 +215,28 @@ module _ (body : List CodeLine) where
     steps Instr.Less e = on-two (on-to Instr.Less e (λ slot q. cc) (at + 1) (inl refl)) (D.compared int_lt)
     steps Instr.AtMost e = on-two (on-to Instr.AtMost e (λ slot q. cc) (at + 1) (inl refl)) (D.compared int_le)
     steps (Instr.Jump t) e = λ os w. h t xs ys os w (on-to (Instr.Jump t) e (λ slot q. cc) t (inl refl))
-    steps (Instr.JumpIfNot t) e = λ os w. alike-one (λ r u. f (cond r.0 (at + 1) t) r.1 u) w _ _ os (λ x rest. alike-some (λ r u. f (cond r.0 (at + 1) t) r.1 u) w _ _ (bool_of x) (λ b. either b rest w))
+    steps (Instr.JumpIfNot t) e = λ os w. alike-one (λ r u. f (cond r.0 (at + 1) t) r.1 u) w _ _ os (λ x rest. alike-kind (λ r u. f (cond r.0 (at + 1) t) r.1 u) w _ _ (bool_of x) (λ b. either b rest w))
       where
         either : (b : Bool) (rest : List Value) (w : World) → f (cond b (at + 1) t) (X rest) w ≡ f (cond b (at + 1) t) (Y rest) w
         either true rest w = h (at + 1) xs ys rest w (on-to (Instr.JumpIfNot t) e (λ slot q. cc) (at + 1) (inl refl))
         either false rest w = h t xs ys rest w (on-to (Instr.JumpIfNot t) e (λ slot q. cc) t (inr (inl refl)))
     steps (Instr.Select cases otherwise) e = λ os w. alike-from {A = ℕ × Frame} choosing w (cases_taken cases) [] os (picked-in X cases otherwise w) (picked-in Y cases otherwise w)
-        (λ vs rest. alike-bind {A = ℕ × Frame} choosing (asks (chosen-instr cases otherwise) vs w) (chosen-in X cases otherwise rest) (chosen-in Y cases otherwise rest)
+        (λ vs rest. alike-bind {A = ℕ × Frame} choosing (D.gets gives (chosen-instr cases otherwise) vs w) (chosen-in X cases otherwise rest) (chosen-in Y cases otherwise rest)
         (λ a u. alike-clause {A = ℕ × Frame} choosing u (λ t. Part.Gives (t, X (pushed a.values rest)) u) (λ t. Part.Gives (t, Y (pushed a.values rest)) u) (clause_of (lower (targets cases otherwise)) a.clause cases otherwise)
         (λ t q. h t xs ys (pushed a.values rest) u (on-to (Instr.Select cases otherwise) e (λ slot z. cc) t (clause-in (lower (targets cases otherwise)) a.clause cases otherwise t q)))))
     steps Instr.Return e = λ os w. refl
     steps Instr.ReturnValue e = λ os w. alike-one (f (at + 1)) w _ _ os (λ v rest. refl)
-    steps Instr.Panic e = λ os w. alike-from (f (at + 1)) w 1 [] os (λ vs rest. bind (asks Instr.Panic vs w) (λ a u. D.misfit u)) (λ vs rest. bind (asks Instr.Panic vs w) (λ a u. D.misfit u)) (λ vs rest. refl)
+    steps Instr.Panic e = λ os w. alike-from (f (at + 1)) w 1 [] os (λ vs rest. bind (asks Instr.Panic vs w) (λ a u. D.miscount u)) (λ vs rest. bind (asks Instr.Panic vs w) (λ a u. D.miscount u)) (λ vs rest. refl)
     steps i e = on-shows (on-to i e (λ slot q. cc) (at + 1) (inl refl)) i
 
   at-line : (f : Next) → Same f → (at : ℕ) (xs ys os : List Value) (w : World) → AlikeAt body at xs ys → (o : Option CodeLine) → slice_get body at ≡ o
-      → at_line o f at (record { slots = xs; operands = os }) w ≡ at_line o f at (record { slots = ys; operands = os }) w
+      → at_line gives o f at (record { slots = xs; operands = os }) w ≡ at_line gives o f at (record { slots = ys; operands = os }) w
   at-line f h at xs ys os w same None is = refl
   at-line f h at xs ys os w same (Some l) is = steps f h at l is xs ys same l.instr refl os w
 
-  same-exec : (n : ℕ) → Same (exec body n)
+  same-exec : (n : ℕ) → Same (exec gives body n)
   same-exec zero at xs ys os w same = refl
-  same-exec (suc n) at xs ys os w same = at-line (exec body n) (same-exec n) at xs ys os w same (slice_get body at) refl
+  same-exec (suc n) at xs ys os w same = at-line (exec gives body n) (same-exec n) at xs ys os w same (slice_get body at) refl
 
 pub needed-decide : NeededDecide
-needed-decide body n at xs ys operands w same = same-exec body n at xs ys operands w same
+needed-decide gives body n at xs ys operands w same = same-exec gives body n at xs ys operands w same

@@ -1,7 +1,7 @@
 -- A turn of the machine on the frame of a call is one step of its life.
 -- For: `TurnsAreLived`, golf_meaning_turns/specs/Turning.antt; the law `turns_are_lived`, src/lib.rt.
 -- By: cases of the instruction; induction over the number of operands, and over the cases of a `select`.
-use Rattle.std.proofs.Common.{◌≡◌, ℕ, zero, suc, ◌+◌, ◌<◌, ◌≤◌, ◌==◌, Bool, true, false, cond, List, [], ◌∷◌, ◌++◌, Option, Some, None, inl, inr, refl, ap, sym, ◌∙◌, subst, slice_get, arith}
+use Rattle.std.proofs.Common.{◌≡◌, ℕ, zero, suc, ◌+◌, ◌<◌, ◌≤◌, ◌==◌, Bool, true, false, cond, List, [], ◌∷◌, ◌++◌, length, Option, Some, None, inl, inr, refl, ap, sym, ◌∙◌, subst, slice_get, arith}
 use Rattle.std.specs.Prelude.{nat_lt}
 use Rattle.std.proofs.lemmas.Bool.{eqb-true, eqb-false, ltb-true, ltb-false}
 use Rattle.golf_theory.specs.Membership.{In}
@@ -22,17 +22,22 @@ use Rattle.golf_model.specs.Turn.{changes}
 use Rattle.golf_meaning_flat.specs.Worlds.{Operation, Answer, Halt, World, Part, bind, asks, pushed}
 use Rattle.golf_meaning_flat.specs.Doing.{Frame, some_from, chosen_by, Doing, doing}
 use Rattle.golf_meaning_flat.specs.Doing as D
+use Rattle.golf_meaning_flat.specs.Counts.{is_counted}
 use Rattle.golf_meaning_flat.specs.Flat.{on_clause, targets, lower, default_of, clause_of}
-use Rattle.golf_meaning_turns.specs.Shaping.{Shaping, IsShaped}
+use Rattle.golf_meaning_turns.specs.Shaping.{Shaping, IsShaped, FitsShaping, giving_by}
 use Rattle.golf_meaning_turns.specs.Stepping.{Stepped, stepped_by, stepped, frame_of, is_inner}
 use Rattle.golf_meaning_turns.specs.Stepping.{IsTurn as I}
 use Rattle.golf_meaning_turns.specs.Showing.{split_from, ComesBy, IsAwake}
 use Rattle.golf_meaning_turns.specs.Laws.{After, WaitsAfter, WaitsFor}
 use Rattle.golf_meaning_turns.specs.Life.{world, frame, Now, Life}
-use Rattle.golf_meaning_turns.specs.Turning.{operation, answer, choice_of, plain_shown, choice_shown, shows, Asking, IsLived, TurnsAreLived}
+use Rattle.golf_meaning_turns.specs.Turning.{operation, answer, choice_of, plain_shown, choice_shown, shows, ended_by, ends_with, Asking, IsLived, TurnsAreLived}
 use Rattle.golf_meaning_turns.specs.Turning.IsLived.{Silent, Returns, Divides, NoRule, Shows, Chooses, Throws}
+use Rattle.golf_meaning_turns.proofs.Counted.{plain-answer, choice-answer}
 use Rattle.golf_meaning_turns.proofs.Inner.{inner-turns}
 use Rattle.golf_meaning_turns.proofs.Showing.{visible-turns, choosing-turns}
+
+one-some : {A : Type 0} (x y : A) → Some x ≡ Some y → x ≡ y
+one-some x y e = cc
 
 -- operands that are taken are those that are split off
 abbrev pub of_split : {A : Type 0} → World → (List Value → List Value → Part A) → Option (List Value × List Value) → Part A
@@ -44,35 +49,46 @@ some-is w zero acc os f = refl
 some-is w (suc n) acc [] f = refl
 some-is w (suc n) acc (v ∷ os) f = some-is w n (v ∷ acc) os f
 
+-- operands that are split off lie on the others
+pub split-pushed : (n : ℕ) (acc os vs rest : List Value) → split_from n acc os ≡ Some (vs, rest) → pushed acc os ≡ pushed vs rest
+split-pushed zero acc os vs rest e = ap (λ (x : List Value × List Value). pushed x.0 x.1) (one-some (acc, os) (vs, rest) e)
+split-pushed (suc n) acc [] vs rest e = cc
+split-pushed (suc n) acc (v ∷ os) vs rest e = split-pushed n (v ∷ acc) os vs rest e
+
+pub split-length : (n : ℕ) (acc os vs rest : List Value) → split_from n acc os ≡ Some (vs, rest) → length vs ≡ n + length acc
+split-length zero acc os vs rest e = let same = ap (λ (x : List Value × List Value). length x.0) (one-some (acc, os) (vs, rest) e) in omega (arith, same)
+split-length (suc n) acc [] vs rest e = cc
+split-length (suc n) acc (v ∷ os) vs rest e = let ih = split-length n (v ∷ acc) os vs rest e in omega (arith, ih)
+
 -- a visible instruction without targets that has an answer
-pub shows-it : (i : Instr) → is_inner i ≡ false → ((cases : List SelectCase) (otherwise : Option ℕ) → i ≡ Instr.Select cases otherwise → ⊥) → (i ≡ Instr.Panic → ⊥) → doing i ≡ Doing.Acts (D.shows i)
-shows-it (Instr.Int n) e ns np = cc
-shows-it (Instr.Bool b) e ns np = cc
-shows-it (Instr.Text k) e ns np = cc
-shows-it Instr.Unit e ns np = cc
-shows-it Instr.Nil e ns np = cc
-shows-it (Instr.Load i) e ns np = cc
-shows-it (Instr.Store i) e ns np = cc
-shows-it Instr.Drop e ns np = cc
-shows-it Instr.Dup e ns np = cc
-shows-it Instr.Dup2 e ns np = cc
-shows-it Instr.Neg e ns np = cc
-shows-it Instr.Not e ns np = cc
-shows-it Instr.Add e ns np = cc
-shows-it Instr.Sub e ns np = cc
-shows-it Instr.Mul e ns np = cc
-shows-it Instr.Div e ns np = cc
-shows-it Instr.Rem e ns np = cc
-shows-it Instr.Eq e ns np = cc
-shows-it Instr.Less e ns np = cc
-shows-it Instr.AtMost e ns np = cc
-shows-it (Instr.Jump t) e ns np = cc
-shows-it (Instr.JumpIfNot t) e ns np = cc
-shows-it Instr.Return e ns np = cc
-shows-it Instr.ReturnValue e ns np = cc
-shows-it (Instr.Select cases otherwise) e ns np = absurd (ns cases otherwise refl)
-shows-it Instr.Panic e ns np = absurd (np refl)
-shows-it i e ns np = refl
+pub shows-it : (gives : List Bool) (i : Instr) → is_inner i ≡ false → ((cases : List SelectCase) (otherwise : Option ℕ) → i ≡ Instr.Select cases otherwise → ⊥) → (i ≡ Instr.Panic → ⊥) → doing gives i ≡ Doing.Acts (D.shows gives i)
+shows-it gives (Instr.Int n) e ns np = cc
+shows-it gives (Instr.Bool b) e ns np = cc
+shows-it gives (Instr.Text k) e ns np = cc
+shows-it gives Instr.Unit e ns np = cc
+shows-it gives Instr.Nil e ns np = cc
+shows-it gives (Instr.Load i) e ns np = cc
+shows-it gives (Instr.Store i) e ns np = cc
+shows-it gives Instr.Drop e ns np = cc
+shows-it gives Instr.Dup e ns np = cc
+shows-it gives Instr.Dup2 e ns np = cc
+shows-it gives Instr.Neg e ns np = cc
+shows-it gives Instr.Not e ns np = cc
+shows-it gives Instr.Add e ns np = cc
+shows-it gives Instr.Sub e ns np = cc
+shows-it gives Instr.Mul e ns np = cc
+shows-it gives Instr.Div e ns np = cc
+shows-it gives Instr.Rem e ns np = cc
+shows-it gives Instr.Eq e ns np = cc
+shows-it gives Instr.Less e ns np = cc
+shows-it gives Instr.AtMost e ns np = cc
+shows-it gives (Instr.Jump t) e ns np = cc
+shows-it gives (Instr.JumpIfNot t) e ns np = cc
+shows-it gives Instr.Return e ns np = cc
+shows-it gives Instr.ReturnValue e ns np = cc
+shows-it gives (Instr.Select cases otherwise) e ns np = absurd (ns cases otherwise refl)
+shows-it gives Instr.Panic e ns np = absurd (np refl)
+shows-it gives i e ns np = refl
 
 eqb-same : (n : ℕ) → (n == n) ≡ true
 eqb-same n = elim (n == n) as (λ b. (n == n) ≡ b → b ≡ true) [ true ↦ λ q. refl | false ↦ λ q. absurd (eqb-false n n q refl) ] refl
@@ -142,7 +158,38 @@ module _ (ts : List ℕ) (to : ℕ) (m : In to ts) where
     ]
   ] refl
 
-module _ (code : Code) (fn : Function) (shaping : Option Shaping) (arguments : List Value) (shown : List Operation) (got : List Answer) (a : Actor) (choice : ℕ) (s : State) (l : CodeLine) (is : slice_get fn.body a.frame.at ≡ Some l) (life : Life fn shaping arguments shown got (Now.Stands a.frame.at (frame_of a.frame))) (good : IsShaped shaping a.frame.at (frame_of a.frame)) (awake : IsAwake s a.number) where
+-- which functions give a value decides nothing of an instruction that shows nothing
+inner-alike : (gives : List Bool) (i : Instr) (at : ℕ) (c : Frame) (w : World) → is_inner i ≡ true → stepped [] (doing [] i) at c w ≡ stepped gives (doing gives i) at c w
+inner-alike gives (Instr.Int n) at c w e = refl
+inner-alike gives (Instr.Bool b) at c w e = refl
+inner-alike gives (Instr.Text k) at c w e = refl
+inner-alike gives Instr.Unit at c w e = refl
+inner-alike gives Instr.Nil at c w e = refl
+inner-alike gives (Instr.Load i) at c w e = refl
+inner-alike gives (Instr.Store i) at c w e = refl
+inner-alike gives Instr.Drop at c w e = refl
+inner-alike gives Instr.Dup at c w e = refl
+inner-alike gives Instr.Dup2 at c w e = refl
+inner-alike gives Instr.Neg at c w e = refl
+inner-alike gives Instr.Not at c w e = refl
+inner-alike gives Instr.Add at c w e = refl
+inner-alike gives Instr.Sub at c w e = refl
+inner-alike gives Instr.Mul at c w e = refl
+inner-alike gives Instr.Div at c w e = refl
+inner-alike gives Instr.Rem at c w e = refl
+inner-alike gives Instr.Eq at c w e = refl
+inner-alike gives Instr.Less at c w e = refl
+inner-alike gives Instr.AtMost at c w e = refl
+inner-alike gives (Instr.Jump t) at c w e = refl
+inner-alike gives (Instr.JumpIfNot t) at c w e = refl
+inner-alike gives Instr.Return at c w e = refl
+inner-alike gives Instr.ReturnValue at c w e = refl
+inner-alike gives i at c w e = cc
+
+module _ (code : Code) (fn : Function) (shaping : Option Shaping) (arguments : List Value) (shown : List Operation) (got : List Answer) (a : Actor) (choice : ℕ) (s : State) (l : CodeLine) (is : slice_get fn.body a.frame.at ≡ Some l) (fitting : FitsShaping fn shaping) (life : Life fn shaping arguments shown got (Now.Stands a.frame.at (frame_of a.frame))) (good : IsShaped shaping a.frame.at (frame_of a.frame)) (awake : IsAwake s a.number) where
+  abbrev gives : List Bool
+  gives = giving_by shaping
+
   abbrev at : ℕ
   at = a.frame.at
 
@@ -150,34 +197,53 @@ module _ (code : Code) (fn : Function) (shaping : Option Shaping) (arguments : L
   c = frame_of a.frame
 
   abbrev L : List Change → Type 0
-  L cs = IsLived code s fn shaping arguments shown got a l.instr (shows l.instr a.frame.operands) cs
+  L cs = IsLived code s fn shaping arguments shown got a l.instr (shows l.instr a.frame.operands) (ends_with l.instr at c) cs
 
   abbrev Line : Instr → Type 0
   Line i = (line : CodeLine) × (slice_get fn.body at ≡ Some line) × (line.instr ≡ i)
 
-  from-inner : shows l.instr a.frame.operands ≡ None → (cs : List Change) → I a (λ w. stepped (doing l.instr) at c w) cs → L cs
-  from-inner none cs (I.GoesOn to d step e) = Silent to d (Life.Turns l to d life is step) none e
-  from-inner none cs (I.Returns v rest step e) = Returns v rest (Life.Halts l (Halt.Returned v) life is step) none e
-  from-inner none cs (I.Divides step e) = Divides (Life.Halts l Halt.Divided life is step) none e
-  from-inner none cs (I.NoRule step e) = NoRule e
+  -- how the step of an instruction that shows nothing ends the call
+  ends-by : is_inner l.instr ≡ true → (x : Stepped) → stepped gives (doing gives l.instr) at c (world [] []) ≡ x → ends_with l.instr at c ≡ ended_by x
+  ends-by inner x e = ap ended_by (inner-alike gives l.instr at c (world [] []) inner ∙ e)
+
+  from-inner : is_inner l.instr ≡ true → shows l.instr a.frame.operands ≡ None → (cs : List Change) → I a (λ w. stepped gives (doing gives l.instr) at c w) cs → L cs
+  from-inner inner none cs (I.GoesOn to d step e) = Silent to d (Life.Turns l to d life is step) none (ends-by inner _ (step (world [] []))) e
+  from-inner inner none cs (I.Returns v rest step e) = Returns v rest (Life.Halts l (Halt.Returned v) life is step) none (ends-by inner _ (step (world [] []))) e
+  from-inner inner none cs (I.Divides step e) = Divides (Life.Halts l Halt.Divided life is step) none (ends-by inner _ (step (world [] []))) e
+  from-inner inner none cs (I.NoRule of step e) = NoRule e
 
   -- a visible instruction without targets
 
-  module _ (f : Doing) (i : Instr) (same : doing l.instr ≡ Doing.Acts (D.shows i)) (o : List Value × List Value) (split : split_from (taken i) [] a.frame.operands ≡ Some o) where
-    abbrev answered : World → Answer → World → Part Frame
-    answered w x u = chosen_by (x.clause == 0) (D.goes c (pushed x.values o.1) u) (D.misfit u)
+  module _ (visible : is_inner l.instr ≡ false) (ns : (cases : List SelectCase) (otherwise : Option ℕ) → l.instr ≡ Instr.Select cases otherwise → ⊥) (np : l.instr ≡ Instr.Panic → ⊥) (o : List Value × List Value) (split : split_from (taken l.instr) [] a.frame.operands ≡ Some o) where
+    abbrev answered : Answer → World → Part Frame
+    answered x u = D.goes c (pushed x.values o.1) u
 
-    acted : (w : World) → stepped (doing l.instr) at c w ≡ stepped_by (bind (asks i o.0 w) (answered w)) (λ d u. Stepped.Goes (at + 1) d u)
+    abbrev after : Frame → World → Stepped
+    after d u = Stepped.Goes (at + 1) d u
+
+    acted : (w : World) → stepped gives (doing gives l.instr) at c w ≡ stepped_by (bind (D.gets gives l.instr o.0 w) answered) after
     acted w =
-        ap (λ d. stepped d at c w) same
-        ∙ ap (λ p. stepped_by p (λ d u. Stepped.Goes (at + 1) d u)) (some-is w (taken i) [] a.frame.operands (λ vs rest. bind (asks i vs w) (λ x u. chosen_by (x.clause == 0) (D.goes c (pushed x.values rest) u) (D.misfit u))) ∙ ap (of_split w (λ vs rest. bind (asks i vs w) (λ x u. chosen_by (x.clause == 0) (D.goes c (pushed x.values rest) u) (D.misfit u)))) split)
+        ap (λ d. stepped gives d at c w) (shows-it gives l.instr visible ns np)
+        ∙ ap (λ p. stepped_by p after) (some-is w (taken l.instr) [] a.frame.operands (λ vs rest. bind (D.gets gives l.instr vs w) (λ x u. D.goes c (pushed x.values rest) u)) ∙ ap (of_split w (λ vs rest. bind (D.gets gives l.instr vs w) (λ x u. D.goes c (pushed x.values rest) u))) split)
 
-    asking : Asking fn shaping arguments shown got (operation i o.0) a o.1 (After a) (λ to. 0)
+    -- with a counted answer
+    onward-with : (values : List Value) (later : List Answer) (os : List Operation) → is_counted gives l.instr (answer 0 values) ≡ true
+        → stepped_by (bind (D.gets gives l.instr o.0 (world (answer 0 values ∷ later) os)) answered) after ≡ Stepped.Goes (at + 1) (frame a.frame.slots (pushed values o.1)) (world later (os ++ operation l.instr o.0 ∷ []))
+    onward-with values later os count = let u = world later (os ++ operation l.instr o.0 ∷ []) in ap (λ b. stepped_by (bind (chosen_by b (Part.Gives (answer 0 values) u) (D.miscount u)) answered) after) count
+
+    lives-on : Life fn shaping arguments (shown ++ operation l.instr o.0 ∷ []) got (Now.Asks at c shown) → (values : List Value) → IsShaped shaping (at + 1) (frame a.frame.slots (pushed values o.1))
+        → Life fn shaping arguments (shown ++ operation l.instr o.0 ∷ []) (got ++ answer 0 values ∷ []) (Now.Stands (at + 1) (frame a.frame.slots (pushed values o.1)))
+    lives-on asks values fits =
+        let many = split-length (taken l.instr) [] a.frame.operands o.0 o.1 split in
+        let count = plain-answer fn l at c (frame a.frame.slots (pushed values o.1)) o.0 values o.1 is (split-pushed (taken l.instr) [] a.frame.operands o.0 o.1 split) refl shaping fitting good fits visible ns np (omega (arith, many)) in
+        Life.Answered l (answer 0 values) (at + 1) (frame a.frame.slots (pushed values o.1)) asks fits is (λ later. acted (world (answer 0 values ∷ later) shown) ∙ onward-with values later shown count)
+
+    asking : Asking fn shaping arguments shown got (operation l.instr o.0) a o.1 (After a) (λ to. 0)
     asking =
-        let asks = Life.Shows l (operation i o.0) life good is (acted (world [] shown)) in record {
+        let asks = Life.Shows l (operation l.instr o.0) life good is (acted (world [] shown)) in record {
           asks = asks;
-          lives_on = λ to values e fits. subst (λ z. Life fn shaping arguments (shown ++ operation i o.0 ∷ []) (got ++ answer 0 values ∷ []) (Now.Stands z (frame a.frame.slots (pushed values o.1)))) (sym e)
-              (Life.Answered l (answer 0 values) (at + 1) (frame a.frame.slots (pushed values o.1)) asks (subst (λ z. IsShaped shaping z (frame a.frame.slots (pushed values o.1))) e fits) is (λ later. acted (world (answer 0 values ∷ later) shown)));
+          lives_on = λ to values e fits. subst (λ z. Life fn shaping arguments (shown ++ operation l.instr o.0 ∷ []) (got ++ answer 0 values ∷ []) (Now.Stands z (frame a.frame.slots (pushed values o.1)))) (sym e)
+              (lives-on asks values (subst (λ z. IsShaped shaping z (frame a.frame.slots (pushed values o.1))) e fits));
         }
 
   -- a choice
@@ -192,24 +258,34 @@ module _ (code : Code) (fn : Function) (shaping : Option Shaping) (arguments : L
     abbrev onward : ℕ × Frame → World → Stepped
     onward r u = Stepped.Goes r.0 r.1 u
 
-    picked : (w : World) → stepped (doing l.instr) at c w ≡ stepped_by (bind (asks (choice_of cases otherwise) o.0 w) (chosen o.1)) onward
+    picked : (w : World) → stepped gives (doing gives l.instr) at c w ≡ stepped_by (bind (D.gets gives (choice_of cases otherwise) o.0 w) (chosen o.1)) onward
     picked w =
-        ap (λ i. stepped (doing i) at c w) same
-        ∙ ap (λ p. stepped_by p onward) (some-is w (cases_taken cases) [] a.frame.operands (λ vs rest. bind (asks (choice_of cases otherwise) vs w) (chosen rest)) ∙ ap (of_split w (λ vs rest. bind (asks (choice_of cases otherwise) vs w) (chosen rest))) split)
+        ap (λ i. stepped gives (doing gives i) at c w) same
+        ∙ ap (λ p. stepped_by p onward) (some-is w (cases_taken cases) [] a.frame.operands (λ vs rest. bind (D.gets gives (choice_of cases otherwise) vs w) (chosen rest)) ∙ ap (of_split w (λ vs rest. bind (D.gets gives (choice_of cases otherwise) vs w) (chosen rest))) split)
+
+    -- with a counted answer that names the clause of a target
+    onward-to : (to : ℕ) (m : In to ts) (values : List Value) (later : List Answer) (os : List Operation) → is_counted gives (choice_of cases otherwise) (answer (lower ts to) values) ≡ true
+        → stepped_by (bind (D.gets gives (choice_of cases otherwise) o.0 (world (answer (lower ts to) values ∷ later) os)) (chosen o.1)) onward ≡ Stepped.Goes to (frame a.frame.slots (pushed values o.1)) (world later (os ++ operation (choice_of cases otherwise) o.0 ∷ []))
+    onward-to to m values later os count =
+        let u = world later (os ++ operation (choice_of cases otherwise) o.0 ∷ []) in
+        ap (λ b. stepped_by (bind (chosen_by b (Part.Gives (answer (lower ts to) values) u) (D.miscount u)) (chosen o.1)) onward) count
+        ∙ ap (λ z. stepped_by (on_clause (λ t. Part.Gives (t, frame a.frame.slots (pushed values o.1)) u) u z) onward) (leads-clause ts to m cases otherwise (λ t n. n) m)
 
     choosing : Asking fn shaping arguments shown got (operation (choice_of cases otherwise) o.0) a o.1 (λ to. In to ts) (lower ts)
     choosing =
-        let asks = Life.Shows l (operation (choice_of cases otherwise) o.0) life good is (picked (world [] shown)) in record {
+        let asks = Life.Shows l (operation (choice_of cases otherwise) o.0) life good is (picked (world [] shown)) in
+        let many = split-length (cases_taken cases) [] a.frame.operands o.0 o.1 split in
+        let enough : length o.0 ≡ cases_taken cases = omega (arith, many) in record {
           asks = asks;
           lives_on = λ to values m fits.
-              Life.Answered l (answer (lower ts to) values) to (frame a.frame.slots (pushed values o.1)) asks fits is (λ later. picked (world (answer (lower ts to) values ∷ later) shown)
-              ∙ ap (λ z. stepped_by (on_clause (λ t. Part.Gives (t, frame a.frame.slots (pushed values o.1)) (world later (shown ++ operation (choice_of cases otherwise) o.0 ∷ []))) (world later (shown ++ operation (choice_of cases otherwise) o.0 ∷ [])) z) onward) (leads-clause ts to m cases otherwise (λ t n. n) m));
+              let count = choice-answer fn l at c (frame a.frame.slots (pushed values o.1)) o.0 values o.1 is (split-pushed (cases_taken cases) [] a.frame.operands o.0 o.1 split) refl cases otherwise (lower ts to) to same shaping fitting good fits enough (leads-clause ts to m cases otherwise (λ t n. n) m) in
+              Life.Answered l (answer (lower ts to) values) to (frame a.frame.slots (pushed values o.1)) asks fits is (λ later. picked (world (answer (lower ts to) values ∷ later) shown) ∙ onward-to to m values later shown count);
         }
 
-  from-visible : shows l.instr a.frame.operands ≡ plain_shown l.instr (split_from (taken l.instr) [] a.frame.operands) → doing l.instr ≡ Doing.Acts (D.shows l.instr) → (m : Option (List Value × List Value)) → split_from (taken l.instr) [] a.frame.operands ≡ m → (cs : List Change)
-      → ComesBy code s a l.instr (After a) (WaitsAfter a) m cs → L cs
-  from-visible shown_is same None e cs h = NoRule h
-  from-visible shown_is same (Some o) e cs h = Shows o.0 o.1 (asking (Doing.Acts (D.shows l.instr)) l.instr same o e) (shown_is ∙ ap (plain_shown l.instr) e) h
+  from-visible : shows l.instr a.frame.operands ≡ plain_shown l.instr (split_from (taken l.instr) [] a.frame.operands) → is_inner l.instr ≡ false → ((cases : List SelectCase) (otherwise : Option ℕ) → l.instr ≡ Instr.Select cases otherwise → ⊥) → (l.instr ≡ Instr.Panic → ⊥)
+      → (m : Option (List Value × List Value)) → split_from (taken l.instr) [] a.frame.operands ≡ m → (cs : List Change) → ComesBy code s a l.instr (After a) (WaitsAfter a) m cs → L cs
+  from-visible shown_is visible ns np None e cs h = NoRule h
+  from-visible shown_is visible ns np (Some o) e cs h = Shows o.0 o.1 (asking visible ns np o e) (shown_is ∙ ap (plain_shown l.instr) e) h
 
   from-choice : (cases : List SelectCase) (otherwise : Option ℕ) → l.instr ≡ Instr.Select cases otherwise → (m : Option (List Value × List Value)) → split_from (cases_taken cases) [] a.frame.operands ≡ m → (cs : List Change)
       → ComesBy code s a l.instr (λ to. In to (targets cases otherwise)) (WaitsFor (targets cases otherwise)) m cs → L cs
@@ -217,7 +293,7 @@ module _ (code : Code) (fn : Function) (shaping : Option Shaping) (arguments : L
   from-choice cases otherwise same (Some o) e cs h = Chooses cases otherwise o.0 o.1 same (choosing cases otherwise same o e) (ap (λ i. shows i a.frame.operands) same ∙ ap (choice_shown (choice_of cases otherwise) (targets cases otherwise)) e) h
 
   abbrev thrown : World → List Value → Stepped
-  thrown w os = stepped_by {A = Frame} (some_from w 1 [] (λ vs rest. bind (asks Instr.Panic vs w) (λ x u. D.misfit u)) os) (λ d u. Stepped.Goes (at + 1) d u)
+  thrown w os = stepped_by {A = Frame} (some_from w 1 [] (λ vs rest. bind (asks Instr.Panic vs w) (λ x u. D.miscount u)) os) (λ d u. Stepped.Goes (at + 1) d u)
 
   from-panic : l.instr ≡ Instr.Panic → (os : List Value) → a.frame.operands ≡ os → L (taking_one (λ x rest. M.on_some (λ k. M.panics a (PanicKind.Custom k)) (text_of x)) os)
   from-panic same [] e = NoRule refl
@@ -225,11 +301,11 @@ module _ (code : Code) (fn : Function) (shaping : Option Shaping) (arguments : L
     where
       go : (m : Option ℕ) → L (M.on_some (λ k. M.panics a (PanicKind.Custom k)) m)
       go None = NoRule refl
-      go (Some k) = Throws x k (Life.Shows l (operation Instr.Panic (x ∷ [])) life good is (ap (λ i. stepped (doing i) at c (world [] shown)) same ∙ ap (thrown (world [] shown)) e)) rest (ap (λ i. shows i a.frame.operands) same ∙ ap (λ os. shows Instr.Panic os) e) refl
+      go (Some k) = Throws x k (Life.Shows l (operation Instr.Panic (x ∷ [])) life good is (ap (λ i. stepped gives (doing gives i) at c (world [] shown)) same ∙ ap (thrown (world [] shown)) e)) rest (ap (λ i. shows i a.frame.operands) same ∙ ap (λ os. shows Instr.Panic os) e) refl
 
   plain : (b : Bool) → is_inner l.instr ≡ b → ((cases : List SelectCase) (otherwise : Option ℕ) → l.instr ≡ Instr.Select cases otherwise → ⊥) → (l.instr ≡ Instr.Panic → ⊥) → L (changes code l.instr a choice s)
-  plain true e ns np = from-inner (shows-plain l.instr a.frame.operands ns ∙ ap (λ b. cond b None (plain_shown l.instr (split_from (taken l.instr) [] a.frame.operands))) e) _ (inner-turns code l.instr a choice s e)
-  plain false e ns np = from-visible (shows-plain l.instr a.frame.operands ns ∙ ap (λ b. cond b None (plain_shown l.instr (split_from (taken l.instr) [] a.frame.operands))) e) (shows-it l.instr e ns np) (split_from (taken l.instr) [] a.frame.operands) refl _ (visible-turns code l.instr a choice s e ns awake)
+  plain true e ns np = from-inner e (shows-plain l.instr a.frame.operands ns ∙ ap (λ b. cond b None (plain_shown l.instr (split_from (taken l.instr) [] a.frame.operands))) e) _ (inner-turns gives code l.instr a choice s e)
+  plain false e ns np = from-visible (shows-plain l.instr a.frame.operands ns ∙ ap (λ b. cond b None (plain_shown l.instr (split_from (taken l.instr) [] a.frame.operands))) e) e ns np (split_from (taken l.instr) [] a.frame.operands) refl _ (visible-turns code l.instr a choice s e ns awake)
 
   by-instr : (i : Instr) → l.instr ≡ i → L (changes code i a choice s)
   by-instr (Instr.Select cases otherwise) e =
@@ -245,4 +321,4 @@ module _ (code : Code) (fn : Function) (shaping : Option Shaping) (arguments : L
       not-panic q = cc
 
 pub turns-are-lived : TurnsAreLived
-turns-are-lived code fn shaping arguments shown got a choice s l is life good awake = by-instr code fn shaping arguments shown got a choice s l is life good awake l.instr refl
+turns-are-lived code fn shaping arguments shown got a choice s l is fitting life good awake = by-instr code fn shaping arguments shown got a choice s l is fitting life good awake l.instr refl

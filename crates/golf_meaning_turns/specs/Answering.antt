@@ -1,14 +1,15 @@
 -- The answers that a call got are of the types that its operations leave.
-use Rattle.std.specs.Prelude.{◌≡◌, ℕ, ◌+◌, ◌==◌, Bool, false, is_some, cond, List, [], ◌∷◌, length, map, Option, Some, None, slice_get}
+use Rattle.std.specs.Prelude.{◌≡◌, ℕ, ◌+◌, false, List, [], ◌∷◌, length, Some, slice_get}
 use Rattle.golf_data.specs.declared.value.Value.{Value}
 use Rattle.golf_data.specs.declared.code.Function.{Function}
 use Rattle.golf_data.specs.declared.code.Instr.{Instr}
-use Rattle.golf_data.specs.declared.code.SelectCase.{SelectCase}
-use Rattle.golf_data.specs.Effects.{taken, left, cases_taken, case_left}
-use Rattle.golf_model_typing.specs.Types.{ValueType, Shape, Signature, FunctionTypes, Types, ValuesFit}
+use Rattle.golf_data.specs.Effects.{taken, cases_taken}
+use Rattle.golf_model_typing.specs.Types.{ValueType, Shape, FunctionTypes, Types, ValuesFit}
 use Rattle.golf_model_typing.specs.Shapes.{InstructionFits, FunctionFits}
 use Rattle.golf_meaning_flat.specs.Worlds.{Operation, Answer, pushed}
+use Rattle.golf_meaning_flat.specs.Counts.{answer_left}
 use Rattle.golf_meaning_flat.specs.Flat.{targets, lower, clause_of}
+use Rattle.golf_meaning_turns.specs.Shaping.{giving}
 use Rattle.golf_meaning_turns.specs.Stepping.{is_inner}
 use Rattle.golf_meaning_turns.specs.Life.{Now, Life}
 use Rattle.golf_meaning_turns.specs.Turning.{choice_of}
@@ -23,20 +24,6 @@ abbrev pub LeadsTo : Instr → ℕ → Instr → ℕ → ℕ → Type 0
 LeadsTo (Instr.Select cases otherwise) at shown clause to = (shown ≡ choice_of cases otherwise) × (clause_of (lower (targets cases otherwise)) clause cases otherwise ≡ Some to)
 LeadsTo Instr.Panic at shown clause to = ⊥
 LeadsTo i at shown clause to = (is_inner i ≡ false) × (shown ≡ i) × (clause ≡ 0) × (to ≡ at + 1)
-
--- how many values the answer to an operation has, if these functions give a value; of a choice, those of the clause that it names
-abbrev pub clause_left : ℕ → List SelectCase → Option ℕ → Option ℕ
-clause_left k [] None = None
-clause_left k [] (Some t) = cond (t == k) (Some 0) None
-clause_left k (c ∷ cs) o = cond (c.target == k) (Some (case_left c.kind)) (clause_left k cs o)
-
-abbrev pub answer_left : List Bool → Instr → ℕ → Option ℕ
-answer_left gives (Instr.Select cases otherwise) k = clause_left k cases otherwise
-answer_left gives i k = cond (k == 0) (Some (left gives i)) None
-
--- the functions that give a value
-abbrev pub giving : Types → List Bool
-giving types = map (λ (sig : Signature). is_some sig.result) types.functions
 
 -- An operation and its answer, by these types and by what is known of objects: an instruction fits the shape of its place, which has the types of the operands, of which there are as many as it takes; the answer leads to a place whose shape has the types of its values, and below both are the same values.
 pub record AnswerFits (types : Types) (known : List (ℕ × ValueType)) (ft : FunctionTypes) (o : Operation) (a : Answer) : Type 0 where

@@ -1,5 +1,5 @@
 -- The laws of turns and meanings, as statements.
-use Rattle.std.specs.Prelude.{◌≡◌, ℕ, ◌+◌, true, false, List, [], length, Option, ◌⊎◌, slice_get}
+use Rattle.std.specs.Prelude.{◌≡◌, ℕ, ◌+◌, Bool, true, false, List, [], length, Option, ◌⊎◌, slice_get}
 use Rattle.golf_data.specs.declared.value.Value.{Value}
 use Rattle.golf_data.specs.declared.code.Code.{Code}
 use Rattle.golf_data.specs.declared.code.CodeLine.{CodeLine}
@@ -23,10 +23,10 @@ abbrev pub AlikeAt : List CodeLine → ℕ → List Value → List Value → Typ
 AlikeAt body at xs ys = (length xs ≡ length ys) × ((i : ℕ) → Needed body i at → slice_get xs i ≡ slice_get ys i)
 
 abbrev pub NeededDecide : Type 0
-NeededDecide = (body : List CodeLine) (n at : ℕ) (xs ys operands : List Value) (w : World) → AlikeAt body at xs ys → exec body n at (record { slots = xs; operands = operands }) w ≡ exec body n at (record { slots = ys; operands = operands }) w
+NeededDecide = (gives : List Bool) (body : List CodeLine) (n at : ℕ) (xs ys operands : List Value) (w : World) → AlikeAt body at xs ys → exec gives body n at (record { slots = xs; operands = operands }) w ≡ exec gives body n at (record { slots = ys; operands = operands }) w
 
 abbrev pub InnerTurns : Type 0
-InnerTurns = (code : Code) (i : Instr) (a : Actor) (choice : ℕ) (s : State) → is_inner i ≡ true → IsTurn a (λ w. stepped (doing i) a.frame.at (frame_of a.frame) w) (changes code i a choice s)
+InnerTurns = (gives : List Bool) (code : Code) (i : Instr) (a : Actor) (choice : ℕ) (s : State) → is_inner i ≡ true → IsTurn a (λ w. stepped gives (doing gives i) a.frame.at (frame_of a.frame) w) (changes code i a choice s)
 
 -- the place after the instruction; who waits there goes on there
 abbrev pub After : Actor → ℕ → Type 0

@@ -1,5 +1,5 @@
 -- The life of a call: the operations that it has shown, and the answers that it got.
-use Rattle.std.specs.Prelude.{◌≡◌, ℕ, ◌-◌, pos, List, [], ◌∷◌, ◌++◌, length, replicate, Some, slice_get, Option}
+use Rattle.std.specs.Prelude.{◌≡◌, ℕ, ◌-◌, pos, Bool, List, [], ◌∷◌, ◌++◌, length, replicate, Some, slice_get, Option}
 use Rattle.golf_data.specs.declared.value.Value.{Value}
 use Rattle.golf_data.specs.declared.code.CodeLine.{CodeLine}
 use Rattle.golf_data.specs.declared.code.Function.{Function}
@@ -8,7 +8,7 @@ use Rattle.golf_meaning_flat.specs.Doing.{Frame, doing}
 use Rattle.golf_meaning_flat.specs.Flat.{exec}
 use Rattle.golf_meaning_turns.specs.Stepping.{Stepped, stepped}
 use Rattle.golf_meaning_turns.specs.Laws.{AlikeAt}
-use Rattle.golf_meaning_turns.specs.Shaping.{Shaping, IsShaped}
+use Rattle.golf_meaning_turns.specs.Shaping.{Shaping, IsShaped, giving_by}
 
 -- the answers that are left, and the operations that were shown
 abbrev pub world : List Answer → List Operation → World
@@ -33,28 +33,28 @@ pub data Life (fn : Function) (shaping : Option Shaping) (arguments : List Value
   Begins : length arguments ≡ fn.params → Life fn shaping arguments [] [] (Now.Stands 0 (frame (first_slots fn arguments) []))
   -- an instruction that shows nothing
   Turns : {os : List Operation} {got : List Answer} {at : ℕ} {c : Frame} (l : CodeLine) (to : ℕ) (d : Frame) → Life fn shaping arguments os got (Now.Stands at c) → slice_get fn.body at ≡ Some l
-      → ((w : World) → stepped (doing l.instr) at c w ≡ Stepped.Goes to d w) → Life fn shaping arguments os got (Now.Stands to d)
+      → ((w : World) → stepped (giving_by shaping) (doing (giving_by shaping) l.instr) at c w ≡ Stepped.Goes to d w) → Life fn shaping arguments os got (Now.Stands to d)
   -- slots that are not needed are cleared
   Clears : {os : List Operation} {got : List Answer} {at : ℕ} {c : Frame} (slots : List Value) → Life fn shaping arguments os got (Now.Stands at c) → AlikeAt fn.body at c.slots slots → Life fn shaping arguments os got (Now.Stands at (frame slots c.operands))
   -- an operation is shown
   Shows : {os : List Operation} {got : List Answer} {at : ℕ} {c : Frame} (l : CodeLine) (o : Operation) → Life fn shaping arguments os got (Now.Stands at c) → IsShaped shaping at c → slice_get fn.body at ≡ Some l
-      → stepped (doing l.instr) at c (world [] os) ≡ Stepped.Halts Halt.Waits (os ++ o ∷ []) → Life fn shaping arguments (os ++ o ∷ []) got (Now.Asks at c os)
+      → stepped (giving_by shaping) (doing (giving_by shaping) l.instr) at c (world [] os) ≡ Stepped.Halts Halt.Waits (os ++ o ∷ []) → Life fn shaping arguments (os ++ o ∷ []) got (Now.Asks at c os)
   -- and is answered
   Answered : {os before : List Operation} {got : List Answer} {at : ℕ} {c : Frame} (l : CodeLine) (a : Answer) (to : ℕ) (d : Frame) → Life fn shaping arguments os got (Now.Asks at c before) → IsShaped shaping to d → slice_get fn.body at ≡ Some l
-      → ((later : List Answer) → stepped (doing l.instr) at c (world (a ∷ later) before) ≡ Stepped.Goes to d (world later os)) → Life fn shaping arguments os (got ++ a ∷ []) (Now.Stands to d)
+      → ((later : List Answer) → stepped (giving_by shaping) (doing (giving_by shaping) l.instr) at c (world (a ∷ later) before) ≡ Stepped.Goes to d (world later os)) → Life fn shaping arguments os (got ++ a ∷ []) (Now.Stands to d)
   -- it returns, or divides by zero
   Halts : {os : List Operation} {got : List Answer} {at : ℕ} {c : Frame} (l : CodeLine) (h : Halt) → Life fn shaping arguments os got (Now.Stands at c) → slice_get fn.body at ≡ Some l
-      → ((w : World) → stepped (doing l.instr) at c w ≡ Stepped.Halts h w.operations) → Life fn shaping arguments os got (Now.Halted h)
+      → ((w : World) → stepped (giving_by shaping) (doing (giving_by shaping) l.instr) at c w ≡ Stepped.Halts h w.operations) → Life fn shaping arguments os got (Now.Halted h)
 
--- the meaning of the code of a call
-abbrev pub call_means : Function → List Value → List Answer → ℕ → Told
-call_means fn arguments answers n = exec fn.body n 0 (frame (first_slots fn arguments) []) (world answers [])
+-- the meaning of the code of a call, if these functions give a value
+abbrev pub call_means : List Bool → Function → List Value → List Answer → ℕ → Told
+call_means gives fn arguments answers n = exec gives fn.body n 0 (frame (first_slots fn arguments) []) (world answers [])
 
 -- with the answers that it got, the code means what the call has shown: it is at work after so many instructions, it waits at its last operation, or it ends so
-abbrev pub HasShown : Function → List Value → List Operation → List Answer → Now → Type 0
-HasShown fn arguments os got (Now.Stands at c) = (n : ℕ) × (call_means fn arguments got n ≡ record { operations = os; end = End.Short })
-HasShown fn arguments os got (Now.Asks at c before) = (n : ℕ) × (call_means fn arguments got n ≡ record { operations = os; end = End.Halts Halt.Waits })
-HasShown fn arguments os got (Now.Halted h) = (n : ℕ) × (call_means fn arguments got n ≡ record { operations = os; end = End.Halts h })
+abbrev pub HasShown : List Bool → Function → List Value → List Operation → List Answer → Now → Type 0
+HasShown gives fn arguments os got (Now.Stands at c) = (n : ℕ) × (call_means gives fn arguments got n ≡ record { operations = os; end = End.Short })
+HasShown gives fn arguments os got (Now.Asks at c before) = (n : ℕ) × (call_means gives fn arguments got n ≡ record { operations = os; end = End.Halts Halt.Waits })
+HasShown gives fn arguments os got (Now.Halted h) = (n : ℕ) × (call_means gives fn arguments got n ≡ record { operations = os; end = End.Halts h })
 
 abbrev pub LivesMean : Type 0
-LivesMean = (fn : Function) (shaping : Option Shaping) (arguments : List Value) (os : List Operation) (got : List Answer) (now : Now) → Life fn shaping arguments os got now → HasShown fn arguments os got now
+LivesMean = (fn : Function) (shaping : Option Shaping) (arguments : List Value) (os : List Operation) (got : List Answer) (now : Now) → Life fn shaping arguments os got now → HasShown (giving_by shaping) fn arguments os got now

@@ -1,4 +1,4 @@
--- The names of a file that breaks no rule fit, so its meanings are unfit by an answer alone.
+-- The names of a file that breaks no rule fit, so its meanings lack no rule.
 -- For: `FilesSound` (golf_meaning_typed_files/specs/Laws.antt) and `meanings_sound` (src/lib.rt)
 -- By: two lemmas, put together; no induction
 use Rattle.golf_code_shapes_globals.proofs.Globals.{names-fit}

@@ -1,9 +1,10 @@
 -- What a call gives.
 -- For: `plain_call` and `finaliser_call`, golf_check_types/specs/Calls.antt; `expressions_fit`, src/lib.rt
 -- By: induction over the list of arguments; cases of what is called
-use Rattle.std.proofs.Common.{◌≡◌, ℕ, suc, ◌+◌, false, List, [], ◌∷◌, ◌++◌, map, length, length-append, Option, Some, None, refl, sym, ap, ◌∙◌, subst, arith, negsuc}
+use Rattle.std.proofs.Common.{◌≡◌, ℕ, suc, ◌+◌, ◌==◌, Bool, false, cond, List, [], ◌∷◌, ◌++◌, map, length, length-append, Option, Some, None, refl, sym, ap, ◌∙◌, subst, arith, negsuc}
 use Rattle.std.proofs.lemmas.Bool.{eqb-true}
-use Rattle.std.specs.Prelude.{flat_map, slice_get}
+use Rattle.std.specs.Prelude.{flat_map, is_some, slice_get}
+use Rattle.std.specs.Option.{option_map}
 use Rattle.golf_data.specs.declared.value.Value.{Value}
 use Rattle.golf_data.specs.declared.code.Instr.{Instr}
 use Rattle.golf_check_types.specs.declared.types.Base.TheVariants as base
@@ -24,13 +25,14 @@ use Rattle.golf_code_shapes.specs.Types.{value_type}
 use Rattle.golf_code_shapes.specs.Sound.{Callee}
 use Rattle.golf_code_shapes.proofs.Typings.{none-left, none-right, kept}
 use Rattle.golf_meaning_flat.specs.Worlds.{World, Part, bind, asked, done, Answer}
-use Rattle.golf_meaning_flat.specs.Doing.{misfit}
+use Rattle.golf_meaning_flat.specs.Doing.{miscount}
 use Rattle.golf_data.specs.Effects.{taken}
 use Rattle.golf_meaning_source.specs.Names.{Env}
-use Rattle.golf_meaning_source.specs.Operations.{Gives, both, then_do, visible, panicking}
+use Rattle.golf_meaning_source.specs.Operations.{Taking, Gives, both, then_do, visible, panicking}
 use Rattle.golf_meaning_source.specs.Exprs.{Place, Argument, left_types, operation, values_of, finaliser, finalising, call}
-use Rattle.golf_meaning_typing.specs.Sound.{Sound, One, Yields}
+use Rattle.golf_meaning_typing.specs.Sound.{Sound, One, Yields, FileTaken}
 use Rattle.golf_meaning_typing.specs.Meets.{Many, Receives}
+use Rattle.golf_meaning_typing.proofs.Calculus.{Leaves}
 use Rattle.golf_meaning_typing.proofs.Counts.{many-both, many-then, many-order, none-left-over, one-left, EachOne}
 use Rattle.golf_meaning_typing.proofs.Naming.{Me}
 
@@ -45,15 +47,6 @@ judgeds xs = map (λ x. x.judged) xs
 abbrev pub arguments : List Arg → List Argument
 arguments xs = map (λ x. record { meaning = x.judged.meaning; value = x.value }) xs
 
--- one of them gives a value if it stands as one
-abbrev pub Stands : ℕ → List Arg → Type 0
-Stands l [] = Unit {0}
-Stands l (x ∷ xs) = (used l x.judged ≡ [] → Many 1 x.value) × Stands l xs
-
-each-one : (l : ℕ) (xs : List Arg) → Stands l xs → flat_map (used l) (judgeds xs) ≡ [] → EachOne (map (λ (a : Argument). a.value) (arguments xs))
-each-one l [] h u = tt
-each-one l (x ∷ xs) h u = (h.0 (none-left (used l x.judged) _ u), each-one l xs h.1 (none-right (used l x.judged) _ u))
-
 length-args : (xs : List Arg) → length (map (λ (a : Argument). a.value) (arguments xs)) ≡ length (arguments xs)
 length-args [] = refl
 length-args (x ∷ xs) = ap (λ n. suc n) (length-args xs)
@@ -62,160 +55,172 @@ length-given : (xs : List Arg) → length (map given_by (judgeds xs)) ≡ length
 length-given [] = refl
 length-given (x ∷ xs) = ap (λ n. suc n) (length-given xs)
 
-many-values : (l : ℕ) (xs : List Arg) → Stands l xs → flat_map (used l) (judgeds xs) ≡ [] → Many (length (arguments xs)) (values_of (arguments xs))
-many-values l xs h u = subst (λ n. Many n (values_of (arguments xs))) (length-args xs) (many-order (map (λ (a : Argument). a.value) (arguments xs)) (each-one l xs h u))
-
 -- as many arguments as parameters
 counted : (l : ℕ) (ps : List (Option GoType)) (xs : List Arg) → parameter_faults l ps (map given_by (judgeds xs)) ≡ [] → length (arguments xs) ≡ length ps
 counted l ps xs none =
     let e = eqb-true (length ps) (length (map given_by (judgeds xs))) (kept l 11 (same_number ps (map given_by (judgeds xs))) (none-right (argument_faults l ps (map given_by (judgeds xs))) _ none)) in
     sym (length-given xs) ∙ sym e
 
-module _ (types : Types) (t : Tables) (s : Scope) (env : Env) where
-  -- the value of a call is what the call is
-  abbrev Gi : Operand → Gives → Type 0
-  Gi m f = Me types t s env m f Place.Nowhere (λ w. Part.Gives [] w)
+module _ (taking : Taking) where
+  -- one of them gives a value if it stands as one
+  abbrev pub Stands : ℕ → List Arg → Type 0
+  Stands l [] = Unit {0}
+  Stands l (x ∷ xs) = (used l x.judged ≡ [] → Many taking 1 x.value) × Stands l xs
 
-  -- an operation on receiver and arguments, which leaves what its result is
-  operates : (k : ℕ) (receiver : Gives) (xs : List Arg) (g : List Value → Gives) (L : List Value → Type 0) → Many k receiver → Many (length (arguments xs)) (values_of (arguments xs)) → ((vs : List Value) → length vs ≡ k + length (arguments xs) → (w : World) → Sound L (g vs w)) → (w : World) → Sound L (then_do (both receiver (values_of (arguments xs))) g w)
-  operates k receiver xs g L hr ha h = many-then (k + length (arguments xs)) (both receiver (values_of (arguments xs))) g L (many-both k (length (arguments xs)) receiver (values_of (arguments xs)) hr ha) h
+  each-one : (l : ℕ) (xs : List Arg) → Stands l xs → flat_map (used l) (judgeds xs) ≡ [] → EachOne taking (map (λ (a : Argument). a.value) (arguments xs))
+  each-one l [] h u = tt
+  each-one l (x ∷ xs) h u = (h.0 (none-left (used l x.judged) _ u), each-one l xs h.1 (none-right (used l x.judged) _ u))
 
-  -- functions and methods of the file
+  many-values : (l : ℕ) (xs : List Arg) → Stands l xs → flat_map (used l) (judgeds xs) ≡ [] → Many taking (length (arguments xs)) (values_of (arguments xs))
+  many-values l xs h u = subst (λ n. Many taking n (values_of (arguments xs))) (length-args xs) (many-order taking (map (λ (a : Argument). a.value) (arguments xs)) (each-one l xs h u))
 
-  gives-result : (r : Option GoType) (i : Instr) (vs : List Value) → length vs ≡ taken i → Gi (of_result r) (visible i (left_types (of_result r)) vs)
-  gives-result None i vs len = none-left-over i vs len
-  gives-result (Some e) i vs len = one-left i e vs len
+  module _ (types : Types) (t : Tables) (s : Scope) (env : Env) (file : FileTaken taking types t s.file) where
+    -- the value of a call is what the call is
+    abbrev Gi : Operand → Gives → Type 0
+    Gi m f = Me taking types t s env m f Place.Nowhere (λ w. Part.Gives [] w)
 
-  -- what leaves the values of a result
-  abbrev Result : Option GoType → List Value → Type 0
-  Result None vs = length vs ≡ 0
-  Result (Some e) vs = One (value_type e) vs
+    -- an operation on receiver and arguments, which leaves what its result is
+    operates : (k : ℕ) (receiver : Gives) (xs : List Arg) (g : List Value → Gives) (L : List Value → Type 0) → Many taking k receiver → Many taking (length (arguments xs)) (values_of (arguments xs)) → ((vs : List Value) → length vs ≡ k + length (arguments xs) → (w : World) → Sound taking L (g vs w)) → (w : World) → Sound taking L (then_do (both receiver (values_of (arguments xs))) g w)
+    operates k receiver xs g L hr ha h = many-then taking (k + length (arguments xs)) (both receiver (values_of (arguments xs))) g L (many-both taking k (length (arguments xs)) receiver (values_of (arguments xs)) hr ha) h
 
-  as-result : (r : Option GoType) (f : Gives) → ((w : World) → Sound (Result r) (f w)) → Gi (of_result r) f
-  as-result None f h = h
-  as-result (Some e) f h = h
+    -- functions and methods of the file
 
-  of-result : (r : Option GoType) (i : Instr) (vs : List Value) → length vs ≡ taken i → (w : World) → Sound (Result r) (visible i (left_types (of_result r)) vs w)
-  of-result None i vs len = none-left-over i vs len
-  of-result (Some e) i vs len = one-left i e vs len
+    -- what leaves the values of a result
+    abbrev Result : Option GoType → List Value → Type 0
+    Result None vs = length vs ≡ 0
+    Result (Some e) vs = One taking (value_type e) vs
 
-  file-call : (l k c n : ℕ) (below : List ValueType) (callee : Callee types t s.file k below) (receiver : Gives) (xs : List Arg) → Many c receiver → Many (length (arguments xs)) (values_of (arguments xs)) → n ≡ c + length (arguments xs)
-      → Gi (signature_result (slice_get s.file.functions k)) (then_do (both receiver (values_of (arguments xs))) (visible (Instr.Call (k + 1) n) (left_types (signature_result (slice_get s.file.functions k)))))
-  file-call l k c n below callee receiver xs hr ha count =
-      subst (λ o. Gi (signature_result o) (then_do (both receiver (values_of (arguments xs))) (visible (Instr.Call (k + 1) n) (left_types (signature_result o))))) (sym callee.2)
-      (as-result callee.0.result _ (operates c receiver xs _ (Result callee.0.result) hr ha (λ vs len. of-result callee.0.result (Instr.Call (k + 1) n) vs (len ∙ sym count))))
+    as-result : (r : Option GoType) (f : Gives) → ((w : World) → Sound taking (Result r) (f w)) → Gi (of_result r) f
+    as-result None f h = h
+    as-result (Some e) f h = h
 
-  parts : (l : ℕ) (m : Operand) (xs : List Arg) → (plain_call l s m (judgeds xs)).faults ≡ [] → (flat_map (used l) (judgeds xs) ≡ []) × (call_faults l s.file m (map given_by (judgeds xs)) ≡ [])
-  parts l m xs none = (none-left (flat_map (used l) (judgeds xs)) _ none, none-right (steady_faults l s.initialises m) _ (none-right (flat_map (used l) (judgeds xs)) _ none))
+    of-result : (r : Option GoType) (i : Instr) (vs : List Value) → length vs ≡ taken i → Leaves taking i (length (left_types (of_result r))) → (w : World) → Sound taking (Result r) (visible taking i (left_types (of_result r)) vs w)
+    of-result None i vs len many = none-left-over taking i vs len many
+    of-result (Some e) i vs len many = one-left taking i e vs len many
 
-  -- built-in calls
+    -- a call has as many values as its result
+    result-left : (r : Option GoType) (b : Bool) → b ≡ is_some (option_map value_type r) → (n : ℕ) → cond (n == 0) (Some (cond b 1 0)) None ≡ cond (n == 0) (Some (length (left_types (of_result r)))) None
+    result-left None b e n = ap (λ z. cond (n == 0) (Some (cond z 1 0)) None) e
+    result-left (Some t) b e n = ap (λ z. cond (n == 0) (Some (cond z 1 0)) None) e
 
-  silent : (k : ℕ) (receiver : Gives) (xs : List Arg) (i : Instr) → Many k receiver → Many (length (arguments xs)) (values_of (arguments xs)) → k + length (arguments xs) ≡ taken i → Many 0 (then_do (both receiver (values_of (arguments xs))) (visible i []))
-  silent k receiver xs i hr ha count = operates k receiver xs (visible i []) (λ vs. length vs ≡ 0) hr ha (λ vs len. none-left-over i vs (len ∙ count))
+    file-call : (l k c n : ℕ) (below : List ValueType) (callee : Callee types t s.file k below) (receiver : Gives) (xs : List Arg) → Many taking c receiver → Many taking (length (arguments xs)) (values_of (arguments xs)) → n ≡ c + length (arguments xs)
+        → Gi (signature_result (slice_get s.file.functions k)) (then_do (both receiver (values_of (arguments xs))) (visible taking (Instr.Call (k + 1) n) (left_types (signature_result (slice_get s.file.functions k)))))
+    file-call l k c n below callee receiver xs hr ha count =
+        let gives = file.counts (k + 1) callee.1 callee.3 ∙ ap (λ (m : Option ValueType). is_some m) callee.5 in
+        subst (λ o. Gi (signature_result o) (then_do (both receiver (values_of (arguments xs))) (visible taking (Instr.Call (k + 1) n) (left_types (signature_result o))))) (sym callee.2)
+        (as-result callee.0.result _ (operates c receiver xs _ (Result callee.0.result) hr ha (λ vs len. of-result callee.0.result (Instr.Call (k + 1) n) vs (len ∙ sym count) (result-left callee.0.result _ gives))))
 
-  single : (k : ℕ) (receiver : Gives) (xs : List Arg) (i : Instr) (e : GoType) → Many k receiver → Many (length (arguments xs)) (values_of (arguments xs)) → k + length (arguments xs) ≡ taken i → Yields (value_type e) (then_do (both receiver (values_of (arguments xs))) (visible i (Some e ∷ [])))
-  single k receiver xs i e hr ha count = operates k receiver xs (visible i (Some e ∷ [])) (One (value_type e)) hr ha (λ vs len. one-left i e vs (len ∙ count))
+    parts : (l : ℕ) (m : Operand) (xs : List Arg) → (plain_call l s m (judgeds xs)).faults ≡ [] → (flat_map (used l) (judgeds xs) ≡ []) × (call_faults l s.file m (map given_by (judgeds xs)) ≡ [])
+    parts l m xs none = (none-left (flat_map (used l) (judgeds xs)) _ none, none-right (steady_faults l s.initialises m) _ (none-right (flat_map (used l) (judgeds xs)) _ none))
 
-  -- a panic has no answer that fits
-  panics : (vs : List Value) → length vs ≡ 1 → Many 0 (panicking vs)
-  panics [] len = absurd (omega (arith, len))
-  panics (v ∷ []) len = λ w. answering w.answers w
-    where
-      answering : (answers : List Answer) (w : World) → Sound (λ (vs : List Value). length vs ≡ 0) (bind (asked answers (done w Instr.Panic (v ∷ []))) (λ a u. misfit u))
-      answering [] w = tt
-      answering (a ∷ later) w = tt
-  panics (v ∷ (x ∷ vs)) len = absurd (omega (arith, len))
+    -- built-in calls
 
-  on-built-in : (l : ℕ) (b : BuiltIn) (receiver : Gives) (xs : List Arg) → sets_finaliser (operand.BuiltIn b) ≡ false → Stands l xs → (plain_call l s (operand.BuiltIn b) (judgeds xs)).faults ≡ [] → Receives (receiver_base b) receiver
-      → Gi (called s.file (operand.BuiltIn b) (map given_by (judgeds xs))) (then_do (both receiver (values_of (arguments xs))) (operation (length (arguments xs)) b (left_types (called s.file (operand.BuiltIn b) (map given_by (judgeds xs))))))
-  on-built-in l built_in.Length receiver xs e hs none h = let f = parts l (operand.BuiltIn built_in.Length) xs none in single 0 receiver xs Instr.Len (plain base.Int) h (many-values l xs hs f.0) (omega (arith, counted l (None ∷ []) xs (none-right (broken l 8 _) _ f.1)))
-  on-built-in l built_in.Close receiver xs e hs none h = let f = parts l (operand.BuiltIn built_in.Close) xs none in silent 0 receiver xs Instr.Close h (many-values l xs hs f.0) (omega (arith, counted l (None ∷ []) xs (none-left (parameter_faults l (None ∷ []) (map given_by (judgeds xs))) _ f.1)))
-  on-built-in l built_in.Panic receiver xs e hs none h = let f = parts l (operand.BuiltIn built_in.Panic) xs none in operates 0 receiver xs panicking (λ vs. length vs ≡ 0) h (many-values l xs hs f.0) (λ vs len. panics vs (omega (arith, len, counted l (None ∷ []) xs f.1)))
-  on-built-in l built_in.Print receiver xs e hs none h = let f = parts l (operand.BuiltIn built_in.Print) xs none in silent 0 receiver xs (Instr.Print (length (arguments xs))) h (many-values l xs hs f.0) (omega arith)
-  on-built-in l built_in.Collect receiver xs e hs none h = let f = parts l (operand.BuiltIn built_in.Collect) xs none in silent 0 receiver xs Instr.Collect h (many-values l xs hs f.0) (omega (arith, counted l [] xs f.1))
-  on-built-in l built_in.SetFinalizer receiver xs e hs none h = cc
-  on-built-in l built_in.NewCondition receiver xs e hs none h = let f = parts l (operand.BuiltIn built_in.NewCondition) xs none in single 0 receiver xs Instr.NewCond (plain base.Condition) h (many-values l xs hs f.0) (omega (arith, counted l (Some (plain base.Mutex) ∷ []) xs f.1))
-  on-built-in l built_in.Add receiver xs e hs none h = let f = parts l (operand.BuiltIn built_in.Add) xs none in silent 1 receiver xs Instr.GroupAdd h (many-values l xs hs f.0) (omega (arith, counted l (Some (plain base.Int) ∷ []) xs f.1))
-  on-built-in l built_in.Done receiver xs e hs none h =
-      let f = parts l (operand.BuiltIn built_in.Done) xs none in
-      operates 1 receiver xs (λ vs. visible Instr.GroupAdd [] (vs ++ Value.Int (negsuc 0) ∷ [])) (λ vs. length vs ≡ 0) h (many-values l xs hs f.0)
-      (λ vs len. none-left-over Instr.GroupAdd (vs ++ Value.Int (negsuc 0) ∷ []) (omega (arith, length-append vs (Value.Int (negsuc 0) ∷ []), len, counted l [] xs f.1)))
-  on-built-in l built_in.Lock receiver xs e hs none h = let f = parts l (operand.BuiltIn built_in.Lock) xs none in silent 1 receiver xs Instr.Lock h (many-values l xs hs f.0) (omega (arith, counted l [] xs f.1))
-  on-built-in l built_in.Unlock receiver xs e hs none h = let f = parts l (operand.BuiltIn built_in.Unlock) xs none in silent 1 receiver xs Instr.Unlock h (many-values l xs hs f.0) (omega (arith, counted l [] xs f.1))
-  on-built-in l built_in.WaitGroup receiver xs e hs none h = let f = parts l (operand.BuiltIn built_in.WaitGroup) xs none in silent 1 receiver xs Instr.GroupWait h (many-values l xs hs f.0) (omega (arith, counted l [] xs f.1))
-  on-built-in l built_in.WriteLock receiver xs e hs none h = let f = parts l (operand.BuiltIn built_in.WriteLock) xs none in silent 1 receiver xs Instr.RwLock h (many-values l xs hs f.0) (omega (arith, counted l [] xs f.1))
-  on-built-in l built_in.WriteUnlock receiver xs e hs none h = let f = parts l (operand.BuiltIn built_in.WriteUnlock) xs none in silent 1 receiver xs Instr.RwUnlock h (many-values l xs hs f.0) (omega (arith, counted l [] xs f.1))
-  on-built-in l built_in.ReadLock receiver xs e hs none h = let f = parts l (operand.BuiltIn built_in.ReadLock) xs none in silent 1 receiver xs Instr.ReadLock h (many-values l xs hs f.0) (omega (arith, counted l [] xs f.1))
-  on-built-in l built_in.ReadUnlock receiver xs e hs none h = let f = parts l (operand.BuiltIn built_in.ReadUnlock) xs none in silent 1 receiver xs Instr.ReadUnlock h (many-values l xs hs f.0) (omega (arith, counted l [] xs f.1))
-  on-built-in l built_in.WaitCondition receiver xs e hs none h = let f = parts l (operand.BuiltIn built_in.WaitCondition) xs none in silent 1 receiver xs Instr.CondWait h (many-values l xs hs f.0) (omega (arith, counted l [] xs f.1))
-  on-built-in l built_in.Signal receiver xs e hs none h = let f = parts l (operand.BuiltIn built_in.Signal) xs none in silent 1 receiver xs Instr.CondSignal h (many-values l xs hs f.0) (omega (arith, counted l [] xs f.1))
-  on-built-in l built_in.Broadcast receiver xs e hs none h = let f = parts l (operand.BuiltIn built_in.Broadcast) xs none in silent 1 receiver xs Instr.CondBroadcast h (many-values l xs hs f.0) (omega (arith, counted l [] xs f.1))
+    silent : (k : ℕ) (receiver : Gives) (xs : List Arg) (i : Instr) → Many taking k receiver → Many taking (length (arguments xs)) (values_of (arguments xs)) → k + length (arguments xs) ≡ taken i → Leaves taking i 0 → Many taking 0 (then_do (both receiver (values_of (arguments xs))) (visible taking i []))
+    silent k receiver xs i hr ha count many = operates k receiver xs (visible taking i []) (λ vs. length vs ≡ 0) hr ha (λ vs len. none-left-over taking i vs (len ∙ count) many)
 
-  -- finalisers
+    single : (k : ℕ) (receiver : Gives) (xs : List Arg) (i : Instr) (e : GoType) → Many taking k receiver → Many taking (length (arguments xs)) (values_of (arguments xs)) → k + length (arguments xs) ≡ taken i → Leaves taking i 1 → Yields taking (value_type e) (then_do (both receiver (values_of (arguments xs))) (visible taking i (Some e ∷ [])))
+    single k receiver xs i e hr ha count many = operates k receiver xs (visible taking i (Some e ∷ [])) (One taking (value_type e)) hr ha (λ vs len. one-left taking i e vs (len ∙ count) many)
 
-  sets : (m : Operand) (vs : List Value) → length vs ≡ 1 → Many 0 (finaliser m vs)
-  sets (operand.Function k) vs len = none-left-over (Instr.SetFinalizer (k + 1)) vs len
-  sets (operand.Value e) vs len = none-left-over Instr.ClearFinalizer vs len
-  sets (operand.Outcome e) vs len = none-left-over Instr.ClearFinalizer vs len
-  sets (operand.Constant k b) vs len = none-left-over Instr.ClearFinalizer vs len
-  sets (operand.Truth b) vs len = none-left-over Instr.ClearFinalizer vs len
-  sets (operand.Variable w e) vs len = none-left-over Instr.ClearFinalizer vs len
-  sets (operand.Field i e) vs len = none-left-over Instr.ClearFinalizer vs len
-  sets (operand.Element e) vs len = none-left-over Instr.ClearFinalizer vs len
-  sets operand.Nil vs len = none-left-over Instr.ClearFinalizer vs len
-  sets operand.Blank vs len = none-left-over Instr.ClearFinalizer vs len
-  sets (operand.Nothing late) vs len = none-left-over Instr.ClearFinalizer vs len
-  sets (operand.Method k) vs len = none-left-over Instr.ClearFinalizer vs len
-  sets (operand.BuiltIn b) vs len = none-left-over Instr.ClearFinalizer vs len
-  sets (operand.Package k) vs len = none-left-over Instr.ClearFinalizer vs len
-  sets (operand.Struct k) vs len = none-left-over Instr.ClearFinalizer vs len
-  sets operand.TypeName vs len = none-left-over Instr.ClearFinalizer vs len
-  sets operand.Unknown vs len = none-left-over Instr.ClearFinalizer vs len
+    -- a panic has no answer
+    panics : (vs : List Value) → length vs ≡ 1 → Many taking 0 (panicking vs)
+    panics [] len = absurd (omega (arith, len))
+    panics (v ∷ []) len = λ w. answering w.answers w
+      where
+        answering : (answers : List Answer) (w : World) → Sound taking (λ (vs : List Value). length vs ≡ 0) (bind (asked answers (done w Instr.Panic (v ∷ []))) (λ a u. miscount u))
+        answering [] w = tt
+        answering (a ∷ later) w = tt
+    panics (v ∷ (x ∷ vs)) len = absurd (omega (arith, len))
 
-  on-finaliser : (l : ℕ) (f : Operand) (xs : List Arg) → Stands l xs → (finaliser_call l s f (judgeds xs)).faults ≡ [] → Gi (finaliser_call l s f (judgeds xs)).meaning (finalising (arguments xs))
-  on-finaliser l f (x ∷ (y ∷ ys)) hs none = many-then 1 x.value (finaliser y.judged.meaning) (λ vs. length vs ≡ 0) (hs.0 (none-left (used l x.judged) _ none)) (sets y.judged.meaning)
-  on-finaliser l f [] hs none = let e = none-right (steady_faults l s.initialises f) _ (none-right (flat_map (used l) (judgeds [])) _ none) in cc
-  on-finaliser l f (x ∷ []) hs none = let e = none-right (steady_faults l s.initialises f) _ (none-right (flat_map (used l) (judgeds (x ∷ []))) _ none) in cc
+    on-built-in : (l : ℕ) (b : BuiltIn) (receiver : Gives) (xs : List Arg) → sets_finaliser (operand.BuiltIn b) ≡ false → Stands l xs → (plain_call l s (operand.BuiltIn b) (judgeds xs)).faults ≡ [] → Receives taking (receiver_base b) receiver
+        → Gi (called s.file (operand.BuiltIn b) (map given_by (judgeds xs))) (then_do (both receiver (values_of (arguments xs))) (operation taking (length (arguments xs)) b (left_types (called s.file (operand.BuiltIn b) (map given_by (judgeds xs))))))
+    on-built-in l built_in.Length receiver xs e hs none h = let f = parts l (operand.BuiltIn built_in.Length) xs none in single 0 receiver xs Instr.Len (plain base.Int) h (many-values l xs hs f.0) (omega (arith, counted l (None ∷ []) xs (none-right (broken l 8 _) _ f.1))) (λ n. refl)
+    on-built-in l built_in.Close receiver xs e hs none h = let f = parts l (operand.BuiltIn built_in.Close) xs none in silent 0 receiver xs Instr.Close h (many-values l xs hs f.0) (omega (arith, counted l (None ∷ []) xs (none-left (parameter_faults l (None ∷ []) (map given_by (judgeds xs))) _ f.1))) (λ n. refl)
+    on-built-in l built_in.Panic receiver xs e hs none h = let f = parts l (operand.BuiltIn built_in.Panic) xs none in operates 0 receiver xs panicking (λ vs. length vs ≡ 0) h (many-values l xs hs f.0) (λ vs len. panics vs (omega (arith, len, counted l (None ∷ []) xs f.1)))
+    on-built-in l built_in.Print receiver xs e hs none h = let f = parts l (operand.BuiltIn built_in.Print) xs none in silent 0 receiver xs (Instr.Print (length (arguments xs))) h (many-values l xs hs f.0) (omega arith) (λ n. refl)
+    on-built-in l built_in.Collect receiver xs e hs none h = let f = parts l (operand.BuiltIn built_in.Collect) xs none in silent 0 receiver xs Instr.Collect h (many-values l xs hs f.0) (omega (arith, counted l [] xs f.1)) (λ n. refl)
+    on-built-in l built_in.SetFinalizer receiver xs e hs none h = cc
+    on-built-in l built_in.NewCondition receiver xs e hs none h = let f = parts l (operand.BuiltIn built_in.NewCondition) xs none in single 0 receiver xs Instr.NewCond (plain base.Condition) h (many-values l xs hs f.0) (omega (arith, counted l (Some (plain base.Mutex) ∷ []) xs f.1)) (λ n. refl)
+    on-built-in l built_in.Add receiver xs e hs none h = let f = parts l (operand.BuiltIn built_in.Add) xs none in silent 1 receiver xs Instr.GroupAdd h (many-values l xs hs f.0) (omega (arith, counted l (Some (plain base.Int) ∷ []) xs f.1)) (λ n. refl)
+    on-built-in l built_in.Done receiver xs e hs none h =
+        let f = parts l (operand.BuiltIn built_in.Done) xs none in
+        operates 1 receiver xs (λ vs. visible taking Instr.GroupAdd [] (vs ++ Value.Int (negsuc 0) ∷ [])) (λ vs. length vs ≡ 0) h (many-values l xs hs f.0)
+        (λ vs len. none-left-over taking Instr.GroupAdd (vs ++ Value.Int (negsuc 0) ∷ []) (omega (arith, length-append vs (Value.Int (negsuc 0) ∷ []), len, counted l [] xs f.1)) (λ n. refl))
+    on-built-in l built_in.Lock receiver xs e hs none h = let f = parts l (operand.BuiltIn built_in.Lock) xs none in silent 1 receiver xs Instr.Lock h (many-values l xs hs f.0) (omega (arith, counted l [] xs f.1)) (λ n. refl)
+    on-built-in l built_in.Unlock receiver xs e hs none h = let f = parts l (operand.BuiltIn built_in.Unlock) xs none in silent 1 receiver xs Instr.Unlock h (many-values l xs hs f.0) (omega (arith, counted l [] xs f.1)) (λ n. refl)
+    on-built-in l built_in.WaitGroup receiver xs e hs none h = let f = parts l (operand.BuiltIn built_in.WaitGroup) xs none in silent 1 receiver xs Instr.GroupWait h (many-values l xs hs f.0) (omega (arith, counted l [] xs f.1)) (λ n. refl)
+    on-built-in l built_in.WriteLock receiver xs e hs none h = let f = parts l (operand.BuiltIn built_in.WriteLock) xs none in silent 1 receiver xs Instr.RwLock h (many-values l xs hs f.0) (omega (arith, counted l [] xs f.1)) (λ n. refl)
+    on-built-in l built_in.WriteUnlock receiver xs e hs none h = let f = parts l (operand.BuiltIn built_in.WriteUnlock) xs none in silent 1 receiver xs Instr.RwUnlock h (many-values l xs hs f.0) (omega (arith, counted l [] xs f.1)) (λ n. refl)
+    on-built-in l built_in.ReadLock receiver xs e hs none h = let f = parts l (operand.BuiltIn built_in.ReadLock) xs none in silent 1 receiver xs Instr.ReadLock h (many-values l xs hs f.0) (omega (arith, counted l [] xs f.1)) (λ n. refl)
+    on-built-in l built_in.ReadUnlock receiver xs e hs none h = let f = parts l (operand.BuiltIn built_in.ReadUnlock) xs none in silent 1 receiver xs Instr.ReadUnlock h (many-values l xs hs f.0) (omega (arith, counted l [] xs f.1)) (λ n. refl)
+    on-built-in l built_in.WaitCondition receiver xs e hs none h = let f = parts l (operand.BuiltIn built_in.WaitCondition) xs none in silent 1 receiver xs Instr.CondWait h (many-values l xs hs f.0) (omega (arith, counted l [] xs f.1)) (λ n. refl)
+    on-built-in l built_in.Signal receiver xs e hs none h = let f = parts l (operand.BuiltIn built_in.Signal) xs none in silent 1 receiver xs Instr.CondSignal h (many-values l xs hs f.0) (omega (arith, counted l [] xs f.1)) (λ n. refl)
+    on-built-in l built_in.Broadcast receiver xs e hs none h = let f = parts l (operand.BuiltIn built_in.Broadcast) xs none in silent 1 receiver xs Instr.CondBroadcast h (many-values l xs hs f.0) (omega (arith, counted l [] xs f.1)) (λ n. refl)
 
-  -- any call
+    -- finalisers
 
-  module _ (l : ℕ) (receiver : Gives) (p : Place) (q : Gives) (xs : List Arg) (hs : Stands l xs) where
-    abbrev Calls : Operand → Type 0
-    Calls m = (called_with l s m (judgeds xs)).faults ≡ [] → Me types t s env m receiver p q → Gi (called_with l s m (judgeds xs)).meaning (call m (called_with l s m (judgeds xs)).meaning receiver (arguments xs))
+    sets : (m : Operand) (vs : List Value) → length vs ≡ 1 → Many taking 0 (finaliser taking m vs)
+    sets (operand.Function k) vs len = none-left-over taking (Instr.SetFinalizer (k + 1)) vs len (λ n. refl)
+    sets (operand.Value e) vs len = none-left-over taking Instr.ClearFinalizer vs len (λ n. refl)
+    sets (operand.Outcome e) vs len = none-left-over taking Instr.ClearFinalizer vs len (λ n. refl)
+    sets (operand.Constant k b) vs len = none-left-over taking Instr.ClearFinalizer vs len (λ n. refl)
+    sets (operand.Truth b) vs len = none-left-over taking Instr.ClearFinalizer vs len (λ n. refl)
+    sets (operand.Variable w e) vs len = none-left-over taking Instr.ClearFinalizer vs len (λ n. refl)
+    sets (operand.Field i e) vs len = none-left-over taking Instr.ClearFinalizer vs len (λ n. refl)
+    sets (operand.Element e) vs len = none-left-over taking Instr.ClearFinalizer vs len (λ n. refl)
+    sets operand.Nil vs len = none-left-over taking Instr.ClearFinalizer vs len (λ n. refl)
+    sets operand.Blank vs len = none-left-over taking Instr.ClearFinalizer vs len (λ n. refl)
+    sets (operand.Nothing late) vs len = none-left-over taking Instr.ClearFinalizer vs len (λ n. refl)
+    sets (operand.Method k) vs len = none-left-over taking Instr.ClearFinalizer vs len (λ n. refl)
+    sets (operand.BuiltIn b) vs len = none-left-over taking Instr.ClearFinalizer vs len (λ n. refl)
+    sets (operand.Package k) vs len = none-left-over taking Instr.ClearFinalizer vs len (λ n. refl)
+    sets (operand.Struct k) vs len = none-left-over taking Instr.ClearFinalizer vs len (λ n. refl)
+    sets operand.TypeName vs len = none-left-over taking Instr.ClearFinalizer vs len (λ n. refl)
+    sets operand.Unknown vs len = none-left-over taking Instr.ClearFinalizer vs len (λ n. refl)
 
-    pub on-call : (m : Operand) → Calls m
-    on-call (operand.Function k) none h = let f = parts l (operand.Function k) xs none in file-call l k 0 (length (arguments xs)) [] h.1 receiver xs h.0 (many-values l xs hs f.0) (omega arith)
-    on-call (operand.Method k) none h = let f = parts l (operand.Method k) xs none in file-call l k 1 (length (arguments xs) + 1) (ValueType.Struct h.0 ∷ []) h.2 receiver xs h.1 (many-values l xs hs f.0) (omega arith)
-    on-call (operand.BuiltIn built_in.SetFinalizer) none h = on-finaliser l (operand.BuiltIn built_in.SetFinalizer) xs hs none
-    on-call (operand.BuiltIn built_in.Length) none h = on-built-in l built_in.Length receiver xs refl hs none h
-    on-call (operand.BuiltIn built_in.Close) none h = on-built-in l built_in.Close receiver xs refl hs none h
-    on-call (operand.BuiltIn built_in.Panic) none h = on-built-in l built_in.Panic receiver xs refl hs none h
-    on-call (operand.BuiltIn built_in.Print) none h = on-built-in l built_in.Print receiver xs refl hs none h
-    on-call (operand.BuiltIn built_in.Collect) none h = on-built-in l built_in.Collect receiver xs refl hs none h
-    on-call (operand.BuiltIn built_in.NewCondition) none h = on-built-in l built_in.NewCondition receiver xs refl hs none h
-    on-call (operand.BuiltIn built_in.Lock) none h = on-built-in l built_in.Lock receiver xs refl hs none h
-    on-call (operand.BuiltIn built_in.Unlock) none h = on-built-in l built_in.Unlock receiver xs refl hs none h
-    on-call (operand.BuiltIn built_in.Add) none h = on-built-in l built_in.Add receiver xs refl hs none h
-    on-call (operand.BuiltIn built_in.Done) none h = on-built-in l built_in.Done receiver xs refl hs none h
-    on-call (operand.BuiltIn built_in.WaitGroup) none h = on-built-in l built_in.WaitGroup receiver xs refl hs none h
-    on-call (operand.BuiltIn built_in.WriteLock) none h = on-built-in l built_in.WriteLock receiver xs refl hs none h
-    on-call (operand.BuiltIn built_in.WriteUnlock) none h = on-built-in l built_in.WriteUnlock receiver xs refl hs none h
-    on-call (operand.BuiltIn built_in.ReadLock) none h = on-built-in l built_in.ReadLock receiver xs refl hs none h
-    on-call (operand.BuiltIn built_in.ReadUnlock) none h = on-built-in l built_in.ReadUnlock receiver xs refl hs none h
-    on-call (operand.BuiltIn built_in.WaitCondition) none h = on-built-in l built_in.WaitCondition receiver xs refl hs none h
-    on-call (operand.BuiltIn built_in.Signal) none h = on-built-in l built_in.Signal receiver xs refl hs none h
-    on-call (operand.BuiltIn built_in.Broadcast) none h = on-built-in l built_in.Broadcast receiver xs refl hs none h
-    on-call (operand.Value e) none h = let e = (parts l (operand.Value e) xs none).1 in cc
-    on-call (operand.Outcome e) none h = let e = (parts l (operand.Outcome e) xs none).1 in cc
-    on-call (operand.Constant k b) none h = let e = (parts l (operand.Constant k b) xs none).1 in cc
-    on-call (operand.Truth b) none h = let e = (parts l (operand.Truth b) xs none).1 in cc
-    on-call (operand.Variable w e) none h = let e = (parts l (operand.Variable w e) xs none).1 in cc
-    on-call (operand.Field i e) none h = let e = (parts l (operand.Field i e) xs none).1 in cc
-    on-call (operand.Element e) none h = let e = (parts l (operand.Element e) xs none).1 in cc
-    on-call operand.Nil none h = let e = (parts l operand.Nil xs none).1 in cc
-    on-call operand.Blank none h = let e = (parts l operand.Blank xs none).1 in cc
-    on-call (operand.Nothing late) none h = let e = (parts l (operand.Nothing late) xs none).1 in cc
-    on-call (operand.Package k) none h = let e = (parts l (operand.Package k) xs none).1 in cc
-    on-call (operand.Struct k) none h = let e = (parts l (operand.Struct k) xs none).1 in cc
-    on-call operand.TypeName none h = let e = (parts l operand.TypeName xs none).1 in cc
-    on-call operand.Unknown none h = absurd h
+    on-finaliser : (l : ℕ) (f : Operand) (xs : List Arg) → Stands l xs → (finaliser_call l s f (judgeds xs)).faults ≡ [] → Gi (finaliser_call l s f (judgeds xs)).meaning (finalising taking (arguments xs))
+    on-finaliser l f (x ∷ (y ∷ ys)) hs none = many-then taking 1 x.value (finaliser taking y.judged.meaning) (λ vs. length vs ≡ 0) (hs.0 (none-left (used l x.judged) _ none)) (sets y.judged.meaning)
+    on-finaliser l f [] hs none = let e = none-right (steady_faults l s.initialises f) _ (none-right (flat_map (used l) (judgeds [])) _ none) in cc
+    on-finaliser l f (x ∷ []) hs none = let e = none-right (steady_faults l s.initialises f) _ (none-right (flat_map (used l) (judgeds (x ∷ []))) _ none) in cc
+
+    -- any call
+
+    module _ (l : ℕ) (receiver : Gives) (p : Place) (q : Gives) (xs : List Arg) (hs : Stands l xs) where
+      abbrev Calls : Operand → Type 0
+      Calls m = (called_with l s m (judgeds xs)).faults ≡ [] → Me taking types t s env m receiver p q → Gi (called_with l s m (judgeds xs)).meaning (call taking m (called_with l s m (judgeds xs)).meaning receiver (arguments xs))
+
+      pub on-call : (m : Operand) → Calls m
+      on-call (operand.Function k) none h = let f = parts l (operand.Function k) xs none in file-call l k 0 (length (arguments xs)) [] h.1 receiver xs h.0 (many-values l xs hs f.0) (omega arith)
+      on-call (operand.Method k) none h = let f = parts l (operand.Method k) xs none in file-call l k 1 (length (arguments xs) + 1) (ValueType.Struct h.0 ∷ []) h.2 receiver xs h.1 (many-values l xs hs f.0) (omega arith)
+      on-call (operand.BuiltIn built_in.SetFinalizer) none h = on-finaliser l (operand.BuiltIn built_in.SetFinalizer) xs hs none
+      on-call (operand.BuiltIn built_in.Length) none h = on-built-in l built_in.Length receiver xs refl hs none h
+      on-call (operand.BuiltIn built_in.Close) none h = on-built-in l built_in.Close receiver xs refl hs none h
+      on-call (operand.BuiltIn built_in.Panic) none h = on-built-in l built_in.Panic receiver xs refl hs none h
+      on-call (operand.BuiltIn built_in.Print) none h = on-built-in l built_in.Print receiver xs refl hs none h
+      on-call (operand.BuiltIn built_in.Collect) none h = on-built-in l built_in.Collect receiver xs refl hs none h
+      on-call (operand.BuiltIn built_in.NewCondition) none h = on-built-in l built_in.NewCondition receiver xs refl hs none h
+      on-call (operand.BuiltIn built_in.Lock) none h = on-built-in l built_in.Lock receiver xs refl hs none h
+      on-call (operand.BuiltIn built_in.Unlock) none h = on-built-in l built_in.Unlock receiver xs refl hs none h
+      on-call (operand.BuiltIn built_in.Add) none h = on-built-in l built_in.Add receiver xs refl hs none h
+      on-call (operand.BuiltIn built_in.Done) none h = on-built-in l built_in.Done receiver xs refl hs none h
+      on-call (operand.BuiltIn built_in.WaitGroup) none h = on-built-in l built_in.WaitGroup receiver xs refl hs none h
+      on-call (operand.BuiltIn built_in.WriteLock) none h = on-built-in l built_in.WriteLock receiver xs refl hs none h
+      on-call (operand.BuiltIn built_in.WriteUnlock) none h = on-built-in l built_in.WriteUnlock receiver xs refl hs none h
+      on-call (operand.BuiltIn built_in.ReadLock) none h = on-built-in l built_in.ReadLock receiver xs refl hs none h
+      on-call (operand.BuiltIn built_in.ReadUnlock) none h = on-built-in l built_in.ReadUnlock receiver xs refl hs none h
+      on-call (operand.BuiltIn built_in.WaitCondition) none h = on-built-in l built_in.WaitCondition receiver xs refl hs none h
+      on-call (operand.BuiltIn built_in.Signal) none h = on-built-in l built_in.Signal receiver xs refl hs none h
+      on-call (operand.BuiltIn built_in.Broadcast) none h = on-built-in l built_in.Broadcast receiver xs refl hs none h
+      on-call (operand.Value e) none h = let e = (parts l (operand.Value e) xs none).1 in cc
+      on-call (operand.Outcome e) none h = let e = (parts l (operand.Outcome e) xs none).1 in cc
+      on-call (operand.Constant k b) none h = let e = (parts l (operand.Constant k b) xs none).1 in cc
+      on-call (operand.Truth b) none h = let e = (parts l (operand.Truth b) xs none).1 in cc
+      on-call (operand.Variable w e) none h = let e = (parts l (operand.Variable w e) xs none).1 in cc
+      on-call (operand.Field i e) none h = let e = (parts l (operand.Field i e) xs none).1 in cc
+      on-call (operand.Element e) none h = let e = (parts l (operand.Element e) xs none).1 in cc
+      on-call operand.Nil none h = let e = (parts l operand.Nil xs none).1 in cc
+      on-call operand.Blank none h = let e = (parts l operand.Blank xs none).1 in cc
+      on-call (operand.Nothing late) none h = let e = (parts l (operand.Nothing late) xs none).1 in cc
+      on-call (operand.Package k) none h = let e = (parts l (operand.Package k) xs none).1 in cc
+      on-call (operand.Struct k) none h = let e = (parts l (operand.Struct k) xs none).1 in cc
+      on-call operand.TypeName none h = let e = (parts l operand.TypeName xs none).1 in cc
+      on-call operand.Unknown none h = absurd h

@@ -20,4 +20,5 @@ pub mod Ranges
 pub mod Choices
 pub mod Statements
 pub mod Functions
+pub mod Giving
 pub mod Files

@@ -26,40 +26,15 @@ use Rattle.golf_code_of.specs.declared.tables.Tables.{Tables}
 use Rattle.golf_code_of.specs.Values.{constant}
 use Rattle.golf_model_typing.specs.Types.{ValueType, IsNilable, Types, ValueFits}
 use Rattle.golf_code_shapes.specs.Types.{base_type}
-use Rattle.golf_code_shapes.specs.Sound.{FileFits, NameFits}
+use Rattle.golf_code_shapes.specs.Sound.{NameFits}
 use Rattle.golf_meaning_source.specs.Names.{Env, find, first_some, here}
-use Rattle.golf_meaning_source.specs.Operations.{gives}
+use Rattle.golf_meaning_source.specs.Operations.{Taking, gives}
 use Rattle.golf_meaning_source.specs.Exprs.{outer_value, value_of_name}
 use Rattle.golf_meaning_source.specs.Meaning.{outer}
 use Rattle.golf_meaning_source.proofs.Environments.{last, look-last}
-use Rattle.golf_meaning_typing.specs.Sound.{is_of, YieldsBy, Held, NamesFit}
+use Rattle.golf_meaning_typing.specs.Sound.{is_of, YieldsBy, Held, NamesFit, FileTaken}
 use Rattle.golf_meaning_typing.specs.Laws.{NamesGive}
 use Rattle.golf_meaning_typing.proofs.Calculus.{yields-visible}
-
--- the last local and the last value of a name go together
-
-abbrev pub Paired : Option Local → Option Value → Type 0
-Paired None None = Unit {0}
-Paired None (Some v) = ⊥
-Paired (Some d) None = ⊥
-Paired (Some d) (Some v) = Held d.of_type v
-
-one-paired : (b : Bool) (d : Local) (v : Value) (a : Option Local) (o : Option Value) → Held d.of_type v → Paired a o → Paired (first_some a (here b d)) (first_some o (here b v))
-one-paired true d v None None e h = e
-one-paired false d v None None e h = tt
-one-paired b d v None (Some y) e h = absurd h
-one-paired b d v (Some x) None e h = absurd h
-one-paired b d v (Some x) (Some y) e h = h
-
-pub paired : (ds : List Local) (env : Env) (n : List ℕ) → NamesFit ds env → Paired (last ds n) (find env n)
-paired [] [] n h = tt
-paired [] (x ∷ xs) n h = absurd h
-paired (d ∷ ds) [] n h = absurd h
-paired (d ∷ ds) (x ∷ xs) n h =
-    subst (λ m. Paired (first_some (last ds n) (here (bytes_eq n d.name) d)) (first_some (find xs n) (here (bytes_eq n m) x.value))) (sym h.0)
-    (one-paired (bytes_eq n d.name) d x.value (last ds n) (find xs n) h.1 (paired ds xs n h.2))
-
--- values of tables
 
 pub nil-is : (u : ValueType) → IsNilable u → is_of u Value.Nil ≡ true
 nil-is (ValueType.Struct k) h = refl
@@ -79,70 +54,96 @@ zero-is types Value.Unit u h = subst (λ z. is_of z Value.Unit ≡ true) (sym h)
 zero-is types Value.Nil u h = nil-is u h
 zero-is types (Value.Ref o) u h = nil-is u h.1
 
-module _ (types : Types) (t : Tables) (l : ℕ) where
-  -- a name that is no local gives a value, if it stands as one
-  abbrev Outer : Operand → Type 0
-  Outer m = value_faults l m ≡ [] → YieldsBy (given m) (outer_value t (Some m))
+module _ (taking : Taking) where
+  -- the last local and the last value of a name go together
 
-  from-file : (f : FileScope) (m : Operand) → NameFits types t f m → Outer m
-  from-file f (operand.Variable (place.Global g) (Some e)) h none = yields-visible (Instr.LoadGlobal g) e [] refl
-  from-file f (operand.Constant k b) h none = λ w. zero-is types (constant t k) (base_type b) h
-  from-file f (operand.Function k) h none = cc
-  from-file f (operand.Struct k) h none = cc
-  from-file f _ h none = absurd h
+  abbrev pub Paired : Option Local → Option Value → Type 0
+  Paired None None = Unit {0}
+  Paired None (Some v) = ⊥
+  Paired (Some d) None = ⊥
+  Paired (Some d) (Some v) = Held taking d.of_type v
 
-  either-name : (a b : Option Operand) → ((m : Operand) → a ≡ Some m → Outer m) → ((m : Operand) → b ≡ Some m → Outer m) → (m : Operand) → or_else a b ≡ Some m → Outer m
-  either-name None b h k m e = k m e
-  either-name (Some x) b h k m e = h m e
+  one-paired : (b : Bool) (d : Local) (v : Value) (a : Option Local) (o : Option Value) → Held taking d.of_type v → Paired a o → Paired (first_some a (here b d)) (first_some o (here b v))
+  one-paired true d v None None e h = e
+  one-paired false d v None None e h = tt
+  one-paired b d v None (Some y) e h = absurd h
+  one-paired b d v (Some x) None e h = absurd h
+  one-paired b d v (Some x) (Some y) e h = h
 
-  tried : (test : Bool) (x : Operand) (rest : Option Operand) → Outer x → ((m : Operand) → rest ≡ Some m → Outer m) → (m : Operand) → cond test (Some x) rest ≡ Some m → Outer m
-  tried true x rest h k m e = let same : x ≡ m = cc in subst Outer same h
-  tried false x rest h k m e = k m e
+  pub paired : (ds : List Local) (env : Env) (n : List ℕ) → NamesFit taking ds env → Paired (last ds n) (find env n)
+  paired [] [] n h = tt
+  paired [] (x ∷ xs) n h = absurd h
+  paired (d ∷ ds) [] n h = absurd h
+  paired (d ∷ ds) (x ∷ xs) n h =
+      subst (λ m. Paired (first_some (last ds n) (here (bytes_eq n d.name) d)) (first_some (find xs n) (here (bytes_eq n m) x.value))) (sym h.0)
+      (one-paired (bytes_eq n d.name) d x.value (last ds n) (find xs n) h.1 (paired ds xs n h.2))
 
-  no-name : (m : Operand) → None ≡ Some m → Outer m
-  no-name m e = cc
+  -- values of tables
 
-  is-type : (n : List ℕ) (m : Operand) → type_name n ≡ Some m → Outer m
-  unfolding type_name
-  is-type n = tried (bytes_eq n (codes "int")) operand.TypeName _ (λ none. cc) (tried (bytes_eq n (codes "bool")) operand.TypeName _ (λ none. cc) (tried (bytes_eq n (codes "string")) operand.TypeName None (λ none. cc) no-name))
+  module _ (types : Types) (t : Tables) (l : ℕ) where
+    -- a name that is no local gives a value, if it stands as one
+    abbrev Outer : Operand → Type 0
+    Outer m = value_faults l m ≡ [] → YieldsBy taking (given m) (outer_value taking t (Some m))
 
-  is-value : (n : List ℕ) (m : Operand) → value_name n ≡ Some m → Outer m
-  unfolding value_name
-  is-value n = tried _ (operand.Truth true) _ (λ none w. refl) (tried _ (operand.Truth false) _ (λ none w. refl) (tried _ operand.Nil None (λ none u nil w. nil-is u nil) no-name))
+    from-file : (f : FileScope) (m : Operand) → NameFits types t f m → Outer m
+    from-file f (operand.Variable (place.Global g) (Some e)) h none = yields-visible taking (Instr.LoadGlobal g) e [] refl (λ k. refl)
+    from-file f (operand.Constant k b) h none = λ w strict. zero-is types (constant t k) (base_type b) h
+    from-file f (operand.Function k) h none = cc
+    from-file f (operand.Struct k) h none = cc
+    from-file f _ h none = absurd h
 
-  is-call : (n : List ℕ) (m : Operand) → call_name n ≡ Some m → Outer m
-  unfolding call_name
-  is-call n = tried _ (operand.BuiltIn built_in.Length) _ (λ none. cc) (tried _ (operand.BuiltIn built_in.Close) _ (λ none. cc) (tried _ (operand.BuiltIn built_in.Panic) _ (λ none. cc) (tried _ operand.TypeName _ (λ none. cc) (tried _ operand.TypeName None (λ none. cc) no-name))))
+    either-name : (a b : Option Operand) → ((m : Operand) → a ≡ Some m → Outer m) → ((m : Operand) → b ≡ Some m → Outer m) → (m : Operand) → or_else a b ≡ Some m → Outer m
+    either-name None b h k m e = k m e
+    either-name (Some x) b h k m e = h m e
 
-  is-package : (i : Imports) (n : List ℕ) (m : Operand) → package_name i n ≡ Some m → Outer m
-  unfolding package_name
-  is-package i n = tried _ (operand.Package packages.Fmt) _ (λ none. cc) (tried _ (operand.Package packages.Runtime) _ (λ none. cc) (tried _ (operand.Package packages.Sync) None (λ none. cc) no-name))
+    tried : (test : Bool) (x : Operand) (rest : Option Operand) → Outer x → ((m : Operand) → rest ≡ Some m → Outer m) → (m : Operand) → cond test (Some x) rest ≡ Some m → Outer m
+    tried true x rest h k m e = let same : x ≡ m = cc in subst Outer same h
+    tried false x rest h k m e = k m e
 
-  is-predeclared : (i : Imports) (n : List ℕ) (m : Operand) → predeclared i n ≡ Some m → Outer m
-  is-predeclared i n = either-name (type_name n) _ (is-type n) (either-name (value_name n) _ (is-value n) (either-name (call_name n) (package_name i n) (is-call n) (is-package i n)))
+    no-name : (m : Operand) → None ≡ Some m → Outer m
+    no-name m e = cc
 
-  outer-gives : (s : Scope) (n : List ℕ) → FileFits types t s.file → (m : Operand) → outer s n ≡ Some m → Outer m
-  outer-gives s n ok = either-name (file_operand s.file n) (predeclared s.file.imports n) (λ m e. from-file s.file m (ok.names n m e)) (is-predeclared s.file.imports n)
+    is-type : (n : List ℕ) (m : Operand) → type_name n ≡ Some m → Outer m
+    unfolding type_name
+    is-type n = tried (bytes_eq n (codes "int")) operand.TypeName _ (λ none. cc) (tried (bytes_eq n (codes "bool")) operand.TypeName _ (λ none. cc) (tried (bytes_eq n (codes "string")) operand.TypeName None (λ none. cc) no-name))
 
-  held-gives : (o : Option GoType) (v : Value) → Held o v → YieldsBy (given_type o) (gives (v ∷ []))
-  held-gives None v h = absurd h
-  held-gives (Some e) v h = λ w. h
+    is-value : (n : List ℕ) (m : Operand) → value_name n ≡ Some m → Outer m
+    unfolding value_name
+    is-value n = tried _ (operand.Truth true) _ (λ none w strict. refl) (tried _ (operand.Truth false) _ (λ none w strict. refl) (tried _ operand.Nil None (λ none u nil w strict. nil-is u nil) no-name))
 
-  -- a local, or a name that is none
-  name-gives : (g : Option ℕ) (a : Option Local) (o : Option Value) (out : Option Operand) → Paired a o → ((m : Operand) → out ≡ Some m → Outer m) → used l (known_name l g (or_else (option_map local_operand a) out)) ≡ [] → YieldsBy (given_by (known_name l g (or_else (option_map local_operand a) out))) (value_of_name t o out)
-  name-gives g (Some d) (Some v) out h k none = held-gives d.of_type v h
-  name-gives g (Some d) None out h k none = absurd h
-  name-gives g None (Some v) out h k none = absurd h
-  name-gives g None None None h k none = cc
-  name-gives g None None (Some m) h k none = k m refl (Rattle.golf_code_shapes.proofs.Typings.none-right _ (value_faults l m) none)
+    is-call : (n : List ℕ) (m : Operand) → call_name n ≡ Some m → Outer m
+    unfolding call_name
+    is-call n = tried _ (operand.BuiltIn built_in.Length) _ (λ none. cc) (tried _ (operand.BuiltIn built_in.Close) _ (λ none. cc) (tried _ (operand.BuiltIn built_in.Panic) _ (λ none. cc) (tried _ operand.TypeName _ (λ none. cc) (tried _ operand.TypeName None (λ none. cc) no-name))))
 
-pub names-give : NamesGive
-unfolding meaning
-names-give types t l s env n ok fit = by (is_blank n)
-  where
-    by : (b : Bool) → used l (cond b (leaf operand.Blank []) (known_name l s.initialises (or_else (option_map local_operand (look s.locals n)) (outer s n)))) ≡ []
-        → YieldsBy (given_by (cond b (leaf operand.Blank []) (known_name l s.initialises (or_else (option_map local_operand (look s.locals n)) (outer s n))))) (cond b (gives []) (value_of_name t (find env n) (outer s n)))
-    by true = λ none. cc
-    by false =
-        subst (λ a. used l (known_name l s.initialises (or_else (option_map local_operand a) (outer s n))) ≡ [] → YieldsBy (given_by (known_name l s.initialises (or_else (option_map local_operand a) (outer s n)))) (value_of_name t (find env n) (outer s n))) (sym (look-last s.locals n))
-        (name-gives types t l s.initialises (last s.locals n) (find env n) (outer s n) (paired s.locals env n fit) (outer-gives types t l s n ok))
+    is-package : (i : Imports) (n : List ℕ) (m : Operand) → package_name i n ≡ Some m → Outer m
+    unfolding package_name
+    is-package i n = tried _ (operand.Package packages.Fmt) _ (λ none. cc) (tried _ (operand.Package packages.Runtime) _ (λ none. cc) (tried _ (operand.Package packages.Sync) None (λ none. cc) no-name))
+
+    is-predeclared : (i : Imports) (n : List ℕ) (m : Operand) → predeclared i n ≡ Some m → Outer m
+    is-predeclared i n = either-name (type_name n) _ (is-type n) (either-name (value_name n) _ (is-value n) (either-name (call_name n) (package_name i n) (is-call n) (is-package i n)))
+
+    outer-gives : (s : Scope) (n : List ℕ) → FileTaken taking types t s.file → (m : Operand) → outer s n ≡ Some m → Outer m
+    outer-gives s n ok = either-name (file_operand s.file n) (predeclared s.file.imports n) (λ m e. from-file s.file m (ok.fits.names n m e)) (is-predeclared s.file.imports n)
+
+    held-gives : (o : Option GoType) (v : Value) → Held taking o v → YieldsBy taking (given_type o) (gives (v ∷ []))
+    held-gives None v h = absurd h
+    held-gives (Some e) v h = λ w. h
+
+    -- a local, or a name that is none
+    name-gives : (g : Option ℕ) (a : Option Local) (o : Option Value) (out : Option Operand) → Paired a o → ((m : Operand) → out ≡ Some m → Outer m) → used l (known_name l g (or_else (option_map local_operand a) out)) ≡ [] → YieldsBy taking (given_by (known_name l g (or_else (option_map local_operand a) out))) (value_of_name taking t o out)
+    name-gives g (Some d) (Some v) out h k none = held-gives d.of_type v h
+    name-gives g (Some d) None out h k none = absurd h
+    name-gives g None (Some v) out h k none = absurd h
+    name-gives g None None None h k none = cc
+    name-gives g None None (Some m) h k none = k m refl (Rattle.golf_code_shapes.proofs.Typings.none-right _ (value_faults l m) none)
+
+  pub names-give : NamesGive taking
+  unfolding meaning
+  names-give types t l s env n ok fit = by (is_blank n)
+    where
+      by : (b : Bool) → used l (cond b (leaf operand.Blank []) (known_name l s.initialises (or_else (option_map local_operand (look s.locals n)) (outer s n)))) ≡ []
+          → YieldsBy taking (given_by (cond b (leaf operand.Blank []) (known_name l s.initialises (or_else (option_map local_operand (look s.locals n)) (outer s n))))) (cond b (gives []) (value_of_name taking t (find env n) (outer s n)))
+      by true = λ none. cc
+      by false =
+          subst (λ a. used l (known_name l s.initialises (or_else (option_map local_operand a) (outer s n))) ≡ [] → YieldsBy taking (given_by (known_name l s.initialises (or_else (option_map local_operand a) (outer s n)))) (value_of_name taking t (find env n) (outer s n))) (sym (look-last s.locals n))
+          (name-gives types t l s.initialises (last s.locals n) (find env n) (outer s n) (paired s.locals env n fit) (outer-gives types t l s n ok))

@@ -8,40 +8,42 @@ use Rattle.golf_check_types.specs.declared.locals.Local.{Local}
 use Rattle.golf_check_types.specs.declared.scopes.Scope.{Scope}
 use Rattle.golf_check_types.specs.Scopes.{variable}
 use Rattle.golf_meaning_source.specs.Names.{Env}
+use Rattle.golf_meaning_source.specs.Operations.{Taking}
 use Rattle.golf_meaning_statements.specs.Steps.{bound}
 use Rattle.golf_meaning_typing.specs.Sound.{Held, NamesFit}
 use Rattle.golf_meaning_typing.specs.Flowing.{Begins}
 
-pub names-append : (ds es : List Local) (xs ys : Env) → NamesFit ds xs → NamesFit es ys → NamesFit (ds ++ es) (xs ++ ys)
-names-append [] es [] ys h k = k
-names-append [] es (x ∷ xs) ys h k = absurd h
-names-append (d ∷ ds) es [] ys h k = absurd h
-names-append (d ∷ ds) es (x ∷ xs) ys h k = (h.0, h.1, names-append ds es xs ys h.2 k)
+module _ (taking : Taking) where
+  pub names-append : (ds es : List Local) (xs ys : Env) → NamesFit taking ds xs → NamesFit taking es ys → NamesFit taking (ds ++ es) (xs ++ ys)
+  names-append [] es [] ys h k = k
+  names-append [] es (x ∷ xs) ys h k = absurd h
+  names-append (d ∷ ds) es [] ys h k = absurd h
+  names-append (d ∷ ds) es (x ∷ xs) ys h k = (h.0, h.1, names-append ds es xs ys h.2 k)
 
-pub names-length : (ds : List Local) (env : Env) → NamesFit ds env → length env ≡ length ds
-names-length [] [] h = refl
-names-length [] (x ∷ xs) h = absurd h
-names-length (d ∷ ds) [] h = absurd h
-names-length (d ∷ ds) (x ∷ xs) h = ap (λ n. suc n) (names-length ds xs h.2)
+  pub names-length : (ds : List Local) (env : Env) → NamesFit taking ds env → length env ≡ length ds
+  names-length [] [] h = refl
+  names-length [] (x ∷ xs) h = absurd h
+  names-length (d ∷ ds) [] h = absurd h
+  names-length (d ∷ ds) (x ∷ xs) h = ap (λ n. suc n) (names-length ds xs h.2)
 
-pub names-first : (ds es : List Local) (env : Env) → NamesFit (ds ++ es) env → NamesFit ds (take (length ds) env)
-names-first [] es env h = tt
-names-first (d ∷ ds) es [] h = absurd h
-names-first (d ∷ ds) es (x ∷ xs) h = (h.0, h.1, names-first ds es xs h.2)
+  pub names-first : (ds es : List Local) (env : Env) → NamesFit taking (ds ++ es) env → NamesFit taking ds (take (length ds) env)
+  names-first [] es env h = tt
+  names-first (d ∷ ds) es [] h = absurd h
+  names-first (d ∷ ds) es (x ∷ xs) h = (h.0, h.1, names-first ds es xs h.2)
 
--- what was declared inside is forgotten
-pub names-cut : (ds : List Local) (before env : Env) → NamesFit ds before → Begins ds env → NamesFit ds (take (length before) env)
-names-cut ds before env h b = subst (λ k. NamesFit ds (take k env)) (sym (names-length ds before h)) (names-first ds b.0 env b.1)
+  -- what was declared inside is forgotten
+  pub names-cut : (ds : List Local) (before env : Env) → NamesFit taking ds before → Begins taking ds env → NamesFit taking ds (take (length before) env)
+  names-cut ds before env h b = subst (λ k. NamesFit taking ds (take k env)) (sym (names-length ds before h)) (names-first ds b.0 env b.1)
 
-pub begins-self : (ds : List Local) (env : Env) → NamesFit ds env → Begins ds env
-begins-self ds env h = ([], subst (λ es. NamesFit es env) (sym (append-nil ds)) h)
+  pub begins-self : (ds : List Local) (env : Env) → NamesFit taking ds env → Begins taking ds env
+  begins-self ds env h = ([], subst (λ es. NamesFit taking es env) (sym (append-nil ds)) h)
 
-pub begins-on : (ds es : List Local) (env : Env) → NamesFit (ds ++ es) env → Begins ds env
-begins-on ds es env h = (es, h)
+  pub begins-on : (ds es : List Local) (env : Env) → NamesFit taking (ds ++ es) env → Begins taking ds env
+  begins-on ds es env h = (es, h)
 
-pub begins-in : (ds es : List Local) (env : Env) → Begins (ds ++ es) env → Begins ds env
-begins-in ds es env b = (es ++ b.0, subst (λ xs. NamesFit xs env) (append_assoc ds es b.0) b.1)
+  pub begins-in : (ds es : List Local) (env : Env) → Begins taking (ds ++ es) env → Begins taking ds env
+  begins-in ds es env b = (es ++ b.0, subst (λ xs. NamesFit taking xs env) (append_assoc ds es b.0) b.1)
 
--- one more name
-pub names-bound : (ds : List Local) (at : Scope) (n : List ℕ) (o : Option GoType) (env : Env) (v : Value) → NamesFit ds env → Held o v → NamesFit (ds ++ variable at n o ∷ []) (bound env n v)
-names-bound ds at n o env v h k = names-append ds (variable at n o ∷ []) env (record { name = n; value = v } ∷ []) h (refl, k, tt)
+  -- one more name
+  pub names-bound : (ds : List Local) (at : Scope) (n : List ℕ) (o : Option GoType) (env : Env) (v : Value) → NamesFit taking ds env → Held taking o v → NamesFit taking (ds ++ variable at n o ∷ []) (bound env n v)
+  names-bound ds at n o env v h k = names-append ds (variable at n o ∷ []) env (record { name = n; value = v } ∷ []) h (refl, k, tt)

@@ -1,8 +1,7 @@
 -- The kinds of values, by what the checker says of their types.
 -- For: `is_of`, specs/Sound.antt; `fits_layers`, golf_meaning_source/specs/Operations.antt
 -- By: cases of the type and of the value; no induction
-use Rattle.std.proofs.Common.{◌≡◌, Bool, true, false, ◌&&◌, List, [], ◌∷◌, Some, ℤ, refl, sym, ◌∙◌}
-use Rattle.std.proofs.lemmas.Bool.{false≢true}
+use Rattle.std.proofs.Common.{◌≡◌, Bool, true, false, ◌&&◌, List, [], ◌∷◌, Some, refl, sym, ◌∙◌, arith}
 use Rattle.golf_data.specs.declared.value.Value.{Value}
 use Rattle.golf_model.specs.Values.{equality}
 use Rattle.golf_check_types.specs.declared.types.Layer.{Layer}
@@ -12,8 +11,8 @@ use Rattle.golf_check_types.specs.declared.types.Base.TheVariants as base
 use Rattle.golf_check_types.specs.declared.types.GoType.{GoType}
 use Rattle.golf_model_typing.specs.Types.{ValueType}
 use Rattle.golf_code_shapes.specs.Types.{base_type, layers_type, value_type}
-use Rattle.golf_meaning_source.specs.Operations.{fits_base, fits_layers, fits, all_fit}
-use Rattle.golf_meaning_typing.specs.Sound.{is_of, One}
+use Rattle.golf_meaning_source.specs.Operations.{Taking, fits_base, fits_layers, fits}
+use Rattle.golf_meaning_typing.specs.Sound.{is_of, One, AllFit}
 
 fits-base : (b : Base) (v : Value) → fits_base b v ≡ is_of (base_type b) v
 fits-base base.Int v = refl
@@ -33,38 +32,6 @@ fits-kind (layer.Slice ∷ xs) b v = refl
 fits-kind (layer.Chan ∷ xs) b v = refl
 fits-kind (layer.SendChan ∷ xs) b v = refl
 fits-kind (layer.ReceiveChan ∷ xs) b v = refl
-
--- what an answer leaves is one value of the type
-pub one-fits : (e : GoType) (vs : List Value) → all_fit (Some e ∷ []) vs ≡ true → One (value_type e) vs
-one-fits e [] h = false≢true h
-one-fits e (v ∷ []) h = sym (fits-kind e.layers e.base v) ∙ left (fits (Some e) v) h
-  where
-    left : (b : Bool) → (b && true) ≡ true → b ≡ true
-    left true q = refl
-    left false q = q
-one-fits e (v ∷ (x ∷ vs)) h = false≢true (none (fits (Some e) v) h)
-  where
-    none : (b : Bool) → (b && false) ≡ true → false ≡ true
-    none true q = q
-    none false q = q
-
-pub int-is : (v : Value) → is_of ValueType.Int v ≡ true → (n : ℤ) × (v ≡ Value.Int n)
-int-is (Value.Int n) h = (n, refl)
-int-is (Value.Bool b) h = absurd (false≢true h)
-int-is (Value.Text k) h = absurd (false≢true h)
-int-is Value.Unit h = absurd (false≢true h)
-int-is Value.Nil h = absurd (false≢true h)
-int-is (Value.Ref o) h = absurd (false≢true h)
-
-pub bool-is : (v : Value) → is_of ValueType.Bool v ≡ true → (b : Bool) × (v ≡ Value.Bool b)
-bool-is (Value.Int n) h = absurd (false≢true h)
-bool-is (Value.Bool b) h = (b, refl)
-bool-is (Value.Text k) h = absurd (false≢true h)
-bool-is Value.Unit h = absurd (false≢true h)
-bool-is Value.Nil h = absurd (false≢true h)
-bool-is (Value.Ref o) h = absurd (false≢true h)
-
--- values of one type are compared
 
 abbrev Compared : Value → Value → Type 0
 Compared v x = (b : Bool) × (equality v x ≡ Some b)
@@ -89,3 +56,15 @@ same-compared ValueType.Cond v x h k = nilable-compared v x h k
 same-compared (ValueType.Slice e) v x h k = nilable-compared v x h k
 same-compared (ValueType.Chan e) v x h k = nilable-compared v x h k
 same-compared u v x h k = cc
+
+module _ (taking : Taking) where
+  -- what an answer leaves is one value of the type
+  pub one-fits : (e : GoType) (vs : List Value) → AllFit taking (Some e ∷ []) vs → One taking (value_type e) vs
+  one-fits e [] h = let n = h.0 in absurd (omega (arith, n))
+  one-fits e (v ∷ []) h = λ strict. sym (fits-kind e.layers e.base v) ∙ left (fits (Some e) v) (h.1 strict)
+    where
+      left : (b : Bool) → (b && true) ≡ true → b ≡ true
+      left true q = refl
+      left false q = q
+  one-fits e (v ∷ (x ∷ vs)) h = let n = h.0 in absurd (omega (arith, n))
+  -- values of one type are compared

@@ -1,5 +1,5 @@
 -- The law of the functions of a whole file, as a statement.
-use Rattle.std.specs.Prelude.{◌≡◌, ℕ, zero, suc, ◌<◌, true, List, [], ◌∷◌, Option}
+use Rattle.std.specs.Prelude.{◌≡◌, ℕ, zero, suc, ◌<◌, Bool, true, List, [], ◌∷◌, Option}
 use Rattle.std.specs.List.{list_all}
 use Rattle.golf_syntax_trees.specs.declared.declarations.Decl.{Decl}
 use Rattle.golf_syntax_trees.specs.declared.declarations.Decl.TheVariants as d
@@ -13,7 +13,7 @@ use Rattle.golf_code_of.specs.Files.{tables_of}
 use Rattle.golf_code_shapes.specs.FunctionLaws.{parameter_slots}
 use Rattle.golf_code_shapes.specs.FileLaws.{scope_of, NamesFit}
 use Rattle.golf_meaning_flat.specs.Worlds.{Answer}
-use Rattle.golf_meaning_functions.specs.Files.{function_count, MeaningOf}
+use Rattle.golf_meaning_functions.specs.Files.{function_count, taking_in, meaning_of}
 use Rattle.golf_meaning_typing.specs.Flowing.{EndSound}
 use Rattle.golf_meaning_typing.specs.Laws.{ArgumentsFit}
 
@@ -24,10 +24,10 @@ parameters_at file (d.Func f ∷ xs) zero = parameter_slots file f
 parameters_at file (d.Func f ∷ xs) (suc k) = parameters_at file xs k
 parameters_at file (x ∷ xs) k = parameters_at file xs k
 
--- for each function and method, with arguments of the types of its parameters, its meaning is unfit by an answer alone
+-- For each function and method, with arguments of the types of its parameters: its meaning lacks no rule. If kinds are looked at in answers, it is unfit by an answer alone; if not, it needs no more than as many arguments.
 abbrev pub MeaningsSound : File → Type 0
 MeaningsSound file =
-    (k : ℕ) (arguments : List Value) (answers : List Answer) (n : ℕ) → k < function_count file.declarations → ArgumentsFit (parameters_at (outside (scope_of file)) file.declarations k) arguments → EndSound (MeaningOf file (suc k) arguments answers n).end
+    (strict : Bool) (k : ℕ) (arguments : List Value) (answers : List Answer) (n : ℕ) → k < function_count file.declarations → ArgumentsFit (taking_in file strict) (parameters_at (outside (scope_of file)) file.declarations k) arguments → EndSound strict (meaning_of strict file (suc k) arguments answers n).end
 
 -- so it is in a well-formed file that breaks no rule, and whose names fit
 abbrev pub FilesFit : Type 0

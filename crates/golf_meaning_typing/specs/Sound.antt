@@ -1,27 +1,28 @@
--- Meanings that are unfit by an answer alone, and the kinds of values.
-use Rattle.std.specs.Prelude.{◌≡◌, Bool, true, is_some, List, [], ◌∷◌, Option, Some, None}
+-- Meanings that lack no rule, and the kinds of values.
+use Rattle.std.specs.Prelude.{◌≡◌, ℕ, Bool, true, false, is_some, unwrap_or, List, [], ◌∷◌, length, Option, Some, None, slice_get}
 use Rattle.golf_data.specs.declared.value.Value.{Value}
 use Rattle.golf_model.specs.Values.{int_of, bool_of, text_of}
 use Rattle.golf_check_types.specs.declared.types.GoType.{GoType}
 use Rattle.golf_check_types.specs.declared.locals.Local.{Local}
+use Rattle.golf_check_types.specs.declared.scopes.FileScope.{FileScope}
 use Rattle.golf_check_types.specs.declared.operands.Operand.{Operand}
 use Rattle.golf_check_types.specs.declared.operands.Operand.TheVariants as operand
 use Rattle.golf_check_types.specs.declared.operands.Given.{Given}
 use Rattle.golf_check_types.specs.declared.operands.Given.TheVariants as given_as
-use Rattle.golf_model_typing.specs.Types.{ValueType, IsNilable}
+use Rattle.golf_model_typing.specs.Types.{ValueType, IsNilable, Signature, Types}
 use Rattle.golf_code_shapes.specs.Types.{value_type}
+use Rattle.golf_code_shapes.specs.Sound.{FileFits}
+use Rattle.golf_code_of.specs.declared.tables.Tables.{Tables}
 use Rattle.golf_meaning_flat.specs.Worlds.{Misfit, Halt, World, Part}
 use Rattle.golf_meaning_source.specs.Names.{Env}
-use Rattle.golf_meaning_source.specs.Operations.{Gives, is_unit, is_nilable}
+use Rattle.golf_meaning_source.specs.Operations.{Taking, Gives, is_unit, is_nilable, all_fit}
 
--- no rule is lacking; and of what it gives this holds
-abbrev pub Sound : {A : Type 0} → (A → Type 0) → Part A → Type 0
-Sound K (Part.Gives a w) = K a
-Sound K (Part.Stops (Halt.Returned v) os) = Unit {0}
-Sound K (Part.Stops Halt.Divided os) = Unit {0}
-Sound K (Part.Stops Halt.Waits os) = Unit {0}
-Sound K (Part.Stops (Halt.Unfit Misfit.OfAnswer) os) = Unit {0}
-Sound K (Part.Stops (Halt.Unfit Misfit.OfRule) os) = ⊥
+-- No rule is lacking at a halt; and it is unfit by a kind only where kinds are looked at: in an answer if it is strict, and else where a value is used.
+abbrev pub HaltSound : Bool → Halt → Type 0
+HaltSound strict (Halt.Unfit Misfit.OfAnswer) = strict ≡ true
+HaltSound strict (Halt.Unfit Misfit.OfKind) = strict ≡ false
+HaltSound strict (Halt.Unfit Misfit.OfRule) = ⊥
+HaltSound strict h = Unit {0}
 
 -- a value of this type, by its kind
 abbrev pub is_of : ValueType → Value → Bool
@@ -37,37 +38,56 @@ is_of ValueType.Cond v = is_nilable v
 is_of (ValueType.Slice e) v = is_nilable v
 is_of (ValueType.Chan e) v = is_nilable v
 
--- one value, of this type
-abbrev pub One : ValueType → List Value → Type 0
-One u [] = ⊥
-One u (v ∷ []) = is_of u v ≡ true
-One u (v ∷ (x ∷ vs)) = ⊥
+module _ (taking : Taking) where
+  -- no rule is lacking; and of what it gives this holds
+  abbrev pub Sound : {A : Type 0} → (A → Type 0) → Part A → Type 0
+  Sound K (Part.Gives a w) = K a
+  Sound K (Part.Stops h os) = HaltSound taking.strict h
 
--- in every world it gives one value of this type, as long as each answer fits
-abbrev pub Yields : ValueType → Gives → Type 0
-Yields u f = (w : World) → Sound (One u) (f w)
+  -- a value of this type, if kinds are looked at in answers
+  abbrev pub IsOf : ValueType → Value → Type 0
+  IsOf u v = taking.strict ≡ true → is_of u v ≡ true
 
--- what is given as this gives one value of its type; nil is of each type that takes it
-abbrev pub YieldsBy : Given → Gives → Type 0
-YieldsBy (given_as.Typed e) f = Yields (value_type e) f
-YieldsBy given_as.Nil f = (u : ValueType) → IsNilable u → Yields u f
-YieldsBy given_as.Unknown f = ⊥
+  -- as many values as types, and values of these types
+  abbrev pub AllFit : List (Option GoType) → List Value → Type 0
+  AllFit types vs = (length vs ≡ length types) × (taking.strict ≡ true → all_fit types vs ≡ true)
 
--- an operand that is a value
-abbrev pub Shown : Operand → Gives → Type 0
-Shown (operand.Value (Some e)) f = Yields (value_type e) f
-Shown (operand.Outcome (Some e)) f = Yields (value_type e) f
-Shown (operand.Element (Some e)) f = Yields (value_type e) f
-Shown _ f = ⊥
+  -- one value, of this type
+  abbrev pub One : ValueType → List Value → Type 0
+  One u [] = ⊥
+  One u (v ∷ []) = IsOf u v
+  One u (v ∷ (x ∷ vs)) = ⊥
 
--- a value of a known type
-abbrev pub Held : Option GoType → Value → Type 0
-Held None v = ⊥
-Held (Some e) v = is_of (value_type e) v ≡ true
+  -- in every world it gives one value of this type
+  abbrev pub Yields : ValueType → Gives → Type 0
+  Yields u f = (w : World) → Sound (One u) (f w)
 
--- the names have values of the types of the locals, which are known
-abbrev pub NamesFit : List Local → Env → Type 0
-NamesFit [] [] = Unit {0}
-NamesFit [] (x ∷ xs) = ⊥
-NamesFit (d ∷ ds) [] = ⊥
-NamesFit (d ∷ ds) (x ∷ xs) = (x.name ≡ d.name) × Held d.of_type x.value × NamesFit ds xs
+  -- what is given as this gives one value of its type; nil is of each type that takes it
+  abbrev pub YieldsBy : Given → Gives → Type 0
+  YieldsBy (given_as.Typed e) f = Yields (value_type e) f
+  YieldsBy given_as.Nil f = (u : ValueType) → IsNilable u → Yields u f
+  YieldsBy given_as.Unknown f = ⊥
+
+  -- an operand that is a value
+  abbrev pub Shown : Operand → Gives → Type 0
+  Shown (operand.Value (Some e)) f = Yields (value_type e) f
+  Shown (operand.Outcome (Some e)) f = Yields (value_type e) f
+  Shown (operand.Element (Some e)) f = Yields (value_type e) f
+  Shown _ f = ⊥
+
+  -- a value of a known type
+  abbrev pub Held : Option GoType → Value → Type 0
+  Held None v = ⊥
+  Held (Some e) v = IsOf (value_type e) v
+
+  -- the names have values of the types of the locals, which are known
+  abbrev pub NamesFit : List Local → Env → Type 0
+  NamesFit [] [] = Unit {0}
+  NamesFit [] (x ∷ xs) = ⊥
+  NamesFit (d ∷ ds) [] = ⊥
+  NamesFit (d ∷ ds) (x ∷ xs) = (x.name ≡ d.name) × Held d.of_type x.value × NamesFit ds xs
+
+  -- The names of a file mean what the types of the code say, and an answer to a call is taken to have a value exactly when its function gives one.
+  pub record FileTaken (types : Types) (t : Tables) (f : FileScope) : Type 0 where
+    pub fits : FileFits types t f
+    pub counts : (k : ℕ) (callee : Signature) → slice_get types.functions k ≡ Some callee → unwrap_or (slice_get taking.gives k) false ≡ is_some callee.result

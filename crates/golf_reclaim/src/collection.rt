@@ -37,17 +37,18 @@ pub struct CollectOptions {
 /// `report` and `book` are about the state before the call. In every run no goroutine of that state was
 /// removed before: report and book are then those of the plain machine (`plain_report`, `plain_book`).
 ///
-/// Each marker passes the gate before each of its turns at what is live; the second marking passes
-/// none. All memory is taken before anything is changed: a call that answers `Memory` leaves state and
+/// Two markings of `options.markers` markers each find what is live and what is left. Each marker passes
+/// `live_gate` before each of its turns of the first, and `rest_gate` of the second. All memory is taken before anything is changed: a call that answers `Memory` leaves state and
 /// book unchanged. The answer is `Memory` too if objects and blocked goroutines together are too
 /// many for a `u32`.
-pub fn collect<R: Threads + Sync, G: Gate + Sync>(
+pub fn collect<R: Threads + Sync, G: Gate + Sync, H: Gate + Sync>(
     rt: &R,
     alloc: Global,
     state: &mut State,
     book: &mut Ledger,
     options: CollectOptions,
-    gate: &G,
+    live_gate: &G,
+    rest_gate: &H,
 ) -> Result<Report, Memory>
     requires whole { IsWhole state.old }
     requires count { book.old.collections < 2 ^ 32 - 1 }
@@ -65,10 +66,10 @@ pub fn collect<R: Threads + Sync, G: Gate + Sync>(
     ensures exactly { OnOk result (LeavesExactly options.recover options.sets_finalisers state.old state.new) }
     ensures moves_on { OnOk result (MovesOnAfter options.sets_finalisers state.old state.new) }
 {
-    let found = find_dead(rt, alloc, state, options, gate)?;
+    let found = find_dead(rt, alloc, state, options, live_gate)?;
     let live = found.live;
     let gone = found.gone.as_slice();
-    let rest = find_retained(rt, alloc, state, live, gone, options.markers)?;
+    let rest = find_retained(rt, alloc, state, live, gone, options.markers, rest_gate)?;
     let goroutines = state.goroutines(alloc)?;
     let stays = outside(alloc, goroutines.as_slice(), gone)?;
     let new = book.unreported(alloc, found.dead.as_slice())?;

@@ -15,7 +15,7 @@ ghost use Rattle.golf_theory.specs.Membership.{is_in};
 ghost use Rattle.golf_reclaim.specs.Flags.{count_set, either, IsUnkept};
 
 use crate::collection::CollectOptions;
-use golf_base::{Gate, GoroutineId, List, Memory, OpenGate};
+use golf_base::{Gate, GoroutineId, List, Memory};
 use golf_final::keeps;
 use golf_mark::Markers;
 use golf_model::{Graph, Marked};
@@ -114,13 +114,14 @@ pub fn find_gone(
 }
 
 /// Marks what is reached without these goroutines, whose numbers rise, and finds the objects that are left.
-pub(crate) fn find_retained<R: Threads + Sync>(
+pub(crate) fn find_retained<R: Threads + Sync, G: Gate + Sync>(
     rt: &R,
     alloc: Global,
     state: &State,
     live: Graph,
     gone: &[GoroutineId],
     markers: u32,
+    gate: &G,
 ) -> Result<Rest, Memory>
     requires live { live ≡ live_parts state.now }
     requires whole { IsWhole state.now }
@@ -132,7 +133,7 @@ pub(crate) fn find_retained<R: Threads + Sync>(
     ensures objects { IfOk result (λ rest. rest.objects ≡ length (retained_objects state.now (numbers gone.now))) }
 {
     let graph = retained_graph(alloc, state, live, gone)?;
-    let marked = mark(rt, alloc, &graph, markers, &OpenGate)?;
+    let marked = mark(rt, alloc, &graph, markers, gate)?;
     let keep = retained(alloc, &graph, marked.flags.as_slice())?;
     let objects = count_set(&graph, keep.as_slice());
     Ok(Rest {

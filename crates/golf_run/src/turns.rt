@@ -14,7 +14,7 @@ ghost use Rattle.golf_run.specs.HasGone.{HasGone};
 use crate::coming::Coming;
 use crate::fault::RunFault;
 use crate::telling::{explanation, write_told};
-use golf_base::{Gate, Sink, write_all};
+use golf_base::{Gate, OpenGate, Sink, write_all};
 use golf_data::{Code, Ending, Report};
 use golf_machine::{Turned, start, take_turns};
 use golf_reclaim::{CollectOptions, Ledger, collect, sets_finalisers};
@@ -72,7 +72,7 @@ fn tell<R: Threads + Sync, E: Sink, G: Gate + Sync>(
     ensures { HasTold how.collecting.recover how.collecting.sets_finalisers how.why result state.old state.new book.old book.new (E.written err.old) (E.written err.new) (E.faults err.old) (E.faults err.new) }
 {
     let why = explanation(alloc, how.why, state)?;
-    let report = collect(rt, alloc, state, book, how.collecting, gate)?;
+    let report = collect(rt, alloc, state, book, how.collecting, gate, &OpenGate)?;
     write_told(alloc, &report, &why, err)?;
     Ok(totals_after(book, &report))
 }

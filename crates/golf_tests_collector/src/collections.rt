@@ -1,12 +1,16 @@
-//! What a collection reports.
+//! What a collection reports, and by how many markers it marks.
 
-use crate::collecting::collect_once;
+ghost use Rattle.std.specs.Prelude.{◌<◌, ◌≤◌};
+
+use crate::collecting::{collect_by, collect_once};
 use crate::programs::{forever, program, receiver, state_of};
 use golf_base::{GoroutineId, Memory};
 use golf_data::{Code, Entry, Instr, Value, WaitKind};
-use golf_reclaim::Ledger;
+use golf_reclaim::{CollectOptions, Ledger, sets_finalisers};
+use golf_tests_support::CountingGate;
 use std::alloc::Global;
 use std::test::Fail;
+use std::thread::Threads;
 
 // A goroutine receives from a channel that nobody else knows.
 fn stuck_receiver(alloc: Global) -> Result<Code, Memory> {
@@ -47,5 +51,35 @@ fn a_removed_goroutine_that_is_there_again_is_reported_again(rt: HostRuntime) ->
     assert_eq!(rt; (report.reported.len(), report.kept), (1, 1));
     let report = collect_once(&rt, rt.alloc(), &code, &mut second, &mut book, true)?;
     assert_eq!(rt; (report.reported.len(), report.reclaimed), (0, 1));
+    Ok(())
+}
+
+// How often so many markers pass the gate of the second marking.
+fn second_passes<R: Threads + Sync>(rt: &R, alloc: Global, markers: u32) -> Result<u64, Fail>
+    requires some { 0 < markers }
+    requires few { markers ≤ 16 }
+{
+    let code = stuck_receiver(alloc)?;
+    let mut state = state_of(alloc, &code)?;
+    let mut book = Ledger::new(alloc);
+    let gate = CountingGate::new();
+    let options = CollectOptions {
+        markers,
+        recover: true,
+        sets_finalisers: sets_finalisers(&code),
+    };
+    let _ = collect_by(rt, alloc, &code, &mut state, &mut book, options, &gate)?;
+    Ok(gate.passes())
+}
+
+#[test]
+fn the_second_marking_has_as_many_markers_as_it_is_told(rt: HostRuntime) -> Result<(), Fail> {
+    // Each marker ends in a turn of its own, so 15 markers more are 15 passes more.
+    let alone = second_passes(&rt, rt.alloc(), 1)?;
+    let sixteen = second_passes(&rt, rt.alloc(), 16)?;
+    assert!(rt;
+        sixteen.checked_sub(alone) == Some(15),
+        "{alone}, {sixteen}"
+    );
     Ok(())
 }

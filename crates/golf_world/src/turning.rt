@@ -68,7 +68,7 @@ pub(crate) fn turn_and_collect<R: Threads + Sync>(
         recover: false,
         sets_finalisers: sets_finalisers(code),
     };
-    match collect(rt, alloc, state, book, options, &OpenGate) {
+    match collect(rt, alloc, state, book, options, &OpenGate, &OpenGate) {
         Ok(report) => Ok(Some(report)),
         Err(memory) => {
             put_back(state, g, at);
