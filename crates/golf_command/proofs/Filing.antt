@@ -20,8 +20,8 @@ use Rattle.golf_run_texts.specs.Output.{status_by, status_of, last_of, reports_o
 use Rattle.golf_run_texts.specs.Writes.{Write}
 use Rattle.golf_model.proofs.Agreeing.{dead-sound, dead-complete}
 use Rattle.golf_model_futures.proofs.MainLaws as Law
-use Rattle.golf_meaning.proofs.Laws.{file-agrees}
 use Rattle.golf_meaning_typed_files.proofs.Files.{files-sound}
+use Rattle.golf_meaning_runs.proofs.Agreeing.{programs-agree}
 use Rattle.golf_meaning_runs.proofs.Runs.{runs-mean-sources}
 use Rattle.golf_code_never_stuck.specs.Reached.{IsProgram}
 use Rattle.golf_code_never_stuck.proofs.Reaching.{reached-moves-on}
@@ -61,11 +61,12 @@ moves-always bytes file options a =
 
 -- each function of such a file does what its source says
 means-its-source : (bytes : List ℕ) (file : File) → Accepts bytes file → MeansItsSource file
-means-its-source bytes file a = record {
-  agrees = file-agrees file;
-  lacks_no_rule = files-sound file a.typed.keeps a.typed.tree.reads.form.good;
-  runs = runs-mean-sources file (record { good = a.typed.tree.reads.form.good; typed = a.typed.keeps });
-}
+means-its-source bytes file a =
+    let program : IsProgram file = record { good = a.typed.tree.reads.form.good; typed = a.typed.keeps } in record {
+      agrees = programs-agree file program;
+      lacks_no_rule = files-sound file a.typed.keeps a.typed.tree.reads.form.good;
+      runs = runs-mean-sources file program;
+    }
 
 sound-by : (options : Option RunOptions) (bytes : List ℕ) (file : File) → Accepts bytes file → IsSoundBy options (CodeOf file)
 sound-by (Some options) bytes file a = record { reports = are-true (CodeOf file) options; moves = moves-always bytes file options a }

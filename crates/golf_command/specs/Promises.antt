@@ -10,8 +10,8 @@ use Rattle.golf_model_futures.specs.Telling.{TellsOfEach}
 use Rattle.golf_model.specs.Turn.{MovesOn}
 use Rattle.golf_syntax_trees.specs.declared.declarations.File.{File}
 use Rattle.golf_code_of.specs.Files.{CodeOf}
-use Rattle.golf_meaning.specs.Judged.{FileAgrees}
 use Rattle.golf_meaning_typing.specs.FileLaws.{MeaningsSound}
+use Rattle.golf_meaning_runs.specs.Agreeing.{SourcesAgree}
 use Rattle.golf_meaning_runs.specs.Laws.{RunMeansSource}
 use Rattle.golf_reader.specs.Refusals.{HasTypedTree, IsUnlexed, IsUnparsed, IsUntyped}
 use Rattle.golf_run_schedules.specs.declared.options.RunOptions.{RunOptions}
@@ -72,10 +72,11 @@ pub record MovesAlways (code : Code) (options : RunOptions) : Type 0 where
   pub continuations : (p : State) → In p (stops code (events_of options)) → GoesOnFrom code p
   pub moves : (s : State) (c : ℕ) → Leads code s → ending s ≡ None → MovesOn code s c
 
--- The code of each function and method of the file does what its source says: for as many arguments as it has parameters, and for all answers, the same visible operations, in the same order, with the same end. For each bound of one there is a bound of the other; and no rule is lacking to the source.
+-- The code of each function and method of the file does what its source says: for as many arguments as it has parameters, and for all answers, the same visible operations, in the same order, with the same end. For each bound of one there is a bound of the other.
+-- No rule is lacking to the source; and if it looks at kinds in answers, it is unfit by an answer alone.
 -- And so it is in each run of the plain machine, after each turn. With the answers that a call got, its source means operations that begin with those that it has shown. If the call waits, they are exactly these, and the source waits at the last one; if it has ended, they are exactly these, with the same end. Its code means the same.
 pub record MeansItsSource (file : File) : Type 0 where
-  pub agrees : FileAgrees file
+  pub agrees : SourcesAgree file
   pub lacks_no_rule : MeaningsSound file
   pub runs : (events : List Event) → RunMeansSource file events
 

@@ -49,7 +49,7 @@ same-agrees file k (Some f) (Some g) s h =
 same-agrees file k (Some f) None s h = absurd s
 same-agrees file k None y s h = absurd s
 
-pub file-agrees : (file : File) (k : ℕ) → IsNumbered file k → Agrees file (CodeOf file) k
+file-agrees : (file : File) (k : ℕ) → IsNumbered file k → Agrees file (CodeOf file) k
 file-agrees file k (lt, le) =
     let r = files-agree file k lt le in
     subst (λ o. FunctionAgrees file k o) (sym r.1) r.2

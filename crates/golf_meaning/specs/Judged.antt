@@ -45,7 +45,3 @@ AllAreCodeOf file code = (k : ℕ) → IsNumbered file k → IsCodeOf file code 
 -- each of them agrees with its source
 abbrev pub AllAgree : File → Code → Type 0
 AllAgree file code = (k : ℕ) → IsNumbered file k → Agrees file code k
-
--- each function and method of a file has code that does what its source means, both ways
-abbrev pub FileAgrees : File → Type 0
-FileAgrees file = AllAgree file (CodeOf file)

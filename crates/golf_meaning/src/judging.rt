@@ -34,8 +34,7 @@ fn are_same(code: &Code, other: &Code, number: usize) -> bool
 /// both ways: for as many arguments as the function has parameters, and all answers, each bound of
 /// one has a bound of the other with which the operations and the end are the same, or if it is
 /// short its operations are a prefix of the other's. This holds unless the source lacks a rule,
-/// which it never does in a file that breaks no rule, with as many arguments
-/// (`golf_meaning_typed_files`).
+/// which it never does in a file that breaks no rule (`golf_meaning_runs`).
 pub fn check_body(
     alloc: Global,
     checked: &Checked,

@@ -1,3 +1,4 @@
 pub mod Files
 pub mod Arguments
+pub mod Agreeing
 pub mod Runs

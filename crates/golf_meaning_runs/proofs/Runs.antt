@@ -2,7 +2,6 @@
 -- For: `RunsMeanSources`, golf_meaning_runs/specs/Laws.antt; the law `runs_mean_their_sources`, src/lib.rt.
 -- By: cases of where a call stands; induction over lists of calls.
 use Rattle.std.proofs.Common.{◌≡◌, ℕ, zero, suc, Bool, false, ◌<◌, ◌≤◌, List, [], ◌∷◌, Some, map, slice_get, refl, ap, sym, ◌∙◌, subst, append-nil, arith}
-use Rattle.std.proofs.lemmas.Bool.{false≢true}
 use Rattle.golf_theory.proofs.Lists.{Every-weaker}
 use Rattle.golf_syntax_trees.specs.declared.declarations.File.{File}
 use Rattle.golf_data.specs.declared.value.Value.{Value}
@@ -21,8 +20,8 @@ use Rattle.golf_code_shapes_globals.proofs.Globals.{names-fit}
 use Rattle.golf_code_never_stuck.specs.Reached.{IsProgram}
 use Rattle.golf_code_never_stuck.proofs.Plain.{Sound, sound-start, sound-event, plain-runs-go-on}
 use Rattle.golf_code_never_stuck.proofs.Reaching.{files-have-shapes}
-use Rattle.golf_meaning_flat.specs.Worlds.{Operation, Answer, Misfit, Halt, End, Told, halted}
-use Rattle.golf_meaning_flat.specs.Laws.{BeginsWith, IsRuled}
+use Rattle.golf_meaning_flat.specs.Worlds.{Operation, Answer, Halt, End, Told, halted}
+use Rattle.golf_meaning_flat.specs.Laws.{BeginsWith}
 use Rattle.golf_meaning_functions.specs.Functions.{CodeMeaning}
 use Rattle.golf_meaning_functions.specs.Files.{function_count, giving_in, taking_in, MeaningOf}
 use Rattle.golf_meaning_typing.specs.Flowing.{EndSound}
@@ -38,6 +37,7 @@ use Rattle.golf_meaning_books.proofs.Runs.{runs-are-booked}
 use Rattle.golf_meaning_lives.specs.Laws.{SourceMeans}
 use Rattle.golf_meaning_lives.proofs.Sources.{lives-mean-source}
 use Rattle.golf_meaning_runs.specs.Laws.{SaysOf, IsMeant, RunsMeanSources}
+use Rattle.golf_meaning_runs.proofs.Agreeing.{ruled}
 use Rattle.golf_meaning_runs.proofs.Files.{files-have-masks, files-have-parameters}
 use Rattle.golf_meaning_runs.proofs.Arguments.{arguments-held, parameters-known, signature-at}
 
@@ -74,17 +74,6 @@ of-code gives fn arguments shown got (Now.Halted i) h = h
 
 same-function : (code : Code) (k : ℕ) (f g : Function) → slice_get code.functions k ≡ Some f → slice_get code.functions k ≡ Some g → f ≡ g
 same-function code k f g a b = one-some f g (sym a ∙ b)
-
--- if no rule is lacking and kinds are not looked at in answers, a rule fits
-ruled : (e : End) → EndSound false e → IsRuled e
-ruled (End.Halts (Halt.Unfit Misfit.OfAnswer)) h = false≢true h
-ruled (End.Halts (Halt.Unfit Misfit.OfRule)) h = h
-ruled (End.Halts (Halt.Unfit Misfit.OfCount)) h = tt
-ruled (End.Halts (Halt.Unfit Misfit.OfKind)) h = tt
-ruled (End.Halts (Halt.Returned v)) h = tt
-ruled (End.Halts Halt.Divided) h = tt
-ruled (End.Halts Halt.Waits) h = tt
-ruled End.Short h = tt
 
 -- the states of a run are well typed, by what is known of objects in the end
 typed-along : (code : Code) (types : Typing) (shapes : HasShapes code types) (es : List Event) (s : State) (h : Sound code types shapes s) → (later : List (ℕ × ValueType)) × Grows h.known later × TypedAlong code types later s es

@@ -1,0 +1,129 @@
+-- The visits of a search: which states they are of, and which turns lead to them. Output is not compared.
+use Rattle.std.specs.Prelude.{◌≡◌, ℕ, ◌+◌, ◌*◌, ◌<◌, Bool, false, List, [], ◌∷◌, ◌++◌, length, map, Option, Some, None, slice_get}
+use Rattle.golf_theory.specs.Membership.{In}
+use Rattle.golf_data.specs.declared.code.Code.{Code}
+use Rattle.golf_data.specs.declared.goroutine.Ending.{Ending}
+use Rattle.golf_model.specs.State.{State, runnable, ending, start}
+use Rattle.golf_model.specs.Turn.{step}
+use Rattle.golf_model.specs.Living.{dead}
+use Rattle.golf_explore_laws.specs.Closed.{silent, after_turn, turn_last_choice, IsTurn, IsPlain}
+use Rattle.golf_explore.specs.declared.visits.Came.{Came}
+use Rattle.golf_explore.specs.declared.visits.Visit.{Visit}
+
+-- the visited states
+abbrev pub states : List Visit → List State
+states visits = map (λ v. silent v.state) visits
+
+-- ---- turns one after another
+
+-- the state after the turn of this number
+abbrev pub after : Code → State → ℕ → State
+after code s number = silent (step code s number)
+
+-- the state after the turns of these numbers
+abbrev pub after_all : Code → State → List ℕ → State
+after_all code s [] = s
+after_all code s (n ∷ ns) = after_all code (after code s n) ns
+
+-- each of these turns begins in a state without an ending, and leads to a plain state
+abbrev pub GoesOn : Code → State → List ℕ → Type 0
+GoesOn code s [] = Unit {0}
+GoesOn code s (n ∷ ns) = (ending s ≡ None) × IsPlain (after code s n) × GoesOn code (after code s n) ns
+
+-- ---- visits
+
+-- the state is that after a turn of an earlier visit
+pub record IsNext (code : Code) (visits : List Visit) (at : ℕ) (s : State) (came : Came) : Type 0 where
+  pub earlier : came.parent < at
+  pub parent : State
+  pub stands : slice_get (states visits) came.parent ≡ Some parent
+  pub goes : ending parent ≡ None
+  pub leads : s ≡ after code parent came.number
+
+-- the visit at this place is of the opening state, or of the state after a turn of an earlier visit
+abbrev pub IsFrom : Code → List Visit → ℕ → State → Option Came → Type 0
+IsFrom code visits at s None = s ≡ start code
+IsFrom code visits at s (Some came) = IsNext code visits at s came
+
+-- it has an ending, or neither an object with a finaliser nor a dead goroutine
+abbrev pub IsWell : State → Type 0
+IsWell s = ending s ≡ None → (s.finalisers ≡ []) × (dead s ≡ [])
+
+-- it has none of these endings
+abbrev pub EndsNever : (Ending → Bool) → State → Type 0
+EndsNever is_one s = (e : Ending) → ending s ≡ Some e → is_one e ≡ false
+
+-- the opening state is visited, turns lead to each visited state, and each is well
+pub record AreVisits (code : Code) (visits : List Visit) : Type 0 where
+  pub opening : In (start code) (states visits)
+  pub from : (at : ℕ) (v : Visit) → slice_get visits at ≡ Some v → IsFrom code visits at (silent v.state) v.came
+  pub well : (s : State) → In s (states visits) → IsWell s
+
+-- each visit has a lower place than those to which its turns led
+abbrev pub ParentsBelow : List Visit → Type 0
+ParentsBelow visits = (at : ℕ) (v : Visit) (came : Came) → slice_get visits at ≡ Some v → v.came ≡ Some came → came.parent < at
+
+-- the turns of these numbers lead from the one state to the other
+abbrev pub LeadsTo : Code → State → List ℕ → State → Type 0
+LeadsTo code s ns t = (after_all code s ns ≡ t) × GoesOn code s ns
+
+-- the turns of these numbers lead from one visit to another
+abbrev pub Joins : List Visit → ℕ → List ℕ → ℕ → Type 0
+Joins visits here ns at = (code : Code) → AreVisits code visits → (s t : State) → slice_get (states visits) here ≡ Some s → slice_get (states visits) at ≡ Some t → LeadsTo code s ns t
+
+-- the turns of these numbers lead from the opening state to the visit
+abbrev pub IsPathTo : List Visit → ℕ → List ℕ → Type 0
+IsPathTo visits at ns = (code : Code) → AreVisits code visits → (t : State) → slice_get (states visits) at ≡ Some t → LeadsTo code (start code) ns t
+
+-- the turns of these numbers lead from the opening state to the state of the visit, which has no ending
+pub record IsPathFor (code : Code) (visits : List Visit) (at : ℕ) (path : List ℕ) : Type 0 where
+  pub goes : GoesOn code (start code) path
+  pub stands : slice_get (states visits) at ≡ Some (after_all code (start code) path)
+  pub on : ending (after_all code (start code) path) ≡ None
+
+-- ---- a search in progress
+
+-- a visit of this state, by this turn, was added at the end
+abbrev pub HasPushed : List Visit → List Visit → State → Option Came → Type 0
+HasPushed old new s came = (v : Visit) × (new ≡ old ++ v ∷ []) × (v.state ≡ s) × (v.came ≡ came)
+
+-- visits were added at the end alone
+abbrev pub Grows : List Visit → List Visit → Type 0
+Grows old new = (more : List Visit) × (new ≡ old ++ more)
+
+-- the list has grown and has the state
+pub record HasAdded (code : Code) (old new : List Visit) (s : State) : Type 0 where
+  pub grows : Grows old new
+  pub visits : AreVisits code new
+  pub has : In s (states new)
+
+-- the list has grown, and has the states after the turns of the goroutine at a place by the first so many choices, if so many goroutines can run
+pub record HasTurned (code : Code) (old new : List Visit) (s : State) (place count choices : ℕ) : Type 0 where
+  pub grows : Grows old new
+  pub visits : AreVisits code new
+  pub has : (choice : ℕ) → choice < choices → In (after code s (choice * count + place)) (states new)
+
+-- each turn of the state leads to a listed state
+abbrev pub IsDone : Code → List State → State → Type 0
+IsDone code visited s = ending s ≡ None → (place choice : ℕ) → IsTurn code s place choice → In (after_turn code s place choice) visited
+
+-- so it is for each of the first so many states of the list
+abbrev pub AreDone : Code → List State → ℕ → Type 0
+AreDone code visited count = (at : ℕ) (s : State) → at < count → slice_get visited at ≡ Some s → IsDone code visited s
+
+-- the list has grown, and each turn of the state leads into it
+pub record HasExpanded (code : Code) (old new : List Visit) (s : State) : Type 0 where
+  pub grows : Grows old new
+  pub visits : AreVisits code new
+  pub done : IsDone code (states new) s
+
+-- the list has grown, and each turn of the visit at this place leads into it
+pub record HasVisited (code : Code) (old new : List Visit) (at : ℕ) : Type 0 where
+  pub grows : Grows old new
+  pub visits : AreVisits code new
+  pub done : (s : State) → slice_get (states old) at ≡ Some s → IsDone code (states new) s
+
+-- for each goroutine that can run, more than its last choice
+pub record HasChoices (code : Code) (s : State) (choices : List ℕ) : Type 0 where
+  pub count : length choices ≡ length (runnable s)
+  pub each : (place n : ℕ) → slice_get choices place ≡ Some n → turn_last_choice code s (slice_get (runnable s) place) < n

@@ -1,0 +1,81 @@
+//! The search.
+
+ghost use Rattle.std.specs.Prelude.{IfOk};
+ghost use Rattle.golf_data.specs.Places.{HasPlaces};
+ghost use Rattle.golf_explore.specs.Telling.{Tells, HasTold};
+ghost use Rattle.golf_explore.specs.Visiting.{AreVisits};
+
+use crate::endings::{has_panic, has_sleep};
+use crate::expanding::expand;
+use crate::hashing::hash_of;
+use crate::visits::{Visit, Visits};
+use golf_base::{List, Memory};
+use golf_data::Code;
+use golf_machine::start;
+use std::alloc::Global;
+
+/// What holds of all states that schedules lead to.
+#[derive(Clone, Copy)]
+pub struct Visited {
+    /// How many there are.
+    pub states: u32,
+    /// Whether one of them has ended by a panic or a fatal error.
+    pub panics: bool,
+    /// Whether one of them has ended with all goroutines asleep.
+    pub sleeps: bool,
+}
+
+/// What a search came to.
+#[derive(Drop)]
+pub enum Explored {
+    /// Each state that a schedule leads to was visited, and none has a dead goroutine.
+    AllVisited(Visited),
+    /// The turns of these numbers lead to a state with a dead goroutine.
+    Leak(List<u64>),
+    /// A turn gives an object a finaliser: such codes are not searched.
+    Finalisers,
+    /// There are more states than were asked for, or a turn has too high a number.
+    TooMany,
+}
+
+// The visit of the opening state.
+fn opened(alloc: Global, code: &Code) -> Result<Visits, Memory>
+    ensures { IfOk result (λ visits. AreVisits code.now visits.list) }
+{
+    let state = start(alloc, code)?;
+    let hash = hash_of(alloc, &state)?;
+    let mut visits = Visits::new(alloc)?;
+    visits.push(state, None, hash)?;
+    Ok(visits)
+}
+
+// What is told of all visits, which are so many.
+fn told(visits: &[Visit], count: u32) -> Visited
+    ensures { HasTold visits.now count result }
+{
+    Visited {
+        states: count,
+        panics: has_panic(visits),
+        sleeps: has_sleep(visits),
+    }
+}
+
+/// Visits each state that schedules of the code lead to, up to so many, the nearest first.
+///
+/// It ends at the first leak. The time is linear in the turns of all paths: a state is made anew
+/// for each of its turns. The only error is `Memory`.
+pub fn explore(alloc: Global, code: &Code, most: u32) -> Result<Explored, Memory>
+    requires { HasPlaces code.now }
+    ensures { IfOk result (Tells code.now) }
+{
+    let mut visits = opened(alloc, code)?;
+    for at in 0..u32::MAX {
+        if at as usize >= visits.list.len() {
+            return Ok(Explored::AllVisited(told(visits.list.as_slice(), at)));
+        }
+        if let Some(explored) = expand(alloc, code, &mut visits, most, at)? {
+            return Ok(explored);
+        }
+    }
+    Ok(Explored::TooMany)
+}

@@ -1,0 +1,105 @@
+//! The visited states, found again by their hashes.
+
+ghost use Rattle.std.specs.Prelude.{◌≡◌, [], ◌<◌, ◌^◌, true, length, IfOk, OnOk};
+ghost use Rattle.golf_theory.specs.Membership.{In};
+ghost use Rattle.golf_explore_laws.specs.Closed.{silent};
+ghost use Rattle.golf_explore.specs.Visiting.{states, HasPushed};
+
+use golf_base::{List, Memory};
+use golf_state::State;
+use std::alloc::Global;
+
+/// The turn that led to a visit.
+#[derive(Clone, Copy)]
+pub(crate) struct Came {
+    /// The place of the visit that it began in.
+    pub(crate) parent: u32,
+    /// Its number there.
+    pub(crate) number: u64,
+}
+
+/// A visited state.
+#[derive(Drop)]
+pub(crate) struct Visit {
+    pub(crate) state: State,
+    /// The turn that led to it; none for the opening state.
+    pub(crate) came: Option<Came>,
+    /// The hash of the state.
+    pub(crate) hash: u64,
+    /// The place of the visit before it in its row; past the end if it is the first.
+    pub(crate) before: u32,
+}
+
+/// The visits in order, and a table of rows by hash.
+///
+/// Nothing rests on hashes and rows except the time that a search takes.
+#[derive(Drop)]
+pub(crate) struct Visits {
+    pub(crate) list: List<Visit>,
+    /// For each row the place of its last visit.
+    pub(crate) rows: List<u32>,
+}
+
+/// How many rows the table has: as many as the upper 16 bits of a hash have values.
+const ROWS: usize = 1 << 16;
+
+// The row of a hash.
+fn row_of(hash: u64) -> usize {
+    (hash >> 48) as usize
+}
+
+impl Visits {
+    /// Makes a table without a visit.
+    pub(crate) fn new(alloc: Global) -> Result<Visits, Memory>
+        ensures { IfOk result (λ visits. visits.list ≡ []) }
+    {
+        let mut rows = List::new(alloc);
+        rows.extend_with(ROWS, u32::MAX)?;
+        Ok(Visits {
+            list: List::new(alloc),
+            rows,
+        })
+    }
+
+    // The place of the last visit of a row; past the end if it has none.
+    fn last_of(&self, row: usize) -> u32 {
+        self.rows.as_slice().get(row).copied().unwrap_or(u32::MAX)
+    }
+
+    /// Returns whether the state, whose hash this is, was visited. Output is not compared.
+    pub(crate) fn contains(&self, alloc: Global, state: &State, hash: u64) -> Result<bool, Memory>
+        ensures { IfOk result (λ found. found ≡ true → In (silent state.now) (states self.now.list)) }
+    {
+        let mut at = self.last_of(row_of(hash));
+        for _ in 0..self.list.len() {
+            let Some(visit) = self.list.as_slice().get(at as usize) else {
+                return Ok(false);
+            };
+            if visit.hash == hash && visit.state.is(state, alloc)? {
+                return Ok(true);
+            }
+            at = visit.before;
+        }
+        Ok(false)
+    }
+
+    /// Adds a visit at the end.
+    pub(crate) fn push(&mut self, state: State, came: Option<Came>, hash: u64) -> Result<(), Memory>
+        requires { length self.old.list < 2 ^ 32 }
+        ensures { OnOk result (HasPushed self.old.list self.new.list state came) }
+    {
+        let row = row_of(hash);
+        let before = self.last_of(row);
+        let at = self.list.len() as u32;
+        self.list.push(Visit {
+            state,
+            came,
+            hash,
+            before,
+        })?;
+        if row < self.rows.len() {
+            self.rows.set(row, at);
+        }
+        Ok(())
+    }
+}

@@ -1,0 +1,7 @@
+pub mod Choices
+pub mod Visiting
+pub mod Reports
+pub mod Ranking
+pub mod LocalTurns
+pub mod MainLaws
+pub mod Examples

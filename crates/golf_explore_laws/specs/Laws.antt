@@ -1,0 +1,91 @@
+-- What no schedule of a code can bring about, and the laws that lists of states show it.
+use Rattle.std.specs.Prelude.{◌≡◌, ℕ, ◌+◌, ◌*◌, ◌%◌, ◌≤◌, Bool, true, false, List, [], ◌∷◌, length, Some, None}
+use Rattle.golf_theory.specs.Membership.{In}
+use Rattle.golf_data.specs.declared.code.Code.{Code}
+use Rattle.golf_data.specs.declared.goroutine.Ending.{Ending}
+use Rattle.golf_data.specs.declared.report.Report.{Report}
+use Rattle.golf_model.specs.State.{State, runnable, ending, start}
+use Rattle.golf_model.specs.Turn.{whose_turn, step}
+use Rattle.golf_model.specs.Living.{dead}
+use Rattle.golf_model.specs.Running.{Event, has_ended, run, stops}
+use Rattle.golf_model.specs.Reporting.{real_reports}
+use Rattle.golf_explore_laws.specs.Closed.{IsClosed, NoneDead, NoneEnds, IsRanked, turn_last_choice}
+
+-- ---- of every run: any turns, and collections at any places among them
+
+-- no collection finds a dead goroutine
+abbrev pub NeverReports : Code → Type 0
+NeverReports code = (events : List Event) (p : State) → In p (stops code events) → dead p ≡ []
+
+-- no state without an ending has a dead goroutine
+abbrev pub NeverLeaks : Code → Type 0
+NeverLeaks code = (events : List Event) → ending (run code (start code) events) ≡ None → dead (run code (start code) events) ≡ []
+
+-- no report names a goroutine, with recovery or without
+abbrev pub ReportsNobody : Code → Type 0
+ReportsNobody code = (events : List Event) (recover : Bool) (r : Report) → In r (real_reports code events recover) → r.reported ≡ []
+
+-- no run has one of these endings
+abbrev pub NeverEnds : (Ending → Bool) → Code → Type 0
+NeverEnds is_one code = (events : List Event) (e : Ending) → ending (run code (start code) events) ≡ Some e → is_one e ≡ false
+
+abbrev pub is_panic : Ending → Bool
+is_panic (Ending.Panicked kind goroutine line) = true
+is_panic _ = false
+
+abbrev pub is_asleep : Ending → Bool
+is_asleep Ending.Asleep = true
+is_asleep _ = false
+
+-- no run ends by a panic or a fatal error
+abbrev pub NeverPanics : Code → Type 0
+NeverPanics = NeverEnds is_panic
+
+-- no run ends because no goroutine can run
+abbrev pub NeverAllAsleep : Code → Type 0
+NeverAllAsleep = NeverEnds is_asleep
+
+-- how many turns the events have
+abbrev pub turns_in : List Event → ℕ
+turns_in [] = 0
+turns_in (Event.Turn c ∷ es) = turns_in es + 1
+turns_in (Event.Collect ∷ es) = turns_in es
+
+-- each run of at least so many turns has an ending
+abbrev pub EndsWithin : ℕ → Code → Type 0
+EndsWithin most code = (events : List Event) → most ≤ turns_in events → has_ended (run code (start code) events) ≡ true
+
+-- there is a number of turns after which each run has an ending
+abbrev pub AlwaysEnds : Code → Type 0
+AlwaysEnds code = (most : ℕ) × EndsWithin most code
+
+-- ---- laws
+
+-- a turn by any number is the turn of the goroutine at its place by one of the choices of this goroutine
+abbrev pub TurnsByChoice : Type 0
+TurnsByChoice = (code : Code) (s : State) (c : ℕ) → ending s ≡ None
+    → (choice : ℕ) × (choice ≤ turn_last_choice code s (whose_turn s c)) × (step code s c ≡ step code s (choice * length (runnable s) + c % length (runnable s)))
+
+abbrev pub ClosedListsNeverLeak : Type 0
+ClosedListsNeverLeak = (code : Code) (visited : List State) → IsClosed code visited → NoneDead visited → NeverLeaks code
+
+abbrev pub ClosedListsNeverReport : Type 0
+ClosedListsNeverReport = (code : Code) (visited : List State) → IsClosed code visited → NoneDead visited → NeverReports code
+
+abbrev pub ClosedListsReportNobody : Type 0
+ClosedListsReportNobody = (code : Code) (visited : List State) → IsClosed code visited → NoneDead visited → ReportsNobody code
+
+abbrev pub ClosedListsNeverEnd : Type 0
+ClosedListsNeverEnd = (code : Code) (visited : List State) (is_one : Ending → Bool) → IsClosed code visited → NoneEnds is_one visited → NeverEnds is_one code
+
+abbrev pub ClosedListsNeverPanic : Type 0
+ClosedListsNeverPanic = (code : Code) (visited : List State) → IsClosed code visited → NoneEnds is_panic visited → NeverPanics code
+
+abbrev pub ClosedListsNeverSleep : Type 0
+ClosedListsNeverSleep = (code : Code) (visited : List State) → IsClosed code visited → NoneEnds is_asleep visited → NeverAllAsleep code
+
+abbrev pub RankedListsEnd : Type 0
+RankedListsEnd = (code : Code) (ranked : List (State × ℕ)) (most : ℕ) → IsRanked code ranked most → EndsWithin most code
+
+abbrev pub RankedListsAlwaysEnd : Type 0
+RankedListsAlwaysEnd = (code : Code) (ranked : List (State × ℕ)) (most : ℕ) → IsRanked code ranked most → AlwaysEnds code

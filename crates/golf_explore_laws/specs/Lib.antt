@@ -1,0 +1,3 @@
+pub mod Closed
+pub mod Laws
+pub mod Local
