@@ -146,10 +146,6 @@ module _ (code : Code) (t : State) (number : ℕ) (s : State) (is : s ≡ after 
   quiet-well : IsWell s → IsWell (silent s)
   quiet-well well goes = ((well goes).0, silent-dead s ∙ (well goes).1)
 
-  -- it was visited
-  pub added-back : (vs : List Visit) → AreVisits code vs → In (silent s) (states vs) → HasAdded code vs vs u
-  added-back vs are i = record { grows = grows-same vs; visits = are; has = subst (λ (v : State). In v (states vs)) quiet i }
-
   -- it is visited now, from the visit at this place
   pub added-new : (old new : List Visit) (at : ℕ) → AreVisits code old → slice_get (states old) at ≡ Some t → ending t ≡ None → IsWell s → HasPushed old new s (Some (record { parent = at; number = number })) → HasAdded code old new u
   added-new old new at are h goes well p =

@@ -9,21 +9,15 @@ use Rattle.golf_model.specs.State.{State, ending, start}
 use Rattle.golf_explore_laws.specs.Closed.{silent, IsPlain}
 use Rattle.golf_explore.specs.declared.visits.Came.{Came}
 use Rattle.golf_explore.specs.declared.visits.Visit.{Visit}
-use Rattle.golf_explore.specs.Visiting.{states, after, IsNext, IsFrom, AreVisits, ParentsBelow, LeadsTo, Joins, IsPathTo}
+use Rattle.golf_explore.specs.Visiting.{states, after, IsNext, IsFrom, AreVisits, LeadsTo, Joins, IsPathTo}
 use Rattle.golf_explore.proofs.Growing.{get-states}
 
 some-same : (m : Option State) (s t : State) → m ≡ Some s → m ≡ Some t → s ≡ t
 some-same m s t h k = let e : Some s ≡ Some t = sym h ∙ k in cc
 
-pub joins-here : (visits : List Visit) (at : ℕ) → Joins visits at [] at
-joins-here visits at code are s t h k = (some-same (slice_get (states visits) at) s t h k, tt)
-
 -- what a visit says of the turn that led to it
 pub came-from : (code : Code) (visits : List Visit) (at : ℕ) (v : Visit) (came : Came) → AreVisits code visits → slice_get visits at ≡ Some v → v.came ≡ Some came → IsNext code visits at (silent v.state) came
 came-from code visits at v came are h c = subst (IsFrom code visits at (silent v.state)) c (are.from at v h)
-
-pub parents-below : (code : Code) (visits : List Visit) → AreVisits code visits → ParentsBelow visits
-parents-below code visits are at v came h c = (came-from code visits at v came are h c).earlier
 
 pub joins-up : (visits : List Visit) (here at : ℕ) (v : Visit) (came : Came) (ns : List ℕ) → slice_get visits here ≡ Some v → v.came ≡ Some came → Joins visits here ns at → Joins visits came.parent (came.number ∷ ns) at
 joins-up visits here at v came ns h c joins code are s t hs ht =

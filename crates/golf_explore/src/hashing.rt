@@ -25,12 +25,17 @@ fn mix_value(hash: u64, value: Value) -> u64 {
     }
 }
 
-fn mix_values(hash: u64, values: &[Value]) -> u64 {
-    let mut mixed = mix(hash, values.len() as u64);
+// One value after another. Two parts of a list give what the whole list gives.
+fn mix_part(hash: u64, values: &[Value]) -> u64 {
+    let mut mixed = hash;
     for value in values {
         mixed = mix_value(mixed, *value);
     }
     mixed
+}
+
+fn mix_values(hash: u64, values: &[Value]) -> u64 {
+    mix_part(mix(hash, values.len() as u64), values)
 }
 
 // Deferred calls are only counted.
@@ -66,7 +71,8 @@ fn mix_object(hash: u64, object: &Object) -> u64 {
         Object::Chan(channel) => {
             let (first, second) = channel.buffer.as_slices();
             let closed = mix(hash, channel.closed as u64);
-            mix_values(mix_values(closed, first), second)
+            let counted = mix(closed, channel.buffer.len() as u64);
+            mix_part(mix_part(counted, first), second)
         }
         Object::Mutex(is_locked) => mix(hash, *is_locked as u64),
         Object::Group(count) => mix(hash, count.unsigned_abs()),

@@ -3,5 +3,6 @@ pub mod Visiting
 pub mod Reports
 pub mod Ranking
 pub mod LocalTurns
+pub mod Commuting
 pub mod MainLaws
 pub mod Examples

@@ -8,7 +8,7 @@ use Rattle.golf_data.specs.declared.goroutine.Leaving.{Leaving}
 use Rattle.golf_data.specs.declared.goroutine.Mode.{Mode}
 use Rattle.golf_model.specs.Views.{FrameView, GoroutineView}
 use Rattle.golf_model.specs.State.{State, runnable}
-use Rattle.golf_model.specs.Changes.{Change, become}
+use Rattle.golf_model.specs.Changes.{Change, become, apply}
 use Rattle.golf_model.specs.Acting.{Actor, stands}
 use Rattle.golf_model.specs.Turn.{line_at, changes, whose_turn, step}
 
@@ -74,3 +74,16 @@ pub record HasLocalTurn (code : Code) (g : ℕ) (r : GoroutineView) : Type 0 whe
 
 abbrev pub LocalTurns : Type 0
 LocalTurns = (code : Code) (g : ℕ) (r : GoroutineView) → IsLocal code r → HasLocalTurn code g r
+
+-- ---- changes of other turns
+
+-- the change is one of the goroutine of this number
+abbrev pub IsOf : ℕ → Change → Type 0
+IsOf g (Change.Become k r) = k ≡ g
+IsOf g (Change.Block k kind line waits r) = k ≡ g
+IsOf g (Change.PassOn k m) = k ≡ g
+IsOf g _ = ⊥
+
+-- what a goroutine that runs has become is not seen by a change of another one, nor by a goroutine that gets another number: the two can be exchanged
+abbrev pub LocalChangesCommute : Type 0
+LocalChangesCommute = (change : Change) (g : ℕ) (r : GoroutineView) (s : State) → r.mode ≡ Mode.Running → (IsOf g change → ⊥) → (g ≡ s.next_goroutine → ⊥) → apply change (become g r s) ≡ become g r (apply change s)

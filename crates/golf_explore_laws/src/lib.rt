@@ -5,7 +5,7 @@
 //! that goroutines are treated fairly.
 #![tactic(auto)]
 
-ghost use Rattle.golf_explore_laws.specs.Local.{LocalInstructions, LocalTurns};
+ghost use Rattle.golf_explore_laws.specs.Local.{LocalChangesCommute, LocalInstructions, LocalTurns};
 ghost use Rattle.golf_explore_laws.specs.Laws.{
   ClosedListsNeverEnd,
   ClosedListsNeverLeak,
@@ -68,4 +68,11 @@ pub fn local_instructions()
 /// The turn changes nothing else, and the same goroutines can run after it.
 pub fn local_turns()
     ensures { LocalTurns }
+{}
+
+/// What a goroutine becomes by a frame-local turn can be exchanged with each change of another turn.
+///
+/// The change must not be one of this goroutine, and must not give its number.
+pub fn local_changes_commute()
+    ensures { LocalChangesCommute }
 {}

@@ -1,6 +1,6 @@
 //! Tests of collections: the graphs of a state, the reports, and what is removed, queued and freed; and of threads that
 //! step one program: whose turn it is, what stands after a step that is out of memory, and that workers run at the
-//! same time.
+//! same time; and of the search of all schedules.
 #![tactic(auto)]
 
 #[cfg(test)]
@@ -9,6 +9,8 @@ mod codes;
 mod collecting;
 #[cfg(test)]
 mod collections;
+#[cfg(test)]
+mod exploring;
 #[cfg(test)]
 mod graphs;
 #[cfg(test)]

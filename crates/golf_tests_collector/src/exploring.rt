@@ -1,0 +1,59 @@
+//! The search of all schedules, on codes whose states can be counted by hand.
+
+use crate::codes::{endless, leak, printers};
+use golf_base::Memory;
+use golf_data::Code;
+use golf_explore::{Explored, explore};
+use golf_tests_support::can_run;
+use std::alloc::Global;
+use std::test::Fail;
+
+/// What a search of a code comes to.
+#[derive(Clone, Copy, Debug, PartialEq, Eq)]
+enum Found {
+    /// So many states.
+    States(u32),
+    /// A leak after so many turns.
+    Leak(usize),
+    Nothing,
+}
+
+// Searches up to so many states.
+fn search_of(alloc: Global, code: Code, most: u32) -> Result<Found, Memory> {
+    if !can_run(&code) {
+        return Ok(Found::Nothing);
+    }
+    match explore(alloc, &code, most)? {
+        Explored::AllVisited(told) => {
+            if told.panics || told.sleeps {
+                return Ok(Found::Nothing);
+            }
+            Ok(Found::States(told.states))
+        }
+        Explored::Leak(numbers) => Ok(Found::Leak(numbers.len())),
+        Explored::Finalisers => Ok(Found::Nothing),
+        Explored::TooMany => Ok(Found::Nothing),
+    }
+}
+
+#[test]
+fn a_loop_has_one_state(rt: HostRuntime) -> Result<(), Fail> {
+    let code = endless(rt.alloc())?;
+    assert_eq!(rt; search_of(rt.alloc(), code, 2)?, Found::States(1));
+    Ok(())
+}
+
+#[test]
+fn the_nearest_leak_is_found(rt: HostRuntime) -> Result<(), Fail> {
+    // `main` starts the receiver in three turns, and it blocks in its sixth turn.
+    let code = leak(rt.alloc())?;
+    assert_eq!(rt; search_of(rt.alloc(), code, 1_000)?, Found::Leak(9));
+    Ok(())
+}
+
+#[test]
+fn a_search_ends_at_the_limit(rt: HostRuntime) -> Result<(), Fail> {
+    let code = printers(rt.alloc())?;
+    assert_eq!(rt; search_of(rt.alloc(), code, 5)?, Found::Nothing);
+    Ok(())
+}
